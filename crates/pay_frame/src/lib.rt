@@ -1,13 +1,14 @@
-// A library with one function.
+//! Frames on the wire, and the byte streams that carry them.
+//!
+//! A frame is one message from one member to another, tagged for its receiver. Its definition is a
+//! function from fields to bytes (`specs/Frame.antt`); `read` and `write` are proved against it, and
+//! `Cutter` cuts a stream into frames however the stream comes in pieces.
 #![tactic(auto)]
 
-ghost use Rattle.std.specs.Prelude.{◌≡◌};
-ghost use Rattle.pay_frame.specs.Echo.{echo_of};
+mod body;
+mod bytes;
+mod kind;
 
-// The `ensures` clause is the contract: what `echo` returns is `echo_of` of its argument, a definition
-// in `specs/Echo.antt`, which a caller's clause can cite too.
-pub fn echo(x: usize) -> usize
-    ensures { result ≡ echo_of x }
-{
-    x
-}
+pub use body::Body;
+pub use bytes::Bytes;
+pub use kind::Kind;

@@ -1,0 +1,83 @@
+ghost use Rattle.std.specs.Prelude.{◌≡◌, IfOk};
+ghost use Rattle.pay_frame.specs.Frame.{IsBody};
+
+use crate::bytes::Bytes;
+use crate::kind::Kind;
+use std::alloc::{AllocError, Global};
+use std::marker::Model;
+
+/// What a frame says, whoever sends it to whom: its kind, the broadcast that it speaks of (owner and
+/// sequence number) and a value.
+///
+/// Its type keeps a frame's limits: a sequence number of at most 65,535, a value of at most 1,024
+/// bytes, and nothing but the kind in a WANT.
+#[derive(Debug, Drop)]
+pub struct Body {
+    kind: Kind,
+    owner: u16,
+    seq: u32,
+    value: Bytes,
+}
+
+impl Model for Body {
+    ghost use Rattle.pay_frame.specs.Frame.{BodyFields, IsBody};
+
+    ghost Value = { BodyFields };
+
+    ghost view = { λ b. record { kind = b.kind; owner = b.owner; seq = b.seq; value = b.value } };
+
+    ghost invariant = { λ b. IsBody (record { kind = b.kind; owner = b.owner; seq = b.seq; value = b.value }) };
+}
+
+impl Body {
+    pub fn new(kind: Kind, owner: u16, seq: u32, value: Bytes) -> Body
+        requires { IsBody (record { kind = kind; owner = owner; seq = seq; value = value }) }
+        ensures value { result ≡ record { kind = kind; owner = owner; seq = seq; value = value } }
+    {
+        Body {
+            kind,
+            owner,
+            seq,
+            value,
+        }
+    }
+
+    pub fn kind(&self) -> Kind
+        ensures value { result ≡ self.now.kind }
+    {
+        self.kind
+    }
+
+    pub fn owner(&self) -> u16
+        ensures value { result ≡ self.now.owner }
+    {
+        self.owner
+    }
+
+    pub fn seq(&self) -> u32
+        ensures value { result ≡ self.now.seq }
+        ensures limits { IsBody self.now }
+    {
+        self.seq
+    }
+
+    pub fn value(&self) -> &[u8]
+        ensures value { result.now ≡ self.now.value }
+        ensures limits { IsBody self.now }
+    {
+        self.value.as_slice()
+    }
+
+    /// An equal body.
+    pub fn copy(&self, alloc: Global) -> Result<Body, AllocError>
+        ensures value { IfOk result (λ copy. copy ≡ self.now) }
+    {
+        let value = self.value.copy(alloc)?;
+        Ok(Body {
+            kind: self.kind,
+            owner: self.owner,
+            seq: self.seq,
+            value,
+        })
+    }
+}
