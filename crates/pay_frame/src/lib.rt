@@ -7,8 +7,13 @@
 
 mod body;
 mod bytes;
+mod fault;
+mod frame_ref;
 mod kind;
+mod reading;
 
 pub use body::Body;
 pub use bytes::Bytes;
+pub use fault::FrameFault;
+pub use frame_ref::FrameRef;
 pub use kind::Kind;

@@ -1,0 +1,5 @@
+pub mod Lists
+pub mod Heads
+pub mod Passing
+pub mod Starting
+pub mod Answering

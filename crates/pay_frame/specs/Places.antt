@@ -1,0 +1,45 @@
+-- Which byte may stand at a place of a frame's head, behind the bytes before it: the reader's own
+-- test. That it is the right one is proved, against frames as Reading.antt asks about them.
+use Rattle.std.specs.Prelude.{◌≡◌, ℕ, ◌+◌, ◌-◌, ◌*◌, ◌/◌, ◌%◌, ◌<◌, ◌≤◌, Bool, true, false, not, ◌&&◌, ◌||◌, ◌==◌, nat_lt, nat_le, if◌then◌else◌, List, [], ◌∷◌, length, slice_index}
+use Rattle.std.specs.Int.{w16, w32, w64, from_be_bytes}
+use Rattle.pay_frame.specs.Frame.{least_length, greatest_value}
+
+-- what the length field says
+abbrev pub length_field : List ℕ → ℕ
+length_field bytes = 256 * slice_index bytes 0 + slice_index bytes 1
+
+abbrev pub is_want : List ℕ → Bool
+is_want bytes = slice_index bytes 3 == 4
+
+abbrev pub may_stand : List ℕ → ℕ → Bool
+may_stand bytes place =
+    let byte = slice_index bytes place in
+    if place == 0 then nat_le byte 4
+    else if place == 1 then nat_le least_length (length_field bytes) && nat_le (length_field bytes) (least_length + greatest_value)
+    else if place == 2 then byte == 1
+    else if place == 3 then nat_le 1 byte && nat_le byte 4 && (not (byte == 4) || length_field bytes == least_length)
+    else if nat_lt place 16 then true
+    else if nat_lt place 18 then not (is_want bytes) || byte == 0
+    else if nat_lt place 20 then byte == 0
+    else if nat_lt place 22 then not (is_want bytes) || byte == 0
+    else if place == 22 then byte == (length_field bytes - least_length) / 256
+    else if place == 23 then byte == (length_field bytes - least_length) % 256
+    else true
+
+-- the bytes that stand before a place all pass
+abbrev pub PassBelow : List ℕ → ℕ → Type 0
+PassBelow bytes place = (k : ℕ) → k < place → may_stand bytes k ≡ true
+
+-- the first place of the head, if any, whose byte doesn't pass
+abbrev pub IsFirstWrong : List ℕ → ℕ → Type 0
+IsFirstWrong bytes place = (place < 24) × (place < length bytes) × PassBelow bytes place × (may_stand bytes place ≡ false)
+
+-- the bytes from a place on, as a number
+abbrev pub two_at : List ℕ → ℕ → ℕ
+two_at h p = from_be_bytes w16 (slice_index h p ∷ slice_index h (p + 1) ∷ [])
+
+abbrev pub four_at : List ℕ → ℕ → ℕ
+four_at h p = from_be_bytes w32 (slice_index h p ∷ slice_index h (p + 1) ∷ slice_index h (p + 2) ∷ slice_index h (p + 3) ∷ [])
+
+abbrev pub eight_at : List ℕ → ℕ → ℕ
+eight_at h p = from_be_bytes w64 (slice_index h p ∷ slice_index h (p + 1) ∷ slice_index h (p + 2) ∷ slice_index h (p + 3) ∷ slice_index h (p + 4) ∷ slice_index h (p + 5) ∷ slice_index h (p + 6) ∷ slice_index h (p + 7) ∷ [])

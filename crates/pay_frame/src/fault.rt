@@ -1,0 +1,53 @@
+ghost use Rattle.std.specs.Prelude.{◌≡◌};
+ghost use Rattle.pay_frame.specs.Fault.{number_of, name_of};
+
+use thiserror::Error;
+
+/// Why bytes are no frame.
+#[derive(Clone, Copy, Debug, PartialEq, Eq, Error)]
+#[error("{} {}", self.number(), self.name())]
+pub enum FrameFault {
+    /// The length field is below 54 or above 1,078.
+    BadLength,
+    /// The version isn't 1.
+    BadVersion,
+    /// The kind isn't 1 to 4.
+    BadKind,
+    /// The value length isn't the length less 54.
+    BadValueLength,
+    /// The sequence number is above 65,535.
+    BadSeq,
+    /// A WANT has an owner, a sequence number or a value.
+    BadWant,
+    /// The bytes end inside a frame.
+    Truncated,
+}
+
+impl FrameFault {
+    const fn entry(self) -> (u8, &'static str)
+        ensures number { result.0 ≡ number_of self }
+        ensures name { result.1.now ≡ name_of self }
+    {
+        match self {
+            FrameFault::BadLength => (1, "BadLength"),
+            FrameFault::BadVersion => (2, "BadVersion"),
+            FrameFault::BadKind => (3, "BadKind"),
+            FrameFault::BadValueLength => (4, "BadValueLength"),
+            FrameFault::BadSeq => (5, "BadSeq"),
+            FrameFault::BadWant => (6, "BadWant"),
+            FrameFault::Truncated => (7, "Truncated"),
+        }
+    }
+
+    pub fn number(self) -> u8
+        ensures value { result ≡ number_of self }
+    {
+        self.entry().0
+    }
+
+    pub fn name(self) -> &'static str
+        ensures value { result.now ≡ name_of self }
+    {
+        self.entry().1
+    }
+}

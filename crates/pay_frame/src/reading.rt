@@ -1,0 +1,138 @@
+ghost use Rattle.std.specs.Prelude.{◌≡◌, ℕ, ◌+◌, ◌<◌, ◌≤◌, true, false, Some, length, MatchOption, min};
+ghost use Rattle.pay_frame.specs.Frame.{code_of, IsFrame, frame_bytes};
+ghost use Rattle.pay_frame.specs.Reading.{IsReading, fault_at};
+ghost use Rattle.pay_frame.specs.Places.{length_field, is_want, may_stand, PassBelow, IsFirstWrong, eight_at};
+
+use crate::fault::FrameFault;
+use crate::frame_ref::FrameRef;
+use crate::kind::Kind;
+
+const HEAD_LEN: usize = 24;
+const TAG_LEN: usize = 32;
+const LEAST_LENGTH: u16 = 54;
+const GREATEST_LENGTH: u16 = 1078;
+const WANT: u8 = 4;
+
+fn length_field(bytes: &[u8]) -> u16
+    requires { 1 < length bytes.now }
+    ensures { result ≡ length_field bytes.now }
+{
+    u16::from_be_bytes([bytes[0], bytes[1]])
+}
+
+fn is_want(bytes: &[u8]) -> bool
+    requires { 3 < length bytes.now }
+    ensures { result ≡ is_want bytes.now }
+{
+    bytes[3] == WANT
+}
+
+/// Whether the byte at a place may stand there, behind bytes that may stand before it.
+fn may_stand(bytes: &[u8], place: usize) -> bool
+    requires within { place < length bytes.now }
+    requires before { PassBelow bytes.now place }
+    ensures { result ≡ may_stand bytes.now place }
+{
+    let byte = bytes[place];
+    match place {
+        0 => byte <= 4,
+        1 => (LEAST_LENGTH..=GREATEST_LENGTH).contains(&length_field(bytes)),
+        2 => byte == 1,
+        3 => (1..=4).contains(&byte) && (byte != WANT || length_field(bytes) == LEAST_LENGTH),
+        16 | 17 | 20 | 21 => !is_want(bytes) || byte == 0,
+        18 | 19 => byte == 0,
+        22 => u16::from(byte) == (length_field(bytes) - LEAST_LENGTH) / 256,
+        23 => u16::from(byte) == (length_field(bytes) - LEAST_LENGTH) % 256,
+        _ => true,
+    }
+}
+
+/// The first place in the head, if any, whose byte may not stand there.
+fn first_wrong(bytes: &[u8]) -> Option<usize>
+    ensures { MatchOption result (PassBelow bytes.now (min 24 (length bytes.now))) (IsFirstWrong bytes.now) }
+{
+    for place in 0..HEAD_LEN.min(bytes.len()) {
+        if !may_stand(bytes, place) {
+            return Some(place);
+        }
+    }
+    None
+}
+
+/// The fault that the first wrong byte names.
+fn fault_at(bytes: &[u8], place: usize) -> FrameFault
+    requires { IsFirstWrong bytes.now place }
+    ensures { fault_at bytes.now place ≡ Some result }
+{
+    match place {
+        0 | 1 => FrameFault::BadLength,
+        2 => FrameFault::BadVersion,
+        3 if !is_want(bytes) => FrameFault::BadKind,
+        18..22 if !is_want(bytes) => FrameFault::BadSeq,
+        3..22 => FrameFault::BadWant,
+        _ => FrameFault::BadValueLength,
+    }
+}
+
+fn kind_of(code: u8) -> Kind
+    requires least { 1 ≤ code }
+    requires greatest { code ≤ 4 }
+    ensures { code_of result ≡ code }
+{
+    match code {
+        1 => Kind::Send,
+        2 => Kind::Echo,
+        3 => Kind::Ready,
+        _ => Kind::Want,
+    }
+}
+
+fn number_of(bytes: &[u8]) -> u64
+    requires { 24 ≤ length bytes.now }
+    ensures { result ≡ eight_at bytes.now 8 }
+{
+    u64::from_be_bytes([
+        bytes[8], bytes[9], bytes[10], bytes[11], bytes[12], bytes[13], bytes[14], bytes[15],
+    ])
+}
+
+/// The frame that the bytes are.
+fn frame_of(bytes: &[u8]) -> FrameRef<'_>
+    requires head { PassBelow bytes.now 24 }
+    requires length { length bytes.now ≡ 2 + length_field bytes.now }
+    ensures is { IsFrame result }
+    ensures spelled { frame_bytes result ≡ bytes.now }
+{
+    let value_len = bytes.len() - HEAD_LEN - TAG_LEN;
+    let (head, rest) = bytes.split_at(HEAD_LEN);
+    let (value, tag) = rest.split_at(value_len);
+    FrameRef {
+        kind: kind_of(bytes[3]),
+        from: u16::from_be_bytes([bytes[4], bytes[5]]),
+        to: u16::from_be_bytes([bytes[6], bytes[7]]),
+        number: number_of(bytes),
+        owner: u16::from_be_bytes([bytes[16], bytes[17]]),
+        seq: u32::from_be_bytes([bytes[18], bytes[19], bytes[20], bytes[21]]),
+        head,
+        value,
+        tag,
+    }
+}
+
+/// What stands in front of the bytes: a frame and its size, nothing yet where they are a proper
+/// beginning of some frame (as no bytes are), or the fault that the first wrong byte names.
+pub fn read(bytes: &[u8]) -> Result<Option<(FrameRef<'_>, usize)>, FrameFault>
+    ensures reading { IsReading bytes.now result }
+{
+    if let Some(place) = first_wrong(bytes) {
+        return Err(fault_at(bytes, place));
+    }
+    if bytes.len() < HEAD_LEN {
+        return Ok(None);
+    }
+    let size = 2 + usize::from(length_field(bytes));
+    if bytes.len() < size {
+        return Ok(None);
+    }
+    Ok(Some((frame_of(&bytes[..size]), size)))
+}
