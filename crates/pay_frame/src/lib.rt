@@ -11,9 +11,12 @@ mod fault;
 mod frame_ref;
 mod kind;
 mod reading;
+mod writing;
 
 pub use body::Body;
 pub use bytes::Bytes;
 pub use fault::FrameFault;
 pub use frame_ref::FrameRef;
 pub use kind::Kind;
+pub use reading::read;
+pub use writing::{head_into, write};

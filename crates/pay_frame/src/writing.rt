@@ -1,0 +1,49 @@
+ghost use Rattle.std.specs.Prelude.{◌≡◌, IfOk};
+ghost use Rattle.pay_frame.specs.Frame.{IsFrame, frame_bytes, head_bytes};
+
+use crate::body::Body;
+use std::alloc::{AllocError, Global};
+
+const VERSION: u8 = 1;
+const LEAST_LENGTH: usize = 54;
+
+/// Writes the 24 bytes that stand before the value.
+pub fn head_into(head: &mut [u8; 24], from: u16, to: u16, number: u64, body: &Body)
+    ensures spelled { head.new ≡ head_bytes from to number body.now }
+{
+    let value_len = body.value().len();
+    let length = ((LEAST_LENGTH + value_len) as u16).to_be_bytes();
+    let value_length = (value_len as u16).to_be_bytes();
+    let sender = from.to_be_bytes();
+    let receiver = to.to_be_bytes();
+    let place = number.to_be_bytes();
+    let owner = body.owner().to_be_bytes();
+    let seq = body.seq().to_be_bytes();
+    *head = [
+        length[0], length[1], VERSION, body.kind().code(), sender[0], sender[1], receiver[0],
+        receiver[1], place[0], place[1], place[2], place[3], place[4], place[5], place[6],
+        place[7], owner[0], owner[1], seq[0], seq[1], seq[2], seq[3], value_length[0],
+        value_length[1],
+    ];
+}
+
+/// The bytes of a frame.
+pub fn write(
+    alloc: Global,
+    from: u16,
+    to: u16,
+    number: u64,
+    body: &Body,
+    tag: &[u8; 32],
+) -> Result<Vec<u8>, AllocError>
+    ensures spelled { IfOk result (λ bytes. bytes.items ≡ frame_bytes (record { from = from; to = to; number = number; body = body.now; tag = tag.now })) }
+    ensures frame { IfOk result (λ _. IsFrame (record { from = from; to = to; number = number; body = body.now; tag = tag.now })) }
+{
+    let mut head = [0u8; 24];
+    head_into(&mut head, from, to, number, body);
+    let mut bytes = Vec::with_capacity(alloc, head.len() + body.value().len() + tag.len())?;
+    bytes.extend_from_slice(&head)?;
+    bytes.extend_from_slice(body.value())?;
+    bytes.extend_from_slice(tag)?;
+    Ok(bytes)
+}
