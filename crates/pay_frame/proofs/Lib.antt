@@ -3,3 +3,4 @@ pub mod Heads
 pub mod Passing
 pub mod Starting
 pub mod Answering
+pub mod OneReading

@@ -10,6 +10,7 @@ mod bytes;
 mod fault;
 mod frame_ref;
 mod kind;
+mod laws;
 mod reading;
 mod writing;
 
@@ -18,5 +19,6 @@ pub use bytes::Bytes;
 pub use fault::FrameFault;
 pub use frame_ref::FrameRef;
 pub use kind::Kind;
+pub use laws::{none_begins_another, one_reading, one_spelling, read_again};
 pub use reading::read;
 pub use writing::{head_into, write};
