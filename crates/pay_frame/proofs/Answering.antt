@@ -4,10 +4,11 @@ use Rattle.std.proofs.lemmas.Bool.{false≢true}
 use Rattle.std.proofs.lemmas.List.{length-append, length-take-le, append-nil, get_or-take, get_or_append_left, take-append-drop}
 use Rattle.pay_frame.specs.declared.fault.FrameFault.{FrameFault}
 use Rattle.pay_frame.specs.Frame.{FrameFields, frame_bytes, IsFrame}
-use Rattle.pay_frame.specs.Places.{length_field, may_stand, PassBelow, IsFirstWrong}
+use Rattle.pay_frame.specs.Places.{length_field, may_stand, PassBelow, IsFirstWrong, IsWhole, IsSizeOf}
 use Rattle.pay_frame.specs.Reading.{HasFrame, StartsFrame, IsProperBeginning, IsFault, IsReading, fault_at}
 use Rattle.pay_frame.proofs.Lists.{IsBytes, IsBytes-take, SameUpTo}
 use Rattle.pay_frame.proofs.Heads.{may_stand-same}
+use Rattle.pay_frame.proofs.Passing.{head_from_passing}
 use Rattle.pay_frame.proofs.Starting.{length-frame, starts_long, starts_short, passes_in_frame, proper_from}
 
 -- the first bytes, where those before a place pass
@@ -54,11 +55,19 @@ pub frame_from : (x : List ℕ) (size : ℕ) (f : FrameFields) → IsFrame f →
 frame_from x size f is spelled = record { is = is; rest = drop size x; spelled = sym (take-append-drop size x) ∙ ap (λ (xs : List ℕ). xs ++ drop size x) (sym spelled) }
 
 -- the front of bytes that pass
-pub pass-take : (x : List ℕ) (size : ℕ) → 24 ≤ size → PassBelow x 24 → PassBelow (take size x) 24
-pass-take x size long pass p lt = may_stand-same (take size x) x p lt (λ j le. get_or-take size x j 0 (omega arith)) ∙ pass p lt
-
-pub length_field-take : (x : List ℕ) (size : ℕ) → 24 ≤ size → length_field (take size x) ≡ length_field x
-length_field-take x size long = let zeroth = get_or-take size x 0 0 (omega arith) in let second = get_or-take size x 1 0 (omega arith) in cc
+pub size_of_whole : (x : List ℕ) (size : ℕ) → PassBelow x 24 → size ≡ 2 + length_field x → size ≤ length x → IsSizeOf x size
+size_of_whole x size pass size-is within =
+    let least = (head_from_passing x pass).least in
+    let zeroth = get_or-take size x 0 0 (omega arith) in
+    let next = get_or-take size x 1 0 (omega arith) in
+    let same : length_field (take size x) ≡ length_field x = cc in
+    record {
+      within = within;
+      whole = record {
+        head = λ p lt. may_stand-same (take size x) x p lt (λ j le. get_or-take size x j 0 (omega arith)) ∙ pass p lt;
+        length = length-take-le size x within ∙ size-is ∙ ap (λ n. 2 + n) (sym same);
+      };
+    }
 
 pub size_from : (x : List ℕ) (size : ℕ) (f : FrameFields) → frame_bytes f ≡ take size x → size ≤ length x → size ≡ length (frame_bytes f)
 size_from x size f spelled le = sym (length-take-le size x le) ∙ ap length (sym spelled)

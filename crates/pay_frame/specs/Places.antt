@@ -1,6 +1,6 @@
 -- Which byte may stand at a place of a frame's head, behind the bytes before it: the reader's own
 -- test. That it is the right one is proved, against frames as Reading.antt asks about them.
-use Rattle.std.specs.Prelude.{◌≡◌, ℕ, ◌+◌, ◌-◌, ◌*◌, ◌/◌, ◌%◌, ◌<◌, ◌≤◌, Bool, true, false, not, ◌&&◌, ◌||◌, ◌==◌, nat_lt, nat_le, if◌then◌else◌, List, [], ◌∷◌, length, slice_index}
+use Rattle.std.specs.Prelude.{◌≡◌, ℕ, ◌+◌, ◌-◌, ◌*◌, ◌/◌, ◌%◌, ◌<◌, ◌≤◌, Bool, true, false, not, ◌&&◌, ◌||◌, ◌==◌, nat_lt, nat_le, if◌then◌else◌, List, [], ◌∷◌, length, take, slice_index}
 use Rattle.std.specs.Int.{w16, w32, w64, from_be_bytes}
 use Rattle.pay_frame.specs.Frame.{least_length, greatest_value}
 
@@ -43,3 +43,13 @@ four_at h p = from_be_bytes w32 (slice_index h p ∷ slice_index h (p + 1) ∷ s
 
 abbrev pub eight_at : List ℕ → ℕ → ℕ
 eight_at h p = from_be_bytes w64 (slice_index h p ∷ slice_index h (p + 1) ∷ slice_index h (p + 2) ∷ slice_index h (p + 3) ∷ slice_index h (p + 4) ∷ slice_index h (p + 5) ∷ slice_index h (p + 6) ∷ slice_index h (p + 7) ∷ [])
+
+-- a head that passes, and as many bytes as its length field says
+pub record IsWhole (bytes : List ℕ) : Type 0 where
+  pub head : PassBelow bytes 24
+  pub length : length bytes ≡ 2 + length_field bytes
+
+-- so many bytes in front are whole
+pub record IsSizeOf (bytes : List ℕ) (size : ℕ) : Type 0 where
+  pub within : size ≤ length bytes
+  pub whole : IsWhole (take size bytes)

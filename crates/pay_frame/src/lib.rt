@@ -7,6 +7,7 @@
 
 mod body;
 mod bytes;
+mod cutter;
 mod fault;
 mod frame_ref;
 mod kind;
@@ -16,6 +17,7 @@ mod writing;
 
 pub use body::Body;
 pub use bytes::Bytes;
+pub use cutter::Cutter;
 pub use fault::FrameFault;
 pub use frame_ref::FrameRef;
 pub use kind::Kind;

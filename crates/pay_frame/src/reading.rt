@@ -1,7 +1,7 @@
-ghost use Rattle.std.specs.Prelude.{◌≡◌, ℕ, ◌+◌, ◌<◌, ◌≤◌, true, false, Some, length, MatchOption, min};
+ghost use Rattle.std.specs.Prelude.{◌≡◌, ℕ, ◌+◌, ◌<◌, ◌≤◌, true, false, Some, length, MatchOption, min, IfOk, IfErr, IfSome, IfNone};
 ghost use Rattle.pay_frame.specs.Frame.{code_of, IsFrame, frame_bytes};
-ghost use Rattle.pay_frame.specs.Reading.{IsReading, fault_at};
-ghost use Rattle.pay_frame.specs.Places.{length_field, is_want, may_stand, PassBelow, IsFirstWrong, eight_at};
+ghost use Rattle.pay_frame.specs.Reading.{IsReading, IsProperBeginning, IsFault, fault_at};
+ghost use Rattle.pay_frame.specs.Places.{length_field, is_want, may_stand, PassBelow, IsFirstWrong, IsWhole, IsSizeOf, eight_at};
 
 use crate::fault::FrameFault;
 use crate::frame_ref::FrameRef;
@@ -97,9 +97,8 @@ fn number_of(bytes: &[u8]) -> u64
 }
 
 /// The frame that the bytes are.
-fn frame_of(bytes: &[u8]) -> FrameRef<'_>
-    requires head { PassBelow bytes.now 24 }
-    requires length { length bytes.now ≡ 2 + length_field bytes.now }
+pub(crate) fn frame_of(bytes: &[u8]) -> FrameRef<'_>
+    requires { IsWhole bytes.now }
     ensures is { IsFrame result }
     ensures spelled { frame_bytes result ≡ bytes.now }
 {
@@ -119,10 +118,11 @@ fn frame_of(bytes: &[u8]) -> FrameRef<'_>
     }
 }
 
-/// What stands in front of the bytes: a frame and its size, nothing yet where they are a proper
-/// beginning of some frame (as no bytes are), or the fault that the first wrong byte names.
-pub fn read(bytes: &[u8]) -> Result<Option<(FrameRef<'_>, usize)>, FrameFault>
-    ensures reading { IsReading bytes.now result }
+/// The size of the frame in front of the bytes, as `read` answers it.
+pub(crate) fn size_in_front(bytes: &[u8]) -> Result<Option<usize>, FrameFault>
+    ensures frame { IfOk result (λ found. IfSome found (IsSizeOf bytes.now)) }
+    ensures beginning { IfOk result (λ found. IfNone found (IsProperBeginning bytes.now)) }
+    ensures fault { IfErr result (IsFault bytes.now) }
 {
     if let Some(place) = first_wrong(bytes) {
         return Err(fault_at(bytes, place));
@@ -131,8 +131,16 @@ pub fn read(bytes: &[u8]) -> Result<Option<(FrameRef<'_>, usize)>, FrameFault>
         return Ok(None);
     }
     let size = 2 + usize::from(length_field(bytes));
-    if bytes.len() < size {
-        return Ok(None);
+    Ok(if size <= bytes.len() { Some(size) } else { None })
+}
+
+/// What stands in front of the bytes: a frame and its size, nothing yet where they are a proper
+/// beginning of some frame (as no bytes are), or the fault that the first wrong byte names.
+pub fn read(bytes: &[u8]) -> Result<Option<(FrameRef<'_>, usize)>, FrameFault>
+    ensures reading { IsReading bytes.now result }
+{
+    match size_in_front(bytes)? {
+        Some(size) => Ok(Some((frame_of(&bytes[..size]), size))),
+        None => Ok(None),
     }
-    Ok(Some((frame_of(&bytes[..size]), size)))
 }
