@@ -4,3 +4,4 @@ pub mod Passing
 pub mod Starting
 pub mod Answering
 pub mod OneReading
+pub mod Windows
