@@ -5,3 +5,4 @@ pub mod Starting
 pub mod Answering
 pub mod OneReading
 pub mod Windows
+pub mod WholeRuns

@@ -21,6 +21,9 @@ pub use cutter::Cutter;
 pub use fault::FrameFault;
 pub use frame_ref::FrameRef;
 pub use kind::Kind;
-pub use laws::{none_begins_another, one_reading, one_spelling, read_again};
+pub use laws::{
+    cuts_do_not_matter, none_begins_another, one_reading, one_spelling, read_again,
+    stream_is_frames_and_rest,
+};
 pub use reading::read;
 pub use writing::{head_into, write};
