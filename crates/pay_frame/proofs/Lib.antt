@@ -6,3 +6,4 @@ pub mod Answering
 pub mod OneReading
 pub mod Windows
 pub mod WholeRuns
+pub mod Written
