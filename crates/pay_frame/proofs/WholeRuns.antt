@@ -31,7 +31,7 @@ keeps old (Gave (Ok (Some f)) ∷ calls) new (between, given, runs) =
     let rest = keeps between calls new runs in
     record {
       parts = ap (λ (xs : List ℕ). xs ++ stream_of calls) given.2 ∙ append_assoc (frame_bytes f) between.bytes (stream_of calls)
-        ∙ ap (λ (xs : List ℕ). frame_bytes f ++ xs) rest.parts ∙ sym (append_assoc (frame_bytes f) (spelled (frames_of calls)) new.bytes);
+          ∙ ap (λ (xs : List ℕ). frame_bytes f ++ xs) rest.parts ∙ sym (append_assoc (frame_bytes f) (spelled (frames_of calls)) new.bytes);
       frames = (given.1, rest.frames);
     }
 keeps old (Gave (Ok None) ∷ calls) new (between, given, runs) =

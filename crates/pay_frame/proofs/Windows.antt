@@ -1,5 +1,5 @@
 -- What a cutter's steps leave of the bytes that it holds.
-use Rattle.std.proofs.Common.{◌≡◌, ℕ, ◌+◌, ◌-◌, ◌<◌, ◌≤◌, List, ◌++◌, length, take, drop, refl, sym, ◌∙◌, ap, subst, arith, inl, inr, Option, Some, None, Ok, Err, eqb, false}
+use Rattle.std.proofs.Common.{◌≡◌, ℕ, ◌+◌, ◌-◌, ◌<◌, List, ◌++◌, length, take, drop, refl, sym, ◌∙◌, ap, subst, arith, inr, Option, Some, None, Ok, Err, eqb, false}
 use Rattle.std.proofs.lemmas.Bool.Decides.{nat_tests}
 use Rattle.std.proofs.lemmas.List.{take-append-drop, drop-drop}
 use Rattle.pay_frame.specs.declared.fault.FrameFault.TheVariants.{Truncated}

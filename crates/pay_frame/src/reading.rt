@@ -9,9 +9,13 @@ use crate::frame_ref::FrameRef;
 use crate::kind::Kind;
 
 const HEAD_LEN: usize = 24;
+
 const TAG_LEN: usize = 32;
+
 const LEAST_LENGTH: u16 = 54;
+
 const GREATEST_LENGTH: u16 = 1078;
+
 const WANT: u8 = 4;
 
 fn length_field(bytes: &[u8]) -> u16
@@ -131,7 +135,11 @@ pub(crate) fn size_in_front(bytes: &[u8]) -> Result<Option<usize>, FrameFault>
         return Ok(None);
     }
     let size = 2 + usize::from(length_field(bytes));
-    Ok(if size <= bytes.len() { Some(size) } else { None })
+    Ok(if size <= bytes.len() {
+        Some(size)
+    } else {
+        None
+    })
 }
 
 /// What stands in front of the bytes: a frame and its size, nothing yet where they are a proper

@@ -1,4 +1,4 @@
-use Rattle.std.proofs.Common.{rules, arith}
+use Rattle.std.proofs.Common.{rules}
 use Rattle.pay_frame.proofs.Written.{appends_further}
 use Rattle.pay_frame.proofs.device.write_all.Goals as goal
 
