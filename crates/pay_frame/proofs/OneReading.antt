@@ -150,3 +150,6 @@ none_begins_another f g rest is js e = sym (same_front g f [] rest js is (append
 pub read_again : (f : FrameFields) (rest : List ℕ) (answer : Result (Option (FrameFields × ℕ)) FrameFault) → IsFrame f → IsReading (frame_bytes f ++ rest) answer → answer ≡ Ok (Some (f, length (frame_bytes f)))
 read_again f rest answer is reading =
     one_reading (frame_bytes f ++ rest) answer (Ok (Some (f, length (frame_bytes f)))) reading (record { is = is; rest = rest; spelled = refl }, refl)
+
+pub drained_from_beginning : (bytes : List ℕ) → IsProperBeginning bytes → (f : FrameFields) → HasFrame bytes f → ⊥
+drained_from_beginning bytes begins f has = proper_or_frame bytes f has begins

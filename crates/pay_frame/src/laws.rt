@@ -3,7 +3,7 @@
 ghost use Rattle.std.specs.Prelude.{◌≡◌, ℕ, List, [], ◌++◌, length, Option, Some, Result, Ok};
 ghost use Rattle.pay_frame.specs.declared.fault.FrameFault.{FrameFault as Fault};
 ghost use Rattle.pay_frame.specs.Frame.{FrameFields, frame_bytes, IsFrame};
-ghost use Rattle.pay_frame.specs.Reading.{IsReading};
+ghost use Rattle.pay_frame.specs.Reading.{IsReading, IsProperBeginning};
 ghost use Rattle.pay_frame.specs.Cutting.{Held, Call, Runs, stream_of, frames_of, nothing_held, IsDrained};
 ghost use Rattle.std.specs.List.{flat_map};
 
@@ -44,3 +44,9 @@ pub fn cuts_do_not_matter()
         stream_of one ≡ stream_of two → IsDrained a.bytes → IsDrained b.bytes →
         (frames_of one ≡ frames_of two) × (a.bytes ≡ b.bytes) }
 {}
+
+/// Where the bytes are a proper beginning of a frame, no whole frame is in front.
+pub fn beginning_is_drained()
+    ensures law { (bytes : List ℕ) → IsProperBeginning bytes → IsDrained bytes }
+{
+}
