@@ -2,6 +2,7 @@ use pay_hmac::{HmacSha256, Tagger, mac};
 use std::alloc::{AllocError, Global};
 use std::test::Fail;
 
+#[derive(Drop)]
 struct Case<'a> {
     key: &'a [u8],
     text: &'a [u8],
