@@ -1,0 +1,5 @@
+pub mod Faults
+pub mod Fronts
+pub mod Genesis
+pub mod Keys
+pub mod TestKeys

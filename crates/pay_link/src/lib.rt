@@ -1,0 +1,21 @@
+//! Links: what a ledger begins with, the keys of its members, and frames that are rightly tagged and
+//! for me.
+#![tactic(auto)]
+
+mod fronts;
+mod genesis;
+mod genesis_fault;
+mod keys;
+mod keys_fault;
+mod limits;
+mod link_fault;
+mod test_keys;
+
+pub use fronts::Fronts;
+pub use genesis::Genesis;
+pub use genesis_fault::GenesisFault;
+pub use keys::Keys;
+pub use keys_fault::KeysFault;
+pub use limits::{GREATEST_TOTAL, MOST_MEMBERS};
+pub use link_fault::LinkFault;
+pub use test_keys::test_keys;
