@@ -1,5 +1,5 @@
 -- One member's keys: one for each other member, which that member has too.
-use Rattle.std.specs.Prelude.{◌≡◌, ◌≢◌, ℕ, ◌<◌, ◌≤◌, ◌==◌, nat_le, List, length, replicate, slice_index_or, slice_set, Option, Some, None, if◌then◌else◌}
+use Rattle.std.specs.Prelude.{◌≡◌, ◌≢◌, ℕ, ◌<◌, ◌≤◌, ◌==◌, nat_le, nat_lt, Bool, not, ◌&&◌, List, length, replicate, slice_index_or, slice_set, Option, Some, None, if◌then◌else◌}
 use Rattle.pay_link.specs.declared.limits.TheConstants.{MOST_MEMBERS}
 use Rattle.pay_link.specs.declared.keys_fault.KeysFault.{KeysFault}
 use Rattle.pay_link.specs.declared.keys_fault.KeysFault.TheVariants.{BadKeyCount, BadOwn}
@@ -21,6 +21,10 @@ pub record IsKeys (k : KeyFields) : Type 0 where
 -- another member
 abbrev pub IsPeer : KeyFields → ℕ → Type 0
 IsPeer k p = (p < length k.keys) × (p ≢ k.own)
+
+-- whether it is one, as a test
+abbrev pub is_peer : KeyFields → ℕ → Bool
+is_peer k p = nat_lt p (length k.keys) && not (p == k.own)
 
 -- the key that is shared with a peer
 abbrev pub key_for : KeyFields → ℕ → List ℕ

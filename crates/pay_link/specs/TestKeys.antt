@@ -7,9 +7,13 @@ use Rattle.pay_link.specs.Keys.{KeyFields, no_key}
 abbrev pub pair_key : ℕ → ℕ → List ℕ
 pair_key x y = replicate 30 0 ++ (min x y ∷ max x y ∷ [])
 
+-- the key that a member keeps for another, and none for itself
+abbrev pub test_key : ℕ → ℕ → List ℕ
+test_key own p = if p == own then no_key else pair_key own p
+
 -- the keys of one of so many members
 abbrev pub test_keys_of : ℕ → ℕ → KeyFields
 test_keys_of members own = record {
   own = own;
-  keys = map (λ p. if p == own then no_key else pair_key own p) (range_with_len 0 members);
+  keys = map (test_key own) (range_with_len 0 members);
 }

@@ -20,27 +20,28 @@ pub enum GenesisFault {
 }
 
 impl GenesisFault {
-    pub fn number(&self) -> u8
-        ensures { result ≡ genesis_fault_number self.now }
+    const fn entry(self) -> (u8, &'static str)
+        ensures number { result.0 ≡ genesis_fault_number self }
+        ensures name { result.1.now ≡ genesis_fault_name self }
     {
         match self {
-            GenesisFault::Memory => 0,
-            GenesisFault::BadCount => 3,
-            GenesisFault::BadFaults => 4,
-            GenesisFault::BadOpening => 5,
-            GenesisFault::BadTotal => 6,
+            GenesisFault::Memory => (0, "Memory"),
+            GenesisFault::BadCount => (3, "BadCount"),
+            GenesisFault::BadFaults => (4, "BadFaults"),
+            GenesisFault::BadOpening => (5, "BadOpening"),
+            GenesisFault::BadTotal => (6, "BadTotal"),
         }
     }
 
-    pub fn name(&self) -> &'static str
-        ensures { result.now ≡ genesis_fault_name self.now }
+    pub fn number(self) -> u8
+        ensures value { result ≡ genesis_fault_number self }
     {
-        match self {
-            GenesisFault::Memory => "Memory",
-            GenesisFault::BadCount => "BadCount",
-            GenesisFault::BadFaults => "BadFaults",
-            GenesisFault::BadOpening => "BadOpening",
-            GenesisFault::BadTotal => "BadTotal",
-        }
+        self.entry().0
+    }
+
+    pub fn name(self) -> &'static str
+        ensures value { result.now ≡ genesis_fault_name self }
+    {
+        self.entry().1
     }
 }

@@ -16,23 +16,26 @@ pub enum KeysFault {
 }
 
 impl KeysFault {
-    pub fn number(&self) -> u8
-        ensures { result ≡ keys_fault_number self.now }
+    const fn entry(self) -> (u8, &'static str)
+        ensures number { result.0 ≡ keys_fault_number self }
+        ensures name { result.1.now ≡ keys_fault_name self }
     {
         match self {
-            KeysFault::Memory => 0,
-            KeysFault::BadOwn => 3,
-            KeysFault::BadKeyCount => 4,
+            KeysFault::Memory => (0, "Memory"),
+            KeysFault::BadOwn => (3, "BadOwn"),
+            KeysFault::BadKeyCount => (4, "BadKeyCount"),
         }
     }
 
-    pub fn name(&self) -> &'static str
-        ensures { result.now ≡ keys_fault_name self.now }
+    pub fn number(self) -> u8
+        ensures value { result ≡ keys_fault_number self }
     {
-        match self {
-            KeysFault::Memory => "Memory",
-            KeysFault::BadOwn => "BadOwn",
-            KeysFault::BadKeyCount => "BadKeyCount",
-        }
+        self.entry().0
+    }
+
+    pub fn name(self) -> &'static str
+        ensures value { result.now ≡ keys_fault_name self }
+    {
+        self.entry().1
     }
 }

@@ -9,7 +9,9 @@ mod keys;
 mod keys_fault;
 mod limits;
 mod link_fault;
-mod test_keys;
+mod opened;
+mod sealing;
+mod known_keys;
 
 pub use fronts::Fronts;
 pub use genesis::Genesis;
@@ -18,4 +20,6 @@ pub use keys::Keys;
 pub use keys_fault::KeysFault;
 pub use limits::{GREATEST_TOTAL, MOST_MEMBERS};
 pub use link_fault::LinkFault;
-pub use test_keys::test_keys;
+pub use opened::{Opened, open};
+pub use sealing::seal;
+pub use known_keys::test_keys;

@@ -22,29 +22,29 @@ pub enum LinkFault {
 }
 
 impl LinkFault {
-    pub fn number(&self) -> u8
-        ensures { result ≡ link_fault_number self.now }
+    const fn entry(self) -> (u8, &'static str)
+        ensures number { result.0 ≡ link_fault_number self }
+        ensures name { result.1.now ≡ link_fault_name self }
     {
         match self {
-            LinkFault::NotForMe => 1,
-            LinkFault::UnknownSender => 2,
-            LinkFault::UnknownOwner => 3,
-            LinkFault::BadTag => 4,
-            LinkFault::Repeat(_) => 5,
-            LinkFault::Gap(_) => 6,
+            LinkFault::NotForMe => (1, "NotForMe"),
+            LinkFault::UnknownSender => (2, "UnknownSender"),
+            LinkFault::UnknownOwner => (3, "UnknownOwner"),
+            LinkFault::BadTag => (4, "BadTag"),
+            LinkFault::Repeat(_) => (5, "Repeat"),
+            LinkFault::Gap(_) => (6, "Gap"),
         }
     }
 
-    pub fn name(&self) -> &'static str
-        ensures { result.now ≡ link_fault_name self.now }
+    pub fn number(self) -> u8
+        ensures value { result ≡ link_fault_number self }
     {
-        match self {
-            LinkFault::NotForMe => "NotForMe",
-            LinkFault::UnknownSender => "UnknownSender",
-            LinkFault::UnknownOwner => "UnknownOwner",
-            LinkFault::BadTag => "BadTag",
-            LinkFault::Repeat(_) => "Repeat",
-            LinkFault::Gap(_) => "Gap",
-        }
+        self.entry().0
+    }
+
+    pub fn name(self) -> &'static str
+        ensures value { result.now ≡ link_fault_name self }
+    {
+        self.entry().1
     }
 }

@@ -1,7 +1,7 @@
 //! Keys that anyone can name, for tests, the simulator and examples.
 
 ghost use Rattle.std.specs.Prelude.{◌≡◌, ◌<◌, IfOk};
-ghost use Rattle.pay_link.specs.TestKeys.{pair_key, test_keys_of};
+ghost use Rattle.pay_link.specs.TestKeys.{pair_key, test_key, test_keys_of};
 
 use crate::genesis::Genesis;
 use crate::keys::{Keys, NO_KEY};
@@ -15,13 +15,21 @@ pub fn test_keys(alloc: Global, genesis: &Genesis, own: u16) -> Result<Keys, All
     let members = genesis.members();
     let mut keys = Vec::with_capacity(alloc, usize::from(members))?;
     for place in 0..members {
-        keys.push(if place == own {
-            NO_KEY
-        } else {
-            pair_key(own, place)
-        })?;
+        keys.push(test_key(own, place))?;
     }
     Ok(Keys::of_parts(own, keys))
+}
+
+fn test_key(own: u16, place: u16) -> [u8; 32]
+    requires own { own < 256 }
+    requires place { place < 256 }
+    ensures { result ≡ test_key own place }
+{
+    if place == own {
+        NO_KEY
+    } else {
+        pair_key(own, place)
+    }
 }
 
 fn pair_key(x: u16, y: u16) -> [u8; 32]
