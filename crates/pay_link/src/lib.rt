@@ -7,11 +7,12 @@ mod genesis;
 mod genesis_fault;
 mod keys;
 mod keys_fault;
+mod known_keys;
+pub mod laws;
 mod limits;
 mod link_fault;
 mod opened;
 mod sealing;
-mod known_keys;
 
 pub use fronts::Fronts;
 pub use genesis::Genesis;
