@@ -1,19 +1,20 @@
 -- How a frame is opened or refused.
-use Rattle.std.specs.Prelude.{◌≡◌, ◌≢◌, ℕ, ◌<◌, ◌==◌, nat_lt, Bool, List, ◌++◌, length, Result, Ok, Err, if◌then◌else◌}
+use Rattle.std.specs.Prelude.{◌≡◌, ◌≢◌, ℕ, ◌<◌, ◌==◌, nat_lt, List, length, Result, Ok, Err, if◌then◌else◌}
 use Rattle.std.specs.Str.{bytes_eq}
-use Rattle.pay_frame.specs.Frame.{FrameFields, head_bytes}
+use Rattle.pay_frame.specs.Frame.{FrameFields}
 use Rattle.pay_hmac.specs.Mac.{mac}
+use Rattle.pay_link.specs.Sealing.{tagged_bytes}
 use Rattle.pay_link.specs.Keys.{IsPeer, KeyFields, is_peer, key_for}
 use Rattle.pay_link.specs.declared.link_fault.LinkFault.{LinkFault}
 use Rattle.pay_link.specs.declared.link_fault.LinkFault.TheVariants.{BadTag, NotForMe, UnknownOwner, UnknownSender}
 
--- what the tag of a frame is over: all bytes before it
-abbrev pub tagged_bytes : FrameFields → List ℕ
-tagged_bytes f = head_bytes f.from f.to f.number f.body ++ f.body.value
+-- the tag that belongs to a frame under this key
+abbrev pub right_tag : List ℕ → FrameFields → List ℕ
+right_tag key f = mac key (tagged_bytes f.from f.to f.number f.body)
 
--- the tag is the one under this key
+-- the frame has that tag
 abbrev pub IsTagged : List ℕ → FrameFields → Type 0
-IsTagged key f = f.tag ≡ mac key (tagged_bytes f)
+IsTagged key f = f.tag ≡ right_tag key f
 
 -- a frame, the key that its receiver shares with its sender, and how many members there are
 pub record OpenedFields : Type 0 where
@@ -46,7 +47,7 @@ judgement k f =
     if f.to == k.own
     then (if is_peer k f.from
     then (if nat_lt f.body.owner (length k.keys)
-    then (if bytes_eq f.tag (mac (key_for k f.from) (tagged_bytes f)) then Ok (opened_fields k f) else Err BadTag)
+    then (if bytes_eq f.tag (right_tag (key_for k f.from) f) then Ok (opened_fields k f) else Err BadTag)
     else Err UnknownOwner)
     else Err UnknownSender)
     else Err NotForMe

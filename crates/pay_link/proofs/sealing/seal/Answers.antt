@@ -1,7 +1,8 @@
-use Rattle.std.proofs.Common.{rules, arith, sym, ◌∙◌}
+use Rattle.pay_link.specs.Sealing.{tagged_bytes}
 use Rattle.pay_link.proofs.sealing.seal.Goals as goal
 
 pub returns : goal.returns
+unfolding tagged_bytes
 returns g c =
     let own = c.own-own.ensures.value in
     let key = c.key.ensures in
