@@ -1,5 +1,6 @@
 -- One member's keys: one for each other member, which that member has too.
-use Rattle.std.specs.Prelude.{◌≢◌, ℕ, ◌<◌, ◌≤◌, ◌==◌, nat_le, nat_lt, Bool, not, ◌&&◌, List, length, replicate, slice_index_or, slice_set, Option, Some, None, if◌then◌else◌}
+use Rattle.std.specs.Prelude.{◌≡◌, ◌≢◌, ℕ, ◌<◌, ◌≤◌, ◌==◌, nat_le, nat_lt, Bool, not, ◌&&◌, List, length, replicate, slice_index_or, slice_set, Option, Some, None, if◌then◌else◌}
+use Rattle.pay_link.specs.Genesis.{GenesisFields}
 use Rattle.pay_link.specs.declared.limits.TheConstants.{MOST_MEMBERS}
 use Rattle.pay_link.specs.declared.keys_fault.KeysFault.{KeysFault}
 use Rattle.pay_link.specs.declared.keys_fault.KeysFault.TheVariants.{BadKeyCount, BadOwn}
@@ -17,6 +18,10 @@ no_key = replicate 32 0
 pub record IsKeys (k : KeyFields) : Type 0 where
   pub own : k.own < length k.keys
   pub few : length k.keys ≤ MOST_MEMBERS
+
+-- they are of a member of this genesis
+abbrev pub IsKeysOf : GenesisFields → KeyFields → Type 0
+IsKeysOf g k = length k.keys ≡ g.members
 
 -- another member
 abbrev pub IsPeer : KeyFields → ℕ → Type 0

@@ -39,6 +39,7 @@ impl Genesis {
             (λ fault. result ≡ Err fault) }
         ensures value { IfOk result (λ genesis.
             genesis ≡ record { members = members; faults = faults; opening = opening.now }) }
+        ensures limits { IfOk result IsGenesis }
     {
         if members == 0 || members > u64::from(MOST_MEMBERS) {
             return Err(GenesisFault::BadCount);

@@ -1,5 +1,5 @@
 ghost use Rattle.std.specs.Prelude.{◌≡◌, ◌<◌, ◌↔◌, IfOk, IsOkUnless, IsTrue, MatchOption, length};
-ghost use Rattle.pay_link.specs.Keys.{IsKeys, IsPeer, kept_keys, key_for, keys_fault};
+ghost use Rattle.pay_link.specs.Keys.{IsKeys, IsKeysOf, IsPeer, kept_keys, key_for, keys_fault};
 
 use crate::genesis::Genesis;
 use crate::keys_fault::KeysFault;
@@ -7,10 +7,11 @@ use std::alloc::{AllocError, Global};
 use std::marker::Model;
 
 /// What stands at the own place.
-pub const NO_KEY: [u8; 32] = [0; 32];
+pub(crate) const NO_KEY: [u8; 32] = [0; 32];
 
-/// One member's keys, one for each other member. Both members of a pair have the same.
-#[derive(Debug, Drop)]
+/// One member's keys, one for each other member. Both members of a pair have the same. They have no
+/// `Debug`, so that no line of a log shows one.
+#[derive(Drop)]
 pub struct Keys {
     own: u16,
     keys: Vec<[u8; 32]>,
@@ -40,6 +41,7 @@ impl Keys {
             (IsOkUnless result KeysFault.Memory)
             (λ fault. result ≡ Err fault) }
         ensures value { IfOk result (λ kept. kept ≡ kept_keys (record { own = own; keys = keys.now })) }
+        ensures genesis { IfOk result (IsKeysOf genesis.now) }
     {
         let members = genesis.members();
         if own >= u64::from(members) {

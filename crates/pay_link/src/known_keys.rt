@@ -1,6 +1,7 @@
 //! Keys that anyone can name, for tests, the simulator and examples.
 
 ghost use Rattle.std.specs.Prelude.{◌≡◌, ◌<◌, IfOk};
+ghost use Rattle.pay_link.specs.Keys.{IsKeysOf};
 ghost use Rattle.pay_link.specs.TestKeys.{pair_key, test_key, test_keys_of};
 
 use crate::genesis::Genesis;
@@ -10,7 +11,8 @@ use std::alloc::{AllocError, Global};
 /// The test keys of a member.
 pub fn test_keys(alloc: Global, genesis: &Genesis, own: u16) -> Result<Keys, AllocError>
     requires { own < genesis.now.members }
-    ensures { IfOk result (λ keys. keys ≡ test_keys_of genesis.now.members own) }
+    ensures value { IfOk result (λ keys. keys ≡ test_keys_of genesis.now.members own) }
+    ensures genesis { IfOk result (IsKeysOf genesis.now) }
 {
     let members = genesis.members();
     let mut keys = Vec::with_capacity(alloc, usize::from(members))?;

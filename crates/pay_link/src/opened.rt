@@ -9,7 +9,7 @@ use std::marker::Model;
 
 /// A frame for me from another member, about the broadcast of a member, with the tag under the key
 /// that is shared with its sender. `open` alone makes one.
-#[derive(Debug, Drop)]
+#[derive(Drop)]
 pub struct Opened<'a> {
     frame: FrameRef<'a>,
     key: [u8; 32],

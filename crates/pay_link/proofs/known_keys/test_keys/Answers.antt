@@ -16,3 +16,8 @@ of_parts-requires c =
       own = omega (arith, long, genesis.value);
       few = omega (arith, long, genesis.value, genesis.limits.few);
     }
+
+pub returns-clause-genesis : goal.returns-clause-genesis
+returns-clause-genesis c =
+    let long : length c.loop-place.keys.items ≡ c.loop-place.place = length-filled _ _ _ c.loop-place.invariant in
+    rw c.of_parts.ensures (omega (arith, long, c.members-members.ensures.value))
