@@ -16,17 +16,72 @@ struct Case<'a> {
 #[test]
 fn genesis_faults_in_order(rt: HostRuntime) {
     let cases = [
-        Case { members: 0, faults: 0, opening: &[], fault: GenesisFault::BadCount },
-        Case { members: 65, faults: 40, opening: &[], fault: GenesisFault::BadCount },
-        Case { members: u64::MAX, faults: 0, opening: &[1], fault: GenesisFault::BadCount },
-        Case { members: 4, faults: 2, opening: &[1, 2], fault: GenesisFault::BadFaults },
-        Case { members: 3, faults: 1, opening: &[], fault: GenesisFault::BadFaults },
-        Case { members: 64, faults: 22, opening: &[u64::MAX; 64], fault: GenesisFault::BadFaults },
-        Case { members: 4, faults: u64::MAX, opening: &[0; 4], fault: GenesisFault::BadFaults },
-        Case { members: 4, faults: 1, opening: &[u64::MAX; 3], fault: GenesisFault::BadOpening },
-        Case { members: 4, faults: 1, opening: &[u64::MAX; 5], fault: GenesisFault::BadOpening },
-        Case { members: 4, faults: 1, opening: &[GREATEST, 1, 0, 0], fault: GenesisFault::BadTotal },
-        Case { members: 2, faults: 0, opening: &[GREATEST + 1, GREATEST + 1], fault: GenesisFault::BadTotal },
+        Case {
+            members: 0,
+            faults: 0,
+            opening: &[],
+            fault: GenesisFault::BadCount,
+        },
+        Case {
+            members: 65,
+            faults: 40,
+            opening: &[],
+            fault: GenesisFault::BadCount,
+        },
+        Case {
+            members: u64::MAX,
+            faults: 0,
+            opening: &[1],
+            fault: GenesisFault::BadCount,
+        },
+        Case {
+            members: 4,
+            faults: 2,
+            opening: &[1, 2],
+            fault: GenesisFault::BadFaults,
+        },
+        Case {
+            members: 3,
+            faults: 1,
+            opening: &[],
+            fault: GenesisFault::BadFaults,
+        },
+        Case {
+            members: 64,
+            faults: 22,
+            opening: &[u64::MAX; 64],
+            fault: GenesisFault::BadFaults,
+        },
+        Case {
+            members: 4,
+            faults: u64::MAX,
+            opening: &[0; 4],
+            fault: GenesisFault::BadFaults,
+        },
+        Case {
+            members: 4,
+            faults: 1,
+            opening: &[u64::MAX; 3],
+            fault: GenesisFault::BadOpening,
+        },
+        Case {
+            members: 4,
+            faults: 1,
+            opening: &[u64::MAX; 5],
+            fault: GenesisFault::BadOpening,
+        },
+        Case {
+            members: 4,
+            faults: 1,
+            opening: &[GREATEST, 1, 0, 0],
+            fault: GenesisFault::BadTotal,
+        },
+        Case {
+            members: 2,
+            faults: 0,
+            opening: &[GREATEST + 1, GREATEST + 1],
+            fault: GenesisFault::BadTotal,
+        },
     ];
     for (row, case) in cases.iter().enumerate() {
         let made = Genesis::new(rt.alloc(), case.members, case.faults, case.opening);
@@ -38,9 +93,15 @@ fn genesis_faults_in_order(rt: HostRuntime) {
 #[test]
 fn genesis_at_its_limits(rt: HostRuntime) -> Result<(), Fail> {
     let alone = Genesis::new(rt.alloc(), 1, 0, &[7])?;
-    assert_eq!(rt; (alone.members(), alone.faults(), alone.opening(0)), (1, 0, 7));
+    assert_eq!(rt;
+        (alone.members(), alone.faults(), alone.opening(0)),
+        (1, 0, 7)
+    );
     let largest = Genesis::new(rt.alloc(), 64, 21, &[0; 64])?;
-    assert_eq!(rt; (largest.members(), largest.faults(), largest.opening(63)), (64, 21, 0));
+    assert_eq!(rt;
+        (largest.members(), largest.faults(), largest.opening(63)),
+        (64, 21, 0)
+    );
     let richest = Genesis::new(rt.alloc(), 4, 1, &[GREATEST - 3, 1, 1, 1])?;
     let copy = richest.copy(rt.alloc())?;
     assert_eq!(rt; (copy.members(), copy.faults()), (4, 1));
@@ -53,10 +114,22 @@ fn genesis_at_its_limits(rt: HostRuntime) -> Result<(), Fail> {
 fn keys_faults_in_order(rt: HostRuntime) -> Result<(), Fail> {
     let genesis = Genesis::new(rt.alloc(), 4, 1, &[100, 0, 0, 50])?;
     let keys = [[1; 32], [2; 32], [3; 32], [4; 32], [5; 32]];
-    assert_eq!(rt; Keys::new(rt.alloc(), &genesis, 4, &keys).err(), Some(KeysFault::BadOwn));
-    assert_eq!(rt; Keys::new(rt.alloc(), &genesis, 65_536, &keys[..4]).err(), Some(KeysFault::BadOwn));
-    assert_eq!(rt; Keys::new(rt.alloc(), &genesis, 3, &keys).err(), Some(KeysFault::BadKeyCount));
-    assert_eq!(rt; Keys::new(rt.alloc(), &genesis, 3, &keys[..3]).err(), Some(KeysFault::BadKeyCount));
+    assert_eq!(rt;
+        Keys::new(rt.alloc(), &genesis, 4, &keys).err(),
+        Some(KeysFault::BadOwn)
+    );
+    assert_eq!(rt;
+        Keys::new(rt.alloc(), &genesis, 65_536, &keys[..4]).err(),
+        Some(KeysFault::BadOwn)
+    );
+    assert_eq!(rt;
+        Keys::new(rt.alloc(), &genesis, 3, &keys).err(),
+        Some(KeysFault::BadKeyCount)
+    );
+    assert_eq!(rt;
+        Keys::new(rt.alloc(), &genesis, 3, &keys[..3]).err(),
+        Some(KeysFault::BadKeyCount)
+    );
     Ok(())
 }
 
@@ -64,7 +137,12 @@ fn keys_faults_in_order(rt: HostRuntime) -> Result<(), Fail> {
 #[test]
 fn keys_of_a_member(rt: HostRuntime) -> Result<(), Fail> {
     let genesis = Genesis::new(rt.alloc(), 4, 1, &[100, 0, 0, 50])?;
-    let keys = Keys::new(rt.alloc(), &genesis, 2, &[[1; 32], [2; 32], [3; 32], [4; 32]])?;
+    let keys = Keys::new(
+        rt.alloc(),
+        &genesis,
+        2,
+        &[[1; 32], [2; 32], [3; 32], [4; 32]],
+    )?;
     let copy = keys.copy(rt.alloc())?;
     assert_eq!(rt; (copy.own(), copy.members()), (2, 4));
     for peer in [0, 1, 3] {
