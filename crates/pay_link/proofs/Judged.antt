@@ -119,12 +119,12 @@ from_bad_tag true true true false o h = (refl, refl, refl, refl)
 from_bad_tag true true true true o h = absurd cc
 
 from_opened : (me peer owner tag : Bool) (o p : OpenedFields) → decided me peer owner tag o ≡ Ok p →
-    (me ≡ true) × (peer ≡ true) × (owner ≡ true) × (tag ≡ true)
+    (me ≡ true) × (peer ≡ true) × (owner ≡ true) × (tag ≡ true) × (p ≡ o)
 from_opened false peer owner tag o p h = absurd cc
 from_opened true false owner tag o p h = absurd cc
 from_opened true true false tag o p h = absurd cc
 from_opened true true true false o p h = absurd cc
-from_opened true true true true o p h = (refl, refl, refl, refl)
+from_opened true true true true o p h = (refl, refl, refl, refl, cc)
 
 pub not_for_me_law : (k : KeyFields) (f : FrameFields) → (judgement k f ≡ Err NotForMe) ↔ (f.to ≢ k.own)
 unfolding judgement
@@ -165,18 +165,21 @@ bad_tag_law k f =
       λ h. judgement-bad_tag k f h.0 ((is_peer-Decides k f.from).1 h.1) h.2 (false_from_ne_true _ (λ t. h.3 (tag.0 t))),
     )
 
-pub opened_law : (k : KeyFields) (f : FrameFields) → (judgement k f ≡ Ok (opened_fields k f)) ↔ Opens k f
+pub opened_law : (k : KeyFields) (f : FrameFields) (o : OpenedFields) →
+    (judgement k f ≡ Ok o) ↔ (Opens k f × (o ≡ opened_fields k f))
 unfolding judgement
-opened_law k f =
+opened_law k f o =
     let tag = bytes_eq-Decides f.tag (right_tag (key_for k f.from) f) in (
       λ h. let tests = from_opened _ _ _ _ _ _ h in
-        record {
+        (record {
           for_me = (Decides-eqb f.to k.own).0 tests.0;
           sender = (is_peer-Decides k f.from).0 tests.1;
           owner = (Decides-ltb f.body.owner (length k.keys)).0 tests.2;
           tagged = tag.0 tests.3;
-        },
-      λ h. judgement-opened k f h.for_me ((is_peer-Decides k f.from).1 h.sender) h.owner (tag.1 h.tagged),
+        }, tests.4),
+      λ h. let opens = h.0 in
+        judgement-opened k f opens.for_me ((is_peer-Decides k f.from).1 opens.sender) opens.owner (tag.1 opens.tagged)
+        ∙ ap Ok (sym h.1),
     )
 
 -- what is sealed for a peer opens there
@@ -184,9 +187,9 @@ pub sealed_opens_law : (a b : KeyFields) (number : ℕ) (body : BodyFields) → 
     key_for a b.own ≡ key_for b a.own → body.owner < length b.keys →
     judgement b (sealed a b.own number body) ≡ Ok (opened_fields b (sealed a b.own number body))
 sealed_opens_law a b number body peer shared owner =
-    (opened_law b (sealed a b.own number body)).1 (record {
+    (opened_law b (sealed a b.own number body) _).1 (record {
       for_me = refl;
       sender = peer;
       owner = owner;
       tagged = ap (λ key. mac key (tagged_bytes a.own b.own number body)) shared;
-    })
+    }, refl)

@@ -1,3 +1,3 @@
-mod Judged
+pub mod Judged
 mod Lists
-mod TestKeysLemmas
+pub mod TestKeysLemmas

@@ -4,7 +4,7 @@ ghost use Rattle.std.specs.Prelude.{◌≡◌, ◌≢◌, ◌*◌, ◌<◌, ◌�
 ghost use Rattle.pay_frame.specs.Frame.{BodyFields, FrameFields};
 ghost use Rattle.pay_link.specs.Genesis.{GenesisFields, IsGenesis, genesis_fault};
 ghost use Rattle.pay_link.specs.Keys.{IsPeer, KeyFields, key_for};
-ghost use Rattle.pay_link.specs.Opening.{IsTagged, Opens, judgement, opened_fields};
+ghost use Rattle.pay_link.specs.Opening.{IsTagged, OpenedFields, Opens, judgement, opened_fields};
 ghost use Rattle.pay_link.specs.Sealing.{sealed};
 ghost use Rattle.pay_link.specs.TestKeys.{test_keys_of};
 
@@ -35,7 +35,8 @@ pub fn genesis_causes()
 /// A frame opens exactly where it is for the member, from a peer, about a member's broadcast and
 /// rightly tagged, and it is then what was opened.
 pub fn opened()
-    ensures { (k : KeyFields) (f : FrameFields) → (judgement k f ≡ Ok (opened_fields k f)) ↔ Opens k f }
+    ensures { (k : KeyFields) (f : FrameFields) (o : OpenedFields) →
+        (judgement k f ≡ Ok o) ↔ (Opens k f × (o ≡ opened_fields k f)) }
 {
 }
 
