@@ -130,7 +130,7 @@ pub not_for_me_law : (k : KeyFields) (f : FrameFields) → (judgement k f ≡ Er
 unfolding judgement
 not_for_me_law k f = (
   λ h. not_from_Decides _ (Decides-eqb f.to k.own) (from_not_for_me _ (is_peer k f.from)
-    (nat_lt f.body.owner (length k.keys)) (bytes_eq f.tag (right_tag (key_for k f.from) f)) (opened_fields k f) h),
+      (nat_lt f.body.owner (length k.keys)) (bytes_eq f.tag (right_tag (key_for k f.from) f)) (opened_fields k f) h),
   judgement-not_for_me k f,
 )
 
@@ -139,7 +139,7 @@ pub unknown_sender_law : (k : KeyFields) (f : FrameFields) →
 unfolding judgement
 unknown_sender_law k f = (
   λ h. let tests = from_unknown_sender _ _ _ _ _ h in
-    ((Decides-eqb f.to k.own).0 tests.0, not_from_Decides _ (is_peer-Decides k f.from) tests.1),
+      ((Decides-eqb f.to k.own).0 tests.0, not_from_Decides _ (is_peer-Decides k f.from) tests.1),
   λ h. judgement-unknown_sender k f h.0 (false_from_ne_true _ (λ t. h.1 ((is_peer-Decides k f.from).0 t))),
 )
 
@@ -148,8 +148,8 @@ pub unknown_owner_law : (k : KeyFields) (f : FrameFields) →
 unfolding judgement
 unknown_owner_law k f = (
   λ h. let tests = from_unknown_owner _ _ _ _ _ h in
-    let far : ¬ (f.body.owner < length k.keys) = not_from_Decides _ (Decides-ltb _ _) tests.2 in
-    ((Decides-eqb f.to k.own).0 tests.0, (is_peer-Decides k f.from).0 tests.1, omega arith),
+      let far : ¬ (f.body.owner < length k.keys) = not_from_Decides _ (Decides-ltb _ _) tests.2 in
+      ((Decides-eqb f.to k.own).0 tests.0, (is_peer-Decides k f.from).0 tests.1, omega arith),
   λ h. judgement-unknown_owner k f h.0 ((is_peer-Decides k f.from).1 h.1) h.2,
 )
 
@@ -159,9 +159,12 @@ pub bad_tag_law : (k : KeyFields) (f : FrameFields) →
 unfolding judgement
 bad_tag_law k f =
     let tag = bytes_eq-Decides f.tag (right_tag (key_for k f.from) f) in (
-      λ h. let tests = from_bad_tag _ _ _ _ _ h in
-        ((Decides-eqb f.to k.own).0 tests.0, (is_peer-Decides k f.from).0 tests.1,
-          (Decides-ltb f.body.owner (length k.keys)).0 tests.2, not_from_Decides _ tag tests.3),
+      λ h. let tests = from_bad_tag _ _ _ _ _ h in (
+        (Decides-eqb f.to k.own).0 tests.0,
+        (is_peer-Decides k f.from).0 tests.1,
+        (Decides-ltb f.body.owner (length k.keys)).0 tests.2,
+        not_from_Decides _ tag tests.3,
+      ),
       λ h. judgement-bad_tag k f h.0 ((is_peer-Decides k f.from).1 h.1) h.2 (false_from_ne_true _ (λ t. h.3 (tag.0 t))),
     )
 
@@ -170,16 +173,18 @@ pub opened_law : (k : KeyFields) (f : FrameFields) (o : OpenedFields) →
 unfolding judgement
 opened_law k f o =
     let tag = bytes_eq-Decides f.tag (right_tag (key_for k f.from) f) in (
-      λ h. let tests = from_opened _ _ _ _ _ _ h in
-        (record {
+      λ h. let tests = from_opened _ _ _ _ _ _ h in (
+        record {
           for_me = (Decides-eqb f.to k.own).0 tests.0;
           sender = (is_peer-Decides k f.from).0 tests.1;
           owner = (Decides-ltb f.body.owner (length k.keys)).0 tests.2;
           tagged = tag.0 tests.3;
-        }, tests.4),
+        },
+        tests.4,
+      ),
       λ h. let opens = h.0 in
-        judgement-opened k f opens.for_me ((is_peer-Decides k f.from).1 opens.sender) opens.owner (tag.1 opens.tagged)
-        ∙ ap Ok (sym h.1),
+          judgement-opened k f opens.for_me ((is_peer-Decides k f.from).1 opens.sender) opens.owner (tag.1 opens.tagged)
+          ∙ ap Ok (sym h.1),
     )
 
 -- what is sealed for a peer opens there
@@ -187,9 +192,12 @@ pub sealed_opens_law : (a b : KeyFields) (number : ℕ) (body : BodyFields) → 
     key_for a b.own ≡ key_for b a.own → body.owner < length b.keys →
     judgement b (sealed a b.own number body) ≡ Ok (opened_fields b (sealed a b.own number body))
 sealed_opens_law a b number body peer shared owner =
-    (opened_law b (sealed a b.own number body) _).1 (record {
-      for_me = refl;
-      sender = peer;
-      owner = owner;
-      tagged = ap (λ key. mac key (tagged_bytes a.own b.own number body)) shared;
-    }, refl)
+    (opened_law b (sealed a b.own number body) _).1 (
+      record {
+        for_me = refl;
+        sender = peer;
+        owner = owner;
+        tagged = ap (λ key. mac key (tagged_bytes a.own b.own number body)) shared;
+      },
+      refl,
+    )

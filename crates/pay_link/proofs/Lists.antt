@@ -11,4 +11,3 @@ filled_more f xs ys n before push =
 
 pub length-filled : (f : ℕ → List ℕ) (xs : List (List ℕ)) (n : ℕ) → xs ≡ map f (range_with_len 0 n) → length xs ≡ n
 length-filled f xs n h = ap length h ∙ length-map-range_with_len f 0 n
-

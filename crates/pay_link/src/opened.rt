@@ -37,11 +37,7 @@ impl<'a> Opened<'a> {
 
 /// Opens a frame that was sent to the member with these keys, or names the first cause of refusal. It
 /// takes no memory and waits for nobody.
-pub fn open<'a, T: Tagger>(
-    t: &T,
-    keys: &Keys,
-    frame: FrameRef<'a>,
-) -> Result<Opened<'a>, LinkFault>
+pub fn open<'a, T: Tagger>(t: &T, keys: &Keys, frame: FrameRef<'a>) -> Result<Opened<'a>, LinkFault>
     ensures { result ≡ judgement keys.now frame.entry }
 {
     if frame.to() != keys.own() {
