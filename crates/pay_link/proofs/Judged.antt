@@ -68,6 +68,8 @@ judgement-opened k f me peer known tag =
     let owner : nat_lt f.body.owner (length k.keys) ≡ true = search rules in
     rw (test, peer, owner, tag) refl
 
+pub ruleset judged = (is_peer_read, judgement-not_for_me, judgement-unknown_sender, judgement-unknown_owner, judgement-bad_tag, judgement-opened)
+
 -- what opens keeps what an opened frame's type does
 pub IsOpened-opened_fields : (k : KeyFields) (f : FrameFields) → f.to ≡ k.own → is_peer k f.from ≡ true →
     f.body.owner < length k.keys → bytes_eq f.tag (right_tag (key_for k f.from) f) ≡ true → IsOpened (opened_fields k f)

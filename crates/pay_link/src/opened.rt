@@ -1,5 +1,7 @@
 ghost use Rattle.std.specs.Prelude.{◌≡◌};
-ghost use Rattle.pay_link.specs.Opening.{IsOpened, judgement};
+ghost use Rattle.std.specs.Str.{bytes_eq};
+ghost use Rattle.pay_frame.specs.Lent.{fields_of};
+ghost use Rattle.pay_link.specs.Opening.{IsOpened, judgement, right_tag};
 
 use crate::keys::Keys;
 use crate::link_fault::LinkFault;
@@ -21,14 +23,16 @@ impl<'a> Model for Opened<'a> {
 
     ghost Value = { OpenedFields };
 
-    ghost view = { λ o. record { frame = o.frame; key = o.key; members = o.members } };
+    ghost use Rattle.pay_frame.specs.Lent.{fields_of};
 
-    ghost invariant = { λ o. IsOpened (record { frame = o.frame; key = o.key; members = o.members }) };
+    ghost view = { λ o. record { frame = fields_of o.frame; key = o.key; members = o.members } };
+
+    ghost invariant = { λ o. IsOpened (record { frame = fields_of o.frame; key = o.key; members = o.members }) };
 }
 
 impl<'a> Opened<'a> {
     pub fn frame(&self) -> &FrameRef<'a>
-        ensures value { result.now ≡ self.now.frame }
+        ensures value { fields_of result.now ≡ self.now.frame }
         ensures limits { IsOpened self.now }
     {
         &self.frame
@@ -37,8 +41,13 @@ impl<'a> Opened<'a> {
 
 /// Opens a frame that was sent to the member with these keys, or names the first cause of refusal. It
 /// takes no memory and waits for nobody.
-pub fn open<'a, T: Tagger>(t: &T, keys: &Keys, frame: FrameRef<'a>) -> Result<Opened<'a>, LinkFault>
-    ensures { result ≡ judgement keys.now frame.entry }
+#[tactic(auto, using(crate::proofs::Judged::judged))]
+pub fn open<'a, T: Tagger>(
+    t: &T,
+    keys: &Keys,
+    frame: FrameRef<'a>,
+) -> Result<Opened<'a>, LinkFault>
+    ensures { result ≡ judgement keys.now (fields_of frame.entry) }
 {
     if frame.to() != keys.own() {
         return Err(LinkFault::NotForMe);
@@ -51,8 +60,7 @@ pub fn open<'a, T: Tagger>(t: &T, keys: &Keys, frame: FrameRef<'a>) -> Result<Op
         return Err(LinkFault::UnknownOwner);
     }
     let key = keys.key(from);
-    let tag = t.tag(key, frame.head(), frame.value());
-    if frame.tag() != tag.as_slice() {
+    if !is_tagged(t, key, &frame) {
         return Err(LinkFault::BadTag);
     }
     Ok(Opened {
@@ -60,4 +68,13 @@ pub fn open<'a, T: Tagger>(t: &T, keys: &Keys, frame: FrameRef<'a>) -> Result<Op
         key: *key,
         members: keys.members(),
     })
+}
+
+// The tag is over all bytes before it, which the frame lends in two parts.
+#[tactic(auto, using(crate::proofs::Judged::bytes_eq_read), unfolding(crate::specs::Sealing::tagged_bytes))]
+fn is_tagged<T: Tagger>(t: &T, key: &[u8; 32], frame: &FrameRef<'_>) -> bool
+    ensures { result ≡ bytes_eq (fields_of frame.now).tag (right_tag key.now (fields_of frame.now)) }
+{
+    let tag = t.tag(key, frame.head(), frame.value());
+    frame.tag() == tag.as_slice()
 }

@@ -1,7 +1,8 @@
 ghost use Rattle.std.specs.Prelude.{◌≡◌, IfOk};
 ghost use Rattle.pay_frame.specs.Frame.{frame_bytes};
-ghost use Rattle.pay_link.specs.Keys.{IsPeer};
-ghost use Rattle.pay_link.specs.Sealing.{sealed};
+ghost use Rattle.pay_hmac.specs.Mac.{mac};
+ghost use Rattle.pay_link.specs.Keys.{IsPeer, key_for};
+ghost use Rattle.pay_link.specs.Sealing.{sealed, tagged_bytes};
 
 use crate::keys::Keys;
 use pay_frame::{Body, head_into, write};
@@ -20,9 +21,16 @@ pub fn seal<T: Tagger>(
     requires { IsPeer keys.now to }
     ensures { IfOk result (λ bytes. bytes.items ≡ frame_bytes (sealed keys.now to number body.now)) }
 {
-    let own = keys.own();
+    let tag = tag_for(t, keys, to, number, body);
+    write(alloc, keys.own(), to, number, body, &tag)
+}
+
+#[tactic(auto, unfolding(crate::specs::Sealing::tagged_bytes))]
+fn tag_for<T: Tagger>(t: &T, keys: &Keys, to: u16, number: u64, body: &Body) -> [u8; 32]
+    requires { IsPeer keys.now to }
+    ensures { result ≡ mac (key_for keys.now to) (tagged_bytes keys.now.own to number body.now) }
+{
     let mut head = [0u8; 24];
-    head_into(&mut head, own, to, number, body);
-    let tag = t.tag(keys.key(to), &head, body.value());
-    write(alloc, own, to, number, body, &tag)
+    head_into(&mut head, keys.own(), to, number, body);
+    t.tag(keys.key(to), &head, body.value())
 }
