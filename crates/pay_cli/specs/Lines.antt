@@ -1,10 +1,10 @@
 -- The lines of `check`: what a member makes of each frame of a stream.
-use Rattle.std.specs.Prelude.{◌≡◌, ℕ, ◌+◌, ◌==◌, Bool, true, false, not, ◌&&◌, List, [], ◌∷◌, ◌++◌, length, slice_index, slice_set, is_ok, decimal, codes, if◌then◌else◌, Result, Ok, Err, ⊤}
+use Rattle.std.specs.Prelude.{◌≡◌, ℕ, ◌+◌, List, [], ◌∷◌, ◌++◌, length, slice_index, slice_set, decimal, codes, Result, Ok, Err, ⊤}
 use Rattle.pay_frame.specs.declared.fault.FrameFault.{FrameFault}
 use Rattle.pay_frame.specs.declared.kind.Kind.{Kind}
 use Rattle.pay_frame.specs.declared.kind.Kind.TheVariants.{Send, Echo, Ready, Want}
 use Rattle.pay_frame.specs.Fault.{number_of, name_of}
-use Rattle.pay_frame.specs.Frame.{FrameFields, code_of}
+use Rattle.pay_frame.specs.Frame.{FrameFields}
 use Rattle.pay_link.specs.declared.link_fault.LinkFault.{LinkFault}
 use Rattle.pay_link.specs.declared.link_fault.LinkFault.TheVariants.{NotForMe, UnknownSender, UnknownOwner, BadTag, Repeat, Gap}
 use Rattle.pay_link.specs.Faults.{link_fault_number, link_fault_name}
@@ -62,16 +62,24 @@ judged_words fronts f (Err fault) = refused_words fault
 unfoldable pub line_of : KeyFields → Progress → FrameFields → List ℕ
 line_of k p f = decimal p.line ++ judged_words p.fronts f (judgement k f) ++ codes "\n"
 
--- whether a frame's line says `ok`
-unfoldable pub is_taken : KeyFields → List ℕ → FrameFields → Bool
-is_taken k fronts f = is_ok (judgement k f) && not (code_of f.body.kind == 4) && f.number == slice_index fronts f.from
+-- what is known of the fronts afterwards: an `ok` frame moves its sender's by one, nothing else does
+abbrev pub turn_fronts : List ℕ → FrameFields → Result ⊤ LinkFault → List ℕ
+turn_fronts fronts f (Ok _) = slice_set fronts f.from (slice_index fronts f.from + 1)
+turn_fronts fronts f (Err fault) = fronts
 
--- what is known after a frame's line: an `ok` frame moves its sender's front by one, nothing else does
+abbrev pub opened_fronts : List ℕ → FrameFields → Kind → List ℕ
+opened_fronts fronts f Want = fronts
+opened_fronts fronts f Send = turn_fronts fronts f (turn (slice_index fronts f.from) f.number)
+opened_fronts fronts f Echo = turn_fronts fronts f (turn (slice_index fronts f.from) f.number)
+opened_fronts fronts f Ready = turn_fronts fronts f (turn (slice_index fronts f.from) f.number)
+
+abbrev pub judged_fronts : List ℕ → FrameFields → Result OpenedFields LinkFault → List ℕ
+judged_fronts fronts f (Ok opened) = opened_fronts fronts f f.body.kind
+judged_fronts fronts f (Err fault) = fronts
+
+-- what is known after a frame's line
 unfoldable pub moved : KeyFields → Progress → FrameFields → Progress
-moved k p f = record {
-  fronts = if is_taken k p.fronts f then slice_set p.fronts f.from (slice_index p.fronts f.from + 1) else p.fronts;
-  line = p.line + 1;
-}
+moved k p f = record { fronts = judged_fronts p.fronts f (judgement k f); line = p.line + 1 }
 
 -- `k fault C NAME`
 abbrev pub fault_line : ℕ → FrameFault → List ℕ

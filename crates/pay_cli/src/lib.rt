@@ -1,5 +1,6 @@
 //! The engines of the program `payd`, and how its words are read.
 #![tactic(auto)]
 
+mod check;
 mod lines;
 mod progress;

@@ -9,14 +9,14 @@ use pay_frame::{FrameFault, FrameRef, Kind};
 use pay_link::LinkFault;
 use std::alloc::AllocError;
 
-fn push_number(out: &mut Vec<u8>, number: u64) -> Result<(), AllocError>
+pub fn push_number(out: &mut Vec<u8>, number: u64) -> Result<(), AllocError>
     ensures { OnOk result (out.new.items ≡ out.old.items ++ decimal number) }
 {
     let mut buffer = Buffer::new();
     out.extend_from_slice(buffer.format(number).as_bytes())
 }
 
-fn push_word(out: &mut Vec<u8>, word: &str) -> Result<(), AllocError>
+pub fn push_word(out: &mut Vec<u8>, word: &str) -> Result<(), AllocError>
     ensures { OnOk result (out.new.items ≡ out.old.items ++ word.now) }
 {
     out.extend_from_slice(word.as_bytes())

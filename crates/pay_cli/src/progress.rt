@@ -1,6 +1,13 @@
-ghost use Rattle.std.specs.Prelude.{◌≡◌, IfOk, replicate};
+ghost use Rattle.std.specs.Prelude.{◌≡◌, ℕ, ◌+◌, ◌++◌, ◌<◌, ◌^◌, IfOk, OnOk, length, replicate, slice_index};
+ghost use Rattle.pay_frame.specs.Lent.{fields_of};
+ghost use Rattle.pay_link.specs.Opening.{judgement};
+ghost use Rattle.pay_cli.specs.Lines.{line_of, moved, judged_words, judged_fronts, opened_words, opened_fronts};
+ghost use Rattle.pay_cli.specs.Continuing.{IsInLine};
 
-use pay_link::Fronts;
+use crate::lines::{push_number, push_ok, push_refused, push_want, push_word};
+use pay_frame::{FrameRef, Kind};
+use pay_hmac::Tagger;
+use pay_link::{Fronts, Keys, open};
 use std::alloc::{AllocError, Global};
 
 /// What `check` knows between two lines: the next number from each member, and the number of the next
@@ -17,5 +24,67 @@ impl Progress {
     {
         let fronts = Fronts::new(alloc, members)?;
         Ok(Progress { fronts, line: 1 })
+    }
+}
+
+/// Writes the line of a frame.
+#[tactic(auto, unfolding(crate::specs::Lines::line_of, crate::specs::Lines::moved))]
+pub fn push_line<T: Tagger>(
+    out: &mut Vec<u8>,
+    t: &T,
+    keys: &Keys,
+    progress: &mut Progress,
+    frame: FrameRef,
+) -> Result<(), AllocError>
+    requires in_line { IsInLine (length keys.now.keys) progress.old }
+    requires room { progress.old.line + 1 < 2 ^ 64 }
+    ensures text { OnOk result (out.new.items ≡ out.old.items ++ line_of keys.now progress.old (fields_of frame.entry)) }
+    ensures moved { OnOk result (progress.new ≡ moved keys.now progress.old (fields_of frame.entry)) }
+{
+    push_number(out, progress.line)?;
+    push_judged(out, t, keys, &mut progress.fronts, frame)?;
+    push_word(out, "\n")?;
+    progress.line += 1;
+    Ok(())
+}
+
+/// Writes what a member makes of a frame.
+fn push_judged<T: Tagger>(
+    out: &mut Vec<u8>,
+    t: &T,
+    keys: &Keys,
+    fronts: &mut Fronts,
+    frame: FrameRef,
+) -> Result<(), AllocError>
+    requires members { length fronts.old ≡ length keys.now.keys }
+    requires room { (member : ℕ) → slice_index fronts.old member + 1 < 2 ^ 64 }
+    ensures words { OnOk result (out.new.items ≡ out.old.items
+        ++ judged_words fronts.old (fields_of frame.entry) (judgement keys.now (fields_of frame.entry))) }
+    ensures fronts { OnOk result (fronts.new ≡ judged_fronts fronts.old (fields_of frame.entry) (judgement keys.now (fields_of frame.entry))) }
+{
+    match open(t, keys, frame) {
+        Ok(opened) => push_opened(out, fronts, opened.frame()),
+        Err(fault) => push_refused(out, fault),
+    }
+}
+
+/// Writes what becomes of a frame that opened.
+fn push_opened(out: &mut Vec<u8>, fronts: &mut Fronts, frame: &FrameRef) -> Result<(), AllocError>
+    requires known { (fields_of frame.now).from < length fronts.old }
+    requires room { slice_index fronts.old (fields_of frame.now).from + 1 < 2 ^ 64 }
+    ensures words { OnOk result (out.new.items ≡ out.old.items ++ opened_words fronts.old (fields_of frame.now) (fields_of frame.now).body.kind) }
+    ensures fronts { OnOk result (fronts.new ≡ opened_fronts fronts.old (fields_of frame.now) (fields_of frame.now).body.kind) }
+{
+    if frame.kind() == Kind::Want {
+        return push_want(out, frame);
+    }
+    let from = frame.from();
+    match fronts.judge(from, frame.number()) {
+        Ok(()) => {
+            push_ok(out, frame)?;
+            fronts.advance(from);
+            Ok(())
+        }
+        Err(fault) => push_refused(out, fault),
     }
 }

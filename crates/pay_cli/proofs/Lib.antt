@@ -1,0 +1,2 @@
+pub mod OpenedFrames
+pub mod Texts
