@@ -7,7 +7,8 @@ use Rattle.pay_frame.specs.declared.fault.FrameFault.{FrameFault}
 use Rattle.pay_frame.specs.declared.kind.Kind.{Kind}
 use Rattle.pay_frame.specs.declared.kind.Kind.TheVariants.{Send, Echo, Ready, Want}
 use Rattle.pay_frame.specs.Frame.{FrameFields, frame_bytes, IsFrame}
-use Rattle.pay_frame.specs.Reading.{HasFrame}
+use Rattle.pay_frame.specs.Cutting.{Held, HandsOut}
+use Rattle.pay_frame.specs.Reading.{HasFrame, IsFault}
 use Rattle.pay_frame.proofs.OneReading.{same_front, drained_from_beginning}
 use Rattle.pay_frame.proofs.Starting.{length-frame}
 use Rattle.pay_link.specs.declared.link_fault.LinkFault.{LinkFault}
@@ -17,7 +18,7 @@ use Rattle.pay_link.specs.Opening.{OpenedFields, judgement}
 use Rattle.pay_cli.specs.declared.progress.Progress.{Progress}
 use Rattle.pay_cli.specs.Lines.{line_of, moved, turn_fronts, opened_fronts, judged_fronts}
 use Rattle.pay_cli.specs.CheckText.{IsText, Nothing, Line, CutOff, Faulty}
-use Rattle.pay_cli.specs.Continuing.{Rest, Continues, IsInLine, Pushes}
+use Rattle.pay_cli.specs.Continuing.{Rest, Continues, IsInLine, Pushes, PushesToFault}
 
 -- ---- the first line
 
@@ -150,3 +151,17 @@ pushes_a_line k first p bytes out held text f rest longer pushed is front line =
   in_line = moved_in_line k p f pushed.in_line;
   lines = let before = pushed.lines in omega (arith, line-moved k p f, ap length front, length-append (frame_bytes f) rest, length-frame f is);
 }
+
+-- a fault that was first met now
+record IsMet (old new : Held) (fault : FrameFault) : Type 0 where
+  same : new.bytes ≡ old.bytes
+  is : IsFault new.bytes fault
+
+met_now : (old new : Held) (fault : FrameFault) → old.met ≡ None → HandsOut old (Err fault) new → IsMet old new fault
+met_now old new fault none (inl some, same, _) = absurd (cc (none, some))
+met_now old new fault none (inr first, same, _) = record { same = same; is = subst (λ (xs : List ℕ). IsFault xs fault) (sym same) first.1 }
+
+pub pushes_to_fault : (k : KeyFields) (first p : Progress) (start old new : Held) (out text : List ℕ) (fault : FrameFault) → Pushes k first start.bytes out p old.bytes text → old.met ≡ None → HandsOut old (Err fault) new → PushesToFault k first start out p new text fault
+pushes_to_fault k first p start old new out text fault pushed none handed =
+    let met = met_now old new fault none handed in
+    record { pushes = subst (λ (xs : List ℕ). Pushes k first start.bytes out p xs text) (sym met.same) pushed; is = met.is }

@@ -22,7 +22,7 @@ fn push_held<T: Tagger>(
     ensures lines { IfOk result (λ fault. IfNone fault (PushesAll keys.now progress.old cutter.old out.old.items progress.new cutter.new out.new.items)) }
     ensures fault { IfOk result (λ fault. IfSome fault (PushesToFault keys.now progress.old cutter.old out.old.items progress.new cutter.new out.new.items)) }
 {
-    loop {
+    'frames: loop {
         match cutter.next() {
             Ok(Some(frame)) => push_line(out, t, keys, progress, frame)?,
             Ok(None) => return Ok(None),

@@ -2,11 +2,11 @@ use Rattle.std.proofs.Common.{◌≡◌, length, None}
 use Rattle.pay_cli.specs.Continuing.{Pushes}
 use Rattle.pay_cli.proofs.check.push_held.Given as goal
 
-abbrev pub invariant-loop : goal.invariant-loop
-invariant-loop g l = record {
+abbrev pub invariant-frames : goal.invariant-frames
+invariant-frames g l = record {
   pushes : Pushes l.keys l.fn.progress l.fn.cutter.bytes l.fn.out.items l.progress l.cutter.bytes l.out.items;
   met : l.cutter.met ≡ None;
 }
 
-abbrev pub decreases-loop : goal.decreases-loop
-decreases-loop g l = length l.cutter.bytes
+abbrev pub decreases-frames : goal.decreases-frames
+decreases-frames g l = length l.cutter.bytes
