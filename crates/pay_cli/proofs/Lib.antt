@@ -1,2 +1,4 @@
 pub mod OpenedFrames
 pub mod Texts
+pub mod Faults
+pub mod Endings

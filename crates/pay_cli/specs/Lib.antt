@@ -1,3 +1,4 @@
 pub mod Lines
 pub mod CheckText
 pub mod Continuing
+pub mod Engine

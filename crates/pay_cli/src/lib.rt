@@ -4,3 +4,6 @@
 mod check;
 mod lines;
 mod progress;
+
+pub use check::run_check;
+pub use progress::Progress;
