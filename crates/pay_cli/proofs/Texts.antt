@@ -22,12 +22,12 @@ use Rattle.pay_cli.specs.Continuing.{Rest, Continues, IsInLine, Pushes, PushesTo
 
 -- ---- the first line
 
-record After (k : KeyFields) (p : Progress) (f : FrameFields) (rest text : List ℕ) (ending : Option FrameFault) : Type 0 where
-  more : List ℕ
-  parts : text ≡ line_of k p f ++ more
-  is : IsText k (moved k p f) rest more ending
+pub record After (k : KeyFields) (p : Progress) (f : FrameFields) (rest text : List ℕ) (ending : Option FrameFault) : Type 0 where
+  pub more : List ℕ
+  pub parts : text ≡ line_of k p f ++ more
+  pub is : IsText k (moved k p f) rest more ending
 
-after_first : (k : KeyFields) (p : Progress) (f : FrameFields) (bytes rest text : List ℕ) (ending : Option FrameFault) → IsFrame f → bytes ≡ frame_bytes f ++ rest → IsText k p bytes text ending → After k p f rest text ending
+pub after_first : (k : KeyFields) (p : Progress) (f : FrameFields) (bytes rest text : List ℕ) (ending : Option FrameFault) → IsFrame f → bytes ≡ frame_bytes f ++ rest → IsText k p bytes text ending → After k p f rest text ending
 after_first k p f bytes rest text ending is front (Nothing none _ _) =
     absurd (omega (arith, ap length (sym none ∙ front), length-append (frame_bytes f) rest, length-frame f is))
 after_first k p f bytes rest text ending is front (Line g behind more js spelled parts later) =

@@ -43,3 +43,13 @@ pub record PushesEnd (k : KeyFields) (p : Progress) (bytes out text : List ℕ) 
   pub written : List ℕ
   pub appended : text ≡ out ++ written
   pub is : IsText k p bytes written ending
+
+-- The last lines are written: all of them, and the fault that they end with is answered; or a beginning,
+-- where a write failed. Nothing else is answered.
+abbrev pub Finishes : Option (List ℕ) → Option (List ℕ) → List ℕ → Option FrameFault → Result ⊤ EngineFault → Type 0
+Finishes before after out fault (Ok _) = Appends before after out × (fault ≡ None)
+Finishes before after out fault (Err (Frame found)) = Appends before after out × (fault ≡ Some found)
+Finishes before after out fault (Err Write) = WroteBeginning before after out
+Finishes before after out fault (Err Memory) = ⊥
+Finishes before after out fault (Err Read) = ⊥
+Finishes before after out fault (Err Bound) = ⊥

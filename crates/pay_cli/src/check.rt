@@ -1,9 +1,9 @@
 ghost use Rattle.std.specs.Prelude.{◌≡◌, ◌+◌, ◌++◌, ◌<◌, ◌≤◌, ◌^◌, None, length, IfOk, IfSome, IfNone, IsErrOf};
 ghost use Rattle.pay_frame.specs.Reading.{IsProperBeginning};
 ghost use Rattle.pay_cli.specs.Continuing.{IsInLine, PushesAll, PushesToFault};
-ghost use Rattle.pay_frame.specs.Device.{RoseBy};
+ghost use Rattle.pay_frame.specs.Device.{RoseBy, counted};
 ghost use Rattle.pay_link.specs.Keys.{IsKeysOf};
-ghost use Rattle.pay_cli.specs.Engine.{Writes, with_piece, PushesEnding, PushesEnd};
+ghost use Rattle.pay_cli.specs.Engine.{Writes, Finishes, with_piece, PushesEnding, PushesEnd};
 
 use crate::lines::push_fault;
 use crate::progress::{Progress, push_line};
@@ -116,21 +116,32 @@ pub fn run_check<R: Input, W: Output, T: Tagger>(
             return Err(EngineFault::Read);
         };
         out.clear();
+        if count == 0 {
+            let fault = push_end(&mut out, keys, &progress, &cutter)?;
+            return finish(writer, &out, fault);
+        }
         let piece = &buffer[..count];
-        let fault = if piece.is_empty() {
-            push_end(&mut out, keys, &progress, &cutter)?
-        } else {
-            push_piece(&mut out, t, keys, &mut progress, &mut cutter, piece)?
-        };
+        let fault = push_piece(&mut out, t, keys, &mut progress, &mut cutter, piece)?;
+        if let Some(fault) = fault {
+            return finish(writer, &out, Some(fault));
+        }
         if write_all(writer, &out).is_err() {
             return Err(EngineFault::Write);
         }
-        if let Some(fault) = fault {
-            return Err(EngineFault::Frame(fault));
-        }
-        if count == 0 {
-            return Ok(());
-        }
     }
     Err(EngineFault::Bound)
+}
+
+/// Writes the last lines, and answers the fault that they end with.
+fn finish<W: Output>(writer: &mut W, out: &[u8], fault: Option<FrameFault>) -> Result<(), EngineFault>
+    ensures ends { Finishes (W.contents writer.old) (W.contents writer.new) out.now fault result }
+    ensures failed { IsErrOf result EngineFault.Write → W.failure_count writer.new ≡ counted (W.failure_count writer.old) }
+{
+    if write_all(writer, out).is_err() {
+        return Err(EngineFault::Write);
+    }
+    match fault {
+        None => Ok(()),
+        Some(fault) => Err(EngineFault::Frame(fault)),
+    }
 }
