@@ -1,0 +1,13 @@
+//! The book: payments settled one account at a time, each as soon as its owner's balance covers it.
+//!
+//! An account's entries settle in the order of its owner's list. Accounts wait for nobody but
+//! themselves: how the steps of several accounts are interleaved makes no difference to where a
+//! book ends (`laws`).
+#![tactic(auto)]
+
+mod payment;
+
+pub use payment::{decode_payment, Entry};
+
+pub mod laws;
+pub mod rows;
