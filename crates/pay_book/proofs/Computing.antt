@@ -42,7 +42,7 @@ find-range p from (suc n) =
         | inr some ↦ inr (some.0, ap (λ b. cond b (Some from) (find p (range_with_len (from + 1) n))) fail ∙ some.1, omega (arith, some.2), some.3) ] ]
 
 -- one more step, as a list
-set_is_further : (front : List ℕ) (a : ℕ) → a < length front → IsOneFurther (slice_index front) a (slice_index (slice_set front a (slice_index front a + 1)))
+pub set_is_further : (front : List ℕ) (a : ℕ) → a < length front → IsOneFurther (slice_index front) a (slice_index (slice_set front a (slice_index front a + 1)))
 set_is_further front a h = record {
   moved = get_or-set_same front a (get_or front a 0 + 1) 0 h;
   others = λ b ne. get_or-set_other front a b (get_or front a 0 + 1) 0 ne;

@@ -7,8 +7,8 @@ use Rattle.std.specs.Int.{from_be_bytes, w16, w64}
 use Rattle.std.proofs.lemmas.Bool.{cases_Bool, and_parts, ltb-true, cond_both}
 use Rattle.std.proofs.lemmas.List.{length-map}
 use Rattle.std.proofs.lemmas.List.Concat.{flat_map_single, flat_map-append}
-use Rattle.std.proofs.lemmas.List.Elements.{All-map, All-same, All-from_get_or}
-use Rattle.std.proofs.lemmas.Option.{slice_get-map}
+use Rattle.std.proofs.lemmas.List.Elements.{All-map, All-same, All-from_get_or, All-get_or}
+use Rattle.std.proofs.lemmas.Option.{slice_get-map, slice_get_within, get_or_from_slice_get}
 use Rattle.pay_book.specs.declared.payment.Entry.{Entry}
 use Rattle.pay_book.specs.declared.payment.Entry.TheVariants.{Pay, Void}
 use Rattle.pay_book.specs.Payment.{payment, entry_of, entries_in, entries_of}
@@ -57,3 +57,10 @@ pub entries_of-within : (accounts : ℕ) (lists : ℕ → List (List ℕ)) → A
 entries_of-within accounts lists owner h =
     All-same (PayWithin accounts) _ _ (entries_of-map accounts lists owner)
     (All-map (PayWithin accounts) (entry_of accounts owner) (lists owner) (All-from_get_or (λ v. PayWithin accounts (entry_of accounts owner v)) (lists owner) [] (λ i _. entry_of-within accounts owner _)))
+
+pub entry-within : (accounts : ℕ) (lists : ℕ → List (List ℕ)) (owner place : ℕ) (entry : Entry) → owner < accounts → slice_get (entries_of accounts lists owner) place ≡ Some entry → PayWithin accounts entry
+entry-within accounts lists owner place entry h there =
+    let log = entries_of accounts lists owner in
+    let P : Entry → Type 0 = PayWithin accounts in
+    subst P (get_or_from_slice_get log place entry entry there)
+    (All-get_or (PayWithin accounts) log place entry (slice_get_within log place entry there) (entries_of-within accounts lists owner h))

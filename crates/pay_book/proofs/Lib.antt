@@ -6,3 +6,4 @@ pub mod Growing
 pub mod Computing
 pub mod Entries
 pub mod Settling
+pub mod OneStep

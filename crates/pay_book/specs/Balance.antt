@@ -44,3 +44,8 @@ PayWithin accounts Void = Unit {0}
 
 abbrev pub AllPayWithin : ℕ → (ℕ → List Entry) → Type 0
 AllPayWithin accounts logs = (owner : ℕ) → owner < accounts → All (PayWithin accounts) (logs owner)
+
+-- Each account has what it had, less what this entry takes from its owner's account, and with what it brings.
+abbrev pub Moves : Entry → ℕ → List ℕ → List ℕ → Type 0
+Moves entry owner old new =
+    (a : ℕ) → slice_index new a + (if a == owner then amount_of entry else 0) ≡ slice_index old a + amount_to a entry

@@ -11,6 +11,13 @@ pub record Standing : Type 0 where
   pub front : List ℕ
   pub balances : List ℕ
 
+-- Each account has its places, and no count of accounts or sum of balances is more than the book's numbers hold.
+pub record IsSound (book : Standing) : Type 0 where
+  pub front_for_each : length book.front ≡ length book.opening
+  pub balance_for_each : length book.balances ≡ length book.opening
+  pub accounts : length book.opening < 2 ^ 16
+  pub total : sum book.opening < 2 ^ 64
+
 -- a book in which nothing is settled
 abbrev pub fresh : List ℕ → Standing
 fresh opening = record { opening = opening; front = replicate (length opening) 0; balances = opening }

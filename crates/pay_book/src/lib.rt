@@ -5,9 +5,17 @@
 //! book ends (`laws`).
 #![tactic(auto)]
 
+mod accounts;
+mod decode;
 mod payment;
+mod plain;
+mod settle;
 
-pub use payment::{decode_payment, Entry};
+pub use accounts::Accounts;
+pub use decode::decode_payment;
+pub use payment::Entry;
+pub use plain::PlainBook;
+pub use settle::Settle;
 
 pub mod laws;
 pub mod rows;

@@ -1,0 +1,63 @@
+//! The plain book: after each step it looks at all accounts again.
+
+ghost use Rattle.std.specs.Prelude.{◌≡◌, ◌+◌, ◌<◌, ◌↔◌, ℕ, length, sum, slice_index, IsTrue, OnTrue, OnFalse};
+ghost use Rattle.pay_book.specs.Front.{MayStep};
+ghost use Rattle.pay_book.specs.Book.{entries_for, IsBook};
+
+use std::alloc::{AllocError, Global};
+
+use pay_channel::Source;
+
+use crate::accounts::Accounts;
+use crate::settle::Settle;
+
+/// A book that looks for the next entry to settle in the order of the accounts.
+#[derive(Drop)]
+pub struct PlainBook {
+    accounts: Accounts,
+}
+
+impl PlainBook {
+    /// Settles one entry of the first account that may settle one, and says whether any might.
+    fn step<S: Source>(&mut self, source: &S) -> bool
+        requires { IsBook (S.lists source.now) self.old.accounts }
+        ensures opening { self.new.accounts.opening ≡ self.old.accounts.opening }
+        ensures book { IsBook (S.lists source.now) self.new.accounts }
+        ensures stepped { OnTrue result (sum self.new.accounts.front ≡ sum self.old.accounts.front + 1) }
+        ensures unchanged { OnFalse result (self.new.accounts ≡ self.old.accounts) }
+        ensures stuck { OnFalse result ((a : ℕ) → MayStep self.new.accounts.opening (entries_for self.new.accounts (S.lists source.now)) (slice_index self.new.accounts.front) a → ⊥) }
+    {
+        for account in 0..self.accounts.count() {
+            if self.accounts.try_step(source, account).is_some() {
+                return true;
+            }
+        }
+        false
+    }
+}
+
+impl Settle for PlainBook {
+    ghost shows = { λ book. book.accounts };
+
+    fn new(alloc: Global, opening: &[u64]) -> Result<Self, AllocError> {
+        Ok(PlainBook {
+            accounts: Accounts::new(alloc, opening)?,
+        })
+    }
+
+    fn settle<S: Source>(&mut self, source: &S, _owner: u16) -> u32 {
+        let mut settled = 0;
+        while self.step(source) {
+            settled += 1;
+        }
+        settled
+    }
+
+    fn front(&self, account: u16) -> u32 {
+        self.accounts.front(account)
+    }
+
+    fn balance(&self, account: u16) -> u64 {
+        self.accounts.balance(account)
+    }
+}
