@@ -7,3 +7,4 @@ pub mod Computing
 pub mod Entries
 pub mod Settling
 pub mod OneStep
+pub mod PlainLoops

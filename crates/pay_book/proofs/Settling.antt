@@ -8,9 +8,10 @@ use Rattle.pay_channel.specs.Source.{GrowsOnly}
 use Rattle.pay_book.specs.declared.payment.Entry.{Entry}
 use Rattle.pay_book.specs.Payment.{entries_of}
 use Rattle.pay_book.specs.Balance.{amount_of, amount_to, sum_below, paid_in, paid_out, balance_at, AreBalances}
-use Rattle.pay_book.specs.Front.{Covers, MayStep, Reach, Start, Step, IsLargest, largest_front, AllGrow}
+use Rattle.pay_book.specs.Front.{Covers, MayStep, Reach, Start, Step, IsLargest, entry_count, largest_front, AllGrow}
 use Rattle.pay_book.specs.Book.{Standing, fresh, entries_for, IsBook, IsSettled, AreCountable, CanSettle}
-use Rattle.pay_book.proofs.Sums.{sum_below-same, sum_below-zero}
+use Rattle.pay_book.proofs.Sums.{sum_below-le, sum_below-same, sum_below-zero}
+use Rattle.pay_book.proofs.Conserving.{sum-places}
 use Rattle.pay_book.proofs.Reaching.{Reach-within, within_from_Covers, largest_from_stuck, largest_is_stuck}
 use Rattle.pay_book.proofs.Growing.{balance_at-grown, MayStep-same_list, Reach-grown, largest_grows, AllGrow-same}
 use Rattle.pay_book.proofs.Computing.{largest_front_is_largest, same_largest_front, largest_front-same}
@@ -95,3 +96,11 @@ fresh_is_settled opening lists empty =
       let none = empty a may.0 in
       let long = length-entries_of n lists a in
       omega arith)
+
+-- no more is settled than is listed
+pub sum_front-le : (lists : ℕ → List (List ℕ)) (book : Standing) → IsBook lists book → sum book.front ≤ entry_count (length book.opening) (entries_for book lists)
+sum_front-le lists book is =
+    let n = length book.opening in
+    let settled = sum-places book.front n is.one_for_each in
+    let within = sum_below-le n (slice_index book.front) (λ a. length (entries_for book lists a)) (λ a _. Reach-within book.opening (entries_for book lists) is.reached a) in
+    omega arith

@@ -26,6 +26,14 @@ fresh opening = record { opening = opening; front = replicate (length opening) 0
 abbrev pub entries_for : Standing → (ℕ → List (List ℕ)) → ℕ → List Entry
 entries_for book lists = entries_of (length book.opening) lists
 
+-- The account's next entry may settle in this book.
+abbrev pub MaySettle : (ℕ → List (List ℕ)) → Standing → ℕ → Type 0
+MaySettle lists book account = MayStep book.opening (entries_for book lists) (slice_index book.front) account
+
+-- No account's may.
+abbrev pub IsStuck : (ℕ → List (List ℕ)) → Standing → Type 0
+IsStuck lists book = (a : ℕ) → MaySettle lists book a → ⊥
+
 -- The book stands at a front that steps reach, with the balances there.
 pub record IsBook (lists : ℕ → List (List ℕ)) (book : Standing) : Type 0 where
   pub reached : Reach book.opening (entries_for book lists) (slice_index book.front)
@@ -46,11 +54,11 @@ pub record CanSettle (lists : ℕ → List (List ℕ)) (book : Standing) (owner 
   pub countable : AreCountable lists book
   pub is : IsBook lists book
   pub account : owner < length book.opening
-  pub only_owner : (a : ℕ) → a ≢ owner → MayStep book.opening (entries_for book lists) (slice_index book.front) a → ⊥
+  pub only_owner : (a : ℕ) → a ≢ owner → MaySettle lists book a → ⊥
 
 -- One entry of this account settled.
 pub record IsStep (lists : ℕ → List (List ℕ)) (old : Standing) (account : ℕ) (entry : Entry) (new : Standing) : Type 0 where
   pub same_opening : new.opening ≡ old.opening
-  pub allowed : MayStep old.opening (entries_for old lists) (slice_index old.front) account
+  pub allowed : MaySettle lists old account
   pub next : slice_get (entries_for old lists account) (slice_index old.front account) ≡ Some entry
   pub further : new.front ≡ slice_set old.front account (slice_index old.front account + 1)

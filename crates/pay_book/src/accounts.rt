@@ -2,8 +2,7 @@
 
 ghost use Rattle.std.specs.Prelude.{◌≡◌, ◌+◌, ◌<◌, ◌≤◌, ◌^◌, ◌↔◌, length, sum, slice_get, slice_index, slice_set, IsTrue, IfOk, OnSome, IfNone, IfSome};
 ghost use Rattle.pay_book.specs.Balance.{amount_of, PayWithin, Moves};
-ghost use Rattle.pay_book.specs.Front.{MayStep};
-ghost use Rattle.pay_book.specs.Book.{fresh, entries_for, IsBook, IsStep};
+ghost use Rattle.pay_book.specs.Book.{fresh, entries_for, MaySettle, IsBook, IsStep};
 
 use std::alloc::{AllocError, Global};
 use std::marker::Model;
@@ -88,7 +87,7 @@ impl Accounts {
         requires account { account < length self.old.opening }
         ensures book { IsBook (S.lists source.now) self.new }
         ensures unchanged { IfNone result (self.new ≡ self.old) }
-        ensures not_allowed { IfNone result (MayStep self.old.opening (entries_for self.old (S.lists source.now)) (slice_index self.old.front) account → ⊥) }
+        ensures not_allowed { IfNone result (MaySettle (S.lists source.now) self.old account → ⊥) }
         ensures step { IfSome result (λ entry. IsStep (S.lists source.now) self.old account entry self.new) }
     {
         let entry = self.next_entry(source, account)?;

@@ -1,8 +1,8 @@
 //! The plain book: after each step it looks at all accounts again.
 
-ghost use Rattle.std.specs.Prelude.{◌≡◌, ◌+◌, ◌<◌, ◌↔◌, ℕ, length, sum, slice_index, IsTrue, OnTrue, OnFalse};
-ghost use Rattle.pay_book.specs.Front.{MayStep};
-ghost use Rattle.pay_book.specs.Book.{entries_for, IsBook};
+ghost use Rattle.std.specs.Prelude.{◌≡◌, ◌+◌, sum};
+ghost use Rattle.pay_book.specs.Book.{IsStuck, IsBook};
+ghost use Rattle.std.specs.Bool.{OnTrue, OnFalse};
 
 use std::alloc::{AllocError, Global};
 
@@ -25,7 +25,7 @@ impl PlainBook {
         ensures book { IsBook (S.lists source.now) self.new.accounts }
         ensures stepped { OnTrue result (sum self.new.accounts.front ≡ sum self.old.accounts.front + 1) }
         ensures unchanged { OnFalse result (self.new.accounts ≡ self.old.accounts) }
-        ensures stuck { OnFalse result ((a : ℕ) → MayStep self.new.accounts.opening (entries_for self.new.accounts (S.lists source.now)) (slice_index self.new.accounts.front) a → ⊥) }
+        ensures stuck { OnFalse result (IsStuck (S.lists source.now) self.new.accounts) }
     {
         for account in 0..self.accounts.count() {
             if self.accounts.try_step(source, account).is_some() {

@@ -1,6 +1,6 @@
 //! What a book can do, whatever it looks at to find the next payment that its owner can cover.
 
-ghost use Rattle.std.specs.Prelude.{◌≡◌, ◌+◌, ◌<◌, ◌^◌, ℕ, length, sum, slice_index, IfOk};
+ghost use Rattle.std.specs.Prelude.{◌≡◌, ◌+◌, ◌<◌, ◌^◌, length, sum, slice_index, IfOk};
 ghost use Rattle.pay_book.specs.Book.{Standing, fresh, IsSettled, CanSettle};
 
 use std::alloc::{AllocError, Global};
