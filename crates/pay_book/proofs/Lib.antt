@@ -8,3 +8,4 @@ pub mod Entries
 pub mod Settling
 pub mod OneStep
 pub mod PlainLoops
+pub mod Lines

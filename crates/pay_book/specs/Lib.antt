@@ -4,3 +4,4 @@ pub mod Front
 pub mod Book
 pub mod Laws
 pub mod Rows
+pub mod Statement

@@ -7,15 +7,19 @@
 
 mod accounts;
 mod decode;
+mod line;
 mod payment;
 mod plain;
 mod settle;
+mod statements;
 
 pub use accounts::Accounts;
 pub use decode::decode_payment;
+pub use line::Line;
 pub use payment::Entry;
 pub use plain::PlainBook;
 pub use settle::Settle;
+pub use statements::statement;
 
 pub mod laws;
 pub mod rows;
