@@ -60,7 +60,7 @@ pub largest_grows : (opening : List ℕ) (old new : ℕ → List Entry) (before 
 largest_grows opening old new before after grow p q = q.greatest before (Reach-grown opening old new grow p.reached)
 
 -- lists that are the same for these accounts grow into each other
-pub AllGrow-same : (accounts : ℕ) (old new : ℕ → List Entry) → ((a : ℕ) → a < accounts → new a ≡ old a) → AllGrow accounts old new
+pub AllGrow-same : {X : Type 0} (accounts : ℕ) (old new : ℕ → List X) → ((a : ℕ) → a < accounts → new a ≡ old a) → AllGrow accounts old new
 AllGrow-same accounts old new same a h = ([], same a h ∙ sym (append-nil (old a)))
 
 pub largest-same : (opening : List ℕ) (one other : ℕ → List Entry) (p q : ℕ → ℕ) → ((a : ℕ) → a < length opening → one a ≡ other a) → IsLargest opening one p → IsLargest opening other q → (a : ℕ) → p a ≡ q a

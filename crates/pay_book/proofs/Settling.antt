@@ -4,6 +4,7 @@ use Rattle.std.specs.Prelude.{slice_get, Option, Some, None}
 use Rattle.std.proofs.lemmas.Int.{ints}
 use Rattle.std.proofs.lemmas.Bool.{cases_eq, cases_lt}
 use Rattle.std.proofs.lemmas.List.{append-nil, length-replicate, get_or_past, get_or-replicate}
+use Rattle.std.proofs.lemmas.Grind.{same_number_lists}
 use Rattle.pay_channel.specs.Source.{GrowsOnly}
 use Rattle.pay_book.specs.declared.payment.Entry.{Entry}
 use Rattle.pay_book.specs.Payment.{entries_of}
@@ -104,3 +105,32 @@ sum_front-le lists book is =
     let settled = sum-places book.front n is.one_for_each in
     let within = sum_below-le n (slice_index book.front) (λ a. length (entries_for book lists a)) (λ a _. Reach-within book.opening (entries_for book lists) is.reached a) in
     omega arith
+
+-- a book over lists that are the same for its accounts
+pub IsSettled-same : (old new : ℕ → List (List ℕ)) (book : Standing) → ((a : ℕ) → a < length book.opening → old a ≡ new a) → IsSettled old book → IsSettled new book
+IsSettled-same old new book same settled = record {
+  is = IsBook-grown old new book (AllGrow-same (length book.opening) old new (λ a h. sym (same a h))) settled.is;
+  largest = settled.largest ∙ largest_front-same book.opening (entries_for book old) (entries_for book new) (λ a h. entries_of-same (length book.opening) old new a (same a h));
+}
+
+-- books with the same opening balances over the same lists
+pub same_books : (lists : ℕ → List (List ℕ)) (p q : Standing) → p.opening ≡ q.opening → IsSettled lists p → IsSettled lists q → p ≡ q
+same_books lists p q opening at_p at_q =
+    let n = length p.opening in
+    let largest : List ℕ → List ℕ = λ o. largest_front o (entries_of (length o) lists) in
+    let front : p.front ≡ q.front = at_p.largest ∙ ap largest opening ∙ sym at_q.largest in
+    let lengths = ap length opening in
+    let balances : p.balances ≡ q.balances =
+      same_number_lists p.balances q.balances (at_p.is.are.one_for_each ∙ lengths ∙ sym at_q.is.are.one_for_each)
+      (λ k h.
+        let below : k < length p.opening = (let e = at_p.is.are.one_for_each in omega arith) in
+        let at_p_k = at_p.is.are.exact k below in
+        let at_q_k = at_q.is.are.exact k (omega arith) in
+        let B : List ℕ → List ℕ → ℤ = λ o f. balance_at o (entries_of (length o) lists) (slice_index f) k in
+        let same : B p.opening p.front ≡ B q.opening q.front = ap (λ o. B o p.front) opening ∙ ap (λ f. B q.opening f) front in
+        same_pos (get_or p.balances k 0) (get_or q.balances k 0) (at_p_k ∙ same ∙ sym at_q_k)) in
+    let made : List ℕ → List ℕ → List ℕ → Standing = λ o f b. record { opening = o; front = f; balances = b } in
+    ap (λ o. made o p.front p.balances) opening ∙ ap (λ f. made q.opening f p.balances) front ∙ ap (made q.opening q.front) balances
+  where
+    same_pos : (m n : ℕ) → pos m ≡ pos n → m ≡ n
+    same_pos m n e = omega (arith, ints)

@@ -73,6 +73,12 @@ EqualListsEqualBalances =
     (a : ℕ) → a < length opening →
     balance_at opening (entries_of (length opening) one) front a ≡ balance_at opening (entries_of (length opening) other) front a
 
+abbrev pub EqualListsEqualBooks : Type 0
+EqualListsEqualBooks =
+    (one other : ℕ → List (List ℕ)) (p q : Standing) →
+    p.opening ≡ q.opening → ((a : ℕ) → a < length p.opening → one a ≡ other a) →
+    IsSettled one p → IsSettled other q → p ≡ q
+
 abbrev pub FreshBookIsSettled : Type 0
 FreshBookIsSettled =
     (opening : List ℕ) (lists : ℕ → List (List ℕ)) →
@@ -82,3 +88,8 @@ abbrev pub GrownListCanSettle : Type 0
 GrownListCanSettle =
     (old new : ℕ → List (List ℕ)) (book : Standing) (owner : ℕ) →
     IsSettled old book → GrowsOnly old new owner → owner < length book.opening → AreCountable new book → CanSettle new book owner
+
+abbrev pub SameListsStaySettled : Type 0
+SameListsStaySettled =
+    (old new : ℕ → List (List ℕ)) (book : Standing) →
+    ((a : ℕ) → a < length book.opening → old a ≡ new a) → IsSettled old book → IsSettled new book

@@ -13,7 +13,7 @@ use crate::decode::decode_payment;
 use crate::payment::Entry;
 
 /// The opening balances of all accounts, and what settling made of them.
-#[derive(Drop)]
+#[derive(Debug, Drop)]
 pub struct Accounts {
     opening: Vec<u64>,
     front: Vec<u32>,

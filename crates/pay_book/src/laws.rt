@@ -2,7 +2,7 @@
 //!
 //! `m`, `n` and `front` are fronts, `opening` the opening balances and `logs` the accounts' lists of entries.
 
-ghost use Rattle.pay_book.specs.Laws.{ReachedFrontsJoin, StuckIsLargest, LargestIsStuck, LargestIsOne, LargestIsComputed, ReachedIsWithinLists, NoBalanceBelowZero, BalancesSumToOpening, ReachedStaysReached, LargestGrows, EqualListsEqualLargest, EqualListsEqualBalances, FreshBookIsSettled, GrownListCanSettle};
+ghost use Rattle.pay_book.specs.Laws.{ReachedFrontsJoin, StuckIsLargest, LargestIsStuck, LargestIsOne, LargestIsComputed, ReachedIsWithinLists, NoBalanceBelowZero, BalancesSumToOpening, ReachedStaysReached, LargestGrows, EqualListsEqualLargest, EqualListsEqualBalances, EqualListsEqualBooks, FreshBookIsSettled, GrownListCanSettle, SameListsStaySettled};
 
 /// Two fronts that steps reach have a common one: the front that is as far as either at each account is reached too.
 pub fn reached_fronts_join()
@@ -76,6 +76,12 @@ pub fn equal_lists_equal_balances()
 {
 }
 
+/// Books of the same opening balances that have settled all they can over equal lists are equal.
+pub fn equal_lists_equal_books()
+    ensures { EqualListsEqualBooks }
+{
+}
+
 /// A new book is settled as long as nothing is listed.
 pub fn fresh_book_is_settled()
     ensures { FreshBookIsSettled }
@@ -85,5 +91,11 @@ pub fn fresh_book_is_settled()
 /// A settled book can settle again after one owner's list grew at its end.
 pub fn grown_list_can_settle()
     ensures { GrownListCanSettle }
+{
+}
+
+/// A settled book is settled as long as the lists of its accounts stay as they are.
+pub fn same_lists_stay_settled()
+    ensures { SameListsStaySettled }
 {
 }

@@ -12,7 +12,7 @@ use crate::accounts::Accounts;
 use crate::settle::Settle;
 
 /// A book that looks for the next entry to settle in the order of the accounts.
-#[derive(Drop)]
+#[derive(Debug, Drop)]
 pub struct PlainBook {
     accounts: Accounts,
 }

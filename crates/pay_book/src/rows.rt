@@ -1,8 +1,10 @@
 //! Worked examples, computed from the definitions. Each function does nothing: what it ensures is the example.
 
-ghost use Rattle.std.specs.Prelude.{◌≡◌, ◌-◌, ◌^◌, [], ◌∷◌, map, replicate};
+ghost use Rattle.std.specs.Prelude.{◌≡◌, ◌-◌, ◌^◌, [], ◌∷◌, map, replicate, slice_index};
 ghost use Rattle.pay_book.specs.declared.payment.Entry.{Entry};
+ghost use Rattle.pay_book.specs.declared.line.Line.{Line};
 ghost use Rattle.pay_book.specs.Payment.{entry_of};
+ghost use Rattle.pay_book.specs.Statement.{statement_of};
 ghost use Rattle.pay_book.specs.Rows.{thirty_to_1, five_to_0, five_to_1, five_to_2, five_to_3, five_to_4, unknown_version, one_byte_short, amount_zero, ten_to_0, ten_to_1, one_fifty_to_1, fifty_to_0, greatest_u64_to_1, one_to_1, greatest_total_to_1, four, lists_of, EndsAt};
 
 /// Values of owner 3 as entries: payments, and what is void for its bytes, its payee or its amount.
@@ -42,5 +44,12 @@ pub fn void_entry_passes()
 pub fn greatest_amounts()
     ensures uncovered { EndsAt (four 100 0 0 50) (lists_of (greatest_u64_to_1 ∷ one_to_1 ∷ []) [] [] []) (four 0 0 0 0) (four 100 0 0 50) }
     ensures paid_whole { EndsAt (four (2 ^ 63 - 1) 0 0 0) (lists_of (greatest_total_to_1 ∷ []) [] [] []) (four 1 0 0 0) (four 0 (2 ^ 63 - 1) 0 0) }
+{
+}
+
+/// Once the circular debts are settled, account 0's statement has its own payment first, then those to it by owner.
+pub fn statement_after_circular_debts()
+    ensures { statement_of 4 (lists_of (ten_to_1 ∷ []) (ten_to_0 ∷ []) [] (ten_to_0 ∷ [])) (slice_index (four 1 1 0 1)) 0
+        ≡ Line.Out 0 1 10 ∷ Line.In 1 0 10 ∷ Line.In 3 0 10 ∷ [] }
 {
 }
