@@ -37,14 +37,25 @@ take-numbered_more accounts lists owner place value there =
     subst P (sym (numbered_entries_of-map accounts lists owner))
     (take_more (map number (enumerate_from 0 values)) place default within ∙ ap (λ e. take place (map number (enumerate_from 0 values)) ++ e ∷ []) at_place)
 
--- one line more of each kind
-pub map_numbered_more : {X : Type 0} (f : ℕ × Entry → X) (before : List X) (some more : List (ℕ × Entry)) (one : ℕ × Entry) → more ≡ some ++ one ∷ [] → (before ++ map f some) ++ f one ∷ [] ≡ before ++ map f more
-map_numbered_more f before some more one e =
-    append_assoc before (map f some) (f one ∷ []) ∙ ap (λ xs. before ++ xs) (sym (map-append f some (one ∷ []))) ∙ ap (λ xs. before ++ map f xs) (sym e)
+-- the lines so far, with those of one entry more
+module _ {X : Type 0} (before : List X) (some more : List (ℕ × Entry)) (place : ℕ) (entry : Entry) (is : more ≡ some ++ (place, entry) ∷ []) where
+  pub map_more_entry : (f : ℕ × Entry → X) (lines after : List X) (line : X) → lines ≡ before ++ map f some → after ≡ lines ++ line ∷ [] → line ≡ f (place, entry) → after ≡ before ++ map f more
+  map_more_entry f lines after line so_far pushed e =
+      pushed
+      ∙ ap (λ xs. xs ++ line ∷ []) so_far
+      ∙ ap (λ x. (before ++ map f some) ++ x ∷ []) e
+      ∙ append_assoc before (map f some) (f (place, entry) ∷ [])
+      ∙ ap (λ xs. before ++ xs) (sym (map-append f some ((place, entry) ∷ [])))
+      ∙ ap (λ xs. before ++ map f xs) (sym is)
 
-pub filter_map_numbered_more : {X : Type 0} (f : ℕ × Entry → Option X) (before : List X) (some more : List (ℕ × Entry)) (one : ℕ × Entry) → more ≡ some ++ one ∷ [] → (before ++ filter_map f some) ++ cons_option (f one) [] ≡ before ++ filter_map f more
-filter_map_numbered_more f before some more one e =
-    append_assoc before (filter_map f some) (cons_option (f one) []) ∙ ap (λ xs. before ++ xs) (sym (filter_map-append f some (one ∷ []))) ∙ ap (λ xs. before ++ filter_map f xs) (sym e)
+  pub filter_map_more_entry : (f : ℕ × Entry → Option X) (lines after : List X) (line : Option X) → lines ≡ before ++ filter_map f some → after ≡ lines ++ cons_option line [] → line ≡ f (place, entry) → after ≡ before ++ filter_map f more
+  filter_map_more_entry f lines after line so_far pushed e =
+      pushed
+      ∙ ap (λ xs. xs ++ cons_option line []) so_far
+      ∙ ap (λ x. (before ++ filter_map f some) ++ cons_option x []) e
+      ∙ append_assoc before (filter_map f some) (cons_option (f (place, entry)) [])
+      ∙ ap (λ xs. before ++ xs) (sym (filter_map-append f some ((place, entry) ∷ [])))
+      ∙ ap (λ xs. before ++ filter_map f xs) (sym is)
 
 -- one owner more
 pub flat_map-range_more : {X : Type 0} (f : ℕ → List X) (n : ℕ) → flat_map f (range_with_len 0 (n + 1)) ≡ flat_map f (range_with_len 0 n) ++ f n
@@ -53,3 +64,12 @@ flat_map-range_more f n =
     let longer : range_with_len 0 (n + 1) ≡ range_with_len 0 n ++ n ∷ [] =
       sym (same (n + 1)) ∙ map-range_with_len_more (λ (k : ℕ). k) 0 n n (omega arith) ∙ ap (λ xs. xs ++ n ∷ []) (same n) in
     ap (flat_map f) longer ∙ flat_map-append f (range_with_len 0 n) (n ∷ []) ∙ ap (λ xs. flat_map f (range_with_len 0 n) ++ xs) (append-nil (f n))
+
+-- the lines so far, with those of one owner more
+pub flat_map_more_owner : {X : Type 0} (own : List X) (f : ℕ → List X) (owner : ℕ) (lines after incoming : List X) → lines ≡ own ++ flat_map f (range_with_len 0 owner) → after ≡ lines ++ incoming → incoming ≡ f owner → after ≡ own ++ flat_map f (range_with_len 0 (owner + 1))
+flat_map_more_owner own f owner lines after incoming so_far pushed e =
+    pushed
+    ∙ ap (λ xs. xs ++ incoming) so_far
+    ∙ ap (λ xs. (own ++ flat_map f (range_with_len 0 owner)) ++ xs) e
+    ∙ append_assoc own (flat_map f (range_with_len 0 owner)) (f owner)
+    ∙ ap (λ xs. own ++ xs) (sym (flat_map-range_more f owner))

@@ -1,11 +1,13 @@
 use Rattle.std.proofs.Common.{◌≡◌, ◌+◌, ◌++◌, [], ◌∷◌, map, take, ap, ◌∙◌, sym, arith, slice_index, append-nil, length, List, ℕ}
 use Rattle.std.specs.List.{flat_map, filter_map, range_with_len}
-use Rattle.std.proofs.lemmas.List.{append_assoc}
+use Rattle.std.specs.Prelude.{Option}
+use Rattle.pay_book.specs.declared.payment.Entry.{Entry}
+use Rattle.pay_book.specs.declared.line.Line.{Line}
 use Rattle.pay_book.specs.Book.{entries_for}
 use Rattle.pay_book.specs.Statement.{numbered_entries_of, incoming_line, own_lines, incoming_lines, statement_of}
 use Rattle.pay_book.proofs.Entries.{length-entries_of}
 use Rattle.pay_book.proofs.Reaching.{Reach-within}
-use Rattle.pay_book.proofs.Lines.{flat_map-range_more}
+use Rattle.pay_book.proofs.Lines.{flat_map_more_owner}
 use Rattle.pay_book.proofs.statements.statement.Goals as goal
 
 pub push_own-requires : goal.push_own-requires
@@ -30,12 +32,11 @@ loop-owner-preserved g c =
     let front = slice_index (g.B.Settle.shows c.args.book.now).front in
     let owner = c.loop-owner.owner in
     let own = own_lines c.args.accounts lists front c.args.account in
-    let incoming = incoming_lines c.args.accounts lists front c.args.account in
-    c.in_ok-push_incoming.ensures
-    ∙ ap (λ k. c.loop-owner.lines.items ++ filter_map (λ e. incoming_line c.args.account owner e.0 e.1) (take k (numbered_entries_of c.args.accounts lists owner))) c.front-in-loop-owner.ensures
-    ∙ ap (λ lines. lines ++ incoming owner) c.loop-owner.invariant
-    ∙ append_assoc own (flat_map incoming (range_with_len 0 owner)) (incoming owner)
-    ∙ ap (λ lines. own ++ lines) (sym (flat_map-range_more incoming owner))
+    let line : ℕ × Entry → Option Line = λ e. incoming_line c.args.account owner e.0 e.1 in
+    let before : ℕ → List Line = λ place. filter_map line (take place (numbered_entries_of c.args.accounts lists owner)) in
+    flat_map_more_owner own (incoming_lines c.args.accounts lists front c.args.account) owner
+    c.loop-owner.lines.items c.push_incoming.new.lines.items (before c.front-in-loop-owner.result)
+    c.loop-owner.invariant c.in_ok-push_incoming.ensures (ap before c.front-in-loop-owner.ensures)
 
 pub returns : goal.returns
 unfolding statement_of
