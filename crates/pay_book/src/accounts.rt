@@ -8,6 +8,7 @@ use std::alloc::{AllocError, Global};
 use std::marker::Model;
 
 use pay_channel::Source;
+use pay_link::Genesis;
 
 use crate::decode::decode_payment;
 use crate::payment::Entry;
@@ -31,16 +32,27 @@ impl Model for Accounts {
 }
 
 impl Accounts {
+    /// The accounts of a genesis, in which nothing is settled.
+    pub fn new(alloc: Global, genesis: &Genesis) -> Result<Self, AllocError>
+        ensures { IfOk result (λ book. book ≡ fresh genesis.now.opening) }
+    {
+        let mut opening = Vec::new(alloc);
+        for account in 0..genesis.members() {
+            opening.push(genesis.opening(account))?;
+        }
+        Accounts::unsettled(alloc, opening)
+    }
+
     /// Accounts with these opening balances, in which nothing is settled.
-    pub fn new(alloc: Global, opening: &[u64]) -> Result<Self, AllocError>
-        requires accounts { length opening.now < 2 ^ 16 }
-        requires total { sum opening.now < 2 ^ 64 }
-        ensures { IfOk result (λ book. book ≡ fresh opening.now) }
+    fn unsettled(alloc: Global, opening: Vec<u64>) -> Result<Self, AllocError>
+        requires accounts { length opening.items < 2 ^ 16 }
+        requires total { sum opening.items < 2 ^ 64 }
+        ensures { IfOk result (λ book. book ≡ fresh opening.items) }
     {
         Ok(Accounts {
-            opening: opening.to_vec(alloc)?,
             front: vec![in alloc; 0; opening.len()]?,
-            balances: opening.to_vec(alloc)?,
+            balances: opening.as_slice().to_vec(alloc)?,
+            opening,
         })
     }
 

@@ -7,6 +7,7 @@ ghost use Rattle.std.specs.Bool.{OnTrue, OnFalse};
 use std::alloc::{AllocError, Global};
 
 use pay_channel::Source;
+use pay_link::Genesis;
 
 use crate::accounts::Accounts;
 use crate::settle::Settle;
@@ -39,9 +40,9 @@ impl PlainBook {
 impl Settle for PlainBook {
     ghost shows = { λ book. book.accounts };
 
-    fn new(alloc: Global, opening: &[u64]) -> Result<Self, AllocError> {
+    fn new(alloc: Global, genesis: &Genesis) -> Result<Self, AllocError> {
         Ok(PlainBook {
-            accounts: Accounts::new(alloc, opening)?,
+            accounts: Accounts::new(alloc, genesis)?,
         })
     }
 

@@ -1,11 +1,12 @@
 //! What a book can do, whatever it looks at to find the next payment that its owner can cover.
 
-ghost use Rattle.std.specs.Prelude.{◌≡◌, ◌+◌, ◌<◌, ◌^◌, length, sum, slice_index, IfOk};
+ghost use Rattle.std.specs.Prelude.{◌≡◌, ◌+◌, ◌<◌, length, sum, slice_index, IfOk};
 ghost use Rattle.pay_book.specs.Book.{Standing, fresh, IsSettled, CanSettle};
 
 use std::alloc::{AllocError, Global};
 
 use pay_channel::Source;
+use pay_link::Genesis;
 
 /// A book over the lists of a [`Source`].
 ///
@@ -14,11 +15,9 @@ pub trait Settle {
     // What the book shows.
     ghost shows: { Self → Standing };
 
-    /// A book of these opening balances in which nothing is settled.
-    fn new(alloc: Global, opening: &[u64]) -> Result<Self, AllocError>
-        requires accounts { length opening.now < 2 ^ 16 }
-        requires total { sum opening.now < 2 ^ 64 }
-        ensures { IfOk result (λ book. shows book ≡ fresh opening.now) };
+    /// A book of the genesis's opening balances in which nothing is settled.
+    fn new(alloc: Global, genesis: &Genesis) -> Result<Self, AllocError>
+        ensures { IfOk result (λ book. shows book ≡ fresh genesis.now.opening) };
 
     /// Settles all that can be settled after the list of `owner` grew, and says how many entries that was.
     ///
