@@ -1,5 +1,5 @@
 -- From what a book shows to what it can do next.
-use Rattle.std.proofs.Common.{◌≡◌, ◌≢◌, ℕ, zero, suc, ◌+◌, ◌-◌, ◌<◌, ◌≤◌, ◌^◌, ℤ, pos, ◌-ℤ◌, List, [], ◌∷◌, ◌++◌, length, replicate, take, sum, sum_by, slice_index, get_or, refl, ap, ◌∙◌, sym, subst, arith, inl, inr}
+use Rattle.std.proofs.Common.{◌≡◌, ◌≢◌, ℕ, zero, suc, ◌+◌, ◌-◌, ◌*◌, ◌<◌, ◌≤◌, ◌^◌, ℤ, pos, ◌-ℤ◌, List, [], ◌∷◌, ◌++◌, length, replicate, take, sum, sum_by, slice_index, get_or, refl, ap, ◌∙◌, sym, subst, arith, inl, inr}
 use Rattle.std.specs.Prelude.{slice_get, Option, Some, None}
 use Rattle.std.proofs.lemmas.Int.{ints}
 use Rattle.std.proofs.lemmas.Bool.{cases_eq, cases_lt}
@@ -11,7 +11,7 @@ use Rattle.pay_book.specs.Payment.{entries_of}
 use Rattle.pay_book.specs.Balance.{amount_of, amount_to, sum_below, paid_in, paid_out, balance_at, AreBalances}
 use Rattle.pay_book.specs.Front.{Covers, MayStep, Reach, Start, Step, IsLargest, entry_count, largest_front, AllGrow}
 use Rattle.pay_book.specs.Book.{Standing, fresh, entries_for, IsBook, IsSettled, AreCountable, CanSettle}
-use Rattle.pay_book.proofs.Sums.{sum_below-le, sum_below-same, sum_below-zero}
+use Rattle.pay_book.proofs.Sums.{sum_below-le, sum_below-same, sum_below-zero, sum_below-bounded}
 use Rattle.pay_book.proofs.Conserving.{sum-places}
 use Rattle.pay_book.proofs.Reaching.{Reach-within, within_from_Covers, largest_from_stuck, largest_is_stuck}
 use Rattle.pay_book.proofs.Growing.{balance_at-grown, MayStep-same_list, Reach-grown, largest_grows, AllGrow-same}
@@ -134,3 +134,10 @@ same_books lists p q opening at_p at_q =
   where
     same_pos : (m n : ℕ) → pos m ≡ pos n → m ≡ n
     same_pos m n e = omega (arith, ints)
+
+-- short lists have few entries
+pub short_is_countable : (lists : ℕ → List (List ℕ)) (book : Standing) (most : ℕ) → ((a : ℕ) → a < length book.opening → length (lists a) ≤ most) → length book.opening * most < 2 ^ 32 → AreCountable lists book
+short_is_countable lists book most short few =
+    let n = length book.opening in
+    let bounded = sum_below-bounded n (λ a. length (entries_for book lists a)) most (λ a h. let long = length-entries_of n lists a in let at_a = short a h in omega arith) in
+    omega arith

@@ -1,5 +1,5 @@
 -- The laws of settling, over any entries; src/laws.rt says each in words.
-use Rattle.std.specs.Prelude.{◌≡◌, ◌≢◌, ℕ, ◌+◌, ◌<◌, ◌≤◌, max, pos, ◌≤ℤ◌, List, length, slice_index, sum}
+use Rattle.std.specs.Prelude.{◌≡◌, ◌≢◌, ℕ, ◌+◌, ◌*◌, ◌^◌, ◌<◌, ◌≤◌, max, pos, ◌≤ℤ◌, List, length, slice_index, sum}
 use Rattle.pay_channel.specs.Source.{GrowsOnly}
 use Rattle.pay_book.specs.declared.payment.Entry.{Entry}
 use Rattle.pay_book.specs.Payment.{entries_of}
@@ -88,6 +88,11 @@ abbrev pub GrownListCanSettle : Type 0
 GrownListCanSettle =
     (old new : ℕ → List (List ℕ)) (book : Standing) (owner : ℕ) →
     IsSettled old book → GrowsOnly old new owner → owner < length book.opening → AreCountable new book → CanSettle new book owner
+
+abbrev pub ShortListsAreCountable : Type 0
+ShortListsAreCountable =
+    (lists : ℕ → List (List ℕ)) (book : Standing) (most : ℕ) →
+    ((a : ℕ) → a < length book.opening → length (lists a) ≤ most) → length book.opening * most < 2 ^ 32 → AreCountable lists book
 
 abbrev pub SameListsStaySettled : Type 0
 SameListsStaySettled =

@@ -2,7 +2,7 @@
 //!
 //! `m`, `n` and `front` are fronts, `opening` the opening balances and `logs` the accounts' lists of entries.
 
-ghost use Rattle.pay_book.specs.Laws.{ReachedFrontsJoin, StuckIsLargest, LargestIsStuck, LargestIsOne, LargestIsComputed, ReachedIsWithinLists, NoBalanceBelowZero, BalancesSumToOpening, ReachedStaysReached, LargestGrows, EqualListsEqualLargest, EqualListsEqualBalances, EqualListsEqualBooks, FreshBookIsSettled, GrownListCanSettle, SameListsStaySettled};
+ghost use Rattle.pay_book.specs.Laws.{ReachedFrontsJoin, StuckIsLargest, LargestIsStuck, LargestIsOne, LargestIsComputed, ReachedIsWithinLists, NoBalanceBelowZero, BalancesSumToOpening, ReachedStaysReached, LargestGrows, EqualListsEqualLargest, EqualListsEqualBalances, EqualListsEqualBooks, FreshBookIsSettled, GrownListCanSettle, SameListsStaySettled, ShortListsAreCountable};
 
 /// Two fronts that steps reach have a common one: the front that is as far as either at each account is reached too.
 pub fn reached_fronts_join()
@@ -97,5 +97,11 @@ pub fn grown_list_can_settle()
 /// A settled book is settled as long as the lists of its accounts stay as they are.
 pub fn same_lists_stay_settled()
     ensures { SameListsStaySettled }
+{
+}
+
+/// Lists of a bounded length have few enough entries, where the accounts times that length are.
+pub fn short_lists_are_countable()
+    ensures { ShortListsAreCountable }
 {
 }
