@@ -1,22 +1,22 @@
 -- What the tests of the places tell is what reading asks.
-use Rattle.std.proofs.Common.{◌≡◌, ℕ, zero, suc, ◌+◌, ◌*◌, ◌-◌, ◌^◌, ◌<◌, ◌≤◌, Bool, true, false, List, [], ◌∷◌, ◌++◌, length, get_or, take, drop, refl, sym, ◌∙◌, ap, subst, arith, Some, min}
+use Rattle.std.proofs.Common.{◌≡◌, ℕ, ◌+◌, ◌-◌, ◌<◌, ◌≤◌, true, false, List, [], ◌++◌, length, get_or, take, drop, refl, sym, ◌∙◌, ap, arith, Some, min}
 use Rattle.std.proofs.lemmas.Bool.{false≢true}
-use Rattle.std.proofs.lemmas.List.{length-append, length-take-le, append-nil, get_or-take, get_or_append_left, take-append-drop}
+use Rattle.std.proofs.lemmas.List.{length-take-le, append-nil, get_or-take, get_or_append_left, take-append-drop}
 use Rattle.pay_frame.specs.declared.fault.FrameFault.{FrameFault}
 use Rattle.pay_frame.specs.Frame.{FrameFields, frame_bytes, IsFrame}
-use Rattle.pay_frame.specs.Places.{length_field, may_stand, PassBelow, IsFirstWrong, IsWhole, IsSizeOf}
-use Rattle.pay_frame.specs.Reading.{HasFrame, StartsFrame, IsProperBeginning, IsFault, IsReading, fault_at}
+use Rattle.pay_frame.specs.Places.{length_field, may_stand, PassBelow, IsFirstWrong, IsSizeOf}
+use Rattle.pay_frame.specs.Reading.{HasFrame, StartsFrame, IsProperBeginning, IsFault, fault_at}
 use Rattle.pay_frame.proofs.Lists.{IsBytes, IsBytes-take, SameUpTo}
 use Rattle.pay_frame.proofs.Heads.{may_stand-same}
 use Rattle.pay_frame.proofs.Passing.{head_from_passing}
-use Rattle.pay_frame.proofs.Starting.{length-frame, starts_long, starts_short, passes_in_frame, proper_from}
+use Rattle.pay_frame.proofs.Starting.{starts_long, starts_short, passes_in_frame, proper_from}
 
 -- the first bytes, where those before a place pass
 starts_before : (x : List ℕ) (place : ℕ) → IsBytes x → place < 24 → place < length x → PassBelow x place → (k : ℕ) → k ≤ place → StartsFrame (take k x)
 starts_before x place is small within pass k le =
     let len : length (take k x) ≡ k = length-take-le k x (omega arith) in
     starts_short (24 - k) k (omega arith) (take k x) len (IsBytes-take k x is)
-      (λ p lt. may_stand-same (take k x) x p (omega arith) (λ j below. get_or-take k x j 0 (omega arith)) ∙ pass p (omega arith))
+    (λ p lt. may_stand-same (take k x) x p (omega arith) (λ j below. get_or-take k x j 0 (omega arith)) ∙ pass p (omega arith))
 
 -- a byte of a frame that doesn't pass
 contrary : (x : List ℕ) (place : ℕ) → may_stand x place ≡ false → may_stand x place ≡ true → ⊥

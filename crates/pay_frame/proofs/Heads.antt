@@ -1,13 +1,11 @@
 -- Which bytes may stand in a frame's head: the test of each place is right for frames, and looks at no
 -- later place.
-use Rattle.std.proofs.Common.{◌≡◌, ℕ, zero, suc, ◌+◌, ◌*◌, ◌-◌, ◌/◌, ◌%◌, ◌^◌, ◌<◌, ◌≤◌, Bool, true, false, not, ◌&&◌, ◌||◌, eqb, ltb, leb, cond, List, [], ◌∷◌, ◌++◌, length, get_or, take, drop, refl, sym, ◌∙◌, ap, arith, inl, inr, ◌⊎◌, eq-eqb}
-use Rattle.std.specs.Int.{w16, w32, w64, to_be_bytes, from_be_bytes}
+use Rattle.std.proofs.Common.{◌≡◌, ℕ, ◌+◌, ◌*◌, ◌-◌, ◌/◌, ◌%◌, ◌^◌, ◌<◌, ◌≤◌, Bool, true, false, not, ◌&&◌, ◌||◌, eqb, leb, List, ◌++◌, length, refl, ap, arith, inl, inr, ◌⊎◌, eq-eqb}
 use Rattle.std.proofs.lemmas.Bool.{le-leb}
-use Rattle.std.proofs.lemmas.Bool.Decides.{nat_tests}
 use Rattle.pay_frame.specs.declared.kind.Kind.{Kind}
 use Rattle.pay_frame.specs.declared.kind.Kind.TheVariants.{Send, Echo, Ready, Want}
-use Rattle.pay_frame.specs.Frame.{BodyFields, FrameFields, code_of, head_bytes, frame_bytes, IsBare, IsBody, IsFrame}
-use Rattle.pay_frame.specs.Places.{length_field, may_stand}
+use Rattle.pay_frame.specs.Frame.{FrameFields, code_of, frame_bytes, IsFrame}
+use Rattle.pay_frame.specs.Places.{may_stand}
 use Rattle.pay_frame.proofs.Lists.{at_each, SameUpTo}
 
 -- ---- a place looks at itself and at places 0, 1 and 3 before it
@@ -15,21 +13,21 @@ use Rattle.pay_frame.proofs.Lists.{at_each, SameUpTo}
 pub may_stand-same : (xs ys : List ℕ) (place : ℕ) → place < 24 → SameUpTo place xs ys → may_stand xs place ≡ may_stand ys place
 may_stand-same xs ys place lt =
     at_each (λ p. SameUpTo p xs ys → may_stand xs p ≡ may_stand ys p)
-      (λ s. cc (s 0 (omega arith)))
-      (λ s. cc (s 0 (omega arith), s 1 (omega arith)))
-      (λ s. cc (s 2 (omega arith)))
-      (λ s. cc (s 0 (omega arith), s 1 (omega arith), s 3 (omega arith)))
-      (λ s. refl) (λ s. refl) (λ s. refl) (λ s. refl) (λ s. refl) (λ s. refl)
-      (λ s. refl) (λ s. refl) (λ s. refl) (λ s. refl) (λ s. refl) (λ s. refl)
-      (λ s. cc (s 3 (omega arith), s 16 (omega arith)))
-      (λ s. cc (s 3 (omega arith), s 17 (omega arith)))
-      (λ s. cc (s 18 (omega arith)))
-      (λ s. cc (s 19 (omega arith)))
-      (λ s. cc (s 3 (omega arith), s 20 (omega arith)))
-      (λ s. cc (s 3 (omega arith), s 21 (omega arith)))
-      (λ s. cc (s 0 (omega arith), s 1 (omega arith), s 22 (omega arith)))
-      (λ s. cc (s 0 (omega arith), s 1 (omega arith), s 23 (omega arith)))
-      place lt
+    (λ s. cc (s 0 (omega arith)))
+    (λ s. cc (s 0 (omega arith), s 1 (omega arith)))
+    (λ s. cc (s 2 (omega arith)))
+    (λ s. cc (s 0 (omega arith), s 1 (omega arith), s 3 (omega arith)))
+    (λ s. refl) (λ s. refl) (λ s. refl) (λ s. refl) (λ s. refl) (λ s. refl)
+    (λ s. refl) (λ s. refl) (λ s. refl) (λ s. refl) (λ s. refl) (λ s. refl)
+    (λ s. cc (s 3 (omega arith), s 16 (omega arith)))
+    (λ s. cc (s 3 (omega arith), s 17 (omega arith)))
+    (λ s. cc (s 18 (omega arith)))
+    (λ s. cc (s 19 (omega arith)))
+    (λ s. cc (s 3 (omega arith), s 20 (omega arith)))
+    (λ s. cc (s 3 (omega arith), s 21 (omega arith)))
+    (λ s. cc (s 0 (omega arith), s 1 (omega arith), s 22 (omega arith)))
+    (λ s. cc (s 0 (omega arith), s 1 (omega arith), s 23 (omega arith)))
+    place lt
 
 -- ---- the head of a frame passes at each place
 
@@ -83,25 +81,25 @@ may_stand-frame f is rest place lt =
     let seq : f.body.seq < 2 ^ 16 = is.body.seq in
     let want = is.body.want in
     at_each (λ p. may_stand (frame_bytes f ++ rest) p ≡ true)
-      (le-leb (len / 256 % 256) 4 (omega arith))
-      (both (le-leb 54 field (omega arith)) (le-leb field 1078 (omega arith)))
-      refl
-      (both (both (code_least kind) (code_greatest kind)) (elim (want_cases kind) [
-        | inl e ↦
+    (le-leb (len / 256 % 256) 4 (omega arith))
+    (both (le-leb 54 field (omega arith)) (le-leb field 1078 (omega arith)))
+    refl
+    (both (both (code_least kind) (code_greatest kind)) (elim (want_cases kind) [
+      | inl e ↦
           let empty : length f.body.value ≡ 0 = ap length (want e).2 in
           second (not (eqb (code_of kind) 4)) (eq-eqb field 54 (omega arith))
-        | inr n ↦
+      | inr n ↦
           let other : not (eqb (code_of kind) 4) ≡ true = rw n refl in
           first (eqb field 54) other
-      ]))
-      refl refl refl refl refl refl
-      refl refl refl refl refl refl
-      (zero_in_want kind (f.body.owner / 256 % 256) (λ e. let none : f.body.owner ≡ 0 = (want e).0 in omega arith))
-      (zero_in_want kind (f.body.owner % 256) (λ e. let none : f.body.owner ≡ 0 = (want e).0 in omega arith))
-      (eq-eqb (f.body.seq / 16777216 % 256) 0 (omega arith))
-      (eq-eqb (f.body.seq / 65536 % 256) 0 (omega arith))
-      (zero_in_want kind (f.body.seq / 256 % 256) (λ e. let none : f.body.seq ≡ 0 = (want e).1 in omega arith))
-      (zero_in_want kind (f.body.seq % 256) (λ e. let none : f.body.seq ≡ 0 = (want e).1 in omega arith))
-      (eq-eqb (length f.body.value / 256 % 256) ((field - 54) / 256) (omega arith))
-      (eq-eqb (length f.body.value % 256) ((field - 54) % 256) (omega arith))
-      place lt
+    ]))
+    refl refl refl refl refl refl
+    refl refl refl refl refl refl
+    (zero_in_want kind (f.body.owner / 256 % 256) (λ e. let none : f.body.owner ≡ 0 = (want e).0 in omega arith))
+    (zero_in_want kind (f.body.owner % 256) (λ e. let none : f.body.owner ≡ 0 = (want e).0 in omega arith))
+    (eq-eqb (f.body.seq / 16777216 % 256) 0 (omega arith))
+    (eq-eqb (f.body.seq / 65536 % 256) 0 (omega arith))
+    (zero_in_want kind (f.body.seq / 256 % 256) (λ e. let none : f.body.seq ≡ 0 = (want e).1 in omega arith))
+    (zero_in_want kind (f.body.seq % 256) (λ e. let none : f.body.seq ≡ 0 = (want e).1 in omega arith))
+    (eq-eqb (length f.body.value / 256 % 256) ((field - 54) / 256) (omega arith))
+    (eq-eqb (length f.body.value % 256) ((field - 54) % 256) (omega arith))
+    place lt

@@ -4,3 +4,6 @@ pub mod Passing
 pub mod Starting
 pub mod Answering
 pub mod OneReading
+pub mod Windows
+pub mod WholeRuns
+pub mod Written

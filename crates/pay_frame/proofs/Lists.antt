@@ -1,9 +1,9 @@
 -- Lists of bytes, by their places.
-use Rattle.std.proofs.Common.{◌≡◌, ℕ, zero, suc, ◌+◌, ◌<◌, ◌≤◌, List, [], ◌∷◌, ◌++◌, length, get_or, take, drop, refl, sym, ◌∙◌, ap, arith, inl, inr, below_more}
+use Rattle.std.proofs.Common.{◌≡◌, ℕ, zero, suc, ◌<◌, ◌≤◌, List, [], ◌∷◌, length, get_or, take, sym, ◌∙◌, arith, inl, inr, below_more}
 use Rattle.std.specs.Prelude.{map}
 use Rattle.std.specs.List.{range_with_len}
 use Rattle.std.proofs.lemmas.Bool.{cases_lt}
-use Rattle.std.proofs.lemmas.List.{length-take-le, get_or-take, get_or_past, get_or-drop, length-take, get_or_append_left, length-append}
+use Rattle.std.proofs.lemmas.List.{length-take-le, get_or-take, get_or_past, length-take}
 use Rattle.std.proofs.lemmas.List.FromFn.{get_or-map-range_with_len, length-map-range_with_len}
 use Rattle.std.proofs.lemmas.Grind.{same_number_lists}
 
@@ -32,8 +32,8 @@ IsBytes-take n bytes h = record {
 pub cells : (xs : List ℕ) → 24 ≤ length xs → take 24 xs ≡ map (λ i. get_or xs i 0) (range_with_len 0 24)
 cells xs long =
     same_number_lists _ _ (length-take-le 24 xs long ∙ sym (length-map-range_with_len (λ i. get_or xs i 0) 0 24)) (λ k h.
-      let lt : k < 24 = omega (arith, length-take-le 24 xs long) in
-      get_or-take 24 xs k 0 lt ∙ sym (get_or-map-range_with_len (λ i. get_or xs i 0) 0 24 k k 0 lt (omega arith)))
+    let lt : k < 24 = omega (arith, length-take-le 24 xs long) in
+    get_or-take 24 xs k 0 lt ∙ sym (get_or-map-range_with_len (λ i. get_or xs i 0) 0 24 k k 0 lt (omega arith)))
 
 -- what holds at each of 24 places
 pub at_each : (P : ℕ → Type 0) → P 0 → P 1 → P 2 → P 3 → P 4 → P 5 → P 6 → P 7 → P 8 → P 9 → P 10 → P 11 → P 12 → P 13 → P 14 → P 15 → P 16 → P 17 → P 18 → P 19 → P 20 → P 21 → P 22 → P 23 → (k : ℕ) → k < 24 → P k

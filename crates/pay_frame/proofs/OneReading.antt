@@ -1,13 +1,12 @@
 -- Laws of frames and of reading, over the definitions alone.
-use Rattle.std.proofs.Common.{◌≡◌, ℕ, zero, suc, ◌+◌, ◌*◌, ◌-◌, ◌/◌, ◌%◌, ◌^◌, ◌<◌, ◌≤◌, List, [], ◌∷◌, ◌++◌, length, get_or, take, drop, refl, sym, ◌∙◌, ap, subst, arith, inl, inr, append_assoc, Some, None, Ok, Err, Option, Result}
-use Rattle.std.specs.Int.{w16, w32, w64, to_be_bytes, from_be_bytes}
+use Rattle.std.proofs.Common.{◌≡◌, ℕ, ◌+◌, ◌^◌, ◌<◌, List, [], ◌++◌, length, get_or, take, drop, refl, sym, ◌∙◌, ap, arith, inl, inr, append_assoc, Some, None, Ok, Err, Option, Result}
 use Rattle.std.proofs.lemmas.Bool.{cases_lt}
 use Rattle.std.proofs.lemmas.List.{length-append, append-nil, take-append-drop, take_at, drop_at}
 use Rattle.std.proofs.lemmas.Nat.{from_be_bytes-to_be_bytes_2, from_be_bytes-to_be_bytes_4, from_be_bytes-to_be_bytes_8}
 use Rattle.pay_frame.specs.declared.fault.FrameFault.{FrameFault}
 use Rattle.pay_frame.specs.declared.kind.Kind.{Kind}
 use Rattle.pay_frame.specs.declared.kind.Kind.TheVariants.{Send, Echo, Ready, Want}
-use Rattle.pay_frame.specs.Frame.{BodyFields, FrameFields, code_of, frame_bytes, IsBody, IsFrame}
+use Rattle.pay_frame.specs.Frame.{BodyFields, FrameFields, code_of, frame_bytes, IsFrame}
 use Rattle.pay_frame.specs.Places.{length_field, two_at, four_at, eight_at}
 use Rattle.pay_frame.specs.Reading.{HasFrame, StartsFrame, IsProperBeginning, IsFault, IsReading, fault_at}
 
@@ -98,7 +97,7 @@ proper_or_frame : (x : List ℕ) (f : FrameFields) → HasFrame x f → IsProper
 proper_or_frame x f has begins =
     let s = begins.starts in
     let e : frame_bytes s.frame ++ [] ≡ frame_bytes f ++ (has.rest ++ s.rest) =
-      append-nil (frame_bytes s.frame) ∙ s.spelled ∙ ap (λ (xs : List ℕ). xs ++ s.rest) has.spelled ∙ append_assoc (frame_bytes f) has.rest s.rest
+    append-nil (frame_bytes s.frame) ∙ s.spelled ∙ ap (λ (xs : List ℕ). xs ++ s.rest) has.spelled ∙ append_assoc (frame_bytes f) has.rest s.rest
     in
     let rests = (same_front s.frame f [] (has.rest ++ s.rest) s.is has.is e).rest in
     let more = begins.more in
@@ -151,3 +150,6 @@ none_begins_another f g rest is js e = sym (same_front g f [] rest js is (append
 pub read_again : (f : FrameFields) (rest : List ℕ) (answer : Result (Option (FrameFields × ℕ)) FrameFault) → IsFrame f → IsReading (frame_bytes f ++ rest) answer → answer ≡ Ok (Some (f, length (frame_bytes f)))
 read_again f rest answer is reading =
     one_reading (frame_bytes f ++ rest) answer (Ok (Some (f, length (frame_bytes f)))) reading (record { is = is; rest = rest; spelled = refl }, refl)
+
+pub drained_from_beginning : (bytes : List ℕ) → IsProperBeginning bytes → (f : FrameFields) → HasFrame bytes f → ⊥
+drained_from_beginning bytes begins f has = proper_or_frame bytes f has begins

@@ -1,14 +1,14 @@
 -- A head whose bytes all pass the test of their place is spelled by fields within a frame's limits.
-use Rattle.std.proofs.Common.{◌≡◌, ℕ, zero, suc, ◌+◌, ◌*◌, ◌-◌, ◌/◌, ◌%◌, ◌^◌, ◌<◌, ◌≤◌, Bool, true, false, not, ◌&&◌, ◌||◌, eqb, leb, List, [], ◌∷◌, ◌++◌, length, get_or, take, drop, refl, sym, ◌∙◌, ap, arith}
+use Rattle.std.proofs.Common.{◌≡◌, ℕ, ◌+◌, ◌-◌, ◌/◌, ◌%◌, ◌<◌, ◌≤◌, true, not, ◌&&◌, ◌||◌, eqb, leb, List, [], ◌∷◌, ◌++◌, length, get_or, take, refl, sym, ◌∙◌, ap, arith}
 use Rattle.std.specs.Prelude.{map}
 use Rattle.std.specs.List.{range_with_len}
 use Rattle.std.specs.Int.{w16, w32, w64, to_be_bytes, from_be_bytes}
 use Rattle.std.proofs.lemmas.Bool.{eqb-true, leb-true, and_parts, eq-eqb}
 use Rattle.std.proofs.lemmas.Nat.{be_bytes_2, be_bytes_4, be_bytes_8}
 use Rattle.pay_frame.specs.declared.kind.Kind.{Kind}
-use Rattle.pay_frame.specs.declared.kind.Kind.TheVariants.{Send, Echo, Ready, Want}
-use Rattle.pay_frame.specs.Frame.{BodyFields, FrameFields, code_of, head_bytes, frame_bytes, IsBare, IsBody, IsFrame}
-use Rattle.pay_frame.specs.Places.{length_field, may_stand, PassBelow, two_at, four_at, eight_at}
+use Rattle.pay_frame.specs.declared.kind.Kind.TheVariants.{Want}
+use Rattle.pay_frame.specs.Frame.{BodyFields, FrameFields, code_of, head_bytes, IsBody}
+use Rattle.pay_frame.specs.Places.{length_field, PassBelow, two_at, four_at, eight_at}
 use Rattle.pay_frame.proofs.Lists.{IsBytes, IsBytes-none, IsBytes-cons, cells}
 
 -- what the tests tell
@@ -74,7 +74,7 @@ two_back n x y p q e =
 four_back : (h : List ℕ) → IsBytes h → (p : ℕ) → to_be_bytes w32 (four_at h p) ≡ get_or h p 0 ∷ get_or h (p + 1) 0 ∷ get_or h (p + 2) 0 ∷ get_or h (p + 3) 0 ∷ []
 four_back h is p =
     let bytes : IsBytes (get_or h p 0 ∷ get_or h (p + 1) 0 ∷ get_or h (p + 2) 0 ∷ get_or h (p + 3) 0 ∷ []) =
-      IsBytes-cons (is.fits p) (IsBytes-cons (is.fits (p + 1)) (IsBytes-cons (is.fits (p + 2)) (IsBytes-cons (is.fits (p + 3)) IsBytes-none)))
+    IsBytes-cons (is.fits p) (IsBytes-cons (is.fits (p + 1)) (IsBytes-cons (is.fits (p + 2)) (IsBytes-cons (is.fits (p + 3)) IsBytes-none)))
     in
     be_bytes_4 _ _ refl bytes.fits refl
 
@@ -84,8 +84,8 @@ eight_cells h p = get_or h p 0 ∷ get_or h (p + 1) 0 ∷ get_or h (p + 2) 0 ∷
 eight_back : (h : List ℕ) → IsBytes h → (p : ℕ) → to_be_bytes w64 (eight_at h p) ≡ eight_cells h p
 eight_back h is p =
     let bytes : IsBytes (eight_cells h p) =
-      IsBytes-cons (is.fits p) (IsBytes-cons (is.fits (p + 1)) (IsBytes-cons (is.fits (p + 2)) (IsBytes-cons (is.fits (p + 3))
-        (IsBytes-cons (is.fits (p + 4)) (IsBytes-cons (is.fits (p + 5)) (IsBytes-cons (is.fits (p + 6)) (IsBytes-cons (is.fits (p + 7)) IsBytes-none)))))))
+    IsBytes-cons (is.fits p) (IsBytes-cons (is.fits (p + 1)) (IsBytes-cons (is.fits (p + 2)) (IsBytes-cons (is.fits (p + 3))
+    (IsBytes-cons (is.fits (p + 4)) (IsBytes-cons (is.fits (p + 5)) (IsBytes-cons (is.fits (p + 6)) (IsBytes-cons (is.fits (p + 7)) IsBytes-none)))))))
     in
     be_bytes_8 _ _ refl bytes.fits refl
 
@@ -98,19 +98,19 @@ nothing (x ∷ xs) e = absurd (omega arith)
 
 -- the cells of a head, from the spellings of its fields
 joined : (len from to number owner seq value : ℕ) (h : List ℕ) (kind : Kind)
-  → to_be_bytes w16 len ≡ get_or h 0 0 ∷ get_or h 1 0 ∷ [] → get_or h 2 0 ≡ 1 → code_of kind ≡ get_or h 3 0
-  → to_be_bytes w16 from ≡ get_or h 4 0 ∷ get_or h 5 0 ∷ [] → to_be_bytes w16 to ≡ get_or h 6 0 ∷ get_or h 7 0 ∷ []
-  → to_be_bytes w64 number ≡ eight_cells h 8 → to_be_bytes w16 owner ≡ get_or h 16 0 ∷ get_or h 17 0 ∷ []
-  → to_be_bytes w32 seq ≡ get_or h 18 0 ∷ get_or h 19 0 ∷ get_or h 20 0 ∷ get_or h 21 0 ∷ []
-  → to_be_bytes w16 value ≡ get_or h 22 0 ∷ get_or h 23 0 ∷ []
-  → to_be_bytes w16 len ++ (1 ∷ code_of kind ∷ []) ++ to_be_bytes w16 from ++ to_be_bytes w16 to ++ to_be_bytes w64 number
+    → to_be_bytes w16 len ≡ get_or h 0 0 ∷ get_or h 1 0 ∷ [] → get_or h 2 0 ≡ 1 → code_of kind ≡ get_or h 3 0
+    → to_be_bytes w16 from ≡ get_or h 4 0 ∷ get_or h 5 0 ∷ [] → to_be_bytes w16 to ≡ get_or h 6 0 ∷ get_or h 7 0 ∷ []
+    → to_be_bytes w64 number ≡ eight_cells h 8 → to_be_bytes w16 owner ≡ get_or h 16 0 ∷ get_or h 17 0 ∷ []
+    → to_be_bytes w32 seq ≡ get_or h 18 0 ∷ get_or h 19 0 ∷ get_or h 20 0 ∷ get_or h 21 0 ∷ []
+    → to_be_bytes w16 value ≡ get_or h 22 0 ∷ get_or h 23 0 ∷ []
+    → to_be_bytes w16 len ++ (1 ∷ code_of kind ∷ []) ++ to_be_bytes w16 from ++ to_be_bytes w16 to ++ to_be_bytes w64 number
     ++ to_be_bytes w16 owner ++ to_be_bytes w32 seq ++ to_be_bytes w16 value
     ≡ map (λ i. get_or h i 0) (range_with_len 0 24)
 joined len from to number owner seq value h kind l v k f t n o s w = cc
 
 -- such a head is the spelling of its fields
 pub head_spelled : (h : List ℕ) (kind : Kind) (value : List ℕ) → 24 ≤ length h → IsBytes h → IsHead h → code_of kind ≡ get_or h 3 0 → 54 + length value ≡ length_field h
-  → head_bytes (two_at h 4) (two_at h 6) (eight_at h 8) (body_in h kind value) ≡ take 24 h
+    → head_bytes (two_at h 4) (two_at h 6) (eight_at h 8) (body_in h kind value) ≡ take 24 h
 head_spelled h kind value long is head kind-is len =
     let x0 = is.fits 0 in
     let x1 = is.fits 1 in
@@ -130,6 +130,6 @@ body_fits h kind value is head kind-is len = record {
   seq = omega (arith, head.seq_18, head.seq_19, is.fits 20, is.fits 21);
   value = omega (arith, head.greatest);
   want = λ e.
-    let four : get_or h 3 0 ≡ 4 = sym kind-is ∙ code_4 kind e in
-    (omega (arith, head.want_16 four, head.want_17 four), omega (arith, head.seq_18, head.seq_19, head.want_20 four, head.want_21 four), nothing value (omega (arith, head.want_length four)));
+      let four : get_or h 3 0 ≡ 4 = sym kind-is ∙ code_4 kind e in
+      (omega (arith, head.want_16 four, head.want_17 four), omega (arith, head.seq_18, head.seq_19, head.want_20 four, head.want_21 four), nothing value (omega (arith, head.want_length four)));
 }

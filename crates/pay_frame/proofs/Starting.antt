@@ -1,16 +1,16 @@
 -- Bytes that pass the test of each place start a frame, and only such bytes do.
-use Rattle.std.proofs.Common.{◌≡◌, ℕ, zero, suc, ◌+◌, ◌*◌, ◌-◌, ◌/◌, ◌%◌, ◌^◌, ◌<◌, ◌≤◌, Bool, true, false, not, ◌&&◌, ◌||◌, eqb, leb, List, [], ◌∷◌, ◌++◌, length, get_or, take, drop, refl, sym, ◌∙◌, ap, subst, arith, inl, inr, append_assoc, below_more}
+use Rattle.std.proofs.Common.{◌≡◌, ℕ, zero, suc, ◌+◌, ◌-◌, ◌/◌, ◌%◌, ◌<◌, ◌≤◌, Bool, true, ◌||◌, eqb, leb, List, [], ◌∷◌, ◌++◌, length, get_or, take, drop, refl, sym, ◌∙◌, ap, subst, arith, append_assoc, below_more}
 use Rattle.std.specs.Prelude.{replicate}
-use Rattle.std.proofs.lemmas.Bool.{cases_lt, eqb-true, leb-true, le-leb, and_parts, eq-eqb}
-use Rattle.std.proofs.lemmas.List.{length-append, length-take, length-take-le, length-drop, length-replicate, take-append-drop, get_or_append_left, get_or_at, get_or-take}
+use Rattle.std.proofs.lemmas.Bool.{leb-true, le-leb, and_parts, eq-eqb}
+use Rattle.std.proofs.lemmas.List.{length-append, length-take-le, length-drop, length-replicate, take-append-drop, get_or_append_left, get_or_at}
 use Rattle.pay_frame.specs.declared.kind.Kind.{Kind}
 use Rattle.pay_frame.specs.declared.kind.Kind.TheVariants.{Send, Echo, Ready, Want}
-use Rattle.pay_frame.specs.Frame.{BodyFields, FrameFields, code_of, head_bytes, frame_bytes, IsBare, IsBody, IsFrame}
+use Rattle.pay_frame.specs.Frame.{FrameFields, code_of, head_bytes, frame_bytes, IsFrame}
 use Rattle.pay_frame.specs.Places.{length_field, may_stand, PassBelow, two_at, four_at, eight_at}
-use Rattle.pay_frame.specs.Reading.{HasFrame, StartsFrame, IsProperBeginning}
+use Rattle.pay_frame.specs.Reading.{StartsFrame, IsProperBeginning}
 use Rattle.pay_frame.proofs.Lists.{IsBytes, IsBytes-none, IsBytes-cons, at_each, SameUpTo}
-use Rattle.pay_frame.proofs.Heads.{may_stand-same, may_stand-frame, both, first, second}
-use Rattle.pay_frame.proofs.Passing.{IsHead, head_from_passing, body_in, frame_in, head_spelled, body_fits}
+use Rattle.pay_frame.proofs.Heads.{may_stand-same, may_stand-frame, both, second}
+use Rattle.pay_frame.proofs.Passing.{IsHead, head_from_passing, frame_in, head_spelled, body_fits}
 
 -- a frame is 56 bytes and its value
 pub length-frame : (f : FrameFields) → IsFrame f → length (frame_bytes f) ≡ 56 + length f.body.value
@@ -37,7 +37,7 @@ frame_fits h kind value tag is head kind-is len tag-len = record {
 
 -- and what follows the head is the value and the tag
 pub frame_spelled : (h : List ℕ) (kind : Kind) (value tag rest : List ℕ) → 24 ≤ length h → IsBytes h → IsHead h → code_of kind ≡ get_or h 3 0 → 54 + length value ≡ length_field h
-  → value ++ tag ≡ rest → frame_bytes (frame_in h kind value tag) ≡ take 24 h ++ rest
+    → value ++ tag ≡ rest → frame_bytes (frame_in h kind value tag) ≡ take 24 h ++ rest
 frame_spelled h kind value tag rest long is head kind-is len parts =
     ap (λ (xs : List ℕ). xs ++ value ++ tag) (head_spelled h kind value long is head kind-is len)
     ∙ append_assoc (take 24 h) value tag ∙ ap (λ (xs : List ℕ). take 24 h ++ xs) parts
@@ -58,8 +58,8 @@ starts_long x is long pass within =
     let len : 54 + length value ≡ length_field x = omega arith in
     let parts : value ++ tag ≡ behind = take-append-drop (length_field x - 54) behind in
     let spelled : frame_bytes (frame_in x kind.0 value tag) ≡ x ++ more =
-      frame_spelled x kind.0 value tag behind long is head kind.1 len parts
-      ∙ sym (append_assoc (take 24 x) (drop 24 x) more) ∙ ap (λ (xs : List ℕ). xs ++ more) (take-append-drop 24 x)
+    frame_spelled x kind.0 value tag behind long is head kind.1 len parts
+    ∙ sym (append_assoc (take 24 x) (drop 24 x) more) ∙ ap (λ (xs : List ℕ). xs ++ more) (take-append-drop 24 x)
     in
     (record { frame = frame_in x kind.0 value tag; is = frame_fits x kind.0 value tag is head kind.1 len tag-len; rest = more; spelled = spelled }, omega arith)
 
@@ -130,19 +130,19 @@ low_byte x e pass =
 can_go_on : (n : ℕ) → n < 24 → (x : List ℕ) → IsBytes x → length x ≡ n → PassBelow x n → CanGoOn n x
 can_go_on n lt =
     at_each (λ n. (x : List ℕ) → IsBytes x → length x ≡ n → PassBelow x n → CanGoOn n x)
-      (λ x is e pass. any_byte 0 x (le-leb _ 4 (let last = last_byte x 0 0 e in omega arith)))
-      length_byte
-      (λ x is e pass. record { byte = 1; fits = omega arith; stands = eq-eqb _ 1 (last_byte x 1 2 e) })
-      (λ x is e pass. record { byte = 1; fits = omega arith; stands = rw (last_byte x 1 3 e) refl })
-      (λ x is e pass. any_byte 4 x refl) (λ x is e pass. any_byte 5 x refl) (λ x is e pass. any_byte 6 x refl)
-      (λ x is e pass. any_byte 7 x refl) (λ x is e pass. any_byte 8 x refl) (λ x is e pass. any_byte 9 x refl)
-      (λ x is e pass. any_byte 10 x refl) (λ x is e pass. any_byte 11 x refl) (λ x is e pass. any_byte 12 x refl)
-      (λ x is e pass. any_byte 13 x refl) (λ x is e pass. any_byte 14 x refl) (λ x is e pass. any_byte 15 x refl)
-      (λ x is e pass. zero_byte 16 x e _ refl) (λ x is e pass. zero_byte 17 x e _ refl)
-      (λ x is e pass. zero_seq 18 x e refl) (λ x is e pass. zero_seq 19 x e refl)
-      (λ x is e pass. zero_byte 20 x e _ refl) (λ x is e pass. zero_byte 21 x e _ refl)
-      (λ x is e pass. high_byte x e pass) (λ x is e pass. low_byte x e pass)
-      n lt
+    (λ x is e pass. any_byte 0 x (le-leb _ 4 (let last = last_byte x 0 0 e in omega arith)))
+    length_byte
+    (λ x is e pass. record { byte = 1; fits = omega arith; stands = eq-eqb _ 1 (last_byte x 1 2 e) })
+    (λ x is e pass. record { byte = 1; fits = omega arith; stands = rw (last_byte x 1 3 e) refl })
+    (λ x is e pass. any_byte 4 x refl) (λ x is e pass. any_byte 5 x refl) (λ x is e pass. any_byte 6 x refl)
+    (λ x is e pass. any_byte 7 x refl) (λ x is e pass. any_byte 8 x refl) (λ x is e pass. any_byte 9 x refl)
+    (λ x is e pass. any_byte 10 x refl) (λ x is e pass. any_byte 11 x refl) (λ x is e pass. any_byte 12 x refl)
+    (λ x is e pass. any_byte 13 x refl) (λ x is e pass. any_byte 14 x refl) (λ x is e pass. any_byte 15 x refl)
+    (λ x is e pass. zero_byte 16 x e _ refl) (λ x is e pass. zero_byte 17 x e _ refl)
+    (λ x is e pass. zero_seq 18 x e refl) (λ x is e pass. zero_seq 19 x e refl)
+    (λ x is e pass. zero_byte 20 x e _ refl) (λ x is e pass. zero_byte 21 x e _ refl)
+    (λ x is e pass. high_byte x e pass) (λ x is e pass. low_byte x e pass)
+    n lt
 
 IsBytes-rest : (y : ℕ) (ys : List ℕ) → IsBytes (y ∷ ys) → IsBytes ys
 IsBytes-rest y ys is = record { fits = λ i. is.fits (suc i) }
@@ -154,8 +154,8 @@ IsBytes-push (y ∷ ys) byte is lt = IsBytes-cons (is.fits 0) (IsBytes-push ys b
 pass_push : (n : ℕ) (x : List ℕ) (byte : ℕ) → n < 24 → length x ≡ n → PassBelow x n → may_stand (x ++ byte ∷ []) n ≡ true → PassBelow (x ++ byte ∷ []) (n + 1)
 pass_push n x byte small len pass stands =
     below_more (λ p. may_stand (x ++ byte ∷ []) p ≡ true) n
-      (λ p lt. may_stand-same (x ++ byte ∷ []) x p (omega arith) (λ k le. earlier_byte x byte n len k (omega arith)) ∙ pass p lt)
-      stands
+    (λ p lt. may_stand-same (x ++ byte ∷ []) x p (omega arith) (λ k le. earlier_byte x byte n len k (omega arith)) ∙ pass p lt)
+    stands
 
 pub starts_short : (m n : ℕ) → n + m ≡ 24 → (x : List ℕ) → length x ≡ n → IsBytes x → PassBelow x n → StartsFrame x
 starts_short zero n e x len is pass =
@@ -190,9 +190,9 @@ pub record IsCut (bytes : List ℕ) (f : FrameFields) (front : List ℕ) : Type 
   pub spelled : frame_bytes f ≡ bytes
 
 pub cut_at : (bytes head value tag : List ℕ) (kind : Kind) (from to number owner seq : ℕ) → IsBytes bytes → PassBelow bytes 24 → length bytes ≡ 2 + length_field bytes → code_of kind ≡ get_or bytes 3 0
-  → from ≡ two_at bytes 4 → to ≡ two_at bytes 6 → number ≡ eight_at bytes 8 → owner ≡ two_at bytes 16 → seq ≡ four_at bytes 18
-  → head ≡ take 24 bytes → value ++ tag ≡ drop 24 bytes → length tag ≡ 32
-  → IsCut bytes (record { from = from; to = to; number = number; body = record { kind = kind; owner = owner; seq = seq; value = value }; tag = tag }) head
+    → from ≡ two_at bytes 4 → to ≡ two_at bytes 6 → number ≡ eight_at bytes 8 → owner ≡ two_at bytes 16 → seq ≡ four_at bytes 18
+    → head ≡ take 24 bytes → value ++ tag ≡ drop 24 bytes → length tag ≡ 32
+    → IsCut bytes (record { from = from; to = to; number = number; body = record { kind = kind; owner = owner; seq = seq; value = value }; tag = tag }) head
 cut_at bytes head value tag kind from to number owner seq is pass len kind-is from-is to-is number-is owner-is seq-is head-is parts tag-len =
     let told = head_from_passing bytes pass in
     let least = told.least in

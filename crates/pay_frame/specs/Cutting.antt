@@ -1,10 +1,10 @@
 -- A stream is cut into frames, in whatever pieces it comes. What a cutter holds is a list of bytes, and
 -- its calls are said by that list.
-use Rattle.std.specs.Prelude.{◌≡◌, ℕ, ◌+◌, ◌-◌, ◌<◌, ◌⊎◌, List, [], ◌∷◌, ◌++◌, length, min, take, is_some, if◌then◌else◌, Option, Some, None, Result, Ok, Err}
+use Rattle.std.specs.Prelude.{◌≡◌, ℕ, ◌-◌, ◌<◌, ◌⊎◌, List, [], ◌∷◌, ◌++◌, length, min, take, is_some, if◌then◌else◌, Option, Some, None, Result, Ok, Err}
 use Rattle.pay_frame.specs.declared.fault.FrameFault.{FrameFault}
 use Rattle.pay_frame.specs.declared.fault.FrameFault.TheVariants.{Truncated}
 use Rattle.pay_frame.specs.Frame.{FrameFields, frame_bytes, IsFrame}
-use Rattle.pay_frame.specs.Reading.{HasFrame, IsProperBeginning, IsFault, IsReading}
+use Rattle.pay_frame.specs.Reading.{HasFrame, IsProperBeginning, IsFault}
 
 -- the bytes of the frame that was handed out last, those not yet handed out, and the fault met, if any
 pub record Held : Type 0 where

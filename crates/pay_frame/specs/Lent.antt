@@ -1,9 +1,11 @@
 -- What a frame in a buffer lends.
-use Rattle.std.specs.Prelude.{◌≡◌}
-use Rattle.pay_frame.specs.declared.frame_ref.FrameRef.TheInside.{Inside}
-use Rattle.pay_frame.specs.Frame.{FrameFields, IsFrame, head_bytes}
+use Rattle.std.specs.Prelude.{ℕ, Option, Some, None, Result, Ok, Err}
+use Rattle.pay_frame.specs.declared.fault.FrameFault.{FrameFault}
+use Rattle.pay_frame.specs.declared.frame_ref.FrameRef.{FrameRef}
+use Rattle.pay_frame.specs.Frame.{FrameFields}
 
-abbrev pub fields_of : Inside → FrameFields
+-- the fields that its parts spell
+abbrev pub fields_of : FrameRef → FrameFields
 fields_of r = record {
   from = r.from;
   to = r.to;
@@ -12,7 +14,14 @@ fields_of r = record {
   tag = r.tag.now;
 }
 
--- the parts are a frame's, and the head is their spelling
-pub record IsLent (r : Inside) : Type 0 where
-  pub fits : IsFrame (fields_of r)
-  pub head : r.head.now ≡ head_bytes r.from r.to r.number (fields_of r).body
+-- an answer to a reader, by fields
+abbrev pub sized_of : Result (Option (FrameRef × ℕ)) FrameFault → Result (Option (FrameFields × ℕ)) FrameFault
+sized_of (Ok (Some (r, size))) = Ok (Some (fields_of r, size))
+sized_of (Ok None) = Ok None
+sized_of (Err fault) = Err fault
+
+-- an answer of a cutter, by fields
+abbrev pub given_of : Result (Option FrameRef) FrameFault → Result (Option FrameFields) FrameFault
+given_of (Ok (Some r)) = Ok (Some (fields_of r))
+given_of (Ok None) = Ok None
+given_of (Err fault) = Err fault

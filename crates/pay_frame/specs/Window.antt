@@ -1,5 +1,5 @@
 -- What a cutter's fields hold.
-use Rattle.std.specs.Prelude.{◌≡◌, ℕ, ◌+◌, ◌-◌, ◌≤◌, length, take, drop}
+use Rattle.std.specs.Prelude.{◌-◌, ◌≤◌, length, take, drop}
 use Rattle.std.specs.Vec.{vec_capacity}
 use Rattle.pay_frame.specs.declared.cutter.Cutter.TheInside.{Inside}
 use Rattle.pay_frame.specs.Cutting.{Held, room}

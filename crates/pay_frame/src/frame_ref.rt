@@ -2,7 +2,6 @@ ghost use Rattle.std.specs.Prelude.{◌≡◌};
 ghost use Rattle.pay_frame.specs.Frame.{IsFrame, head_bytes};
 
 use crate::kind::Kind;
-use std::marker::Model;
 
 /// A frame in a buffer, which lends its parts without copying.
 ///
@@ -18,79 +17,71 @@ pub struct FrameRef<'a> {
     pub(crate) head: &'a [u8],
     pub(crate) value: &'a [u8],
     pub(crate) tag: &'a [u8],
-}
-
-impl<'a> Model for FrameRef<'a> {
-    ghost use Rattle.pay_frame.specs.Frame.{FrameFields};
-
-    ghost Value = { FrameFields };
-
-    ghost use Rattle.pay_frame.specs.Lent.{fields_of, IsLent};
-
-    ghost view = { fields_of };
-
-    ghost invariant = { IsLent };
+    pub ghost is_frame: { IsFrame (record { from = from; to = to; number = number; body = record { kind = kind; owner = owner; seq = seq; value = value.now }; tag = tag.now }) },
+    pub ghost head_spelled: { head.now ≡ head_bytes from to number (record { kind = kind; owner = owner; seq = seq; value = value.now }) },
 }
 
 impl<'a> FrameRef<'a> {
+    ghost use Rattle.pay_frame.specs.Lent.{fields_of};
+
     pub fn kind(&self) -> Kind
-        ensures value { result ≡ self.now.body.kind }
+        ensures value { result ≡ (fields_of self.now).body.kind }
     {
         self.kind
     }
 
     /// Who sent it.
     pub fn from(&self) -> u16
-        ensures value { result ≡ self.now.from }
+        ensures value { result ≡ (fields_of self.now).from }
     {
         self.from
     }
 
     /// Whom it was sent to.
     pub fn to(&self) -> u16
-        ensures value { result ≡ self.now.to }
+        ensures value { result ≡ (fields_of self.now).to }
     {
         self.to
     }
 
     /// Its place among all that the sender sent.
     pub fn number(&self) -> u64
-        ensures value { result ≡ self.now.number }
+        ensures value { result ≡ (fields_of self.now).number }
     {
         self.number
     }
 
     /// Whose broadcast it speaks of.
     pub fn owner(&self) -> u16
-        ensures value { result ≡ self.now.body.owner }
+        ensures value { result ≡ (fields_of self.now).body.owner }
     {
         self.owner
     }
 
     /// Which of the owner's broadcasts, counted from 0.
     pub fn seq(&self) -> u32
-        ensures value { result ≡ self.now.body.seq }
+        ensures value { result ≡ (fields_of self.now).body.seq }
     {
         self.seq
     }
 
     pub fn value(&self) -> &'a [u8]
-        ensures value { result.now ≡ self.now.body.value }
+        ensures value { result.now ≡ (fields_of self.now).body.value }
     {
         self.value
     }
 
     /// The 24 bytes before the value.
     pub fn head(&self) -> &'a [u8]
-        ensures value { result.now ≡ head_bytes self.now.from self.now.to self.now.number self.now.body }
+        ensures value { result.now ≡ head_bytes (fields_of self.now).from (fields_of self.now).to (fields_of self.now).number (fields_of self.now).body }
     {
         self.head
     }
 
     /// The 32 bytes of the tag.
     pub fn tag(&self) -> &'a [u8]
-        ensures value { result.now ≡ self.now.tag }
-        ensures limits { IsFrame self.now }
+        ensures value { result.now ≡ (fields_of self.now).tag }
+        ensures limits { IsFrame (fields_of self.now) }
     {
         self.tag
     }

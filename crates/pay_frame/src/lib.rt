@@ -8,19 +8,30 @@
 mod body;
 mod bytes;
 mod cutter;
+mod device;
+mod engine_fault;
 mod fault;
 mod frame_ref;
 mod kind;
 mod laws;
+mod reader;
 mod reading;
+mod writer;
 mod writing;
 
 pub use body::Body;
 pub use bytes::Bytes;
 pub use cutter::Cutter;
+pub use device::{DeviceFailed, Input, Output, write_all};
+pub use engine_fault::EngineFault;
 pub use fault::FrameFault;
 pub use frame_ref::FrameRef;
 pub use kind::Kind;
-pub use laws::{none_begins_another, one_reading, one_spelling, read_again};
+pub use laws::{
+    beginning_is_drained, cuts_do_not_matter, none_begins_another, one_reading, one_spelling, read_again,
+    stream_is_frames_and_rest,
+};
+pub use reader::Reader;
 pub use reading::read;
+pub use writer::Writer;
 pub use writing::{head_into, write};

@@ -1,5 +1,6 @@
 ghost use Rattle.std.specs.Prelude.{◌≡◌, ℕ, ◌+◌, ◌<◌, ◌≤◌, true, false, Some, length, MatchOption, min, IfOk, IfErr, IfSome, IfNone};
-ghost use Rattle.pay_frame.specs.Frame.{code_of, IsFrame, frame_bytes};
+ghost use Rattle.pay_frame.specs.Frame.{code_of, frame_bytes};
+ghost use Rattle.pay_frame.specs.Lent.{fields_of, sized_of};
 ghost use Rattle.pay_frame.specs.Reading.{IsReading, IsProperBeginning, IsFault, fault_at};
 ghost use Rattle.pay_frame.specs.Places.{length_field, is_want, may_stand, PassBelow, IsFirstWrong, IsWhole, IsSizeOf, eight_at};
 
@@ -8,9 +9,13 @@ use crate::frame_ref::FrameRef;
 use crate::kind::Kind;
 
 const HEAD_LEN: usize = 24;
+
 const TAG_LEN: usize = 32;
+
 const LEAST_LENGTH: u16 = 54;
+
 const GREATEST_LENGTH: u16 = 1078;
+
 const WANT: u8 = 4;
 
 fn length_field(bytes: &[u8]) -> u16
@@ -99,8 +104,7 @@ fn number_of(bytes: &[u8]) -> u64
 /// The frame that the bytes are.
 pub(crate) fn frame_of(bytes: &[u8]) -> FrameRef<'_>
     requires { IsWhole bytes.now }
-    ensures is { IsFrame result }
-    ensures spelled { frame_bytes result ≡ bytes.now }
+    ensures { frame_bytes (fields_of result) ≡ bytes.now }
 {
     let value_len = bytes.len() - HEAD_LEN - TAG_LEN;
     let (head, rest) = bytes.split_at(HEAD_LEN);
@@ -131,13 +135,17 @@ pub(crate) fn size_in_front(bytes: &[u8]) -> Result<Option<usize>, FrameFault>
         return Ok(None);
     }
     let size = 2 + usize::from(length_field(bytes));
-    Ok(if size <= bytes.len() { Some(size) } else { None })
+    Ok(if size <= bytes.len() {
+        Some(size)
+    } else {
+        None
+    })
 }
 
 /// What stands in front of the bytes: a frame and its size, nothing yet where they are a proper
 /// beginning of some frame (as no bytes are), or the fault that the first wrong byte names.
 pub fn read(bytes: &[u8]) -> Result<Option<(FrameRef<'_>, usize)>, FrameFault>
-    ensures reading { IsReading bytes.now result }
+    ensures reading { IsReading bytes.now (sized_of result) }
 {
     match size_in_front(bytes)? {
         Some(size) => Ok(Some((frame_of(&bytes[..size]), size))),

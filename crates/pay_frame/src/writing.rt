@@ -5,6 +5,7 @@ use crate::body::Body;
 use std::alloc::{AllocError, Global};
 
 const VERSION: u8 = 1;
+
 const LEAST_LENGTH: usize = 54;
 
 /// Writes the 24 bytes that stand before the value.
@@ -20,9 +21,29 @@ pub fn head_into(head: &mut [u8; 24], from: u16, to: u16, number: u64, body: &Bo
     let owner = body.owner().to_be_bytes();
     let seq = body.seq().to_be_bytes();
     *head = [
-        length[0], length[1], VERSION, body.kind().code(), sender[0], sender[1], receiver[0],
-        receiver[1], place[0], place[1], place[2], place[3], place[4], place[5], place[6],
-        place[7], owner[0], owner[1], seq[0], seq[1], seq[2], seq[3], value_length[0],
+        length[0],
+        length[1],
+        VERSION,
+        body.kind().code(),
+        sender[0],
+        sender[1],
+        receiver[0],
+        receiver[1],
+        place[0],
+        place[1],
+        place[2],
+        place[3],
+        place[4],
+        place[5],
+        place[6],
+        place[7],
+        owner[0],
+        owner[1],
+        seq[0],
+        seq[1],
+        seq[2],
+        seq[3],
+        value_length[0],
         value_length[1],
     ];
 }

@@ -1,36 +1,34 @@
-use Rattle.std.proofs.Common.{◌≡◌, arith, ap, ◌∙◌, ◌++◌, length, take, drop}
+use Rattle.std.proofs.Common.{◌≡◌, arith, ◌∙◌, ◌++◌, length, drop}
 use Rattle.std.proofs.lemmas.List.{take-append-drop}
-use Rattle.pay_frame.specs.Frame.{FrameFields, BodyFields}
-use Rattle.pay_frame.proofs.Lists.{IsBytes}
 use Rattle.pay_frame.proofs.Passing.{head_from_passing}
-use Rattle.pay_frame.proofs.Starting.{IsCut, cut_at}
+use Rattle.pay_frame.proofs.Starting.{cut_at}
 use Rattle.pay_frame.proofs.reading.frame_of.Goals as goal
 
 -- the parts of the bytes are those of a frame
-cut_of : (c : goal.After-from_be_bytes-4) → IsCut c.args.bytes.now
-  (record {
-    from = c.from_be_bytes.result;
-    to = c.from_be_bytes-2.result;
-    number = c.number_of.result;
-    body = record { kind = c.kind_of.result; owner = c.from_be_bytes-3.result; seq = c.from_be_bytes-4.result; value = c.split_at-2.result.0.now };
-    tag = c.split_at-2.result.1.now;
-  })
-  c.split_at.result.0.now
-cut_of c =
+pub invariant_of-result : goal.invariant_of-result
+invariant_of-result c =
     let behind : c.split_at-2.result.0.now ++ c.split_at-2.result.1.now ≡ drop 24 c.args.bytes.now = rw (c.split_at-2.ensures.front, c.split_at-2.ensures.back) (take-append-drop _ _ ∙ c.split_at.ensures.back) in
     let least = (head_from_passing c.args.bytes.now c.requires.head).least in
     let tag-len : length c.split_at-2.result.1.now ≡ 32 = omega (arith, c.split_at-2.ensures.back_len, c.split_at.ensures.back_len) in
+    let cut =
     cut_at c.args.bytes.now c.split_at.result.0.now c.split_at-2.result.0.now c.split_at-2.result.1.now c.kind_of.result
-      c.from_be_bytes.result c.from_be_bytes-2.result c.number_of.result c.from_be_bytes-3.result c.from_be_bytes-4.result
-      (record { fits = λ i. omega (arith, c.type_inv.bytes i) }) c.requires.head c.requires.length
-      c.kind_of.ensures c.from_be_bytes.ensures c.from_be_bytes-2.ensures c.number_of.ensures c.from_be_bytes-3.ensures c.from_be_bytes-4.ensures
-      c.split_at.ensures.front behind tag-len
+    c.from_be_bytes.result c.from_be_bytes-2.result c.number_of.result c.from_be_bytes-3.result c.from_be_bytes-4.result
+    (record { fits = λ i. omega (arith, c.type_inv.bytes i) }) c.requires.head c.requires.length
+    c.kind_of.ensures c.from_be_bytes.ensures c.from_be_bytes-2.ensures c.number_of.ensures c.from_be_bytes-3.ensures c.from_be_bytes-4.ensures
+    c.split_at.ensures.front behind tag-len
+    in
+    record { is_frame = cut.is; head_spelled = cut.head }
 
-pub invariant_of-result : goal.invariant_of-result
-invariant_of-result c = let cut = cut_of c in record { fits = cut.is; head = cut.head }
-
-pub returns-clause-is : goal.returns-clause-is
-returns-clause-is c = (cut_of c).is
-
-pub returns-clause-spelled : goal.returns-clause-spelled
-returns-clause-spelled c = (cut_of c).spelled
+pub returns : goal.returns
+returns c =
+    let behind : c.split_at-2.result.0.now ++ c.split_at-2.result.1.now ≡ drop 24 c.args.bytes.now = rw (c.split_at-2.ensures.front, c.split_at-2.ensures.back) (take-append-drop _ _ ∙ c.split_at.ensures.back) in
+    let least = (head_from_passing c.args.bytes.now c.requires.head).least in
+    let tag-len : length c.split_at-2.result.1.now ≡ 32 = omega (arith, c.split_at-2.ensures.back_len, c.split_at.ensures.back_len) in
+    let cut =
+    cut_at c.args.bytes.now c.split_at.result.0.now c.split_at-2.result.0.now c.split_at-2.result.1.now c.kind_of.result
+    c.from_be_bytes.result c.from_be_bytes-2.result c.number_of.result c.from_be_bytes-3.result c.from_be_bytes-4.result
+    (record { fits = λ i. omega (arith, c.type_inv.bytes i) }) c.requires.head c.requires.length
+    c.kind_of.ensures c.from_be_bytes.ensures c.from_be_bytes-2.ensures c.number_of.ensures c.from_be_bytes-3.ensures c.from_be_bytes-4.ensures
+    c.split_at.ensures.front behind tag-len
+    in
+    cut.spelled

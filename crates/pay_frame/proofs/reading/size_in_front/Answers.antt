@@ -1,5 +1,4 @@
 use Rattle.std.proofs.Common.{◌+◌, arith}
-use Rattle.pay_frame.proofs.Lists.{IsBytes}
 use Rattle.pay_frame.proofs.Answering.{fault_from, beginning_from_short, beginning_from_long, size_of_whole}
 use Rattle.pay_frame.proofs.reading.size_in_front.Goals as goal
 

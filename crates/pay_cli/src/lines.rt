@@ -1,0 +1,91 @@
+//! The lines of `check`, written behind what is written already.
+
+ghost use Rattle.std.specs.Prelude.{◌≡◌, ◌++◌, OnOk, decimal, codes};
+ghost use Rattle.pay_frame.specs.Lent.{fields_of};
+ghost use Rattle.pay_cli.specs.Lines.{kind_word, ok_words, want_words, refused_words, next_words, fault_line};
+
+use itoa::Buffer;
+use pay_frame::{FrameFault, FrameRef, Kind};
+use pay_link::LinkFault;
+use std::alloc::AllocError;
+
+fn push_number(out: &mut Vec<u8>, number: u64) -> Result<(), AllocError>
+    ensures { OnOk result (out.new.items ≡ out.old.items ++ decimal number) }
+{
+    let mut buffer = Buffer::new();
+    out.extend_from_slice(buffer.format(number).as_bytes())
+}
+
+fn push_word(out: &mut Vec<u8>, word: &str) -> Result<(), AllocError>
+    ensures { OnOk result (out.new.items ≡ out.old.items ++ word.now) }
+{
+    out.extend_from_slice(word.as_bytes())
+}
+
+fn word_of(kind: Kind) -> &'static str
+    ensures { result.now ≡ kind_word kind }
+{
+    match kind {
+        Kind::Send => "send",
+        Kind::Echo => "echo",
+        Kind::Ready => "ready",
+        Kind::Want => "want",
+    }
+}
+
+pub fn push_ok(out: &mut Vec<u8>, frame: &FrameRef) -> Result<(), AllocError>
+    ensures { OnOk result (out.new.items ≡ out.old.items ++ ok_words (fields_of frame.now)) }
+{
+    push_word(out, " ok ")?;
+    push_word(out, word_of(frame.kind()))?;
+    push_word(out, " from ")?;
+    push_number(out, u64::from(frame.from()))?;
+    push_word(out, " number ")?;
+    push_number(out, frame.number())?;
+    push_word(out, " owner ")?;
+    push_number(out, u64::from(frame.owner()))?;
+    push_word(out, " seq ")?;
+    push_number(out, u64::from(frame.seq()))?;
+    push_word(out, " value ")?;
+    push_number(out, frame.value().len() as u64)
+}
+
+pub fn push_want(out: &mut Vec<u8>, frame: &FrameRef) -> Result<(), AllocError>
+    ensures { OnOk result (out.new.items ≡ out.old.items ++ want_words (fields_of frame.now)) }
+{
+    push_word(out, " want from ")?;
+    push_number(out, u64::from(frame.from()))?;
+    push_word(out, " number ")?;
+    push_number(out, frame.number())
+}
+
+pub fn push_refused(out: &mut Vec<u8>, fault: LinkFault) -> Result<(), AllocError>
+    ensures { OnOk result (out.new.items ≡ out.old.items ++ refused_words fault) }
+{
+    push_word(out, " refused ")?;
+    push_number(out, u64::from(fault.number()))?;
+    push_word(out, " ")?;
+    push_word(out, fault.name())?;
+    match fault {
+        LinkFault::Repeat(next) | LinkFault::Gap(next) => push_next(out, next),
+        _ => Ok(()),
+    }
+}
+
+fn push_next(out: &mut Vec<u8>, next: u64) -> Result<(), AllocError>
+    ensures { OnOk result (out.new.items ≡ out.old.items ++ codes " next " ++ decimal next) }
+{
+    push_word(out, " next ")?;
+    push_number(out, next)
+}
+
+pub fn push_fault(out: &mut Vec<u8>, line: u64, fault: FrameFault) -> Result<(), AllocError>
+    ensures { OnOk result (out.new.items ≡ out.old.items ++ fault_line line fault) }
+{
+    push_number(out, line)?;
+    push_word(out, " fault ")?;
+    push_number(out, u64::from(fault.number()))?;
+    push_word(out, " ")?;
+    push_word(out, fault.name())?;
+    push_word(out, "\n")
+}

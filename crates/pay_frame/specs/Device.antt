@@ -1,0 +1,24 @@
+-- Counts that devices keep, and what went out of them.
+use Rattle.std.specs.Prelude.{◌≡◌, ℕ, ◌+◌, ◌-◌, ◌^◌, ◌≤◌, ◌⊎◌, List, length, min, take, is_ok, if◌then◌else◌, Option, Result}
+use Rattle.std.specs.Io.KnownBytes.{Appends}
+
+-- the greatest count, at which a count stays
+abbrev pub greatest_count : ℕ
+greatest_count = 2 ^ 64 - 1
+
+abbrev pub counted : ℕ → ℕ
+counted n = min (n + 1) greatest_count
+
+-- a count of failures rises where a call failed, and stays otherwise
+abbrev pub failures_after : {X E : Type 0} → ℕ → Result X E → ℕ
+failures_after n r = if is_ok r then n else counted n
+
+-- A count has risen by so many; one at the greatest value passes as risen.
+abbrev pub RoseBy : ℕ → ℕ → ℕ → Type 0
+RoseBy n old new = (old + n ≤ new) ⊎ (new ≡ greatest_count)
+
+-- what was written, where it is known: a beginning of the text
+pub record WroteBeginning (old new : Option (List ℕ)) (text : List ℕ) : Type 0 where
+  pub count : ℕ
+  pub within : count ≤ length text
+  pub written : Appends old new (take count text)

@@ -1,0 +1,67 @@
+ghost use Rattle.std.specs.Prelude.{◌≡◌};
+ghost use Rattle.pay_frame.specs.declared.engine_fault.EngineFault.TheVariants.{Memory};
+
+use crate::fault::FrameFault;
+use std::alloc::{AllocError, AllocFailed};
+use thiserror::Error;
+
+/// Why an engine over an input and an output ended early.
+#[derive(Clone, Copy, Debug, PartialEq, Eq, Error)]
+#[error("{} {}", self.number(), self.name())]
+pub enum EngineFault {
+    /// Memory ran out.
+    Memory,
+    /// What was read is no frame.
+    Frame(FrameFault),
+    /// A read failed.
+    Read,
+    /// A write failed.
+    Write,
+    /// As many reads as an engine may make gave bytes.
+    Bound,
+}
+
+impl EngineFault {
+    ghost use Rattle.pay_frame.specs.EngineFault.{engine_number, engine_name};
+
+    const fn entry(self) -> (u8, &'static str)
+        ensures number { result.0 ≡ engine_number self }
+        ensures name { result.1.now ≡ engine_name self }
+    {
+        match self {
+            EngineFault::Memory => (0, "Memory"),
+            EngineFault::Frame(_) => (1, "Frame"),
+            EngineFault::Read => (2, "Read"),
+            EngineFault::Write => (3, "Write"),
+            EngineFault::Bound => (4, "Bound"),
+        }
+    }
+
+    pub fn number(self) -> u8
+        ensures value { result ≡ engine_number self }
+    {
+        self.entry().0
+    }
+
+    pub fn name(self) -> &'static str
+        ensures value { result.now ≡ engine_name self }
+    {
+        self.entry().1
+    }
+}
+
+impl From<AllocError> for EngineFault {
+    ghost from_gives = { λ _ e. e ≡ Memory };
+
+    fn from(_error: AllocError) -> EngineFault {
+        EngineFault::Memory
+    }
+}
+
+impl<T: Drop> From<AllocFailed<T>> for EngineFault {
+    ghost from_gives = { λ _ e. e ≡ Memory };
+
+    fn from(_error: AllocFailed<T>) -> EngineFault {
+        EngineFault::Memory
+    }
+}

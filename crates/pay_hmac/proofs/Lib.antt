@@ -1,0 +1,2 @@
+mod Pads
+mod Vectors

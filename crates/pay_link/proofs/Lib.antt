@@ -1,0 +1,3 @@
+pub mod Judged
+mod Lists
+pub mod TestKeysLemmas

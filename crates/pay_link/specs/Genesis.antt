@@ -1,0 +1,28 @@
+-- What a ledger begins with, and the first fault of what is said to be one.
+use Rattle.std.specs.Prelude.{◌≡◌, ℕ, ◌*◌, ◌<◌, ◌≤◌, ◌==◌, ◌||◌, nat_le, nat_lt, List, length, sum, Option, Some, None, if◌then◌else◌}
+use Rattle.pay_link.specs.declared.limits.TheConstants.{GREATEST_TOTAL, MOST_MEMBERS}
+use Rattle.pay_link.specs.declared.genesis_fault.GenesisFault.{GenesisFault}
+use Rattle.pay_link.specs.declared.genesis_fault.GenesisFault.TheVariants.{BadCount, BadFaults, BadOpening, BadTotal}
+
+-- how many members there are, how many of them may lie, and what each account begins with
+pub record GenesisFields : Type 0 where
+  pub members : ℕ
+  pub faults : ℕ
+  pub opening : List ℕ
+
+-- the limits of a genesis
+pub record IsGenesis (g : GenesisFields) : Type 0 where
+  pub some : 1 ≤ g.members
+  pub few : g.members ≤ MOST_MEMBERS
+  pub honest : 3 * g.faults < g.members
+  pub opening : length g.opening ≡ g.members
+  pub total : sum g.opening ≤ GREATEST_TOTAL
+
+-- the first fault that holds, and none where these are the fields of a genesis
+abbrev pub genesis_fault : GenesisFields → Option GenesisFault
+genesis_fault g =
+    if g.members == 0 || nat_lt MOST_MEMBERS g.members then Some BadCount
+    else if nat_le g.members (3 * g.faults) then Some BadFaults
+    else if length g.opening == g.members
+    then (if nat_le (sum g.opening) GREATEST_TOTAL then None else Some BadTotal)
+    else Some BadOpening

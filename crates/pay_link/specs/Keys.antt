@@ -1,0 +1,47 @@
+-- One member's keys: one for each other member, which that member has too.
+use Rattle.std.specs.Prelude.{◌≡◌, ◌≢◌, ℕ, ◌<◌, ◌≤◌, ◌==◌, nat_le, nat_lt, Bool, not, ◌&&◌, List, length, replicate, slice_index_or, slice_set, Option, Some, None, if◌then◌else◌}
+use Rattle.pay_link.specs.Genesis.{GenesisFields}
+use Rattle.pay_link.specs.declared.limits.TheConstants.{MOST_MEMBERS}
+use Rattle.pay_link.specs.declared.keys_fault.KeysFault.{KeysFault}
+use Rattle.pay_link.specs.declared.keys_fault.KeysFault.TheVariants.{BadKeyCount, BadOwn}
+
+-- the member whose keys they are, and the key for each member at its place
+pub record KeyFields : Type 0 where
+  pub own : ℕ
+  pub keys : List (List ℕ)
+
+-- what stands at the own place, where no key is kept
+abbrev pub no_key : List ℕ
+no_key = replicate 32 0
+
+-- the limits of a member's keys
+pub record IsKeys (k : KeyFields) : Type 0 where
+  pub own : k.own < length k.keys
+  pub few : length k.keys ≤ MOST_MEMBERS
+
+-- they are of a member of this genesis
+abbrev pub IsKeysOf : GenesisFields → KeyFields → Type 0
+IsKeysOf g k = length k.keys ≡ g.members
+
+-- another member
+abbrev pub IsPeer : KeyFields → ℕ → Type 0
+IsPeer k p = (p < length k.keys) × (p ≢ k.own)
+
+-- whether it is one, as a test
+abbrev pub is_peer : KeyFields → ℕ → Bool
+is_peer k p = nat_lt p (length k.keys) && not (p == k.own)
+
+-- the key that is shared with a peer
+abbrev pub key_for : KeyFields → ℕ → List ℕ
+key_for k p = slice_index_or k.keys p no_key
+
+-- the first fault that holds of keys for a genesis of so many members, if there is one
+abbrev pub keys_fault : ℕ → KeyFields → Option KeysFault
+keys_fault members k =
+    if nat_le members k.own then Some BadOwn
+    else if length k.keys == members then None
+    else Some BadKeyCount
+
+-- the keys without the one at the own place
+abbrev pub kept_keys : KeyFields → KeyFields
+kept_keys k = record { own = k.own; keys = slice_set k.keys k.own no_key }

@@ -1,0 +1,53 @@
+-- How a frame is opened or refused.
+use Rattle.std.specs.Prelude.{◌≡◌, ◌≢◌, ℕ, ◌<◌, ◌==◌, nat_lt, List, length, Result, Ok, Err, if◌then◌else◌}
+use Rattle.std.specs.Str.{bytes_eq}
+use Rattle.pay_frame.specs.Frame.{FrameFields}
+use Rattle.pay_hmac.specs.Mac.{mac}
+use Rattle.pay_link.specs.Sealing.{tagged_bytes}
+use Rattle.pay_link.specs.Keys.{IsPeer, KeyFields, is_peer, key_for}
+use Rattle.pay_link.specs.declared.link_fault.LinkFault.{LinkFault}
+use Rattle.pay_link.specs.declared.link_fault.LinkFault.TheVariants.{BadTag, NotForMe, UnknownOwner, UnknownSender}
+
+-- the tag that belongs to a frame under this key
+abbrev pub right_tag : List ℕ → FrameFields → List ℕ
+right_tag key f = mac key (tagged_bytes f.from f.to f.number f.body)
+
+-- the frame has that tag
+abbrev pub IsTagged : List ℕ → FrameFields → Type 0
+IsTagged key f = f.tag ≡ right_tag key f
+
+-- a frame, the key that its receiver shares with its sender, and how many members there are
+pub record OpenedFields : Type 0 where
+  pub frame : FrameFields
+  pub key : List ℕ
+  pub members : ℕ
+
+-- the frame is rightly tagged, and its sender and owner are known to its receiver
+pub record IsOpened (o : OpenedFields) : Type 0 where
+  pub tagged : IsTagged o.key o.frame
+  pub sender : o.frame.from < o.members
+  pub other : o.frame.from ≢ o.frame.to
+  pub owner : o.frame.body.owner < o.members
+
+-- what an opened frame is to the member with these keys
+abbrev pub opened_fields : KeyFields → FrameFields → OpenedFields
+opened_fields k f = record { frame = f; key = key_for k f.from; members = length k.keys }
+
+-- the frame is for the member with these keys, from a peer, about a member's broadcast, and rightly
+-- tagged
+pub record Opens (k : KeyFields) (f : FrameFields) : Type 0 where
+  pub for_me : f.to ≡ k.own
+  pub sender : IsPeer k f.from
+  pub owner : f.body.owner < length k.keys
+  pub tagged : IsTagged (key_for k f.from) f
+
+-- the first cause of refusal that holds, or the opened frame
+unfoldable pub judgement : KeyFields → FrameFields → Result OpenedFields LinkFault
+judgement k f =
+    if f.to == k.own
+    then (if is_peer k f.from
+    then (if nat_lt f.body.owner (length k.keys)
+    then (if bytes_eq f.tag (right_tag (key_for k f.from) f) then Ok (opened_fields k f) else Err BadTag)
+    else Err UnknownOwner)
+    else Err UnknownSender)
+    else Err NotForMe

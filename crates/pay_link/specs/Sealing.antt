@@ -1,0 +1,19 @@
+-- What a member sends to a peer.
+use Rattle.std.specs.Prelude.{ℕ, List, ◌++◌}
+use Rattle.pay_frame.specs.Frame.{BodyFields, FrameFields, head_bytes}
+use Rattle.pay_hmac.specs.Mac.{mac}
+use Rattle.pay_link.specs.Keys.{KeyFields, key_for}
+
+-- what the tag of a frame is over: all bytes that stand before it
+unfoldable pub tagged_bytes : ℕ → ℕ → ℕ → BodyFields → List ℕ
+tagged_bytes from to number body = head_bytes from to number body ++ body.value
+
+-- the frame that spells a body for a peer under this number, with the tag under their key
+abbrev pub sealed : KeyFields → ℕ → ℕ → BodyFields → FrameFields
+sealed k to number body = record {
+  from = k.own;
+  to = to;
+  number = number;
+  body = body;
+  tag = mac (key_for k to) (tagged_bytes k.own to number body);
+}

@@ -1,0 +1,113 @@
+ghost use Rattle.std.specs.Prelude.{◌≡◌, ◌<◌, ◌≤◌, ◌↔◌, IfOk, IsOkUnless, IsTrue, MatchOption, slice_index, sum};
+ghost use Rattle.pay_link.specs.Genesis.{IsGenesis, genesis_fault};
+
+use crate::genesis_fault::GenesisFault;
+use crate::limits::{GREATEST_TOTAL, MOST_MEMBERS};
+use std::alloc::{AllocError, Global};
+use std::marker::Model;
+
+/// What a ledger begins with: its members, how many of them may lie, and what each account holds. A
+/// member is its number, from 0, and owns the account of that number.
+#[derive(Debug, Drop)]
+pub struct Genesis {
+    members: u16,
+    faults: u16,
+    opening: Vec<u64>,
+}
+
+impl Model for Genesis {
+    ghost use Rattle.pay_link.specs.Genesis.{GenesisFields, IsGenesis};
+
+    ghost Value = { GenesisFields };
+
+    ghost view = { λ g. record { members = g.members; faults = g.faults; opening = g.opening.items } };
+
+    ghost invariant = { λ g. IsGenesis (record { members = g.members; faults = g.faults; opening = g.opening.items }) };
+}
+
+impl Genesis {
+    /// Memory is looked for last.
+    pub fn new(
+        alloc: Global,
+        members: u64,
+        faults: u64,
+        opening: &[u64],
+    ) -> Result<Genesis, GenesisFault>
+        ensures fault { MatchOption
+            (genesis_fault (record { members = members; faults = faults; opening = opening.now }))
+            (IsOkUnless result GenesisFault.Memory)
+            (λ fault. result ≡ Err fault) }
+        ensures value { IfOk result (λ genesis.
+            genesis ≡ record { members = members; faults = faults; opening = opening.now }) }
+        ensures limits { IfOk result IsGenesis }
+    {
+        if members == 0 || members > u64::from(MOST_MEMBERS) {
+            return Err(GenesisFault::BadCount);
+        }
+        if faults >= members || 3 * faults >= members {
+            return Err(GenesisFault::BadFaults);
+        }
+        if opening.len() as u64 != members {
+            return Err(GenesisFault::BadOpening);
+        }
+        if !has_bounded_total(opening) {
+            return Err(GenesisFault::BadTotal);
+        }
+        let opening = Vec::from_slice(alloc, opening).map_err(|_| GenesisFault::Memory)?;
+        Ok(Genesis {
+            members: members as u16,
+            faults: faults as u16,
+            opening,
+        })
+    }
+
+    pub fn members(&self) -> u16
+        ensures value { result ≡ self.now.members }
+        ensures limits { IsGenesis self.now }
+    {
+        self.members
+    }
+
+    /// How many members may lie.
+    pub fn faults(&self) -> u16
+        ensures value { result ≡ self.now.faults }
+        ensures limits { IsGenesis self.now }
+    {
+        self.faults
+    }
+
+    /// What an account begins with.
+    pub fn opening(&self, account: u16) -> u64
+        requires { account < self.now.members }
+        ensures value { result ≡ slice_index self.now.opening account }
+        ensures limits { IsGenesis self.now }
+    {
+        self.opening[usize::from(account)]
+    }
+
+    /// An equal genesis.
+    pub fn copy(&self, alloc: Global) -> Result<Genesis, AllocError>
+        ensures { IfOk result (λ copy. copy ≡ self.now) }
+    {
+        let opening = Vec::from_slice(alloc, self.opening.as_slice())?;
+        Ok(Genesis {
+            members: self.members,
+            faults: self.faults,
+            opening,
+        })
+    }
+}
+
+// What is left of the greatest total is never below zero, so nothing wraps.
+fn has_bounded_total(opening: &[u64]) -> bool
+    ensures { IsTrue result ↔ (sum opening.now ≤ GREATEST_TOTAL) }
+{
+    let mut left = GREATEST_TOTAL;
+    for amount in opening {
+        if *amount > left {
+            return false;
+        }
+        left -= *amount;
+    }
+    true
+}

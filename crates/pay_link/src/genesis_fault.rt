@@ -1,0 +1,47 @@
+ghost use Rattle.std.specs.Prelude.{◌≡◌};
+ghost use Rattle.pay_link.specs.Faults.{genesis_fault_name, genesis_fault_number};
+
+use thiserror::Error;
+
+/// Why there is no genesis, in the order in which it is tested; memory stands apart. The numbers 1 and
+/// 2 are those of faults of a file.
+#[derive(Clone, Copy, Debug, PartialEq, Eq, Error)]
+#[error("{} {}", self.number(), self.name())]
+pub enum GenesisFault {
+    Memory,
+    /// No member, or more than there can be.
+    BadCount,
+    /// The members aren't more than three times those that may lie.
+    BadFaults,
+    /// Not one opening for each member.
+    BadOpening,
+    /// The accounts together begin with more than they can.
+    BadTotal,
+}
+
+impl GenesisFault {
+    const fn entry(self) -> (u8, &'static str)
+        ensures number { result.0 ≡ genesis_fault_number self }
+        ensures name { result.1.now ≡ genesis_fault_name self }
+    {
+        match self {
+            GenesisFault::Memory => (0, "Memory"),
+            GenesisFault::BadCount => (3, "BadCount"),
+            GenesisFault::BadFaults => (4, "BadFaults"),
+            GenesisFault::BadOpening => (5, "BadOpening"),
+            GenesisFault::BadTotal => (6, "BadTotal"),
+        }
+    }
+
+    pub fn number(self) -> u8
+        ensures value { result ≡ genesis_fault_number self }
+    {
+        self.entry().0
+    }
+
+    pub fn name(self) -> &'static str
+        ensures value { result.now ≡ genesis_fault_name self }
+    {
+        self.entry().1
+    }
+}

@@ -1,0 +1,26 @@
+//! Links: what a ledger begins with, the keys of its members, and frames that are rightly tagged and
+//! for me.
+#![tactic(auto)]
+
+mod fronts;
+mod genesis;
+mod genesis_fault;
+mod keys;
+mod keys_fault;
+mod known_keys;
+pub mod laws;
+mod limits;
+mod link_fault;
+mod opened;
+mod sealing;
+
+pub use fronts::Fronts;
+pub use genesis::Genesis;
+pub use genesis_fault::GenesisFault;
+pub use keys::Keys;
+pub use keys_fault::KeysFault;
+pub use known_keys::test_keys;
+pub use limits::{GREATEST_TOTAL, MOST_MEMBERS};
+pub use link_fault::LinkFault;
+pub use opened::{Opened, open};
+pub use sealing::seal;

@@ -1,0 +1,50 @@
+ghost use Rattle.std.specs.Prelude.{◌≡◌};
+ghost use Rattle.pay_link.specs.Faults.{link_fault_name, link_fault_number};
+
+use thiserror::Error;
+
+/// Why a frame is refused, in the order in which it is tested: the first four where it is opened, the
+/// last two where it is taken.
+#[derive(Clone, Copy, Debug, PartialEq, Eq, Error)]
+#[error("{} {}", self.number(), self.name())]
+pub enum LinkFault {
+    NotForMe,
+    /// The sender is no member, or is the receiver itself.
+    UnknownSender,
+    /// The owner of the broadcast is no member.
+    UnknownOwner,
+    /// The tag isn't the one under the key that is shared with the sender.
+    BadTag,
+    /// A number that was taken before; the next one is given.
+    Repeat(u64),
+    /// A number beyond the next one, which is given.
+    Gap(u64),
+}
+
+impl LinkFault {
+    const fn entry(self) -> (u8, &'static str)
+        ensures number { result.0 ≡ link_fault_number self }
+        ensures name { result.1.now ≡ link_fault_name self }
+    {
+        match self {
+            LinkFault::NotForMe => (1, "NotForMe"),
+            LinkFault::UnknownSender => (2, "UnknownSender"),
+            LinkFault::UnknownOwner => (3, "UnknownOwner"),
+            LinkFault::BadTag => (4, "BadTag"),
+            LinkFault::Repeat(_) => (5, "Repeat"),
+            LinkFault::Gap(_) => (6, "Gap"),
+        }
+    }
+
+    pub fn number(self) -> u8
+        ensures value { result ≡ link_fault_number self }
+    {
+        self.entry().0
+    }
+
+    pub fn name(self) -> &'static str
+        ensures value { result.now ≡ link_fault_name self }
+    {
+        self.entry().1
+    }
+}

@@ -1,0 +1,80 @@
+ghost use Rattle.std.specs.Prelude.{◌≡◌};
+ghost use Rattle.std.specs.Str.{bytes_eq};
+ghost use Rattle.pay_frame.specs.Lent.{fields_of};
+ghost use Rattle.pay_link.specs.Opening.{IsOpened, judgement, right_tag};
+
+use crate::keys::Keys;
+use crate::link_fault::LinkFault;
+use pay_frame::FrameRef;
+use pay_hmac::Tagger;
+use std::marker::Model;
+
+/// A frame for me from another member, about the broadcast of a member, with the tag under the key
+/// that is shared with its sender. `open` alone makes one.
+#[derive(Drop)]
+pub struct Opened<'a> {
+    frame: FrameRef<'a>,
+    key: [u8; 32],
+    members: u16,
+}
+
+impl<'a> Model for Opened<'a> {
+    ghost use Rattle.pay_link.specs.Opening.{IsOpened, OpenedFields};
+
+    ghost Value = { OpenedFields };
+
+    ghost use Rattle.pay_frame.specs.Lent.{fields_of};
+
+    ghost view = { λ o. record { frame = fields_of o.frame; key = o.key; members = o.members } };
+
+    ghost invariant = { λ o. IsOpened (record { frame = fields_of o.frame; key = o.key; members = o.members }) };
+}
+
+impl<'a> Opened<'a> {
+    pub fn frame(&self) -> &FrameRef<'a>
+        ensures value { fields_of result.now ≡ self.now.frame }
+        ensures limits { IsOpened self.now }
+    {
+        &self.frame
+    }
+}
+
+/// Opens a frame that was sent to the member with these keys, or names the first cause of refusal. It
+/// takes no memory and waits for nobody.
+#[tactic(auto, using(crate::proofs::Judged::judged))]
+pub fn open<'a, T: Tagger>(
+    t: &T,
+    keys: &Keys,
+    frame: FrameRef<'a>,
+) -> Result<Opened<'a>, LinkFault>
+    ensures { result ≡ judgement keys.now (fields_of frame.entry) }
+{
+    if frame.to() != keys.own() {
+        return Err(LinkFault::NotForMe);
+    }
+    let from = frame.from();
+    if !keys.is_peer(from) {
+        return Err(LinkFault::UnknownSender);
+    }
+    if frame.owner() >= keys.members() {
+        return Err(LinkFault::UnknownOwner);
+    }
+    let key = keys.key(from);
+    if !is_tagged(t, key, &frame) {
+        return Err(LinkFault::BadTag);
+    }
+    Ok(Opened {
+        frame,
+        key: *key,
+        members: keys.members(),
+    })
+}
+
+// The tag is over all bytes before it, which the frame lends in two parts.
+#[tactic(auto, using(crate::proofs::Judged::bytes_eq_read), unfolding(crate::specs::Sealing::tagged_bytes))]
+fn is_tagged<T: Tagger>(t: &T, key: &[u8; 32], frame: &FrameRef<'_>) -> bool
+    ensures { result ≡ bytes_eq (fields_of frame.now).tag (right_tag key.now (fields_of frame.now)) }
+{
+    let tag = t.tag(key, frame.head(), frame.value());
+    frame.tag() == tag.as_slice()
+}
