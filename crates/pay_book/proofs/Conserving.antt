@@ -1,8 +1,8 @@
 -- Nothing is lost, and nobody owes.
-use Rattle.std.proofs.Common.{◌≡◌, ◌≢◌, ℕ, zero, suc, ◌+◌, ◌<◌, ◌≤◌, ℤ, pos, ◌-ℤ◌, ◌≤ℤ◌, Bool, true, false, cond, eqb, List, [], ◌∷◌, length, take, sum, sum_by, slice_index, get_or, refl, ap, ◌∙◌, sym, subst, arith, inl, inr}
-use Rattle.std.specs.Prelude.{slice_get, Option, Some, None, All}
+use Rattle.std.proofs.Common.{◌≡◌, ℕ, zero, suc, ◌+◌, ◌<◌, ◌≤◌, pos, ◌-ℤ◌, ◌≤ℤ◌, cond, eqb, List, [], ◌∷◌, length, take, sum, sum_by, slice_index, refl, ap, ◌∙◌, sym, subst, arith, inl, inr}
+use Rattle.std.specs.Prelude.{slice_get, Option, Some, All}
 use Rattle.std.proofs.lemmas.Int.{ints}
-use Rattle.std.proofs.lemmas.Bool.{cases_eq, cases_lt, cond-true, cond-false, eq-eqb, ne_eqb}
+use Rattle.std.proofs.lemmas.Bool.{cases_eq, cond-true, cond-false, eq-eqb, ne_eqb}
 use Rattle.std.proofs.Math.Numerals.{add-one}
 use Rattle.std.proofs.lemmas.List.{take_all}
 use Rattle.std.proofs.lemmas.List.Sums.{sum_by_more, sum_by-cons, get_or-le-sum_by}
@@ -11,7 +11,7 @@ use Rattle.std.proofs.lemmas.Option.{slice_get_within, get_or_from_slice_get}
 use Rattle.pay_book.specs.declared.payment.Entry.{Entry}
 use Rattle.pay_book.specs.declared.payment.Entry.TheVariants.{Pay, Void}
 use Rattle.pay_book.specs.Balance.{amount_of, amount_to, sum_below, paid_in, paid_out, balance_at, AreBalances, PayWithin, AllPayWithin}
-use Rattle.pay_book.specs.Front.{Covers, MayStep, IsOneFurther, Reach, Start, Step}
+use Rattle.pay_book.specs.Front.{Covers, Reach, Start, Step}
 use Rattle.pay_book.proofs.Sums.{sum_below-same, sum_below-add, sum_below-swap, sum_below-zero, sum_below-one_more}
 use Rattle.pay_book.proofs.Stepping.{paid_in-mono}
 use Rattle.pay_book.proofs.Reaching.{entry_from_Covers}
@@ -37,25 +37,27 @@ paid_out-le opening logs (Start {front = front} zeros) a =
 paid_out-le opening logs (Step {front = before} {next = next} b r may further) a =
     let enough = paid_out-le opening logs r in
     let behind : (x : ℕ) → before x ≤ next x =
-      λ x. elim (cases_eq x b)
-      [ inl e ↦ (let P : ℕ → Type 0 = λ y. before y ≤ next y in let moved = further.moved in let at_b : before b ≤ next b = omega arith in subst P (sym e) at_b)
-      | inr ne ↦ (let same = further.others x ne in omega arith) ] in
+    λ x. elim (cases_eq x b) [
+      | inl e ↦ (let P : ℕ → Type 0 = λ y. before y ≤ next y in let moved = further.moved in let at_b : before b ≤ next b = omega arith in subst P (sym e) at_b)
+      | inr ne ↦ (let same = further.others x ne in omega arith)
+    ] in
     let more = paid_in-mono (length opening) logs before next in
-    elim (cases_eq a b)
-    [ inl e ↦ (let P : ℕ → Type 0 = λ y. paid_out logs next y ≤ slice_index opening y + paid_in (length opening) logs next y in
-        let there = entry_from_Covers (balance_at opening logs before b) (slice_get (logs b) (before b)) may.1 in
-        let paid = sum_by-take_entry amount_of (logs b) (before b) there.0 there.1 in
-        let Q : Option Entry → Type 0 = λ o. Covers (balance_at opening logs before b) o in
-        let enough_b = amount_of-le (slice_index opening b + paid_in (length opening) logs before b) (paid_out logs before b) there.0 (subst Q there.1 may.1) (enough b) in
-        let R : ℕ → Type 0 = λ place. sum_by amount_of (take place (logs b)) ≤ slice_index opening b + paid_in (length opening) logs next b in
-        let more_b = more b behind in
-        let at_b : sum_by amount_of (take (before b + 1) (logs b)) ≤ slice_index opening b + paid_in (length opening) logs next b = omega arith in
-        subst P (sym e) (subst R (sym further.moved) at_b))
-    | inr ne ↦ (let R : ℕ → Type 0 = λ place. sum_by amount_of (take place (logs a)) ≤ slice_index opening a + paid_in (length opening) logs next a in
-        let more_a = more a behind in
-        let enough_a = enough a in
-        let at_a : sum_by amount_of (take (before a) (logs a)) ≤ slice_index opening a + paid_in (length opening) logs next a = omega arith in
-        subst R (sym (further.others a ne)) at_a) ]
+    elim (cases_eq a b) [
+      | inl e ↦ (let P : ℕ → Type 0 = λ y. paid_out logs next y ≤ slice_index opening y + paid_in (length opening) logs next y in
+          let there = entry_from_Covers (balance_at opening logs before b) (slice_get (logs b) (before b)) may.1 in
+          let paid = sum_by-take_entry amount_of (logs b) (before b) there.0 there.1 in
+          let Q : Option Entry → Type 0 = λ o. Covers (balance_at opening logs before b) o in
+          let enough_b = amount_of-le (slice_index opening b + paid_in (length opening) logs before b) (paid_out logs before b) there.0 (subst Q there.1 may.1) (enough b) in
+          let R : ℕ → Type 0 = λ place. sum_by amount_of (take place (logs b)) ≤ slice_index opening b + paid_in (length opening) logs next b in
+          let more_b = more b behind in
+          let at_b : sum_by amount_of (take (before b + 1) (logs b)) ≤ slice_index opening b + paid_in (length opening) logs next b = omega arith in
+          subst P (sym e) (subst R (sym further.moved) at_b))
+      | inr ne ↦ (let R : ℕ → Type 0 = λ place. sum_by amount_of (take place (logs a)) ≤ slice_index opening a + paid_in (length opening) logs next a in
+          let more_a = more a behind in
+          let enough_a = enough a in
+          let at_a : sum_by amount_of (take (before a) (logs a)) ≤ slice_index opening a + paid_in (length opening) logs next a = omega arith in
+          subst R (sym (further.others a ne)) at_a)
+    ]
 
 -- no balance below zero
 pub balance_at-nonnegative : (opening : List ℕ) (logs : ℕ → List Entry) (front : ℕ → ℕ) → Reach opening logs front → (a : ℕ) → pos 0 ≤ℤ balance_at opening logs front a
@@ -108,7 +110,7 @@ sum-balances opening logs front balances within are =
     let n = length opening in
     let moved = paid_in-all n logs front within in
     let each : (a : ℕ) → a < n → slice_index balances a + paid_out logs front a ≡ slice_index opening a + paid_in n logs front a =
-      λ a h. (let exact = are.exact a h in omega (arith, ints)) in
+    λ a h. (let exact = are.exact a h in omega (arith, ints)) in
     let all = sum_below-same n _ _ each in
     let left = sum_below-add n (slice_index balances) (paid_out logs front) in
     let right = sum_below-add n (slice_index opening) (paid_in n logs front) in

@@ -1,10 +1,10 @@
 -- What an owner's list of values is as entries.
-use Rattle.std.proofs.Common.{◌≡◌, ℕ, zero, suc, ◌+◌, ◌<◌, ◌≤◌, Bool, true, false, cond, eqb, ltb, ◌&&◌, not, List, [], ◌∷◌, ◌++◌, length, map, refl, ap, ◌∙◌, sym, subst, arith, inl, inr}
-use Rattle.std.specs.Prelude.{slice_get, slice_index, slice_range, Option, Some, None, All}
+use Rattle.std.proofs.Common.{◌≡◌, ℕ, ◌<◌, eqb, ltb, ◌&&◌, not, List, [], length, map, ap, ◌∙◌, subst}
+use Rattle.std.specs.Prelude.{slice_get, slice_index, slice_range, Some}
 use Rattle.std.specs.Option.{option_map}
 use Rattle.std.specs.List.{flat_map}
 use Rattle.std.specs.Int.{from_be_bytes, w16, w64}
-use Rattle.std.proofs.lemmas.Bool.{cases_Bool, and_parts, ltb-true, cond_both}
+use Rattle.std.proofs.lemmas.Bool.{and_parts, ltb-true, cond_both}
 use Rattle.std.proofs.lemmas.List.{length-map}
 use Rattle.std.proofs.lemmas.List.Concat.{flat_map_single, flat_map-append}
 use Rattle.std.proofs.lemmas.List.Elements.{All-map, All-same, All-from_get_or, All-get_or}
@@ -32,9 +32,10 @@ slice_get-entries_of accounts lists owner place value there =
 -- longer lists have longer entries
 pub entries_of-grow : (accounts : ℕ) (old new : ℕ → List (List ℕ)) → AllGrow accounts old new → AllGrow accounts (entries_of accounts old) (entries_of accounts new)
 unfolding entries_of
-entries_of-grow accounts old new grow a h =
-    (flat_map (entries_in accounts a) (grow a h).0,
-    ap (flat_map (entries_in accounts a)) (grow a h).1 ∙ flat_map-append (entries_in accounts a) (old a) (grow a h).0)
+entries_of-grow accounts old new grow a h = (
+  flat_map (entries_in accounts a) (grow a h).0,
+  ap (flat_map (entries_in accounts a)) (grow a h).1 ∙ flat_map-append (entries_in accounts a) (old a) (grow a h).0,
+)
 
 pub entries_of-same : (accounts : ℕ) (one other : ℕ → List (List ℕ)) (a : ℕ) → one a ≡ other a → entries_of accounts one a ≡ entries_of accounts other a
 unfolding entries_of

@@ -1,13 +1,12 @@
 -- Longer lists: what was reached stays reached.
-use Rattle.std.proofs.Common.{◌≡◌, ◌≢◌, ℕ, zero, suc, ◌+◌, ◌<◌, ◌≤◌, ℤ, pos, ◌-ℤ◌, ◌≤ℤ◌, List, [], ◌∷◌, ◌++◌, length, take, sum_by, slice_index, get_or, refl, ap, ◌∙◌, sym, subst, arith, inl, inr}
-use Rattle.std.specs.Prelude.{slice_get, Option, Some, None}
-use Rattle.std.proofs.lemmas.Bool.{cases_eq, cases_lt}
+use Rattle.std.proofs.Common.{◌≡◌, ℕ, zero, suc, ◌+◌, ◌<◌, ◌≤◌, ℤ, pos, ◌-ℤ◌, List, [], ◌∷◌, ◌++◌, length, take, sum_by, slice_index, refl, ap, ◌∙◌, sym, subst, arith}
+use Rattle.std.specs.Prelude.{slice_get, Option}
 use Rattle.std.proofs.lemmas.List.{take-append-le, append-nil}
 use Rattle.pay_book.specs.declared.payment.Entry.{Entry}
-use Rattle.pay_book.specs.Balance.{amount_of, amount_to, sum_below, paid_in, paid_out, balance_at}
-use Rattle.pay_book.specs.Front.{Covers, MayStep, IsOneFurther, Reach, Start, Step, IsLargest, AllGrow}
+use Rattle.pay_book.specs.Balance.{amount_of, amount_to, paid_in, paid_out, balance_at}
+use Rattle.pay_book.specs.Front.{Covers, MayStep, Reach, Start, Step, IsLargest, AllGrow}
 use Rattle.pay_book.proofs.Sums.{sum_below-same}
-use Rattle.pay_book.proofs.Reaching.{Reach-within, within_from_Covers, largest_is_one}
+use Rattle.pay_book.proofs.Reaching.{Reach-within, within_from_Covers}
 
 -- a front within the lists of these accounts
 pub IsWithin : ℕ → (ℕ → List Entry) → (ℕ → ℕ) → Type 0
@@ -38,7 +37,7 @@ pub MayStep-grown : (opening : List ℕ) (old new : ℕ → List Entry) (front :
 MayStep-grown opening old new front a grow within may =
     let inside = within_from_Covers (balance_at opening old front a) (old a) (front a) may.1 in
     let next : slice_get (new a) (front a) ≡ slice_get (old a) (front a) =
-      ap (λ log. slice_get log (front a)) (grow a may.0).1 ∙ slice_get-append_left (old a) (grow a may.0).0 (front a) inside in
+    ap (λ log. slice_get log (front a)) (grow a may.0).1 ∙ slice_get-append_left (old a) (grow a may.0).0 (front a) inside in
     let P : ℤ → Type 0 = λ b. Covers b (slice_get (old a) (front a)) in
     let Q : Option Entry → Type 0 = λ o. Covers (balance_at opening new front a) o in
     (may.0, subst Q (sym next) (subst P (sym (balance_at-grown opening old new front a grow within may.0)) may.1))
@@ -72,7 +71,7 @@ largest-same opening one other p q same at_p at_q a =
 pub balance_at-same : (opening : List ℕ) (one other : ℕ → List Entry) (front : ℕ → ℕ) → ((a : ℕ) → a < length opening → one a ≡ other a) → (a : ℕ) → a < length opening → balance_at opening one front a ≡ balance_at opening other front a
 balance_at-same opening one other front same a h =
     let came : paid_in (length opening) one front a ≡ paid_in (length opening) other front a =
-      sum_below-same (length opening) _ _ (λ owner below. ap (λ log. sum_by (amount_to a) (take (front owner) log)) (same owner below)) in
+    sum_below-same (length opening) _ _ (λ owner below. ap (λ log. sum_by (amount_to a) (take (front owner) log)) (same owner below)) in
     let went : paid_out one front a ≡ paid_out other front a = ap (λ log. sum_by amount_of (take (front a) log)) (same a h) in
     ap (λ n. pos (slice_index opening a + n) -ℤ pos (paid_out one front a)) came
     ∙ ap (λ n. pos (slice_index opening a + paid_in (length opening) other front a) -ℤ pos n) went

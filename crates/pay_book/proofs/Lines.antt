@@ -1,6 +1,6 @@
 -- A statement, line by line.
-use Rattle.std.proofs.Common.{◌≡◌, ℕ, zero, suc, ◌+◌, ◌<◌, ◌≤◌, List, [], ◌∷◌, ◌++◌, length, map, take, get_or, refl, ap, ◌∙◌, sym, subst, arith}
-use Rattle.std.specs.Prelude.{slice_get, Option, Some, None}
+use Rattle.std.proofs.Common.{◌≡◌, ℕ, ◌+◌, ◌<◌, List, [], ◌∷◌, ◌++◌, length, map, take, get_or, ap, ◌∙◌, sym, subst, arith}
+use Rattle.std.specs.Prelude.{slice_get, Option, Some}
 use Rattle.std.specs.List.{flat_map, filter_map, cons_option, enumerate_from, range_with_len}
 use Rattle.std.proofs.lemmas.List.{append_assoc, map-append, take_more, length-map, get_or-map, append-nil, map-id}
 use Rattle.std.proofs.lemmas.List.Concat.{flat_map_single, flat_map-append}
@@ -9,7 +9,6 @@ use Rattle.std.proofs.lemmas.List.FromFn.{length-enumerate_from, get_or-enumerat
 use Rattle.std.proofs.lemmas.Option.{slice_get_within, get_or_from_slice_get}
 use Rattle.pay_book.specs.declared.payment.Entry.{Entry}
 use Rattle.pay_book.specs.declared.payment.Entry.TheVariants.{Void}
-use Rattle.pay_book.specs.declared.line.Line.{Line}
 use Rattle.pay_book.specs.Payment.{entry_of, entries_in}
 use Rattle.pay_book.specs.Statement.{numbered_entries_of}
 
@@ -29,10 +28,10 @@ take-numbered_more accounts lists owner place value there =
     let long = length-enumerate_from 0 values in
     let within : place < length (map number (enumerate_from 0 values)) = omega (arith, length-map (enumerate_from 0 values) number) in
     let at_place : get_or (map number (enumerate_from 0 values)) place default ≡ (place, entry_of accounts owner value) =
-      get_or-map number (enumerate_from 0 values) place (0, []) default (omega arith)
-      ∙ ap number (get_or-enumerate_from 0 values place (0, []) inside)
-      ∙ ap (λ n. (n, entry_of accounts owner (get_or values place []))) (omega arith)
-      ∙ ap (λ v. (place, entry_of accounts owner v)) (get_or_from_slice_get values place value [] there) in
+    get_or-map number (enumerate_from 0 values) place (0, []) default (omega arith)
+    ∙ ap number (get_or-enumerate_from 0 values place (0, []) inside)
+    ∙ ap (λ n. (n, entry_of accounts owner (get_or values place []))) (omega arith)
+    ∙ ap (λ v. (place, entry_of accounts owner v)) (get_or_from_slice_get values place value [] there) in
     let P : List (ℕ × Entry) → Type 0 = λ xs. take (place + 1) xs ≡ take place xs ++ (place, entry_of accounts owner value) ∷ [] in
     subst P (sym (numbered_entries_of-map accounts lists owner))
     (take_more (map number (enumerate_from 0 values)) place default within ∙ ap (λ e. take place (map number (enumerate_from 0 values)) ++ e ∷ []) at_place)
@@ -62,7 +61,7 @@ pub flat_map-range_more : {X : Type 0} (f : ℕ → List X) (n : ℕ) → flat_m
 flat_map-range_more f n =
     let same : (m : ℕ) → map (λ (k : ℕ). k) (range_with_len 0 m) ≡ range_with_len 0 m = λ m. map-id (range_with_len 0 m) in
     let longer : range_with_len 0 (n + 1) ≡ range_with_len 0 n ++ n ∷ [] =
-      sym (same (n + 1)) ∙ map-range_with_len_more (λ (k : ℕ). k) 0 n n (omega arith) ∙ ap (λ xs. xs ++ n ∷ []) (same n) in
+    sym (same (n + 1)) ∙ map-range_with_len_more (λ (k : ℕ). k) 0 n n (omega arith) ∙ ap (λ xs. xs ++ n ∷ []) (same n) in
     ap (flat_map f) longer ∙ flat_map-append f (range_with_len 0 n) (n ∷ []) ∙ ap (λ xs. flat_map f (range_with_len 0 n) ++ xs) (append-nil (f n))
 
 -- the lines so far, with those of one owner more

@@ -1,14 +1,13 @@
 -- A book after one entry more is still a book.
-use Rattle.std.proofs.Common.{◌≡◌, ◌≢◌, ℕ, zero, suc, ◌+◌, ◌<◌, ◌≤◌, ℤ, pos, ◌-ℤ◌, ◌≤ℤ◌, Bool, true, false, cond, eqb, List, length, take, sum_by, slice_index, get_or, refl, ap, ◌∙◌, sym, subst, arith, inl, inr}
-use Rattle.std.specs.Prelude.{slice_get, slice_set, Option, Some, None}
+use Rattle.std.proofs.Common.{◌≡◌, ℕ, ◌+◌, ◌<◌, ◌≤◌, ℤ, pos, cond, eqb, List, length, take, sum_by, slice_index, ap, ◌∙◌, sym, subst, arith, inl, inr}
+use Rattle.std.specs.Prelude.{slice_get, slice_set, Option, Some}
 use Rattle.std.proofs.lemmas.Int.{ints}
 use Rattle.std.proofs.lemmas.Bool.{cases_eq, cond-true, cond-false, eq-eqb, ne_eqb}
 use Rattle.std.proofs.lemmas.List.{length-set}
 use Rattle.pay_book.specs.declared.payment.Entry.{Entry}
 use Rattle.pay_book.specs.declared.payment.Entry.TheVariants.{Pay, Void}
-use Rattle.pay_book.specs.Payment.{entries_of}
-use Rattle.pay_book.specs.Balance.{amount_of, amount_to, paid_in, paid_out, balance_at, AreBalances, Moves}
-use Rattle.pay_book.specs.Front.{Covers, MayStep, IsOneFurther, Reach, Step}
+use Rattle.pay_book.specs.Balance.{amount_of, amount_to, paid_in, paid_out, balance_at, Moves}
+use Rattle.pay_book.specs.Front.{Covers, MayStep, IsOneFurther, Step}
 use Rattle.pay_book.specs.Book.{Standing, entries_for, IsBook}
 use Rattle.pay_book.proofs.Sums.{sum_below-one_more}
 use Rattle.pay_book.proofs.Conserving.{sum_by-take_entry}
@@ -29,18 +28,19 @@ module _ (opening : List ℕ) (logs : ℕ → List Entry) (front next : ℕ → 
 
   pub paid_out-step : (b : ℕ) → paid_out logs next b ≡ paid_out logs front b + cond (eqb b a) (amount_of entry) 0
   paid_out-step b =
-      elim (cases_eq b a)
-      [ inl e ↦
-        (let P : ℕ → Type 0 = λ x. paid_out logs next x ≡ paid_out logs front x + amount_of entry in
-        let at_a : paid_out logs next a ≡ paid_out logs front a + amount_of entry =
-          ap (λ k. sum_by amount_of (take k (logs a))) further.moved ∙ sum_by-take_entry amount_of (logs a) (front a) entry there in
-        let same = cond-true (eqb b a) (amount_of entry) 0 (eq-eqb b a e) in
-        let at_b : paid_out logs next b ≡ paid_out logs front b + amount_of entry = subst P (sym e) at_a in
-        omega arith)
-      | inr ne ↦
-        (let same = cond-false (eqb b a) (amount_of entry) 0 (ne_eqb b a ne) in
-        let kept = ap (λ k. sum_by amount_of (take k (logs b))) (further.others b ne) in
-        omega arith) ]
+      elim (cases_eq b a) [
+        | inl e ↦
+            (let P : ℕ → Type 0 = λ x. paid_out logs next x ≡ paid_out logs front x + amount_of entry in
+            let at_a : paid_out logs next a ≡ paid_out logs front a + amount_of entry =
+            ap (λ k. sum_by amount_of (take k (logs a))) further.moved ∙ sum_by-take_entry amount_of (logs a) (front a) entry there in
+            let same = cond-true (eqb b a) (amount_of entry) 0 (eq-eqb b a e) in
+            let at_b : paid_out logs next b ≡ paid_out logs front b + amount_of entry = subst P (sym e) at_a in
+            omega arith)
+        | inr ne ↦
+            (let same = cond-false (eqb b a) (amount_of entry) 0 (ne_eqb b a ne) in
+            let kept = ap (λ k. sum_by amount_of (take k (logs b))) (further.others b ne) in
+            omega arith)
+      ]
 
 -- the same at a book's lists
 book_after : (lists : ℕ → List (List ℕ)) (old : Standing) (account : ℕ) (entry : Entry) (balances : List ℕ) → IsBook lists old → account < length old.opening → slice_get (entries_for old lists account) (slice_index old.front account) ≡ Some entry → amount_of entry ≤ slice_index old.balances account → length balances ≡ length old.opening → Moves entry account old.balances balances → IsBook lists (record { opening = old.opening; front = slice_set old.front account (slice_index old.front account + 1); balances = balances })
@@ -53,18 +53,18 @@ book_after lists old account entry balances is h there covered one_for_each move
     let further = set_is_further old.front account (omega arith) in
     let C : Option Entry → Type 0 = λ o. Covers (balance_at old.opening logs front account) o in
     let may : MayStep old.opening logs front account =
-      (h, subst C (sym there) (Covers-from_amount (slice_index old.balances account) (balance_at old.opening logs front account) entry (is.are.exact account h) covered)) in
+    (h, subst C (sym there) (Covers-from_amount (slice_index old.balances account) (balance_at old.opening logs front account) entry (is.are.exact account h) covered)) in
     record {
       reached = Step {front = front} {next = next} account is.reached may further;
       one_for_each = length-set old.front account (slice_index old.front account + 1) ∙ len;
       are = record {
         one_for_each = one_for_each;
         exact = λ b below.
-          (let came = paid_in-step old.opening logs front next account entry there further b h in
-          let went = paid_out-step old.opening logs front next account entry there further b in
-          let was = is.are.exact b below in
-          let moved = moves b in
-          omega (arith, ints));
+            (let came = paid_in-step old.opening logs front next account entry there further b h in
+            let went = paid_out-step old.opening logs front next account entry there further b in
+            let was = is.are.exact b below in
+            let moved = moves b in
+            omega (arith, ints));
       };
     }
 

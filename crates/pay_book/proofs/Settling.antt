@@ -1,6 +1,5 @@
 -- From what a book shows to what it can do next.
-use Rattle.std.proofs.Common.{◌≡◌, ◌≢◌, ℕ, zero, suc, ◌+◌, ◌-◌, ◌*◌, ◌<◌, ◌≤◌, ◌^◌, ℤ, pos, ◌-ℤ◌, List, [], ◌∷◌, ◌++◌, length, replicate, take, sum, sum_by, slice_index, get_or, refl, ap, ◌∙◌, sym, subst, arith, inl, inr}
-use Rattle.std.specs.Prelude.{slice_get, Option, Some, None}
+use Rattle.std.proofs.Common.{◌≡◌, ℕ, ◌*◌, ◌<◌, ◌≤◌, ◌^◌, ℤ, pos, List, [], ◌++◌, length, replicate, take, sum, sum_by, slice_index, get_or, refl, ap, ◌∙◌, sym, subst, arith, inl, inr}
 use Rattle.std.proofs.lemmas.Int.{ints}
 use Rattle.std.proofs.lemmas.Bool.{cases_eq, cases_lt}
 use Rattle.std.proofs.lemmas.List.{append-nil, length-replicate, get_or_past, get_or-replicate}
@@ -8,22 +7,23 @@ use Rattle.std.proofs.lemmas.Grind.{same_number_lists}
 use Rattle.pay_channel.specs.Source.{GrowsOnly}
 use Rattle.pay_book.specs.declared.payment.Entry.{Entry}
 use Rattle.pay_book.specs.Payment.{entries_of}
-use Rattle.pay_book.specs.Balance.{amount_of, amount_to, sum_below, paid_in, paid_out, balance_at, AreBalances}
-use Rattle.pay_book.specs.Front.{Covers, MayStep, Reach, Start, Step, IsLargest, entry_count, largest_front, AllGrow}
+use Rattle.pay_book.specs.Balance.{amount_of, amount_to, paid_in, paid_out, balance_at}
+use Rattle.pay_book.specs.Front.{MayStep, Start, IsLargest, entry_count, largest_front, AllGrow}
 use Rattle.pay_book.specs.Book.{Standing, fresh, entries_for, IsBook, IsSettled, AreCountable, CanSettle}
 use Rattle.pay_book.proofs.Sums.{sum_below-le, sum_below-same, sum_below-zero, sum_below-bounded}
 use Rattle.pay_book.proofs.Conserving.{sum-places}
 use Rattle.pay_book.proofs.Reaching.{Reach-within, within_from_Covers, largest_from_stuck, largest_is_stuck}
-use Rattle.pay_book.proofs.Growing.{balance_at-grown, MayStep-same_list, Reach-grown, largest_grows, AllGrow-same}
+use Rattle.pay_book.proofs.Growing.{balance_at-grown, MayStep-same_list, Reach-grown, AllGrow-same}
 use Rattle.pay_book.proofs.Computing.{largest_front_is_largest, same_largest_front, largest_front-same}
 use Rattle.pay_book.proofs.Entries.{length-entries_of, entries_of-grow, entries_of-same}
 
 -- one owner's growth is growth
 pub AllGrow-from_one : (old new : ℕ → List (List ℕ)) (owner accounts : ℕ) → GrowsOnly old new owner → AllGrow accounts old new
 AllGrow-from_one old new owner accounts grows a h =
-    elim (cases_eq a owner)
-    [ inl e ↦ (let P : ℕ → Type 0 = λ x. (more : List (List ℕ)) × (new x ≡ old x ++ more) in subst P (sym e) grows.grown)
-    | inr ne ↦ ([], grows.others a ne ∙ sym (append-nil (old a))) ]
+    elim (cases_eq a owner) [
+      | inl e ↦ (let P : ℕ → Type 0 = λ x. (more : List (List ℕ)) × (new x ≡ old x ++ more) in subst P (sym e) grows.grown)
+      | inr ne ↦ ([], grows.others a ne ∙ sym (append-nil (old a)))
+    ]
 
 -- a settled book's front is the largest
 pub settled_is_largest : (lists : ℕ → List (List ℕ)) (book : Standing) → IsSettled lists book → IsLargest book.opening (entries_for book lists) (slice_index book.front)
@@ -69,9 +69,9 @@ can_settle_grown old new book owner settled grows there countable =
 fresh_balance : (opening : List ℕ) (logs : ℕ → List Entry) (front : ℕ → ℕ) → ((a : ℕ) → front a ≡ 0) → (a : ℕ) → pos (slice_index opening a) ≡ balance_at opening logs front a
 fresh_balance opening logs front zeros a =
     let none : (f : Entry → ℕ) (owner : ℕ) → sum_by f (take (front owner) (logs owner)) ≡ 0 =
-      λ f owner. ap (λ k. sum_by f (take k (logs owner))) (zeros owner) in
+    λ f owner. ap (λ k. sum_by f (take k (logs owner))) (zeros owner) in
     let came : paid_in (length opening) logs front a ≡ 0 =
-      sum_below-same (length opening) _ (λ _. 0) (λ owner _. none (amount_to a) owner) ∙ sum_below-zero (length opening) in
+    sum_below-same (length opening) _ (λ _. 0) (λ owner _. none (amount_to a) owner) ∙ sum_below-zero (length opening) in
     let went : paid_out logs front a ≡ 0 = none amount_of a in
     omega (arith, ints)
 
@@ -79,9 +79,10 @@ pub fresh_is_book : (opening : List ℕ) (lists : ℕ → List (List ℕ)) → I
 fresh_is_book opening lists =
     let n = length opening in
     let zeros : (a : ℕ) → slice_index (replicate n 0) a ≡ 0 =
-      λ a. elim (cases_lt a n)
-      [ inl below ↦ get_or-replicate n a 0 0 below
-      | inr past ↦ get_or_past (replicate n 0) a 0 (let long = length-replicate {A = ℕ} n 0 in omega arith) ] in
+    λ a. elim (cases_lt a n) [
+      | inl below ↦ get_or-replicate n a 0 0 below
+      | inr past ↦ get_or_past (replicate n 0) a 0 (let long = length-replicate {A = ℕ} n 0 in omega arith)
+    ] in
     record {
       reached = Start zeros;
       one_for_each = length-replicate {A = ℕ} n 0;
@@ -93,10 +94,10 @@ fresh_is_settled opening lists empty =
     let n = length opening in
     settled_from_stuck lists (fresh opening) (fresh_is_book opening lists)
     (λ a may.
-      let inside = within_from_Covers (balance_at opening (entries_of n lists) (slice_index (replicate n 0)) a) (entries_of n lists a) (slice_index (replicate n 0) a) may.1 in
-      let none = empty a may.0 in
-      let long = length-entries_of n lists a in
-      omega arith)
+    let inside = within_from_Covers (balance_at opening (entries_of n lists) (slice_index (replicate n 0)) a) (entries_of n lists a) (slice_index (replicate n 0) a) may.1 in
+    let none = empty a may.0 in
+    let long = length-entries_of n lists a in
+    omega arith)
 
 -- no more is settled than is listed
 pub sum_front-le : (lists : ℕ → List (List ℕ)) (book : Standing) → IsBook lists book → sum book.front ≤ entry_count (length book.opening) (entries_for book lists)
@@ -121,14 +122,14 @@ same_books lists p q opening at_p at_q =
     let front : p.front ≡ q.front = at_p.largest ∙ ap largest opening ∙ sym at_q.largest in
     let lengths = ap length opening in
     let balances : p.balances ≡ q.balances =
-      same_number_lists p.balances q.balances (at_p.is.are.one_for_each ∙ lengths ∙ sym at_q.is.are.one_for_each)
-      (λ k h.
-        let below : k < length p.opening = (let e = at_p.is.are.one_for_each in omega arith) in
-        let at_p_k = at_p.is.are.exact k below in
-        let at_q_k = at_q.is.are.exact k (omega arith) in
-        let B : List ℕ → List ℕ → ℤ = λ o f. balance_at o (entries_of (length o) lists) (slice_index f) k in
-        let same : B p.opening p.front ≡ B q.opening q.front = ap (λ o. B o p.front) opening ∙ ap (λ f. B q.opening f) front in
-        same_pos (get_or p.balances k 0) (get_or q.balances k 0) (at_p_k ∙ same ∙ sym at_q_k)) in
+    same_number_lists p.balances q.balances (at_p.is.are.one_for_each ∙ lengths ∙ sym at_q.is.are.one_for_each)
+    (λ k h.
+    let below : k < length p.opening = (let e = at_p.is.are.one_for_each in omega arith) in
+    let at_p_k = at_p.is.are.exact k below in
+    let at_q_k = at_q.is.are.exact k (omega arith) in
+    let B : List ℕ → List ℕ → ℤ = λ o f. balance_at o (entries_of (length o) lists) (slice_index f) k in
+    let same : B p.opening p.front ≡ B q.opening q.front = ap (λ o. B o p.front) opening ∙ ap (λ f. B q.opening f) front in
+    same_pos (get_or p.balances k 0) (get_or q.balances k 0) (at_p_k ∙ same ∙ sym at_q_k)) in
     let made : List ℕ → List ℕ → List ℕ → Standing = λ o f b. record { opening = o; front = f; balances = b } in
     ap (λ o. made o p.front p.balances) opening ∙ ap (λ f. made q.opening f p.balances) front ∙ ap (made q.opening q.front) balances
   where

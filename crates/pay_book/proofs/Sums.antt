@@ -1,6 +1,6 @@
 -- Sums over the first n accounts.
-use Rattle.std.proofs.Common.{◌≡◌, ◌≢◌, ℕ, zero, suc, ◌+◌, ◌*◌, ◌<◌, ◌≤◌, refl, ap, ◌∙◌, sym, subst, arith, inl, inr}
-use Rattle.std.proofs.lemmas.Bool.{cases_eq, cases_lt}
+use Rattle.std.proofs.Common.{◌≡◌, ◌≢◌, ℕ, zero, suc, ◌+◌, ◌*◌, ◌<◌, ◌≤◌, refl, sym, subst, arith, inl, inr}
+use Rattle.std.proofs.lemmas.Bool.{cases_lt}
 use Rattle.pay_book.specs.Balance.{sum_below}
 
 pub sum_below-le : (n : ℕ) (f g : ℕ → ℕ) → ((k : ℕ) → k < n → f k ≤ g k) → sum_below n f ≤ sum_below n g
@@ -43,12 +43,13 @@ sum_below-at (suc n) f k h =
 pub sum_below-one_more : (n : ℕ) (f g : ℕ → ℕ) (a d : ℕ) → a < n → g a ≡ f a + d → ((k : ℕ) → k ≢ a → g k ≡ f k) → sum_below n g ≡ sum_below n f + d
 sum_below-one_more zero f g a d h e others = absurd (omega arith)
 sum_below-one_more (suc n) f g a d h e others =
-    elim (cases_lt a n)
-    [ inl l ↦ (let rest = sum_below-one_more n f g a d l e others in let here = others n (omega arith) in omega arith)
-    | inr l ↦ (let at : a ≡ n = omega arith in
-        let rest = sum_below-same n g f (λ k lt. others k (omega arith)) in
-        let here : g n ≡ f n + d = rw at at e in
-        omega arith) ]
+    elim (cases_lt a n) [
+      | inl l ↦ (let rest = sum_below-one_more n f g a d l e others in let here = others n (omega arith) in omega arith)
+      | inr l ↦ (let at : a ≡ n = omega arith in
+          let rest = sum_below-same n g f (λ k lt. others k (omega arith)) in
+          let here : g n ≡ f n + d = rw at at e in
+          omega arith)
+    ]
 
 -- each term at most m
 pub sum_below-bounded : (n : ℕ) (f : ℕ → ℕ) (m : ℕ) → ((k : ℕ) → k < n → f k ≤ m) → sum_below n f ≤ n * m
@@ -64,6 +65,7 @@ sum_below-lt zero f g a h l lt = absurd (omega arith)
 sum_below-lt (suc n) f g a h l lt =
     let rest = sum_below-le n f g (λ k below. h k (omega arith)) in
     let here = h n (omega arith) in
-    elim (cases_lt a n)
-    [ inl below ↦ (let less = sum_below-lt n f g a (λ k below_n. h k (omega arith)) below lt in omega arith)
-    | inr last ↦ (let at : a ≡ n = omega arith in let P : ℕ → Type 0 = λ x. f x < g x in let less : f n < g n = subst P at lt in omega arith) ]
+    elim (cases_lt a n) [
+      | inl below ↦ (let less = sum_below-lt n f g a (λ k below_n. h k (omega arith)) below lt in omega arith)
+      | inr last ↦ (let at : a ≡ n = omega arith in let P : ℕ → Type 0 = λ x. f x < g x in let less : f n < g n = subst P at lt in omega arith)
+    ]

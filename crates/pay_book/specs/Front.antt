@@ -1,9 +1,9 @@
 -- Which fronts settling reaches: one account's next entry at a time, when its balance covers it.
-use Rattle.std.specs.Prelude.{◌≡◌, ◌≢◌, ℕ, zero, suc, ◌+◌, ◌<◌, ◌≤◌, ℤ, pos, ◌≤ℤ◌, Bool, true, false, ◌&&◌, nat_le, List, ◌++◌, length, replicate, slice_index, slice_get, slice_set, Option, Some, None}
+use Rattle.std.specs.Prelude.{◌≡◌, ◌≢◌, ℕ, zero, suc, ◌+◌, ◌<◌, ◌≤◌, ℤ, pos, ◌≤ℤ◌, Bool, true, false, nat_le, List, ◌++◌, length, replicate, slice_index, slice_get, slice_set, Option, Some, None}
 use Rattle.std.specs.List.{find, range_with_len}
 use Rattle.pay_book.specs.declared.payment.Entry.{Entry}
 use Rattle.pay_book.specs.declared.payment.Entry.TheVariants.{Pay, Void}
-use Rattle.pay_book.specs.Balance.{amount_of, sum_below, paid_in, paid_out, balance_at}
+use Rattle.pay_book.specs.Balance.{sum_below, paid_in, paid_out, balance_at}
 
 -- There is a next entry, and it moves nothing or no more than the balance.
 abbrev pub Covers : ℤ → Option Entry → Type 0

@@ -1,11 +1,11 @@
 -- The laws of settling, over any entries; src/laws.rt says each in words.
-use Rattle.std.specs.Prelude.{◌≡◌, ◌≢◌, ℕ, ◌+◌, ◌*◌, ◌^◌, ◌<◌, ◌≤◌, max, pos, ◌≤ℤ◌, List, length, slice_index, sum}
+use Rattle.std.specs.Prelude.{◌≡◌, ℕ, ◌*◌, ◌^◌, ◌<◌, ◌≤◌, max, pos, ◌≤ℤ◌, List, length, slice_index, sum}
 use Rattle.pay_channel.specs.Source.{GrowsOnly}
 use Rattle.pay_book.specs.declared.payment.Entry.{Entry}
 use Rattle.pay_book.specs.Payment.{entries_of}
-use Rattle.pay_book.specs.Balance.{balance_at, AreBalances, AllPayWithin}
+use Rattle.pay_book.specs.Balance.{balance_at, AreBalances}
 use Rattle.pay_book.specs.Front.{MayStep, Reach, IsLargest, largest_front, AllGrow}
-use Rattle.pay_book.specs.Book.{Standing, fresh, IsBook, IsSettled, AreCountable, CanSettle}
+use Rattle.pay_book.specs.Book.{Standing, fresh, IsSettled, AreCountable, CanSettle}
 
 abbrev pub ReachedFrontsJoin : Type 0
 ReachedFrontsJoin =

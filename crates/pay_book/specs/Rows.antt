@@ -1,9 +1,7 @@
 -- Worked examples of four accounts, computed from the definitions.
-use Rattle.std.specs.Prelude.{◌≡◌, ℕ, ◌-◌, ◌^◌, ℤ, pos, List, [], ◌∷◌, ◌++◌, length, map, replicate, slice_index, slice_index_or}
+use Rattle.std.specs.Prelude.{◌≡◌, ℕ, pos, List, [], ◌∷◌, length, map, slice_index, slice_index_or}
 use Rattle.std.specs.List.{range_with_len}
-use Rattle.pay_book.specs.declared.payment.Entry.{Entry}
-use Rattle.pay_book.specs.declared.payment.Entry.TheVariants.{Pay, Void}
-use Rattle.pay_book.specs.Payment.{entry_of, entries_of}
+use Rattle.pay_book.specs.Payment.{entries_of}
 use Rattle.pay_book.specs.Balance.{balance_at}
 use Rattle.pay_book.specs.Front.{largest_front}
 

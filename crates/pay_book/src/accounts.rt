@@ -4,14 +4,12 @@ ghost use Rattle.std.specs.Prelude.{◌≡◌, ◌+◌, ◌<◌, ◌≤◌, ◌^
 ghost use Rattle.pay_book.specs.Balance.{amount_of, PayWithin, Moves};
 ghost use Rattle.pay_book.specs.Book.{fresh, entries_for, MaySettle, IsBook, IsStep};
 
-use std::alloc::{AllocError, Global};
-use std::marker::Model;
-
-use pay_channel::Source;
-use pay_link::Genesis;
-
 use crate::decode::decode_payment;
 use crate::payment::Entry;
+use pay_channel::Source;
+use pay_link::Genesis;
+use std::alloc::{AllocError, Global};
+use std::marker::Model;
 
 /// The opening balances of all accounts, and what settling made of them.
 #[derive(Debug, Drop)]

@@ -1,6 +1,5 @@
 //! A payment value: what an owner broadcasts to move money from its account to another.
 
-
 /// What one broadcast value asks of the book.
 #[derive(Clone, Copy, Debug, PartialEq, Eq)]
 pub enum Entry {
@@ -9,4 +8,3 @@ pub enum Entry {
     /// Moves nothing.
     Void,
 }
-

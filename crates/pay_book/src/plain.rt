@@ -4,13 +4,11 @@ ghost use Rattle.std.specs.Prelude.{◌≡◌, ◌+◌, sum};
 ghost use Rattle.pay_book.specs.Book.{IsStuck, IsBook};
 ghost use Rattle.std.specs.Bool.{OnTrue, OnFalse};
 
-use std::alloc::{AllocError, Global};
-
-use pay_channel::Source;
-use pay_link::Genesis;
-
 use crate::accounts::Accounts;
 use crate::settle::Settle;
+use pay_channel::Source;
+use pay_link::Genesis;
+use std::alloc::{AllocError, Global};
 
 /// A book that looks for the next entry to settle in the order of the accounts.
 #[derive(Debug, Drop)]

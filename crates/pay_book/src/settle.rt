@@ -3,10 +3,9 @@
 ghost use Rattle.std.specs.Prelude.{◌≡◌, ◌+◌, ◌<◌, length, sum, slice_index, IfOk};
 ghost use Rattle.pay_book.specs.Book.{Standing, fresh, IsSettled, CanSettle};
 
-use std::alloc::{AllocError, Global};
-
 use pay_channel::Source;
 use pay_link::Genesis;
+use std::alloc::{AllocError, Global};
 
 /// A book over the lists of a [`Source`].
 ///

@@ -5,14 +5,12 @@ ghost use Rattle.std.specs.List.{filter_map};
 ghost use Rattle.pay_book.specs.Book.{IsBook};
 ghost use Rattle.pay_book.specs.Statement.{numbered_entries_of, own_line, incoming_line, statement_of};
 
-use std::alloc::{AllocError, Global};
-
-use pay_channel::Source;
-
 use crate::decode::decode_payment;
 use crate::line::Line;
 use crate::payment::Entry;
 use crate::settle::Settle;
+use pay_channel::Source;
+use std::alloc::{AllocError, Global};
 
 /// What settled on an account: its own entries, then the payments to it, by owner.
 pub fn statement<S: Source, B: Settle>(
@@ -31,7 +29,14 @@ pub fn statement<S: Source, B: Settle>(
     let mut lines = Vec::new(alloc);
     push_own(&mut lines, source, accounts, account, book.front(account))?;
     for owner in 0..accounts {
-        push_incoming(&mut lines, source, accounts, account, owner, book.front(owner))?;
+        push_incoming(
+            &mut lines,
+            source,
+            accounts,
+            account,
+            owner,
+            book.front(owner),
+        )?;
     }
     Ok(lines)
 }

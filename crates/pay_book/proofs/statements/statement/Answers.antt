@@ -1,4 +1,4 @@
-use Rattle.std.proofs.Common.{◌≡◌, ◌+◌, ◌++◌, [], ◌∷◌, map, take, ap, ◌∙◌, sym, arith, slice_index, append-nil, length, List, ℕ}
+use Rattle.std.proofs.Common.{◌≡◌, ◌++◌, take, ap, ◌∙◌, arith, slice_index, length, List, ℕ}
 use Rattle.std.specs.List.{flat_map, filter_map, range_with_len}
 use Rattle.std.specs.Prelude.{Option}
 use Rattle.pay_book.specs.declared.payment.Entry.{Entry}

@@ -1,4 +1,4 @@
-use Rattle.std.proofs.Common.{◌≡◌, ◌<◌, ◌^◌, ℕ, List, length, sum, ap, sym, subst, ◌∙◌, arith}
+use Rattle.std.proofs.Common.{◌<◌, ◌^◌, ℕ, List, length, ap, sym, subst, ◌∙◌, arith}
 use Rattle.pay_book.specs.Payment.{entries_of}
 use Rattle.pay_book.specs.Front.{entry_count}
 use Rattle.pay_book.proofs.Settling.{sum_front-le, settled_from_stuck}
