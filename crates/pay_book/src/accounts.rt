@@ -24,9 +24,11 @@ impl Model for Accounts {
 
     ghost Value = { Standing };
 
-    ghost view = { λ a. record { opening = a.opening.items; front = a.front.items; balances = a.balances.items } };
+    ghost view = { λ a.
+        record { opening = a.opening.items; front = a.front.items; balances = a.balances.items } };
 
-    ghost invariant = { λ a. IsSound (record { opening = a.opening.items; front = a.front.items; balances = a.balances.items }) };
+    ghost invariant = { λ a. IsSound
+        (record { opening = a.opening.items; front = a.front.items; balances = a.balances.items }) };
 }
 
 impl Accounts {
@@ -80,7 +82,8 @@ impl Accounts {
     /// The entry that an account settles next, if its list has one.
     fn next_entry<S: Source>(&self, source: &S, account: u16) -> Option<Entry>
         requires { account < length self.now.opening }
-        ensures entry { result ≡ slice_get (entries_for self.now (S.lists source.now) account) (slice_index self.now.front account) }
+        ensures entry { result
+            ≡ slice_get (entries_for self.now (S.lists source.now) account) (slice_index self.now.front account) }
         ensures place { OnSome result (slice_index self.now.front account + 1 < 2 ^ 32) }
     {
         let place = self.front(account);
@@ -116,7 +119,8 @@ impl Accounts {
         requires place { slice_index self.old.front account + 1 < 2 ^ 32 }
         requires total { sum self.old.balances ≡ sum self.old.opening }
         ensures opening { self.new.opening ≡ self.old.opening }
-        ensures front { self.new.front ≡ slice_set self.old.front account (slice_index self.old.front account + 1) }
+        ensures front { self.new.front
+            ≡ slice_set self.old.front account (slice_index self.old.front account + 1) }
         ensures one_for_each { length self.new.balances ≡ length self.old.opening }
         ensures balances { Moves entry account self.old.balances self.new.balances }
     {

@@ -24,7 +24,8 @@ pub fn decode_payment(value: &[u8], owner: u16, accounts: u16) -> Entry
     payment(payee, amount, owner, accounts)
 }
 
-/// What these words of a value mean: a payment only to another account that is there, and of more than nothing.
+/// What these words of a value mean: a payment only to another account that is there, and of more
+/// than nothing.
 fn payment(payee: u16, amount: u64, owner: u16, accounts: u16) -> Entry
     ensures { result ≡ payment accounts owner payee amount }
 {

@@ -1,15 +1,16 @@
-//! The laws of settling. Each function does nothing: what it ensures is the law.
-//!
-//! `m`, `n` and `front` are fronts, `opening` the opening balances and `logs` the accounts' lists of entries.
+//! The laws of settling. Each function does nothing: what it ensures is the law, which
+//! specs/Laws.antt spells out.
 
 ghost use Rattle.pay_book.specs.Laws.{ReachedFrontsJoin, StuckIsLargest, LargestIsStuck, LargestIsOne, LargestIsComputed, ReachedIsWithinLists, NoBalanceBelowZero, BalancesSumToOpening, ReachedStaysReached, LargestGrows, EqualListsEqualLargest, EqualListsEqualBalances, EqualListsEqualBooks, FreshBookIsSettled, GrownListCanSettle, SameListsStaySettled, ShortListsAreCountable};
 
-/// Two fronts that steps reach have a common one: the front that is as far as either at each account is reached too.
+/// Two fronts that steps reach have a common one: the front that is as far as either at each account
+/// is reached too.
 pub fn reached_fronts_join()
     ensures { ReachedFrontsJoin }
 {}
 
-/// No order of settling matters: wherever steps have led to a front at which no account may step, it is the largest.
+/// No order of settling matters: wherever steps have led to a front at which no account may step, it
+/// is the largest.
 pub fn stuck_is_largest()
     ensures { StuckIsLargest }
 {}

@@ -51,7 +51,8 @@ fn push_own<S: Source>(
 ) -> Result<(), AllocError>
     requires { front ≤ length (S.lists source.now account) }
     ensures { OnOk result (lines.new.items
-        ≡ lines.old.items ++ map (λ e. own_line e.0 e.1) (take front (numbered_entries_of accounts (S.lists source.now) account))) }
+        ≡ lines.old.items ++ map (λ e. own_line e.0 e.1)
+        (take front (numbered_entries_of accounts (S.lists source.now) account))) }
 {
     for seq in 0..front {
         let entry = decode_payment(source.at(account, seq), account, accounts);
@@ -71,7 +72,8 @@ fn push_incoming<S: Source>(
 ) -> Result<(), AllocError>
     requires { front ≤ length (S.lists source.now owner) }
     ensures { OnOk result (lines.new.items
-        ≡ lines.old.items ++ filter_map (λ e. incoming_line account owner e.0 e.1) (take front (numbered_entries_of accounts (S.lists source.now) owner))) }
+        ≡ lines.old.items ++ filter_map (λ e. incoming_line account owner e.0 e.1)
+        (take front (numbered_entries_of accounts (S.lists source.now) owner))) }
 {
     for seq in 0..front {
         let entry = decode_payment(source.at(owner, seq), owner, accounts);
