@@ -59,21 +59,24 @@ values_of-empty (first ∷ lists) empty (suc owner) =
 -- one value more at the end of one list
 pub values_of-append : (lists : List Values) (owner : ℕ) (old new : Values) (value : Bytes) → owner < length lists → old ≡ get_or lists owner old → new.items ≡ old.items ++ value ∷ [] → GrowsOnly (values_of lists) (values_of (set lists owner new)) owner
 values_of-append lists owner old new value h is pushed = record {
-  grown = (value.items ∷ [],
+  grown = (
+    value.items ∷ [],
     values_of-set_same lists owner new h
-    ∙ ap (map (λ (v : Bytes). v.items)) pushed
-    ∙ map-append (λ (v : Bytes). v.items) old.items (value ∷ [])
-    ∙ ap (λ values. values ++ value.items ∷ []) (sym (values_of-read lists owner old h is)));
+        ∙ ap (map (λ (v : Bytes). v.items)) pushed
+        ∙ map-append (λ (v : Bytes). v.items) old.items (value ∷ [])
+        ∙ ap (λ values. values ++ value.items ∷ []) (sym (values_of-read lists owner old h is)),
+  );
   others = λ a ne. values_of-set_other lists owner a new ne;
 }
 
 -- a list with the items that it had
 pub values_of-kept : (lists : List Values) (owner : ℕ) (old new : Values) → owner < length lists → old ≡ get_or lists owner old → new.items ≡ old.items → (a : ℕ) → values_of (set lists owner new) a ≡ values_of lists a
 values_of-kept lists owner old new h is same a =
-    elim (cases_eq a owner)
-    [ inl e ↦ (let P : ℕ → Type 0 = λ x. values_of (set lists owner new) x ≡ values_of lists x in
-        subst P (sym e) (values_of-set_same lists owner new h ∙ ap (map (λ (v : Bytes). v.items)) same ∙ sym (values_of-read lists owner old h is)))
-    | inr ne ↦ values_of-set_other lists owner a new ne ]
+    elim (cases_eq a owner) [
+      | inl e ↦ (let P : ℕ → Type 0 = λ x. values_of (set lists owner new) x ≡ values_of lists x in
+          subst P (sym e) (values_of-set_same lists owner new h ∙ ap (map (λ (v : Bytes). v.items)) same ∙ sym (values_of-read lists owner old h is)))
+      | inr ne ↦ values_of-set_other lists owner a new ne
+    ]
 
 -- what reading a list shows of its owner's values
 pub length_at-read : (lists items : List Values) (owner : ℕ) (list : Values) (n : ℕ) → lists ≡ items → owner < length lists → list ≡ get_or lists owner list → n ≡ vec_len list → n ≡ length (values_of items owner)

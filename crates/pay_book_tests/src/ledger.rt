@@ -3,13 +3,11 @@
 ghost use Rattle.std.specs.Prelude.{◌≡◌, IfOk};
 ghost use Rattle.pay_book.specs.Book.{fresh};
 
+use crate::lists::Lists;
+use pay_book::{Line, Settle, statement};
+use pay_link::Genesis;
 use std::alloc::{AllocError, Global};
 use std::marker::Model;
-
-use pay_book::{statement, Line, Settle};
-use pay_link::Genesis;
-
-use crate::lists::Lists;
 
 /// A book, and the lists that it settles.
 #[derive(Drop)]

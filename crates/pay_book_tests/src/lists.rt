@@ -4,9 +4,8 @@ ghost use Rattle.std.specs.Prelude.{◌≡◌, ◌+◌, ◌<◌, ◌≤◌, ℕ,
 ghost use Rattle.pay_channel.specs.Source.{GrowsOnly};
 ghost use Rattle.pay_book_tests.specs.Lists.{values_of};
 
-use std::alloc::{AllocError, Global};
-
 use pay_channel::Source;
+use std::alloc::{AllocError, Global};
 
 /// The values of some owners, each owner's in order.
 #[derive(Drop)]

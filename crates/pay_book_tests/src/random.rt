@@ -2,13 +2,11 @@
 
 ghost use Rattle.std.specs.Prelude.{◌<◌};
 
-use std::alloc::{AllocError, Global};
-
-use pay_book::Settle;
-use pay_link::Genesis;
-
 use crate::ledger::Ledger;
 use crate::orders::{Request, balances_at, greatest_front, reached_fronts};
+use pay_book::Settle;
+use pay_link::Genesis;
+use std::alloc::{AllocError, Global};
 
 /// What a book shows after random steps, and what trying every order gives.
 #[derive(Drop)]

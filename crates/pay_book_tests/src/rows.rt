@@ -1,11 +1,9 @@
 //! Worked examples of four accounts: values put on lists one after another, and what a book then shows.
 
-use std::alloc::{AllocError, Global};
-
+use crate::ledger::Ledger;
 use pay_book::Settle;
 use pay_link::Genesis;
-
-use crate::ledger::Ledger;
+use std::alloc::{AllocError, Global};
 
 /// A value that its owner puts on its list.
 pub struct Step {
@@ -57,7 +55,10 @@ pub const ROWS: [Row; 10] = [
     Row {
         name: "a payment settles",
         opening: [100, 0, 0, 50],
-        steps: &[Step { owner: 0, value: &[1, 0, 1, 0, 0, 0, 0, 0, 0, 0, 30] }],
+        steps: &[Step {
+            owner: 0,
+            value: &[1, 0, 1, 0, 0, 0, 0, 0, 0, 0, 30],
+        }],
         settled: &[1],
         fronts: [1, 0, 0, 0],
         balances: [70, 30, 0, 50],
@@ -66,8 +67,14 @@ pub const ROWS: [Row; 10] = [
         name: "circular debts wait",
         opening: [0, 0, 0, 50],
         steps: &[
-            Step { owner: 0, value: &[1, 0, 1, 0, 0, 0, 0, 0, 0, 0, 10] },
-            Step { owner: 1, value: &[1, 0, 0, 0, 0, 0, 0, 0, 0, 0, 10] },
+            Step {
+                owner: 0,
+                value: &[1, 0, 1, 0, 0, 0, 0, 0, 0, 0, 10],
+            },
+            Step {
+                owner: 1,
+                value: &[1, 0, 0, 0, 0, 0, 0, 0, 0, 0, 10],
+            },
         ],
         settled: &[0, 0],
         fronts: [0, 0, 0, 0],
@@ -77,9 +84,18 @@ pub const ROWS: [Row; 10] = [
         name: "circular debts settle once money comes",
         opening: [0, 0, 0, 50],
         steps: &[
-            Step { owner: 0, value: &[1, 0, 1, 0, 0, 0, 0, 0, 0, 0, 10] },
-            Step { owner: 1, value: &[1, 0, 0, 0, 0, 0, 0, 0, 0, 0, 10] },
-            Step { owner: 3, value: &[1, 0, 0, 0, 0, 0, 0, 0, 0, 0, 10] },
+            Step {
+                owner: 0,
+                value: &[1, 0, 1, 0, 0, 0, 0, 0, 0, 0, 10],
+            },
+            Step {
+                owner: 1,
+                value: &[1, 0, 0, 0, 0, 0, 0, 0, 0, 0, 10],
+            },
+            Step {
+                owner: 3,
+                value: &[1, 0, 0, 0, 0, 0, 0, 0, 0, 0, 10],
+            },
         ],
         settled: &[0, 0, 3],
         fronts: [1, 1, 0, 1],
@@ -89,8 +105,14 @@ pub const ROWS: [Row; 10] = [
         name: "an uncovered payment holds the next one",
         opening: [100, 0, 0, 50],
         steps: &[
-            Step { owner: 0, value: &[1, 0, 1, 0, 0, 0, 0, 0, 0, 0, 150] },
-            Step { owner: 0, value: &[1, 0, 1, 0, 0, 0, 0, 0, 0, 0, 10] },
+            Step {
+                owner: 0,
+                value: &[1, 0, 1, 0, 0, 0, 0, 0, 0, 0, 150],
+            },
+            Step {
+                owner: 0,
+                value: &[1, 0, 1, 0, 0, 0, 0, 0, 0, 0, 10],
+            },
         ],
         settled: &[0, 0],
         fronts: [0, 0, 0, 0],
@@ -100,9 +122,18 @@ pub const ROWS: [Row; 10] = [
         name: "an uncovered payment settles once it is covered",
         opening: [100, 0, 0, 50],
         steps: &[
-            Step { owner: 0, value: &[1, 0, 1, 0, 0, 0, 0, 0, 0, 0, 150] },
-            Step { owner: 0, value: &[1, 0, 1, 0, 0, 0, 0, 0, 0, 0, 10] },
-            Step { owner: 3, value: &[1, 0, 0, 0, 0, 0, 0, 0, 0, 0, 50] },
+            Step {
+                owner: 0,
+                value: &[1, 0, 1, 0, 0, 0, 0, 0, 0, 0, 150],
+            },
+            Step {
+                owner: 0,
+                value: &[1, 0, 1, 0, 0, 0, 0, 0, 0, 0, 10],
+            },
+            Step {
+                owner: 3,
+                value: &[1, 0, 0, 0, 0, 0, 0, 0, 0, 0, 50],
+            },
         ],
         settled: &[0, 0, 2],
         fronts: [1, 0, 0, 1],
@@ -112,8 +143,14 @@ pub const ROWS: [Row; 10] = [
         name: "a void entry holds nothing",
         opening: [100, 0, 0, 50],
         steps: &[
-            Step { owner: 3, value: &[255] },
-            Step { owner: 3, value: &[1, 0, 1, 0, 0, 0, 0, 0, 0, 0, 5] },
+            Step {
+                owner: 3,
+                value: &[255],
+            },
+            Step {
+                owner: 3,
+                value: &[1, 0, 1, 0, 0, 0, 0, 0, 0, 0, 5],
+            },
         ],
         settled: &[1, 1],
         fronts: [0, 0, 0, 2],
@@ -123,8 +160,14 @@ pub const ROWS: [Row; 10] = [
         name: "a long void entry holds nothing",
         opening: [100, 0, 0, 50],
         steps: &[
-            Step { owner: 3, value: &[255; 1024] },
-            Step { owner: 3, value: &[1, 0, 1, 0, 0, 0, 0, 0, 0, 0, 5] },
+            Step {
+                owner: 3,
+                value: &[255; 1024],
+            },
+            Step {
+                owner: 3,
+                value: &[1, 0, 1, 0, 0, 0, 0, 0, 0, 0, 5],
+            },
         ],
         settled: &[1, 1],
         fronts: [0, 0, 0, 2],
@@ -134,10 +177,22 @@ pub const ROWS: [Row; 10] = [
         name: "to oneself, to nobody, nothing, and one byte short are void",
         opening: [7, 0, 0, 0],
         steps: &[
-            Step { owner: 0, value: &[1, 0, 0, 0, 0, 0, 0, 0, 0, 0, 5] },
-            Step { owner: 0, value: &[1, 0, 4, 0, 0, 0, 0, 0, 0, 0, 5] },
-            Step { owner: 0, value: &[1, 0, 1, 0, 0, 0, 0, 0, 0, 0, 0] },
-            Step { owner: 0, value: &[1, 0, 1, 0, 0, 0, 0, 0, 0, 0] },
+            Step {
+                owner: 0,
+                value: &[1, 0, 0, 0, 0, 0, 0, 0, 0, 0, 5],
+            },
+            Step {
+                owner: 0,
+                value: &[1, 0, 4, 0, 0, 0, 0, 0, 0, 0, 5],
+            },
+            Step {
+                owner: 0,
+                value: &[1, 0, 1, 0, 0, 0, 0, 0, 0, 0, 0],
+            },
+            Step {
+                owner: 0,
+                value: &[1, 0, 1, 0, 0, 0, 0, 0, 0, 0],
+            },
         ],
         settled: &[1, 1, 1, 1],
         fronts: [4, 0, 0, 0],
@@ -147,8 +202,14 @@ pub const ROWS: [Row; 10] = [
         name: "the greatest amount is not covered",
         opening: [100, 0, 0, 50],
         steps: &[
-            Step { owner: 0, value: &[1, 0, 1, 255, 255, 255, 255, 255, 255, 255, 255] },
-            Step { owner: 0, value: &[1, 0, 1, 0, 0, 0, 0, 0, 0, 0, 1] },
+            Step {
+                owner: 0,
+                value: &[1, 0, 1, 255, 255, 255, 255, 255, 255, 255, 255],
+            },
+            Step {
+                owner: 0,
+                value: &[1, 0, 1, 0, 0, 0, 0, 0, 0, 0, 1],
+            },
         ],
         settled: &[0, 0],
         fronts: [0, 0, 0, 0],
@@ -157,7 +218,10 @@ pub const ROWS: [Row; 10] = [
     Row {
         name: "the greatest total is paid whole",
         opening: [9_223_372_036_854_775_807, 0, 0, 0],
-        steps: &[Step { owner: 0, value: &[1, 0, 1, 127, 255, 255, 255, 255, 255, 255, 255] }],
+        steps: &[Step {
+            owner: 0,
+            value: &[1, 0, 1, 127, 255, 255, 255, 255, 255, 255, 255],
+        }],
         settled: &[1],
         fronts: [1, 0, 0, 0],
         balances: [0, 9_223_372_036_854_775_807, 0, 0],

@@ -1,23 +1,31 @@
 //! The plain book on all of it.
 
-use std::alloc::Global;
-use std::process::Abort;
-use std::test::Fail;
-
-use pay_book::{Entry, Line, PlainBook, Settle, decode_payment};
-use pay_link::Genesis;
-
 use crate::ledger::Ledger;
 use crate::random::random_run;
 use crate::rows::{ROWS, play};
+use pay_book::{Entry, Line, PlainBook, Settle, decode_payment};
+use pay_link::Genesis;
+use std::alloc::Global;
+use std::process::Abort;
+use std::test::Fail;
 
 fn plays_rows<B: Settle + Drop>(rt: &impl Abort, alloc: Global) -> Result<(), Fail> {
     for row in &ROWS {
         let genesis = Genesis::new(alloc, 4, 0, &row.opening)?;
         let played = play::<B>(alloc, &genesis, row.steps)?;
         assert_eq!(rt; played.settled.as_slice(), row.settled, "{}", row.name);
-        assert_eq!(rt; played.fronts.as_slice(), row.fronts.as_slice(), "{}", row.name);
-        assert_eq!(rt; played.balances.as_slice(), row.balances.as_slice(), "{}", row.name);
+        assert_eq!(rt;
+            played.fronts.as_slice(),
+            row.fronts.as_slice(),
+            "{}",
+            row.name
+        );
+        assert_eq!(rt;
+            played.balances.as_slice(),
+            row.balances.as_slice(),
+            "{}",
+            row.name
+        );
     }
     Ok(())
 }
@@ -32,7 +40,11 @@ fn agrees_with_every_order<B: Settle + Drop>(rt: &impl Abort, alloc: Global) -> 
         for (front, place) in run.fronts.iter().zip(&run.greatest) {
             assert_eq!(rt; *front as usize, *place, "seed {seed}");
         }
-        assert_eq!(rt; run.balances.as_slice(), run.greatest_balances.as_slice(), "seed {seed}");
+        assert_eq!(rt;
+            run.balances.as_slice(),
+            run.greatest_balances.as_slice(),
+            "seed {seed}"
+        );
     }
     Ok(())
 }
@@ -44,7 +56,11 @@ fn settles_a_long_chain<B: Settle + Drop>(rt: &impl Abort, alloc: Global) -> Res
     let mut ledger: Ledger<B> = Ledger::new(alloc, &genesis)?;
     for owner in 1..63u8 {
         let value = [1, 0, owner + 1, 0, 0, 0, 0, 0, 0, 0, 10].to_vec(alloc)?;
-        assert_eq!(rt; ledger.add(u16::from(owner), value)?, Some(0), "owner {owner}");
+        assert_eq!(rt;
+            ledger.add(u16::from(owner), value)?,
+            Some(0),
+            "owner {owner}"
+        );
     }
     let value = [1, 0, 1, 0, 0, 0, 0, 0, 0, 0, 10].to_vec(alloc)?;
     assert_eq!(rt; ledger.add(0, value)?, Some(63));
@@ -63,13 +79,32 @@ fn states_an_account<B: Settle + Drop>(rt: &impl Abort, alloc: Global) -> Result
     }
     let lines = ledger.statement(alloc, 0)?.ok_or("account 0")?;
     let expected = [
-        Line::Out { seq: 0, payee: 1, amount: 10 },
-        Line::In { owner: 1, seq: 0, amount: 10 },
-        Line::In { owner: 3, seq: 0, amount: 10 },
+        Line::Out {
+            seq: 0,
+            payee: 1,
+            amount: 10,
+        },
+        Line::In {
+            owner: 1,
+            seq: 0,
+            amount: 10,
+        },
+        Line::In {
+            owner: 3,
+            seq: 0,
+            amount: 10,
+        },
     ];
     assert_eq!(rt; lines.as_slice(), expected.as_slice());
     let lines = ledger.statement(alloc, 3)?.ok_or("account 3")?;
-    let expected = [Line::Out { seq: 0, payee: 0, amount: 10 }, Line::Void { seq: 1 }];
+    let expected = [
+        Line::Out {
+            seq: 0,
+            payee: 0,
+            amount: 10,
+        },
+        Line::Void { seq: 1 },
+    ];
     assert_eq!(rt; lines.as_slice(), expected.as_slice());
     assert!(rt; ledger.statement(alloc, 4)?.is_none());
     Ok(())
