@@ -1,8 +1,8 @@
 -- What a ledger keeps.
-use Rattle.std.proofs.Common.{◌≡◌, ℕ, ◌+◌, ◌*◌, ◌^◌, ◌<◌, ◌≤◌, List, length, ap, ◌∙◌, sym, subst, arith}
+use Rattle.std.proofs.Common.{◌≡◌, ℕ, ◌<◌, ◌≤◌, List, length, sym, subst, arith}
 use Rattle.pay_link.specs.Genesis.{GenesisFields, IsGenesis}
 use Rattle.pay_channel.specs.Source.{GrowsOnly}
-use Rattle.pay_book.specs.Book.{Standing, fresh, IsSettled, CanSettle}
+use Rattle.pay_book.specs.Book.{Standing, fresh, CanSettle}
 use Rattle.pay_book.proofs.Settling.{fresh_is_settled, can_settle_grown, short_is_countable}
 use Rattle.pay_book_tests.specs.Ledger.{IsLedger}
 

@@ -1,6 +1,5 @@
 use Rattle.std.proofs.Common.{vec_len, length, ap, ◌∙◌, sym, arith}
 use Rattle.pay_book_tests.specs.Lists.{values_of}
-use Rattle.pay_book.specs.Book.{Standing}
 use Rattle.pay_book_tests.proofs.ListValues.{values_of-short}
 use Rattle.pay_book_tests.proofs.LedgerFacts.{ledger_can_settle}
 use Rattle.pay_book_tests.proofs.ledger.Ledger.add.Goals as goal

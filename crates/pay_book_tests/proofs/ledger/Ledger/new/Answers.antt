@@ -1,4 +1,4 @@
-use Rattle.std.proofs.Common.{◌∙◌, sym}
+use Rattle.std.proofs.Common.{◌∙◌}
 use Rattle.pay_book_tests.specs.Lists.{values_of}
 use Rattle.std.proofs.Common.{vec_len}
 use Rattle.pay_book_tests.proofs.LedgerFacts.{fresh_ledger}
