@@ -1,0 +1,67 @@
+-- What an owner's list of values is as entries.
+use Rattle.std.proofs.Common.{◌≡◌, ℕ, ◌<◌, eqb, ltb, ◌&&◌, not, List, [], length, map, ap, ◌∙◌, subst}
+use Rattle.std.specs.Prelude.{slice_get, slice_index, slice_range, Some}
+use Rattle.std.specs.Option.{option_map}
+use Rattle.std.specs.List.{flat_map}
+use Rattle.std.specs.Int.{from_be_bytes, w16, w64}
+use Rattle.std.proofs.lemmas.Bool.{and_parts, ltb-true, cond_both}
+use Rattle.std.proofs.lemmas.List.{length-map}
+use Rattle.std.proofs.lemmas.List.Concat.{flat_map_single, flat_map-append}
+use Rattle.std.proofs.lemmas.List.Elements.{All-map, All-same, All-from_get_or, All-get_or}
+use Rattle.std.proofs.lemmas.Option.{slice_get-map, slice_get_within, get_or_from_slice_get}
+use Rattle.pay_book.specs.declared.payment.Entry.{Entry}
+use Rattle.pay_book.specs.declared.payment.Entry.TheVariants.{Pay, Void}
+use Rattle.pay_book.specs.Payment.{payment, entry_of, entries_in, entries_of}
+use Rattle.pay_book.specs.Balance.{PayWithin, AllPayWithin}
+use Rattle.pay_book.specs.Front.{AllGrow}
+
+-- as long as a value is one entry, an owner's entries are its values' one by one
+pub entries_of-map : (accounts : ℕ) (lists : ℕ → List (List ℕ)) (owner : ℕ) → entries_of accounts lists owner ≡ map (entry_of accounts owner) (lists owner)
+unfolding entries_of entries_in
+entries_of-map accounts lists owner = flat_map_single (entry_of accounts owner) (lists owner)
+
+pub length-entries_of : (accounts : ℕ) (lists : ℕ → List (List ℕ)) (owner : ℕ) → length (entries_of accounts lists owner) ≡ length (lists owner)
+length-entries_of accounts lists owner = ap length (entries_of-map accounts lists owner) ∙ length-map (lists owner) (entry_of accounts owner)
+
+pub slice_get-entries_of : (accounts : ℕ) (lists : ℕ → List (List ℕ)) (owner place : ℕ) (value : List ℕ) → slice_get (lists owner) place ≡ Some value → slice_get (entries_of accounts lists owner) place ≡ Some (entry_of accounts owner value)
+slice_get-entries_of accounts lists owner place value there =
+    ap (λ log. slice_get log place) (entries_of-map accounts lists owner)
+    ∙ slice_get-map (entry_of accounts owner) (lists owner) place
+    ∙ ap (option_map (entry_of accounts owner)) there
+
+-- longer lists have longer entries
+pub entries_of-grow : (accounts : ℕ) (old new : ℕ → List (List ℕ)) → AllGrow accounts old new → AllGrow accounts (entries_of accounts old) (entries_of accounts new)
+unfolding entries_of
+entries_of-grow accounts old new grow a h = (
+  flat_map (entries_in accounts a) (grow a h).0,
+  ap (flat_map (entries_in accounts a)) (grow a h).1 ∙ flat_map-append (entries_in accounts a) (old a) (grow a h).0,
+)
+
+pub entries_of-same : (accounts : ℕ) (one other : ℕ → List (List ℕ)) (a : ℕ) → one a ≡ other a → entries_of accounts one a ≡ entries_of accounts other a
+unfolding entries_of
+entries_of-same accounts one other a e = ap (flat_map (entries_in accounts a)) e
+
+-- a payment goes to an account that is there
+payment-within : (accounts owner payee amount : ℕ) → PayWithin accounts (payment accounts owner payee amount)
+payment-within accounts owner payee amount =
+    cond_both (ltb payee accounts && not (eqb payee owner) && not (eqb amount 0)) (Pay payee amount) Void (PayWithin accounts)
+    (λ e. ltb-true payee accounts (and_parts _ _ (and_parts _ _ e).0).0) (λ e. tt)
+
+pub entry_of-within : (accounts owner : ℕ) (value : List ℕ) → PayWithin accounts (entry_of accounts owner value)
+unfolding entry_of
+entry_of-within accounts owner value =
+    cond_both (eqb (length value) 11 && eqb (slice_index value 0) 1)
+    (payment accounts owner (from_be_bytes w16 (slice_range value 1 3)) (from_be_bytes w64 (slice_range value 3 11))) Void (PayWithin accounts)
+    (λ e. payment-within accounts owner (from_be_bytes w16 (slice_range value 1 3)) (from_be_bytes w64 (slice_range value 3 11))) (λ e. tt)
+
+pub entries_of-within : (accounts : ℕ) (lists : ℕ → List (List ℕ)) → AllPayWithin accounts (entries_of accounts lists)
+entries_of-within accounts lists owner h =
+    All-same (PayWithin accounts) _ _ (entries_of-map accounts lists owner)
+    (All-map (PayWithin accounts) (entry_of accounts owner) (lists owner) (All-from_get_or (λ v. PayWithin accounts (entry_of accounts owner v)) (lists owner) [] (λ i _. entry_of-within accounts owner _)))
+
+pub entry-within : (accounts : ℕ) (lists : ℕ → List (List ℕ)) (owner place : ℕ) (entry : Entry) → owner < accounts → slice_get (entries_of accounts lists owner) place ≡ Some entry → PayWithin accounts entry
+entry-within accounts lists owner place entry h there =
+    let log = entries_of accounts lists owner in
+    let P : Entry → Type 0 = PayWithin accounts in
+    subst P (get_or_from_slice_get log place entry entry there)
+    (All-get_or (PayWithin accounts) log place entry (slice_get_within log place entry there) (entries_of-within accounts lists owner h))

@@ -1,0 +1,11 @@
+pub mod Sums
+pub mod Stepping
+pub mod Reaching
+pub mod Conserving
+pub mod Growing
+pub mod Computing
+pub mod Entries
+pub mod Settling
+pub mod OneStep
+pub mod PlainLoops
+pub mod Lines

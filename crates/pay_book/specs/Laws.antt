@@ -1,0 +1,100 @@
+-- The laws of settling, over any entries; src/laws.rt says each in words.
+use Rattle.std.specs.Prelude.{◌≡◌, ℕ, ◌*◌, ◌^◌, ◌<◌, ◌≤◌, max, pos, ◌≤ℤ◌, List, length, slice_index, sum}
+use Rattle.pay_channel.specs.Source.{GrowsOnly}
+use Rattle.pay_book.specs.declared.payment.Entry.{Entry}
+use Rattle.pay_book.specs.Payment.{entries_of}
+use Rattle.pay_book.specs.Balance.{balance_at, AreBalances}
+use Rattle.pay_book.specs.Front.{MayStep, Reach, IsLargest, largest_front, AllGrow}
+use Rattle.pay_book.specs.Book.{Standing, fresh, IsSettled, AreCountable, CanSettle}
+
+abbrev pub ReachedFrontsJoin : Type 0
+ReachedFrontsJoin =
+    (opening : List ℕ) (logs : ℕ → List Entry) (m n : ℕ → ℕ) →
+    Reach opening logs m → Reach opening logs n → Reach opening logs (λ a. max (m a) (n a))
+
+abbrev pub StuckIsLargest : Type 0
+StuckIsLargest =
+    (opening : List ℕ) (logs : ℕ → List Entry) (front : ℕ → ℕ) →
+    Reach opening logs front → ((a : ℕ) → MayStep opening logs front a → ⊥) → IsLargest opening logs front
+
+abbrev pub LargestIsStuck : Type 0
+LargestIsStuck =
+    (opening : List ℕ) (logs : ℕ → List Entry) (front : ℕ → ℕ) →
+    IsLargest opening logs front → (a : ℕ) → MayStep opening logs front a → ⊥
+
+abbrev pub LargestIsOne : Type 0
+LargestIsOne =
+    (opening : List ℕ) (logs : ℕ → List Entry) (one other : ℕ → ℕ) →
+    IsLargest opening logs one → IsLargest opening logs other → (a : ℕ) → one a ≡ other a
+
+abbrev pub LargestIsComputed : Type 0
+LargestIsComputed =
+    (opening : List ℕ) (logs : ℕ → List Entry) →
+    (length (largest_front opening logs) ≡ length opening) × IsLargest opening logs (slice_index (largest_front opening logs))
+
+abbrev pub ReachedIsWithinLists : Type 0
+ReachedIsWithinLists =
+    (opening : List ℕ) (logs : ℕ → List Entry) (front : ℕ → ℕ) →
+    Reach opening logs front → (a : ℕ) → front a ≤ length (logs a)
+
+abbrev pub NoBalanceBelowZero : Type 0
+NoBalanceBelowZero =
+    (opening : List ℕ) (logs : ℕ → List Entry) (front : ℕ → ℕ) →
+    Reach opening logs front → (a : ℕ) → pos 0 ≤ℤ balance_at opening logs front a
+
+abbrev pub BalancesSumToOpening : Type 0
+BalancesSumToOpening =
+    (opening : List ℕ) (lists : ℕ → List (List ℕ)) (front : ℕ → ℕ) (balances : List ℕ) →
+    AreBalances opening (entries_of (length opening) lists) front balances → sum balances ≡ sum opening
+
+abbrev pub ReachedStaysReached : Type 0
+ReachedStaysReached =
+    (opening : List ℕ) (old new : ℕ → List Entry) (front : ℕ → ℕ) →
+    AllGrow (length opening) old new → Reach opening old front → Reach opening new front
+
+abbrev pub LargestGrows : Type 0
+LargestGrows =
+    (opening : List ℕ) (old new : ℕ → List (List ℕ)) →
+    AllGrow (length opening) old new →
+    (a : ℕ) →
+    slice_index (largest_front opening (entries_of (length opening) old)) a
+    ≤ slice_index (largest_front opening (entries_of (length opening) new)) a
+
+abbrev pub EqualListsEqualLargest : Type 0
+EqualListsEqualLargest =
+    (opening : List ℕ) (one other : ℕ → List (List ℕ)) →
+    ((a : ℕ) → a < length opening → one a ≡ other a) →
+    largest_front opening (entries_of (length opening) one) ≡ largest_front opening (entries_of (length opening) other)
+
+abbrev pub EqualListsEqualBalances : Type 0
+EqualListsEqualBalances =
+    (opening : List ℕ) (one other : ℕ → List (List ℕ)) (front : ℕ → ℕ) →
+    ((a : ℕ) → a < length opening → one a ≡ other a) →
+    (a : ℕ) → a < length opening →
+    balance_at opening (entries_of (length opening) one) front a ≡ balance_at opening (entries_of (length opening) other) front a
+
+abbrev pub EqualListsEqualBooks : Type 0
+EqualListsEqualBooks =
+    (one other : ℕ → List (List ℕ)) (p q : Standing) →
+    p.opening ≡ q.opening → ((a : ℕ) → a < length p.opening → one a ≡ other a) →
+    IsSettled one p → IsSettled other q → p ≡ q
+
+abbrev pub FreshBookIsSettled : Type 0
+FreshBookIsSettled =
+    (opening : List ℕ) (lists : ℕ → List (List ℕ)) →
+    ((a : ℕ) → a < length opening → length (lists a) ≡ 0) → IsSettled lists (fresh opening)
+
+abbrev pub GrownListCanSettle : Type 0
+GrownListCanSettle =
+    (old new : ℕ → List (List ℕ)) (book : Standing) (owner : ℕ) →
+    IsSettled old book → GrowsOnly old new owner → owner < length book.opening → AreCountable new book → CanSettle new book owner
+
+abbrev pub ShortListsAreCountable : Type 0
+ShortListsAreCountable =
+    (lists : ℕ → List (List ℕ)) (book : Standing) (most : ℕ) →
+    ((a : ℕ) → a < length book.opening → length (lists a) ≤ most) → length book.opening * most < 2 ^ 32 → AreCountable lists book
+
+abbrev pub SameListsStaySettled : Type 0
+SameListsStaySettled =
+    (old new : ℕ → List (List ℕ)) (book : Standing) →
+    ((a : ℕ) → a < length book.opening → old a ≡ new a) → IsSettled old book → IsSettled new book

@@ -1,0 +1,91 @@
+//! The laws of settling. Each function does nothing: what it ensures is the law, which
+//! specs/Laws.antt spells out.
+
+ghost use Rattle.pay_book.specs.Laws.{ReachedFrontsJoin, StuckIsLargest, LargestIsStuck, LargestIsOne, LargestIsComputed, ReachedIsWithinLists, NoBalanceBelowZero, BalancesSumToOpening, ReachedStaysReached, LargestGrows, EqualListsEqualLargest, EqualListsEqualBalances, EqualListsEqualBooks, FreshBookIsSettled, GrownListCanSettle, SameListsStaySettled, ShortListsAreCountable};
+
+/// Two fronts that steps reach have a common one: the front that is as far as either at each account
+/// is reached too.
+pub fn reached_fronts_join()
+    ensures { ReachedFrontsJoin }
+{}
+
+/// No order of settling matters: wherever steps have led to a front at which no account may step, it
+/// is the largest.
+pub fn stuck_is_largest()
+    ensures { StuckIsLargest }
+{}
+
+/// At the largest front no account may step.
+pub fn largest_is_stuck()
+    ensures { LargestIsStuck }
+{}
+
+/// There is one largest front.
+pub fn largest_is_one()
+    ensures { LargestIsOne }
+{}
+
+/// There is a largest front, with a place for each account, and `largest_front` computes it.
+pub fn largest_is_computed()
+    ensures { LargestIsComputed }
+{}
+
+/// A reached front is nowhere past the end of a list.
+pub fn reached_is_within_lists()
+    ensures { ReachedIsWithinLists }
+{}
+
+/// At a reached front nobody owes.
+pub fn no_balance_below_zero()
+    ensures { NoBalanceBelowZero }
+{}
+
+/// The balances at any front sum to what all accounts opened with.
+pub fn balances_sum_to_opening()
+    ensures { BalancesSumToOpening }
+{}
+
+/// What was reached stays so when lists grow at their ends.
+pub fn reached_stays_reached()
+    ensures { ReachedStaysReached }
+{}
+
+/// The largest front moves nowhere back when lists grow at their ends.
+pub fn largest_grows()
+    ensures { LargestGrows }
+{}
+
+/// Where the accounts' lists are equal, so are the largest fronts.
+pub fn equal_lists_equal_largest()
+    ensures { EqualListsEqualLargest }
+{}
+
+/// Where the accounts' lists are equal, so are the balances at a front.
+pub fn equal_lists_equal_balances()
+    ensures { EqualListsEqualBalances }
+{}
+
+/// Books of the same opening balances that have settled all they can over equal lists are equal.
+pub fn equal_lists_equal_books()
+    ensures { EqualListsEqualBooks }
+{}
+
+/// A new book is settled as long as nothing is listed.
+pub fn fresh_book_is_settled()
+    ensures { FreshBookIsSettled }
+{}
+
+/// A settled book can settle again after one owner's list grew at its end.
+pub fn grown_list_can_settle()
+    ensures { GrownListCanSettle }
+{}
+
+/// A settled book is settled as long as the lists of its accounts stay as they are.
+pub fn same_lists_stay_settled()
+    ensures { SameListsStaySettled }
+{}
+
+/// Lists of a bounded length have few enough entries, where the accounts times that length are.
+pub fn short_lists_are_countable()
+    ensures { ShortListsAreCountable }
+{}

@@ -1,0 +1,25 @@
+//! The book: payments settled one account at a time, each as soon as its owner's balance covers it.
+//!
+//! An account's entries settle in the order of its owner's list. Accounts wait for nobody but
+//! themselves: how the steps of several accounts are interleaved makes no difference to where a
+//! book ends (`laws`).
+#![tactic(auto)]
+
+mod accounts;
+mod decode;
+mod line;
+mod payment;
+mod plain;
+mod settle;
+mod statements;
+
+pub use accounts::Accounts;
+pub use decode::decode_payment;
+pub use line::Line;
+pub use payment::Entry;
+pub use plain::PlainBook;
+pub use settle::Settle;
+pub use statements::statement;
+
+pub mod laws;
+pub mod rows;

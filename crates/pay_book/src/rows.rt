@@ -1,0 +1,69 @@
+//! Worked examples, computed from the definitions. Each function does nothing: what it ensures is
+//! the example.
+
+ghost use Rattle.std.specs.Prelude.{◌≡◌, ◌-◌, ◌^◌, [], ◌∷◌, map, replicate, slice_index};
+ghost use Rattle.pay_book.specs.declared.payment.Entry.{Entry};
+ghost use Rattle.pay_book.specs.declared.line.Line.{Line};
+ghost use Rattle.pay_book.specs.Payment.{entry_of};
+ghost use Rattle.pay_book.specs.Statement.{statement_of};
+ghost use Rattle.pay_book.specs.Rows.{thirty_to_1, five_to_0, five_to_1, five_to_2, five_to_3, five_to_4, unknown_version, one_byte_short, amount_zero, ten_to_0, ten_to_1, one_fifty_to_1, fifty_to_0, greatest_u64_to_1, one_to_1, greatest_total_to_1, four, lists_of, EndsAt};
+
+/// Values of owner 3 as entries: payments, and what is void for its bytes, its payee or its amount.
+pub fn values_decode()
+    ensures payments { map (entry_of 4 3) (thirty_to_1 ∷ five_to_0 ∷ five_to_1 ∷ five_to_2 ∷ [])
+        ≡ Entry.Pay 1 30 ∷ Entry.Pay 0 5 ∷ Entry.Pay 1 5 ∷ Entry.Pay 2 5 ∷ [] }
+    ensures no_payments { map (entry_of 4 3) (unknown_version ∷ one_byte_short ∷ amount_zero ∷ [])
+        ≡ Entry.Void ∷ Entry.Void ∷ Entry.Void ∷ [] }
+    ensures own_payee { entry_of 4 3 five_to_3 ≡ Entry.Void }
+    ensures no_such_payee { entry_of 4 3 five_to_4 ≡ Entry.Void }
+{}
+
+/// Two empty accounts that pay each other settle nothing, though both payments together would leave
+/// nobody below zero. Once money comes to one of them, all three payments settle.
+pub fn circular_debts()
+    ensures waiting { EndsAt (four 0 0 0 50)
+        (lists_of (ten_to_1 ∷ []) (ten_to_0 ∷ []) [] [])
+        (four 0 0 0 0) (four 0 0 0 50) }
+    ensures settled { EndsAt (four 0 0 0 50)
+        (lists_of (ten_to_1 ∷ []) (ten_to_0 ∷ []) [] (ten_to_0 ∷ []))
+        (four 1 1 0 1) (four 10 0 0 40) }
+{}
+
+/// A payment that its owner's balance doesn't cover holds the owner's next payment back, which the
+/// balance would cover.
+pub fn uncovered_payment_waits()
+    ensures waiting { EndsAt (four 100 0 0 50)
+        (lists_of (one_fifty_to_1 ∷ ten_to_1 ∷ []) [] [] [])
+        (four 0 0 0 0) (four 100 0 0 50) }
+    ensures first_settled { EndsAt (four 100 0 0 50)
+        (lists_of (one_fifty_to_1 ∷ ten_to_1 ∷ []) [] [] (fifty_to_0 ∷ []))
+        (four 1 0 0 1) (four 0 150 0 0) }
+{}
+
+/// A value that is no payment holds nothing back, however long it is.
+pub fn void_entry_passes()
+    ensures short { EndsAt (four 100 0 0 50)
+        (lists_of [] [] [] (unknown_version ∷ five_to_1 ∷ []))
+        (four 0 0 0 2) (four 100 5 0 45) }
+    ensures long { EndsAt (four 100 0 0 50)
+        (lists_of [] [] [] (replicate 1024 255 ∷ five_to_1 ∷ []))
+        (four 0 0 0 2) (four 100 5 0 45) }
+{}
+
+/// The greatest amount that a value can name stays uncovered, and the greatest opening total can be
+/// paid whole.
+pub fn greatest_amounts()
+    ensures uncovered { EndsAt (four 100 0 0 50)
+        (lists_of (greatest_u64_to_1 ∷ one_to_1 ∷ []) [] [] [])
+        (four 0 0 0 0) (four 100 0 0 50) }
+    ensures paid_whole { EndsAt (four (2 ^ 63 - 1) 0 0 0)
+        (lists_of (greatest_total_to_1 ∷ []) [] [] [])
+        (four 1 0 0 0) (four 0 (2 ^ 63 - 1) 0 0) }
+{}
+
+/// Once the circular debts are settled, account 0's statement has its own payment first, then those to it by owner.
+pub fn statement_after_circular_debts()
+    ensures { statement_of 4 (lists_of (ten_to_1 ∷ []) (ten_to_0 ∷ []) [] (ten_to_0 ∷ []))
+        (slice_index (four 1 1 0 1)) 0
+        ≡ Line.Out 0 1 10 ∷ Line.In 1 0 10 ∷ Line.In 3 0 10 ∷ [] }
+{}

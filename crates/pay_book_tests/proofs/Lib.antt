@@ -1,0 +1,2 @@
+pub mod ListValues
+pub mod LedgerFacts
