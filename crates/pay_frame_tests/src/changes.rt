@@ -117,34 +117,34 @@ fn named(bytes: &[u8], place: usize) -> Option<FrameFault> {
 }
 
 #[derive(Clone, Copy, Debug, PartialEq, Eq)]
-enum Reading {
+enum Found {
     Frame(usize),
     Beginning,
     Fault(Option<FrameFault>),
 }
 
 /// The reading by trial: of all frames the one that shares the most bytes with these decides.
-fn slow_reading(bytes: &[u8], shapes: &[Shape]) -> Reading {
+fn slow_reading(bytes: &[u8], shapes: &[Shape]) -> Found {
     let mut most = 0;
     for shape in shapes {
         let shared = shape.shared(bytes);
         if shared == shape.size {
-            return Reading::Frame(shape.size);
+            return Found::Frame(shape.size);
         }
         most = most.max(shared);
     }
     if most == bytes.len() {
-        Reading::Beginning
+        Found::Beginning
     } else {
-        Reading::Fault(named(bytes, most))
+        Found::Fault(named(bytes, most))
     }
 }
 
-fn reading(bytes: &[u8]) -> Reading {
+fn reading(bytes: &[u8]) -> Found {
     match read(bytes) {
-        Ok(Some((_, size))) => Reading::Frame(size),
-        Ok(None) => Reading::Beginning,
-        Err(fault) => Reading::Fault(Some(fault)),
+        Ok(Some((_, size))) => Found::Frame(size),
+        Ok(None) => Found::Beginning,
+        Err(fault) => Found::Fault(Some(fault)),
     }
 }
 
@@ -180,7 +180,7 @@ fn change_anywhere(
     shapes: &[Shape],
     frame: &[u8],
 ) -> Result<(), Fail> {
-    assert_eq!(rt; slow_reading(frame, shapes), Reading::Frame(frame.len()));
+    assert_eq!(rt; slow_reading(frame, shapes), Found::Frame(frame.len()));
     for place in 0..24 {
         change_at(rt, shapes, frame, place)?;
     }

@@ -57,9 +57,12 @@ fn next_bytes(alloc: Global, cutter: &mut Cutter) -> Result<Option<Vec<u8>>, Sto
 /// The fault that the stream meets next.
 fn next_fault(cutter: &mut Cutter) -> Option<FrameFault>
     requires { cutter.old.met ≡ None }
-    ensures drained { IfSome result (λ _. IsDrained cutter.new.bytes) }
+    ensures { IfSome result (λ _. IsDrained cutter.new.bytes) }
 {
-    cutter.next().err()
+    match cutter.next() {
+        Err(fault) => Some(fault),
+        Ok(_) => None,
+    }
 }
 
 /// Takes every frame that is in front.

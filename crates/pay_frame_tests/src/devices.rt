@@ -109,8 +109,8 @@ fn what_goes_out_is_a_beginning(rt: HostRuntime) {
         let mut writer = Writer::new(Faltering::new(Vec::new(rt.alloc()), 1, failing));
         assert_eq!(rt; write_all(&mut writer, TEXT), Err(DeviceFailed));
         assert_eq!(rt; (writer.calls(), writer.failures()), (failing, 1));
-        let out = writer.into_inner().inner;
-        assert_eq!(rt; Some(out.as_slice()), TEXT.get(..count));
+        let Faltering { inner, .. } = writer.into_inner();
+        assert_eq!(rt; Some(inner.as_slice()), TEXT.get(..count));
     }
     let mut writer = Writer::new(Faltering::new(Vec::new(rt.alloc()), 1, 12));
     assert_eq!(rt; write_all(&mut writer, TEXT), Ok(()));
