@@ -1,0 +1,56 @@
+//! The program `payd`: its words lead to an engine, and how the engine ended to a status.
+#![tactic(auto)]
+
+mod words;
+
+use pay_cli::run_check;
+use pay_frame::{EngineFault, Reader, Writer};
+use pay_hmac::HmacSha256;
+use pay_link::{Genesis, GenesisFault, test_keys};
+use std::alloc::Global;
+use std::process::ExitCode;
+use std::{env, io};
+use words::{Job, job_of};
+
+/// Members, faults and opening amounts where no file names them.
+const MEMBERS: u64 = 4;
+const FAULTS: u64 = 1;
+const OPENING: [u64; 4] = [100, 0, 0, 50];
+
+/// The member that judges, where no file names its keys.
+const OWN: u16 = 1;
+
+fn main(rt: HostRuntime) -> io::Result<ExitCode> {
+    let mut given = Vec::new(rt.alloc());
+    for word in env::args(&rt)? {
+        given.push(word)?;
+    }
+    match job_of(rt.alloc(), given.as_slice()) {
+        Ok(Job::Check) => Ok(status_of(&rt, check(rt.alloc(), &rt))),
+        Err(error) => {
+            error.print(&rt)?;
+            Ok(ExitCode::from(if error.use_stderr() { 2 } else { 0 }))
+        }
+    }
+}
+
+/// Judges the frames on standard input.
+fn check(alloc: Global, rt: &(impl Input + Print)) -> Result<(), EngineFault> {
+    let genesis = Genesis::new(alloc, MEMBERS, FAULTS, &OPENING).map_err(|_| EngineFault::Memory)?;
+    let keys = test_keys(alloc, &genesis, OWN)?;
+    let mut reader = Reader::new(rt.reader());
+    let mut writer = Writer::new(io::writer(rt));
+    run_check(alloc, &HmacSha256, &genesis, &keys, &mut reader, &mut writer)
+}
+
+/// A fault in the frames has its line already; another one is named on standard error.
+fn status_of(rt: &impl Eprint, ended: Result<(), EngineFault>) -> ExitCode {
+    match ended {
+        Ok(()) => ExitCode::SUCCESS,
+        Err(EngineFault::Frame(_)) => ExitCode::from(1),
+        Err(fault) => {
+            let _ = eprintln!(rt; "payd: engine {fault}");
+            ExitCode::from(3)
+        }
+    }
+}
