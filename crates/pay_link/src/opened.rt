@@ -42,11 +42,7 @@ impl<'a> Opened<'a> {
 /// Opens a frame that was sent to the member with these keys, or names the first cause of refusal. It
 /// takes no memory and waits for nobody.
 #[tactic(auto, using(crate::proofs::Judged::judged))]
-pub fn open<'a, T: Tagger>(
-    t: &T,
-    keys: &Keys,
-    frame: FrameRef<'a>,
-) -> Result<Opened<'a>, LinkFault>
+pub fn open<'a, T: Tagger>(t: &T, keys: &Keys, frame: FrameRef<'a>) -> Result<Opened<'a>, LinkFault>
     ensures { result ≡ judgement keys.now (fields_of frame.entry) }
 {
     if frame.to() != keys.own() {

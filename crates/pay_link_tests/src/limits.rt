@@ -1,92 +1,40 @@
 use pay_link::{Fronts, Genesis, GenesisFault, Keys, KeysFault, LinkFault, test_keys};
+use std::alloc::Global;
 use std::test::Fail;
 
 /// The greatest total of all accounts.
 const GREATEST: u64 = 9_223_372_036_854_775_807;
 
-#[derive(Drop)]
-struct Case<'a> {
-    members: u64,
-    faults: u64,
-    opening: &'a [u64],
-    fault: GenesisFault,
+/// The fault of a genesis, if there is one.
+fn fault_of(alloc: Global, members: u64, faults: u64, opening: &[u64]) -> Option<GenesisFault> {
+    Genesis::new(alloc, members, faults, opening).err()
 }
 
 /// Wherever a later fault holds too, the first one is answered.
 #[test]
 fn genesis_faults_in_order(rt: HostRuntime) {
-    let cases = [
-        Case {
-            members: 0,
-            faults: 0,
-            opening: &[],
-            fault: GenesisFault::BadCount,
-        },
-        Case {
-            members: 65,
-            faults: 40,
-            opening: &[],
-            fault: GenesisFault::BadCount,
-        },
-        Case {
-            members: u64::MAX,
-            faults: 0,
-            opening: &[1],
-            fault: GenesisFault::BadCount,
-        },
-        Case {
-            members: 4,
-            faults: 2,
-            opening: &[1, 2],
-            fault: GenesisFault::BadFaults,
-        },
-        Case {
-            members: 3,
-            faults: 1,
-            opening: &[],
-            fault: GenesisFault::BadFaults,
-        },
-        Case {
-            members: 64,
-            faults: 22,
-            opening: &[u64::MAX; 64],
-            fault: GenesisFault::BadFaults,
-        },
-        Case {
-            members: 4,
-            faults: u64::MAX,
-            opening: &[0; 4],
-            fault: GenesisFault::BadFaults,
-        },
-        Case {
-            members: 4,
-            faults: 1,
-            opening: &[u64::MAX; 3],
-            fault: GenesisFault::BadOpening,
-        },
-        Case {
-            members: 4,
-            faults: 1,
-            opening: &[u64::MAX; 5],
-            fault: GenesisFault::BadOpening,
-        },
-        Case {
-            members: 4,
-            faults: 1,
-            opening: &[GREATEST, 1, 0, 0],
-            fault: GenesisFault::BadTotal,
-        },
-        Case {
-            members: 2,
-            faults: 0,
-            opening: &[GREATEST + 1, GREATEST + 1],
-            fault: GenesisFault::BadTotal,
-        },
-    ];
-    for (row, case) in cases.iter().enumerate() {
-        let made = Genesis::new(rt.alloc(), case.members, case.faults, case.opening);
-        assert_eq!(rt; made.err(), Some(case.fault), "row {row}");
-    }
+    let alloc = rt.alloc();
+    let count = Some(GenesisFault::BadCount);
+    assert_eq!(rt; fault_of(alloc, 0, 0, &[]), count);
+    assert_eq!(rt; fault_of(alloc, 65, 40, &[]), count);
+    assert_eq!(rt; fault_of(alloc, u64::MAX, 0, &[1]), count);
+    let faults = Some(GenesisFault::BadFaults);
+    assert_eq!(rt; fault_of(alloc, 4, 2, &[1, 2]), faults);
+    assert_eq!(rt; fault_of(alloc, 3, 1, &[]), faults);
+    assert_eq!(rt; fault_of(alloc, 4, u64::MAX, &[0; 4]), faults);
+    assert_eq!(rt; fault_of(alloc, 64, 22, &[0; 64]), faults);
+}
+
+/// A wrong count of openings is answered before a total that is too large.
+#[test]
+fn openings_in_order(rt: HostRuntime) {
+    let alloc = rt.alloc();
+    let opening = Some(GenesisFault::BadOpening);
+    assert_eq!(rt; fault_of(alloc, 4, 1, &[u64::MAX; 3]), opening);
+    assert_eq!(rt; fault_of(alloc, 4, 1, &[u64::MAX; 5]), opening);
+    let total = Some(GenesisFault::BadTotal);
+    assert_eq!(rt; fault_of(alloc, 4, 1, &[GREATEST, 1, 0, 0]), total);
+    assert_eq!(rt; fault_of(alloc, 2, 0, &[GREATEST + 1, GREATEST + 1]), total);
 }
 
 /// One member alone, as many members and liars as there can be, and the greatest total.
