@@ -1,0 +1,5 @@
+pub mod Lists
+pub mod Known
+pub mod OneMore
+pub mod StepLaw
+pub mod SecondVotes

@@ -1,0 +1,4 @@
+pub mod Broadcast
+pub mod Meaning
+pub mod Step
+pub mod Examples
