@@ -3,3 +3,4 @@ pub mod Known
 pub mod OneMore
 pub mod StepLaw
 pub mod SecondVotes
+pub mod Clauses

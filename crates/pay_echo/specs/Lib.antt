@@ -1,4 +1,5 @@
 pub mod Broadcast
 pub mod Meaning
+pub mod Moves
 pub mod Step
 pub mod Examples
