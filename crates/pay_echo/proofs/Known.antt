@@ -44,8 +44,8 @@ module _ (test : List Vote → List ℕ → Bool) (steps : Steps test) where
       let here = find-append (test (votes ++ x ∷ [])) (map value_of votes) (value_of x ∷ []) in
       let last = option_or-right (find (test (votes ++ x ∷ [])) (map value_of votes)) (find (test (votes ++ x ∷ [])) (value_of x ∷ [])) (sym here ∙ option_or-right (first_known test votes) found joined) in
       either (cases_Bool (bytes_eq v (value_of x)))
-        (λ same. rw (bytes_eq-true v (value_of x) same) (cond-None (test (votes ++ x ∷ []) (value_of x)) (value_of x) last))
-        (λ other. steps.step votes x v other ∙ before (option_or-left (first_known test votes) found joined) v)
+      (λ same. rw (bytes_eq-true v (value_of x) same) (cond-None (test (votes ++ x ∷ []) (value_of x)) (value_of x) last))
+      (λ other. steps.step votes x v other ∙ before (option_or-left (first_known test votes) found joined) v)
 
   -- while nothing is known the test holds of no value
   pub not_yet : (votes : List Vote) → first_known test votes ≡ None → (v : List ℕ) → test votes v ≡ false

@@ -4,3 +4,6 @@ pub mod OneMore
 pub mod StepLaw
 pub mod SecondVotes
 pub mod Clauses
+pub mod Sets
+pub mod VoteLaws
+pub mod WhyLaws

@@ -60,11 +60,11 @@ count_by-map p f (x ∷ xs) =
 pub map-range-set : {X : Type 0} (f h : ℕ → X) (n k : ℕ) (y : X) → k < n → ((i : ℕ) → i ≢ k → h i ≡ f i) → h k ≡ y → map h (range_with_len 0 n) ≡ set (map f (range_with_len 0 n)) k y
 map-range-set f h n k y below others here =
     sym (fill_by_all h (set (map f (range_with_len 0 n)) k y) n y (length-set (map f (range_with_len 0 n)) k y ∙ length-map-range_with_len f 0 n) each) where
-  each : (i : ℕ) → i < n → get_or (set (map f (range_with_len 0 n)) k y) i y ≡ h i
-  each i lt = either (cases_eq i k)
-      (λ e. let in_list : k < length (map f (range_with_len 0 n)) = rw (length-map-range_with_len f 0 n) below in
-        rw e (get_or-set_same (map f (range_with_len 0 n)) k y y in_list ∙ sym here))
-      (λ ne. get_or-set_other (map f (range_with_len 0 n)) k i y y ne ∙ get_or-map-range_with_len f 0 n i i y lt (zero-add i) ∙ sym (others i ne))
+      each : (i : ℕ) → i < n → get_or (set (map f (range_with_len 0 n)) k y) i y ≡ h i
+      each i lt = either (cases_eq i k)
+          (λ e. let in_list : k < length (map f (range_with_len 0 n)) = rw (length-map-range_with_len f 0 n) below in
+          rw e (get_or-set_same (map f (range_with_len 0 n)) k y y in_list ∙ sym here))
+          (λ ne. get_or-set_other (map f (range_with_len 0 n)) k i y y ne ∙ get_or-map-range_with_len f 0 n i i y lt (zero-add i) ∙ sym (others i ne))
 
 pub map-same : {X Y : Type 0} (f h : X → Y) → ((x : X) → f x ≡ h x) → (xs : List X) → map f xs ≡ map h xs
 map-same {X} {Y} f h same xs = ap (λ (k : X → Y). map k xs) (λ i x. same x i)
@@ -80,6 +80,6 @@ pub find-only : (t : List ℕ → Bool) (v : List ℕ) → ((w : List ℕ) → b
 find-only t v only [] = refl
 find-only t v only (x ∷ xs) = either (cases_Bool (bytes_eq x v))
     (λ e. rw (bytes_eq-true x v e) (either (cases_Bool (t v))
-      (λ yes. cond-true (t v) (Some v) (find t (xs ++ v ∷ [])) yes ∙ sym (cond-true (t v) (Some v) None yes))
-      (λ no. cond-false (t v) (Some v) (find t (xs ++ v ∷ [])) no ∙ find-only t v only xs)))
+    (λ yes. cond-true (t v) (Some v) (find t (xs ++ v ∷ [])) yes ∙ sym (cond-true (t v) (Some v) None yes))
+    (λ no. cond-false (t v) (Some v) (find t (xs ++ v ∷ [])) no ∙ find-only t v only xs)))
     (λ e. cond-false (t x) (Some x) (find t (xs ++ v ∷ [])) (only x e) ∙ find-only t v only xs)

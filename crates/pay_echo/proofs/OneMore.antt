@@ -3,7 +3,7 @@ use Rattle.std.proofs.Common.{◌≡◌, ◌⊎◌, ℕ, ◌+◌, ◌*◌, Bool,
 use Rattle.std.specs.Option.{option_or}
 use Rattle.std.specs.List.{range_with_len}
 use Rattle.std.proofs.lemmas.Bool.{cond-true, cond-false, cases_Bool, false≢true, le-ltb, both_ways}
-use Rattle.pay_echo.specs.Broadcast.{Group, Vote, Send, Echo, Ready, value_of, sent, echoed_by, readied_by, find_map, first_known, is_for, count_for, echoed, echo_of, echo_count, other_ready_of, other_ready_count, may_ready, readied, ready_of, ready_count, may_deliver, delivered}
+use Rattle.pay_echo.specs.Broadcast.{Group, Vote, Send, Echo, Ready, value_of, sent, echoed_by, readied_by, find_map, first_known, is_for, size, echoed, echo_of, echo_set, other_ready_of, other_ready_set, may_ready, readied, ready_of, ready_set, may_deliver, delivered}
 use Rattle.pay_echo.proofs.Lists.{either, find_map-push, bytes_eq-true, bytes_eq-same, count_by-same, count_by-none}
 use Rattle.pay_echo.proofs.Known.{Steps, first_known-push}
 
@@ -44,13 +44,17 @@ unfolding is_for
 is_for-other w v (Some u) a of ne = refl
 is_for-other w v None a of ne = either of (λ e. ap (is_for w) e) (λ e. ap (is_for w) e ∙ bytes_eq-flip w v ne)
 
-pub count_for-same : (f h : ℕ → Option (List ℕ)) (n : ℕ) (v : List ℕ) → ((p : ℕ) → is_for v (f p) ≡ is_for v (h p)) → count_for f n v ≡ count_for h n v
-unfolding count_for
-count_for-same f h n v same = count_by-same (λ p. is_for v (f p)) (λ p. is_for v (h p)) same (range_with_len 0 n)
+pub size-same : (n : ℕ) (P Q : ℕ → Bool) → ((p : ℕ) → P p ≡ Q p) → size n P ≡ size n Q
+unfolding size
+size-same n P Q same = count_by-same P Q same (range_with_len 0 n)
 
-pub count_for-none : (f : ℕ → Option (List ℕ)) (n : ℕ) (v : List ℕ) → ((p : ℕ) → f p ≡ None) → count_for f n v ≡ 0
-unfolding count_for is_for
-count_for-none f n v none = count_by-none (λ p. is_for v (f p)) (λ p. ap (is_for v) (none p)) (range_with_len 0 n)
+pub size-none : (n : ℕ) (P : ℕ → Bool) → ((p : ℕ) → P p ≡ false) → size n P ≡ 0
+unfolding size
+size-none n P none = count_by-none P none (range_with_len 0 n)
+
+is_for-None : (v : List ℕ) (o : Option (List ℕ)) → o ≡ None → is_for v o ≡ false
+unfolding is_for
+is_for-None v o e = ap (is_for v) e
 
 pub echoed-push : (votes : List Vote) (x : Vote) → echoed (votes ++ x ∷ []) ≡ option_or (echoed votes) (sent x)
 unfolding echoed
@@ -69,38 +73,38 @@ module _ (g : Group) where
   is_for-places w true m o m' o' mine others = mine
   is_for-places w false m o m' o' mine others = others
 
-  echo_count-other : (votes : List Vote) (x : Vote) (w : List ℕ) → bytes_eq w (value_of x) ≡ false → echo_count g (votes ++ x ∷ []) w ≡ echo_count g votes w
-  unfolding echo_count echo_of
-  echo_count-other votes x w ne = count_for-same (echo_of g (votes ++ x ∷ [])) (echo_of g votes) g.members w
+  echo_set-other : (votes : List Vote) (x : Vote) (w : List ℕ) → bytes_eq w (value_of x) ≡ false → size g.members (echo_set g (votes ++ x ∷ []) w) ≡ size g.members (echo_set g votes w)
+  unfolding echo_set echo_of
+  echo_set-other votes x w ne = size-same g.members (echo_set g (votes ++ x ∷ []) w) (echo_set g votes w)
       (λ p. ap (is_for w) (echo_of-push votes x p) ∙ is_for-places w (eqb p g.own) (echoed votes) (find_map (echoed_by p) votes) (option_or (echoed votes) (sent x)) (option_or (find_map (echoed_by p) votes) (echoed_by p x))
-        (is_for-other w (value_of x) (echoed votes) (sent x) (sent-IsOf x) ne)
-        (is_for-other w (value_of x) (find_map (echoed_by p) votes) (echoed_by p x) (echoed_by-IsOf p x) ne))
+      (is_for-other w (value_of x) (echoed votes) (sent x) (sent-IsOf x) ne)
+      (is_for-other w (value_of x) (find_map (echoed_by p) votes) (echoed_by p x) (echoed_by-IsOf p x) ne))
 
-  other_ready_count-other : (votes : List Vote) (x : Vote) (w : List ℕ) → bytes_eq w (value_of x) ≡ false → other_ready_count g (votes ++ x ∷ []) w ≡ other_ready_count g votes w
-  unfolding other_ready_count other_ready_of
-  other_ready_count-other votes x w ne = count_for-same (other_ready_of g (votes ++ x ∷ [])) (other_ready_of g votes) g.members w
+  other_ready_set-other : (votes : List Vote) (x : Vote) (w : List ℕ) → bytes_eq w (value_of x) ≡ false → size g.members (other_ready_set g (votes ++ x ∷ []) w) ≡ size g.members (other_ready_set g votes w)
+  unfolding other_ready_set other_ready_of
+  other_ready_set-other votes x w ne = size-same g.members (other_ready_set g (votes ++ x ∷ []) w) (other_ready_set g votes w)
       (λ p. ap (is_for w) (other_ready_of-push votes x p) ∙ is_for-places w (eqb p g.own) None (find_map (readied_by p) votes) None (option_or (find_map (readied_by p) votes) (readied_by p x))
-        refl
-        (is_for-other w (value_of x) (find_map (readied_by p) votes) (readied_by p x) (readied_by-IsOf p x) ne))
+      refl
+      (is_for-other w (value_of x) (find_map (readied_by p) votes) (readied_by p x) (readied_by-IsOf p x) ne))
 
   cond-None-None : (b : Bool) → ◌≡◌ {A = Option (List ℕ)} (cond b None None) None
   cond-None-None true = refl
   cond-None-None false = refl
 
-  echo_count-none : (w : List ℕ) → echo_count g [] w ≡ 0
-  unfolding echo_count echo_of echoed
-  echo_count-none w = count_for-none (echo_of g []) g.members w (λ p. cond-None-None (eqb p g.own))
+  echo_set-none : (w : List ℕ) → size g.members (echo_set g [] w) ≡ 0
+  unfolding echo_set echo_of echoed
+  echo_set-none w = size-none g.members (echo_set g [] w) (λ p. is_for-None w (echo_of g [] p) (cond-None-None (eqb p g.own)))
 
-  other_ready_count-none : (w : List ℕ) → other_ready_count g [] w ≡ 0
-  unfolding other_ready_count other_ready_of
-  other_ready_count-none w = count_for-none (other_ready_of g []) g.members w (λ p. cond-None-None (eqb p g.own))
+  other_ready_set-none : (w : List ℕ) → size g.members (other_ready_set g [] w) ≡ 0
+  unfolding other_ready_set other_ready_of
+  other_ready_set-none w = size-none g.members (other_ready_set g [] w) (λ p. is_for-None w (other_ready_of g [] p) (cond-None-None (eqb p g.own)))
 
   pub may_ready-Steps : Steps (may_ready g)
   unfolding may_ready
   may_ready-Steps =
       record {
-        none = λ v. ap₂ (λ (a b : ℕ). ltb (g.members + g.faults) (2 * a) || ltb g.faults b) (echo_count-none v) (other_ready_count-none v) ∙ ap₂ ◌||◌ (le-ltb (g.members + g.faults) (2 * 0) (omega arith)) (le-ltb g.faults 0 (omega arith));
-        step = λ votes x v ne. ap₂ (λ (a b : ℕ). ltb (g.members + g.faults) (2 * a) || ltb g.faults b) (echo_count-other votes x v ne) (other_ready_count-other votes x v ne);
+        none = λ v. ap₂ (λ (a b : ℕ). ltb (g.members + g.faults) (2 * a) || ltb g.faults b) (echo_set-none v) (other_ready_set-none v) ∙ ap₂ ◌||◌ (le-ltb (g.members + g.faults) (2 * 0) (omega arith)) (le-ltb g.faults 0 (omega arith));
+        step = λ votes x v ne. ap₂ (λ (a b : ℕ). ltb (g.members + g.faults) (2 * a) || ltb g.faults b) (echo_set-other votes x v ne) (other_ready_set-other votes x v ne);
       }
 
   -- whether this vote makes READY, if one wasn't yet
@@ -112,12 +116,12 @@ module _ (g : Group) where
   unfolding ready_of
   ready_of-push votes x p = ap (cond (eqb p g.own) (readied g (votes ++ x ∷ []))) (find_map-push (readied_by p) votes x)
 
-  ready_count-other : (votes : List Vote) (x : Vote) (w : List ℕ) → bytes_eq w (value_of x) ≡ false → ready_count g (votes ++ x ∷ []) w ≡ ready_count g votes w
-  unfolding ready_count ready_of
-  ready_count-other votes x w ne = count_for-same (ready_of g (votes ++ x ∷ [])) (ready_of g votes) g.members w
+  ready_set-other : (votes : List Vote) (x : Vote) (w : List ℕ) → bytes_eq w (value_of x) ≡ false → size g.members (ready_set g (votes ++ x ∷ []) w) ≡ size g.members (ready_set g votes w)
+  unfolding ready_set ready_of
+  ready_set-other votes x w ne = size-same g.members (ready_set g (votes ++ x ∷ []) w) (ready_set g votes w)
       (λ p. ap (is_for w) (ready_of-push votes x p) ∙ is_for-places w (eqb p g.own) (readied g votes) (find_map (readied_by p) votes) (readied g (votes ++ x ∷ [])) (option_or (find_map (readied_by p) votes) (readied_by p x))
-        (ap (is_for w) (readied-push votes x) ∙ is_for-other w (value_of x) (readied g votes) (cond (may_ready g (votes ++ x ∷ []) (value_of x)) (Some (value_of x)) None) (cond-IsOf (may_ready g (votes ++ x ∷ []) (value_of x)) (value_of x)) ne)
-        (is_for-other w (value_of x) (find_map (readied_by p) votes) (readied_by p x) (readied_by-IsOf p x) ne))
+      (ap (is_for w) (readied-push votes x) ∙ is_for-other w (value_of x) (readied g votes) (cond (may_ready g (votes ++ x ∷ []) (value_of x)) (Some (value_of x)) None) (cond-IsOf (may_ready g (votes ++ x ∷ []) (value_of x)) (value_of x)) ne)
+      (is_for-other w (value_of x) (find_map (readied_by p) votes) (readied_by p x) (readied_by-IsOf p x) ne))
 
   pub readied-none : readied g [] ≡ None
   unfolding readied first_known
@@ -127,16 +131,16 @@ module _ (g : Group) where
   unfolding delivered first_known
   delivered-none = refl
 
-  ready_count-none : (w : List ℕ) → ready_count g [] w ≡ 0
-  unfolding ready_count ready_of
-  ready_count-none w = count_for-none (ready_of g []) g.members w (λ p. ap (λ r. cond (eqb p g.own) r None) readied-none ∙ cond-None-None (eqb p g.own))
+  ready_set-none : (w : List ℕ) → size g.members (ready_set g [] w) ≡ 0
+  unfolding ready_set ready_of
+  ready_set-none w = size-none g.members (ready_set g [] w) (λ p. is_for-None w (ready_of g [] p) (ap (λ r. cond (eqb p g.own) r None) readied-none ∙ cond-None-None (eqb p g.own)))
 
   pub may_deliver-Steps : Steps (may_deliver g)
   unfolding may_deliver
   may_deliver-Steps =
       record {
-        none = λ v. ap (λ (a : ℕ). ltb (2 * g.faults) a) (ready_count-none v) ∙ le-ltb (2 * g.faults) 0 (omega arith);
-        step = λ votes x v ne. ap (λ (a : ℕ). ltb (2 * g.faults) a) (ready_count-other votes x v ne);
+        none = λ v. ap (λ (a : ℕ). ltb (2 * g.faults) a) (ready_set-none v) ∙ le-ltb (2 * g.faults) 0 (omega arith);
+        step = λ votes x v ne. ap (λ (a : ℕ). ltb (2 * g.faults) a) (ready_set-other votes x v ne);
       }
 
   -- whether this vote delivers, if nothing was delivered yet

@@ -45,42 +45,42 @@ ready_at g votes q below foreign =
 again_by : (f : ℕ → Vote → Option (List ℕ)) (votes : List Vote) (x : Vote) (q : ℕ) (w : List ℕ) → find_map (f q) votes ≡ Some w → ((p : ℕ) → p ≢ q → f p x ≡ None) → (p : ℕ) → find_map (f p) (votes ++ x ∷ []) ≡ find_map (f p) votes
 again_by f votes x q w e others p =
     either (cases_eq p q)
-      (λ same. let P : ℕ → Type 0 = λ n. find_map (f n) (votes ++ x ∷ []) ≡ find_map (f n) votes in subst P (sym same) (find_map-push-again (f q) votes x w e))
-      (λ ne. find_map-push-None (f p) votes x (others p ne))
+    (λ same. let P : ℕ → Type 0 = λ n. find_map (f n) (votes ++ x ∷ []) ≡ find_map (f n) votes in subst P (sym same) (find_map-push-again (f q) votes x w e))
+    (λ ne. find_map-push-None (f p) votes x (others p ne))
 
 module _ (g : Group) (votes : List Vote) (member : g.own < g.members) where
-  push_send : (v : List ℕ) (o : Option (List ℕ)) → echoed votes ≡ o → meaning_of g (votes ++ Send v ∷ []) ≡ cond (is_none o) (settled (with_send (meaning_of g votes) v) v) (meaning_of g votes)
+  pub push_send : (v : List ℕ) (o : Option (List ℕ)) → echoed votes ≡ o → meaning_of g (votes ++ Send v ∷ []) ≡ cond (is_none o) (settled (with_send (meaning_of g votes) v) v) (meaning_of g votes)
   unfolding echoed value_of
   push_send v None e = first_vote g votes (Send v) (with_send (meaning_of g votes) v) member (first_send g votes v member e)
   push_send v (Some w) e =
       second_vote g votes (Send v) member
-        record {
-          sends = find_map-push-again sent votes (Send v) w e;
-          echoes = λ p. find_map-push-None (echoed_by p) votes (Send v) (echoed_by-send p v);
-          readys = λ p. find_map-push-None (readied_by p) votes (Send v) (readied_by-send p v);
-        }
+      record {
+        sends = find_map-push-again sent votes (Send v) w e;
+        echoes = λ p. find_map-push-None (echoed_by p) votes (Send v) (echoed_by-send p v);
+        readys = λ p. find_map-push-None (readied_by p) votes (Send v) (readied_by-send p v);
+      }
 
-  push_echo : (q : ℕ) (v : List ℕ) → q < g.members → q ≢ g.own → (o : Option (List ℕ)) → find_map (echoed_by q) votes ≡ o → meaning_of g (votes ++ Echo q v ∷ []) ≡ cond (is_none o) (settled (with_echo (meaning_of g votes) q v) v) (meaning_of g votes)
+  pub push_echo : (q : ℕ) (v : List ℕ) → q < g.members → q ≢ g.own → (o : Option (List ℕ)) → find_map (echoed_by q) votes ≡ o → meaning_of g (votes ++ Echo q v ∷ []) ≡ cond (is_none o) (settled (with_echo (meaning_of g votes) q v) v) (meaning_of g votes)
   unfolding value_of
   push_echo q v below foreign None e = first_vote g votes (Echo q v) (with_echo (meaning_of g votes) q v) member (first_echo g votes q v below foreign e)
   push_echo q v below foreign (Some w) e =
       second_vote g votes (Echo q v) member
-        record {
-          sends = find_map-push-None sent votes (Echo q v) (sent-echo q v);
-          echoes = again_by echoed_by votes (Echo q v) q w e (λ p ne. echoed_by-other p q v ne);
-          readys = λ p. find_map-push-None (readied_by p) votes (Echo q v) (readied_by-echo p q v);
-        }
+      record {
+        sends = find_map-push-None sent votes (Echo q v) (sent-echo q v);
+        echoes = again_by echoed_by votes (Echo q v) q w e (λ p ne. echoed_by-other p q v ne);
+        readys = λ p. find_map-push-None (readied_by p) votes (Echo q v) (readied_by-echo p q v);
+      }
 
-  push_ready : (q : ℕ) (v : List ℕ) → q < g.members → q ≢ g.own → (o : Option (List ℕ)) → find_map (readied_by q) votes ≡ o → meaning_of g (votes ++ Ready q v ∷ []) ≡ cond (is_none o) (settled (with_ready (meaning_of g votes) q v) v) (meaning_of g votes)
+  pub push_ready : (q : ℕ) (v : List ℕ) → q < g.members → q ≢ g.own → (o : Option (List ℕ)) → find_map (readied_by q) votes ≡ o → meaning_of g (votes ++ Ready q v ∷ []) ≡ cond (is_none o) (settled (with_ready (meaning_of g votes) q v) v) (meaning_of g votes)
   unfolding value_of
   push_ready q v below foreign None e = first_vote g votes (Ready q v) (with_ready (meaning_of g votes) q v) member (first_ready g votes q v below foreign e)
   push_ready q v below foreign (Some w) e =
       second_vote g votes (Ready q v) member
-        record {
-          sends = find_map-push-None sent votes (Ready q v) (sent-ready q v);
-          echoes = λ p. find_map-push-None (echoed_by p) votes (Ready q v) (echoed_by-ready p q v);
-          readys = again_by readied_by votes (Ready q v) q w e (λ p ne. readied_by-other p q v ne);
-        }
+      record {
+        sends = find_map-push-None sent votes (Ready q v) (sent-ready q v);
+        echoes = λ p. find_map-push-None (echoed_by p) votes (Ready q v) (echoed_by-ready p q v);
+        readys = again_by readied_by votes (Ready q v) q w e (λ p ne. readied_by-other p q v ne);
+      }
 
 -- the meaning over one vote more
 pub meaning-push : (g : Group) (votes : List Vote) (x : Vote) → g.own < g.members → IsForeign g x → meaning_of g (votes ++ x ∷ []) ≡ after (meaning_of g votes) x

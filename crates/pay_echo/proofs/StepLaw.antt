@@ -4,7 +4,7 @@ use Rattle.std.specs.Option.{option_or}
 use Rattle.std.specs.List.{range_with_len}
 use Rattle.std.proofs.lemmas.Bool.{cond-true, cond-false, cases_Bool, cases_eq}
 use Rattle.std.proofs.lemmas.List.FromFn.{get_or-map-range_with_len}
-use Rattle.pay_echo.specs.Broadcast.{Group, Vote, Send, Echo, Ready, IsForeign, value_of, sent, echoed_by, readied_by, find_map, is_for, count_for, echoed, echo_of, echo_count, other_ready_of, other_ready_count, may_ready, readied, ready_of, ready_count, may_deliver, delivered}
+use Rattle.pay_echo.specs.Broadcast.{Group, Vote, Send, Echo, Ready, IsForeign, value_of, sent, echoed_by, readied_by, find_map, is_for, size, echoed, echo_of, echo_set, other_ready_of, other_ready_set, may_ready, readied, ready_of, ready_set, may_deliver, delivered}
 use Rattle.pay_echo.specs.Meaning.{Meaning, meaning_of}
 use Rattle.pay_echo.specs.Step.{can_ready, can_deliver, now_ready, now_delivered, settled, with_send, with_echo, with_ready, after}
 use Rattle.pay_echo.proofs.Lists.{either, find_map-push, option_or-None, count_by-map, map-range-set, map-same}
@@ -39,28 +39,29 @@ pub stage-all : (g : Group) (votes : List Vote) → meaning_of g votes ≡ stage
 unfolding stage meaning_of readys_with ready_of
 stage-all g votes = refl
 
-count_for-map : (f : ℕ → Option (List ℕ)) (n : ℕ) (v : List ℕ) → count_by (is_for v) (map f (range_with_len 0 n)) ≡ count_for f n v
-unfolding count_for
-count_for-map f n v = count_by-map (is_for v) f (range_with_len 0 n)
+-- the votes for a value in the list of votes by place, and the size of their set
+count_by-votes : (f : ℕ → Option (List ℕ)) (n : ℕ) (v : List ℕ) → count_by (is_for v) (map f (range_with_len 0 n)) ≡ size n (λ p. is_for v (f p))
+unfolding size
+count_by-votes f n v = count_by-map (is_for v) f (range_with_len 0 n)
 
 -- READY by the counts of the meaning, and by those of the votes
 can_ready-stage : (g : Group) (votes : List Vote) (d : Option (List ℕ)) (v : List ℕ) → can_ready (stage g votes None d) v ≡ may_ready g votes v
-unfolding stage can_ready may_ready echo_count other_ready_count other_ready_of readys_with
+unfolding stage can_ready may_ready echo_set other_ready_set other_ready_of readys_with
 can_ready-stage g votes d v =
-    ap₂ (λ (a b : ℕ). ltb (g.members + g.faults) (2 * a) || ltb g.faults b) (count_for-map (echo_of g votes) g.members v) (count_for-map (readys_with g votes None) g.members v)
+    ap₂ (λ (a b : ℕ). ltb (g.members + g.faults) (2 * a) || ltb g.faults b) (count_by-votes (echo_of g votes) g.members v) (count_by-votes (readys_with g votes None) g.members v)
 
 can_deliver-stage : (g : Group) (votes : List Vote) (v : List ℕ) → can_deliver (stage g votes (readied g votes) None) v ≡ may_deliver g votes v
-unfolding stage can_deliver may_deliver ready_count ready_of readys_with
-can_deliver-stage g votes v = ap (λ (a : ℕ). ltb (2 * g.faults) a) (count_for-map (ready_of g votes) g.members v)
+unfolding stage can_deliver may_deliver ready_set ready_of readys_with
+can_deliver-stage g votes v = ap (λ (a : ℕ). ltb (2 * g.faults) a) (count_by-votes (ready_of g votes) g.members v)
 
 -- one's own READY is written at one's own place
 stage-readied : (g : Group) (votes : List Vote) (d : Option (List ℕ)) (v : List ℕ) → g.own < g.members → record (stage g votes None d) { readied = Some v; readys = set (map (readys_with g votes None) (range_with_len 0 g.members)) g.own (Some v) } ≡ stage g votes (Some v) d
 unfolding stage readys_with
 stage-readied g votes d v member =
     ap (λ (rs : List (Option (List ℕ))). record (stage g votes (Some v) d) { readys = rs })
-      (sym (map-range-set (readys_with g votes None) (readys_with g votes (Some v)) g.members g.own (Some v) member
-        (λ i ne. cond-false (eqb i g.own) (Some v) (find_map (readied_by i) votes) (ne_eqb i g.own ne) ∙ sym (cond-false (eqb i g.own) None (find_map (readied_by i) votes) (ne_eqb i g.own ne)))
-        (cond-true (eqb g.own g.own) (Some v) (find_map (readied_by g.own) votes) (eq-eqb g.own g.own refl))))
+    (sym (map-range-set (readys_with g votes None) (readys_with g votes (Some v)) g.members g.own (Some v) member
+    (λ i ne. cond-false (eqb i g.own) (Some v) (find_map (readied_by i) votes) (ne_eqb i g.own ne) ∙ sym (cond-false (eqb i g.own) None (find_map (readied_by i) votes) (ne_eqb i g.own ne)))
+    (cond-true (eqb g.own g.own) (Some v) (find_map (readied_by g.own) votes) (eq-eqb g.own g.own refl))))
 
 -- what the two moves do, by their tests
 now_ready-yes : (m : Meaning) (v : List ℕ) → can_ready m v ≡ true → now_ready m v ≡ record m { readied = Some v; readys = set m.readys m.group.own (Some v) }
@@ -111,10 +112,10 @@ module _ (g : Group) (votes : List Vote) (x : Vote) (member : g.own < g.members)
   now_ready-follows d None e =
       let comes : readied g (votes ++ x ∷ []) ≡ cond (may_ready g (votes ++ x ∷ []) (value_of x)) (Some (value_of x)) None = readied-push g votes x ∙ ap (λ o. option_or o (cond (may_ready g (votes ++ x ∷ []) (value_of x)) (Some (value_of x)) None)) e in
       either (cases_Bool (may_ready g (votes ++ x ∷ []) (value_of x)))
-        (λ t. now_ready-stage-yes g (votes ++ x ∷ []) d (value_of x) member t
-          ∙ ap (λ r. stage g (votes ++ x ∷ []) r d) (sym (comes ∙ ap (λ b. cond b (Some (value_of x)) None) t)))
-        (λ t. now_ready-stage-not g (votes ++ x ∷ []) d (value_of x) t
-          ∙ ap (λ r. stage g (votes ++ x ∷ []) r d) (sym (comes ∙ ap (λ b. cond b (Some (value_of x)) None) t)))
+      (λ t. now_ready-stage-yes g (votes ++ x ∷ []) d (value_of x) member t
+      ∙ ap (λ r. stage g (votes ++ x ∷ []) r d) (sym (comes ∙ ap (λ b. cond b (Some (value_of x)) None) t)))
+      (λ t. now_ready-stage-not g (votes ++ x ∷ []) d (value_of x) t
+      ∙ ap (λ r. stage g (votes ++ x ∷ []) r d) (sym (comes ∙ ap (λ b. cond b (Some (value_of x)) None) t)))
 
   now_delivered-follows : (d : Option (List ℕ)) → delivered g votes ≡ d → now_delivered (stage g (votes ++ x ∷ []) (readied g (votes ++ x ∷ [])) d) (value_of x) ≡ stage g (votes ++ x ∷ []) (readied g (votes ++ x ∷ [])) (delivered g (votes ++ x ∷ []))
   now_delivered-follows (Some w) e =
@@ -124,10 +125,10 @@ module _ (g : Group) (votes : List Vote) (x : Vote) (member : g.own < g.members)
   now_delivered-follows None e =
       let comes : delivered g (votes ++ x ∷ []) ≡ cond (may_deliver g (votes ++ x ∷ []) (value_of x)) (Some (value_of x)) None = delivered-push g votes x ∙ ap (λ o. option_or o (cond (may_deliver g (votes ++ x ∷ []) (value_of x)) (Some (value_of x)) None)) e in
       either (cases_Bool (may_deliver g (votes ++ x ∷ []) (value_of x)))
-        (λ t. now_delivered-stage-yes g (votes ++ x ∷ []) (value_of x) t
-          ∙ ap (stage g (votes ++ x ∷ []) (readied g (votes ++ x ∷ []))) (sym (comes ∙ ap (λ b. cond b (Some (value_of x)) None) t)))
-        (λ t. now_delivered-stage-not g (votes ++ x ∷ []) (value_of x) t
-          ∙ ap (stage g (votes ++ x ∷ []) (readied g (votes ++ x ∷ []))) (sym (comes ∙ ap (λ b. cond b (Some (value_of x)) None) t)))
+      (λ t. now_delivered-stage-yes g (votes ++ x ∷ []) (value_of x) t
+      ∙ ap (stage g (votes ++ x ∷ []) (readied g (votes ++ x ∷ []))) (sym (comes ∙ ap (λ b. cond b (Some (value_of x)) None) t)))
+      (λ t. now_delivered-stage-not g (votes ++ x ∷ []) (value_of x) t
+      ∙ ap (stage g (votes ++ x ∷ []) (readied g (votes ++ x ∷ []))) (sym (comes ∙ ap (λ b. cond b (Some (value_of x)) None) t)))
 
   -- with this vote in its place and nothing else done, all follows by `settled`
   pub settles : settled (stage g (votes ++ x ∷ []) (readied g votes) (delivered g votes)) (value_of x) ≡ meaning_of g (votes ++ x ∷ [])
@@ -145,12 +146,13 @@ settled-again g votes v =
     ∙ ap (λ m. now_delivered m v) (ready (readied g votes) refl)
     ∙ deliver (delivered g votes) refl
     ∙ sym (stage-all g votes) where
-  ready : (r : Option (List ℕ)) → readied g votes ≡ r → now_ready (stage g votes (readied g votes) (delivered g votes)) v ≡ stage g votes (readied g votes) (delivered g votes)
-  ready (Some w) e = rw e (now_ready-not (stage g votes (Some w) (delivered g votes)) v (can_ready-once g votes w (delivered g votes) v))
-  ready None e = rw e (now_ready-stage-not g votes (delivered g votes) v (ready_not_yet g votes e v))
-  deliver : (d : Option (List ℕ)) → delivered g votes ≡ d → now_delivered (stage g votes (readied g votes) (delivered g votes)) v ≡ stage g votes (readied g votes) (delivered g votes)
-  deliver (Some w) e = rw e (now_delivered-not (stage g votes (readied g votes) (Some w)) v (can_deliver-once g votes (readied g votes) w v))
-  deliver None e = rw e (now_delivered-stage-not g votes v (deliver_not_yet g votes e v))
+      ready : (r : Option (List ℕ)) → readied g votes ≡ r → now_ready (stage g votes (readied g votes) (delivered g votes)) v ≡ stage g votes (readied g votes) (delivered g votes)
+      ready (Some w) e = rw e (now_ready-not (stage g votes (Some w) (delivered g votes)) v (can_ready-once g votes w (delivered g votes) v))
+      ready None e = rw e (now_ready-stage-not g votes (delivered g votes) v (ready_not_yet g votes e v))
+
+      deliver : (d : Option (List ℕ)) → delivered g votes ≡ d → now_delivered (stage g votes (readied g votes) (delivered g votes)) v ≡ stage g votes (readied g votes) (delivered g votes)
+      deliver (Some w) e = rw e (now_delivered-not (stage g votes (readied g votes) (Some w)) v (can_deliver-once g votes (readied g votes) w v))
+      deliver None e = rw e (now_delivered-stage-not g votes v (deliver_not_yet g votes e v))
 
 -- one's own place, and another's
 echo_of-own : (g : Group) (votes : List Vote) → echo_of g votes g.own ≡ echoed votes
@@ -235,12 +237,15 @@ unfolding sent stage
 first_send g votes v member none = ap (λ m. with_send m v) (stage-all g votes) ∙ written where
   now : echoed (votes ++ Send v ∷ []) ≡ Some v
   now = echoed-push votes (Send v) ∙ ap (λ o. option_or o (Some v)) none
+
   echoes : set (map (echo_of g votes) (range_with_len 0 g.members)) g.own (Some v) ≡ map (echo_of g (votes ++ Send v ∷ [])) (range_with_len 0 g.members)
   echoes = sym (map-range-set (echo_of g votes) (echo_of g (votes ++ Send v ∷ [])) g.members g.own (Some v) member
       (λ p ne. echo_of-other g (votes ++ Send v ∷ []) p ne ∙ find_map-push-None (echoed_by p) votes (Send v) (echoed_by-send p v) ∙ sym (echo_of-other g votes p ne))
       (echo_of-own g (votes ++ Send v ∷ []) ∙ now))
+
   readys : map (readys_with g votes (readied g votes)) (range_with_len 0 g.members) ≡ map (readys_with g (votes ++ Send v ∷ []) (readied g votes)) (range_with_len 0 g.members)
   readys = same_readys g votes (Send v) (readied g votes) (λ p. readied_by-send p v)
+
   written : with_send (stage g votes (readied g votes) (delivered g votes)) v ≡ stage g (votes ++ Send v ∷ []) (readied g votes) (delivered g votes)
   written = λ i. record { group = g; echoed = sym now i; echoes = echoes i; readied = readied g votes; readys = readys i; delivered = delivered g votes }
 
@@ -249,13 +254,17 @@ unfolding stage echoed
 first_echo g votes q v below foreign none = ap (λ m. with_echo m q v) (stage-all g votes) ∙ written where
   same_echoed : echoed votes ≡ echoed (votes ++ Echo q v ∷ [])
   same_echoed = sym (find_map-push-None sent votes (Echo q v) (sent-echo q v))
+
   others : (p : ℕ) → p ≢ q → echo_of g (votes ++ Echo q v ∷ []) p ≡ echo_of g votes p
   others p ne = echo_of-push-None g votes (Echo q v) p (sent-echo q v) (echoed_by-other p q v ne)
+
   echoes : set (map (echo_of g votes) (range_with_len 0 g.members)) q (Some v) ≡ map (echo_of g (votes ++ Echo q v ∷ [])) (range_with_len 0 g.members)
   echoes = sym (map-range-set (echo_of g votes) (echo_of g (votes ++ Echo q v ∷ [])) g.members q (Some v) below others
       (echo_of-other g (votes ++ Echo q v ∷ []) q foreign ∙ find_map-push-first (echoed_by q) votes (Echo q v) none ∙ echoed_by-self q v))
+
   readys : map (readys_with g votes (readied g votes)) (range_with_len 0 g.members) ≡ map (readys_with g (votes ++ Echo q v ∷ []) (readied g votes)) (range_with_len 0 g.members)
   readys = same_readys g votes (Echo q v) (readied g votes) (λ p. readied_by-echo p q v)
+
   written : with_echo (stage g votes (readied g votes) (delivered g votes)) q v ≡ stage g (votes ++ Echo q v ∷ []) (readied g votes) (delivered g votes)
   written = λ i. record { group = g; echoed = same_echoed i; echoes = echoes i; readied = readied g votes; readys = readys i; delivered = delivered g votes }
 
@@ -264,11 +273,14 @@ unfolding stage echoed
 first_ready g votes q v below foreign none = ap (λ m. with_ready m q v) (stage-all g votes) ∙ written where
   same_echoed : echoed votes ≡ echoed (votes ++ Ready q v ∷ [])
   same_echoed = sym (find_map-push-None sent votes (Ready q v) (sent-ready q v))
+
   echoes : map (echo_of g votes) (range_with_len 0 g.members) ≡ map (echo_of g (votes ++ Ready q v ∷ [])) (range_with_len 0 g.members)
   echoes = same_echoes g votes (Ready q v) (sent-ready q v) (λ p. echoed_by-ready p q v)
+
   readys : set (map (readys_with g votes (readied g votes)) (range_with_len 0 g.members)) q (Some v) ≡ map (readys_with g (votes ++ Ready q v ∷ []) (readied g votes)) (range_with_len 0 g.members)
   readys = sym (map-range-set (readys_with g votes (readied g votes)) (readys_with g (votes ++ Ready q v ∷ []) (readied g votes)) g.members q (Some v) below
       (λ p ne. readys_with-push-None g votes (Ready q v) (readied g votes) p (readied_by-other p q v ne))
       (readys_with-other g (votes ++ Ready q v ∷ []) (readied g votes) q foreign ∙ find_map-push-first (readied_by q) votes (Ready q v) none ∙ readied_by-self q v))
+
   written : with_ready (stage g votes (readied g votes) (delivered g votes)) q v ≡ stage g (votes ++ Ready q v ∷ []) (readied g votes) (delivered g votes)
   written = λ i. record { group = g; echoed = same_echoed i; echoes = echoes i; readied = readied g votes; readys = readys i; delivered = delivered g votes }

@@ -61,52 +61,54 @@ beginnings (x ∷ xs) = [] ∷ map (λ b. x ∷ b) (beginnings xs)
 unfoldable pub first_known : (List Vote → List ℕ → Bool) → List Vote → Option (List ℕ)
 first_known test votes = find_map (λ b. find (test b) (map value_of b)) (beginnings votes)
 
+-- A set of processes is a test of their numbers; this is the number of its members below n.
+unfoldable pub size : ℕ → (ℕ → Bool) → ℕ
+size n set = count_by set (range_with_len 0 n)
+
 -- whether a process's vote is for this value
 unfoldable pub is_for : List ℕ → Option (List ℕ) → Bool
 is_for v None = false
 is_for v (Some w) = bytes_eq w v
 
--- the number of processes below n whose vote is for this value
-unfoldable pub count_for : (ℕ → Option (List ℕ)) → ℕ → List ℕ → ℕ
-count_for vote_of n v = count_by (λ p. is_for v (vote_of p)) (range_with_len 0 n)
-
--- ECHOs. Oneself echoes the first SEND; p's ECHO is the first that came of it.
+-- ECHOs: oneself echoes the first SEND; of another process the first ECHO that came counts
 unfoldable pub echoed : List Vote → Option (List ℕ)
 echoed votes = find_map sent votes
 
 unfoldable pub echo_of : Group → List Vote → ℕ → Option (List ℕ)
 echo_of g votes p = if p == g.own then echoed votes else find_map (echoed_by p) votes
 
--- the size of the set of processes whose ECHO is v
-unfoldable pub echo_count : Group → List Vote → List ℕ → ℕ
-echo_count g votes v = count_for (echo_of g votes) g.members v
+-- the processes whose ECHO is v
+unfoldable pub echo_set : Group → List Vote → List ℕ → ℕ → Bool
+echo_set g votes v p = is_for v (echo_of g votes p)
 
--- the number of others whose READY is v
+-- the other processes whose READY is v
 unfoldable pub other_ready_of : Group → List Vote → ℕ → Option (List ℕ)
 other_ready_of g votes p = if p == g.own then None else find_map (readied_by p) votes
 
-unfoldable pub other_ready_count : Group → List Vote → List ℕ → ℕ
-other_ready_count g votes v = count_for (other_ready_of g votes) g.members v
+unfoldable pub other_ready_set : Group → List Vote → List ℕ → ℕ → Bool
+other_ready_set g votes v p = is_for v (other_ready_of g votes p)
 
 -- One may send READY v on more than (N + f) / 2 ECHOs of v, or (amplification) on more than f READYs of v.
 unfoldable pub may_ready : Group → List Vote → List ℕ → Bool
 may_ready g votes v =
-    nat_lt (g.members + g.faults) (2 * echo_count g votes v) || nat_lt g.faults (other_ready_count g votes v)
+    nat_lt (g.members + g.faults) (2 * size g.members (echo_set g votes v))
+    || nat_lt g.faults (size g.members (other_ready_set g votes v))
 
--- READYs. Oneself is READY, once, for the first value for which it may be.
+-- READYs: oneself is READY, once, for the first value for which it may be; of another process the
+-- first READY that came counts
 unfoldable pub readied : Group → List Vote → Option (List ℕ)
 readied g votes = first_known (may_ready g) votes
 
 unfoldable pub ready_of : Group → List Vote → ℕ → Option (List ℕ)
 ready_of g votes p = if p == g.own then readied g votes else find_map (readied_by p) votes
 
--- the size of the set of processes whose READY is v
-unfoldable pub ready_count : Group → List Vote → List ℕ → ℕ
-ready_count g votes v = count_for (ready_of g votes) g.members v
+-- the processes whose READY is v
+unfoldable pub ready_set : Group → List Vote → List ℕ → ℕ → Bool
+ready_set g votes v p = is_for v (ready_of g votes p)
 
 -- One may deliver v on more than 2f READYs of v.
 unfoldable pub may_deliver : Group → List Vote → List ℕ → Bool
-may_deliver g votes v = nat_lt (2 * g.faults) (ready_count g votes v)
+may_deliver g votes v = nat_lt (2 * g.faults) (size g.members (ready_set g votes v))
 
 -- the value delivered: once, the first that one may deliver
 unfoldable pub delivered : Group → List Vote → Option (List ℕ)

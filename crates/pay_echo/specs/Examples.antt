@@ -1,3 +1,4 @@
+-- Groups, values and a word for the worked examples.
 use Rattle.std.specs.Prelude.{◌≡◌, ℕ, List, [], ◌∷◌, Option}
 use Rattle.pay_echo.specs.Broadcast.{Group, Vote, echoed, readied, delivered}
 
@@ -7,9 +8,15 @@ A = 65 ∷ []
 abbrev pub B : List ℕ
 B = 66 ∷ []
 
--- four processes, of which one may be faulty, seen from process 0
+-- process 0 of four, of which one may be faulty
 abbrev pub four : Group
 four = record { members = 4; faults = 1; own = 0 }
 
-abbrev pub Knows : Group → List Vote → Option (List ℕ) → Option (List ℕ) → Option (List ℕ) → Type 0
-Knows g votes echo ready deliver = (echoed votes ≡ echo) × (readied g votes ≡ ready) × (delivered g votes ≡ deliver)
+abbrev pub alone : Group
+alone = record { members = 1; faults = 0; own = 0 }
+
+-- what was echoed, readied and delivered by these votes
+pub record Knows (g : Group) (votes : List Vote) (echo ready deliver : Option (List ℕ)) : Type 0 where
+  pub echoes : echoed votes ≡ echo
+  pub readies : readied g votes ≡ ready
+  pub delivers : delivered g votes ≡ deliver

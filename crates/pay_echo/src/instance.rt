@@ -19,12 +19,7 @@ pub trait Instance: Sized {
     ghost meaning: { Self → Meaning };
 
     /// An instance that no vote has reached.
-    fn fresh(
-        alloc: Global,
-        members: u16,
-        faults: u16,
-        own: u16,
-    ) -> Result<Self, AllocError>
+    fn fresh(alloc: Global, members: u16, faults: u16, own: u16) -> Result<Self, AllocError>
         requires few { members ≤ MOST_MEMBERS }
         requires member { own < members }
         ensures none { IfOk result

@@ -1,12 +1,12 @@
 //! One instance of authenticated double-echo broadcast.
 #![tactic(auto)]
 
-mod examples;
+pub mod examples;
 mod instance;
+pub mod laws;
 mod moves;
 mod plain;
 
-pub use examples::echo_quorum_of_three;
 pub use instance::{Instance, MOST_MEMBERS};
 pub use moves::Moves;
 pub use plain::PlainInstance;

@@ -32,12 +32,12 @@ impl Model for PlainInstance {
     ghost Value = { Meaning };
 
     ghost view = { λ i. record {
-        group = record { members = i.members; faults = i.faults; own = i.own };
-        echoed = vote_at i.echoes.items i.own;
-        echoes = i.echoes.items;
-        readied = vote_at i.readys.items i.own;
-        readys = i.readys.items;
-        delivered = i.delivered
+      group = record { members = i.members; faults = i.faults; own = i.own };
+      echoed = vote_at i.echoes.items i.own;
+      echoes = i.echoes.items;
+      readied = vote_at i.readys.items i.own;
+      readys = i.readys.items;
+      delivered = i.delivered;
     } };
 
     ghost invariant = { λ i. (i.own < i.members) × (length i.echoes.items ≡ i.members) × (length i.readys.items ≡ i.members) };
@@ -190,7 +190,8 @@ impl PlainInstance {
         let echoes = count_for(&self.echoes, value);
         let readys = count_for(&self.readys, value);
         let all = usize::from(self.members) + usize::from(self.faults);
-        vote_at(&self.readys, self.own).is_none() && (all < 2 * echoes || usize::from(self.faults) < readys)
+        vote_at(&self.readys, self.own).is_none()
+            && (all < 2 * echoes || usize::from(self.faults) < readys)
     }
 
     // Delivers this value if it may, and says whether it did.
