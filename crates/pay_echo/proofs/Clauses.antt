@@ -1,9 +1,9 @@
 -- The trait's clauses, from the step function.
-use Rattle.std.proofs.Common.{◌≡◌, ◌≢◌, ℕ, ◌<◌, Bool, true, false, cond, eqb, List, [], ◌∷◌, ◌++◌, map, get_or, length, replicate, Option, None, refl, sym, ap, ◌∙◌, subst}
+use Rattle.std.proofs.Common.{◌≡◌, ℕ, ◌<◌, Bool, true, false, cond, eqb, List, [], map, replicate, Option, None, refl, sym, ap, ◌∙◌, subst}
 use Rattle.std.specs.List.{range_with_len}
 use Rattle.std.proofs.lemmas.List.{get_or-replicate, length-replicate}
 use Rattle.std.proofs.lemmas.List.FromFn.{fill_by_all}
-use Rattle.pay_echo.specs.Broadcast.{Group, Vote, IsForeign, echoed, echo_of, ready_of, readied, delivered}
+use Rattle.pay_echo.specs.Broadcast.{Group, Vote, IsForeign, echoed, echo_of, ready_of, readied}
 use Rattle.pay_echo.specs.Meaning.{Meaning, meaning_of, Sees}
 use Rattle.pay_echo.specs.Step.{vote_at, after}
 use Rattle.pay_echo.proofs.OneMore.{readied-none, delivered-none}

@@ -2,10 +2,10 @@
 use Rattle.std.proofs.Common.{◌≡◌, Bool, true, false, cond, List, [], ◌∷◌, ◌++◌, map, Option, None, Some, find, refl, sym, ap, ◌∙◌, bytes_eq, ℕ}
 use Rattle.std.specs.Option.{option_or}
 use Rattle.std.proofs.lemmas.List.{map-append}
-use Rattle.std.proofs.lemmas.Bool.{cond-true, cond-false, cases_Bool}
+use Rattle.std.proofs.lemmas.Bool.{cases_Bool}
 use Rattle.std.proofs.lemmas.List.Folds.{find-append}
 use Rattle.pay_echo.specs.Broadcast.{Vote, value_of, find_map, beginnings, first_known}
-use Rattle.pay_echo.proofs.Lists.{either, by_push, find_map-push, beginnings-push, bytes_eq-true, find-only, option_or-None}
+use Rattle.pay_echo.proofs.Lists.{either, by_push, find_map-push, beginnings-push, bytes_eq-true, find-only}
 
 -- it holds of nothing before the first vote, and a vote changes it at its value alone
 pub record Steps (test : List Vote → List ℕ → Bool) : Type 0 where

@@ -1,7 +1,7 @@
 -- Lists and counts, over plain functions.
-use Rattle.std.proofs.Common.{◌≡◌, ◌≢◌, ℕ, zero, suc, ◌+◌, ◌*◌, ◌<◌, ◌≤◌, Bool, true, false, cond, ◌⊎◌, eqb, List, [], ◌∷◌, ◌++◌, map, get_or, set, length, Option, None, Some, count_by, find, refl, sym, ap, ◌∙◌, bytes_eq, arith, eqb-true, ne_eqb, ⊎_elim, inl, inr, get_or-set_same, get_or-set_other, length-set, append-nil, zero-add}
+use Rattle.std.proofs.Common.{◌≡◌, ◌≢◌, ℕ, ◌+◌, ◌<◌, Bool, true, false, cond, ◌⊎◌, List, [], ◌∷◌, ◌++◌, map, get_or, set, length, Option, None, Some, count_by, find, refl, sym, ap, ◌∙◌, bytes_eq, ⊎_elim, get_or-set_same, get_or-set_other, length-set, append-nil, zero-add}
 use Rattle.std.specs.Option.{option_or}
-use Rattle.std.specs.List.{range_with_len, sum_by}
+use Rattle.std.specs.List.{range_with_len}
 use Rattle.std.proofs.lemmas.List.Sums.{sum_by-cons}
 use Rattle.std.proofs.lemmas.List.{map-append, append_assoc}
 use Rattle.std.proofs.lemmas.List.FromFn.{fill_by_all, get_or-map-range_with_len, length-map-range_with_len}

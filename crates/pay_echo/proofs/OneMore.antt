@@ -1,8 +1,8 @@
 -- The answers of `Broadcast` over one vote more.
-use Rattle.std.proofs.Common.{◌≡◌, ◌⊎◌, ℕ, ◌+◌, ◌*◌, Bool, true, false, cond, ◌||◌, eqb, ltb, List, [], ◌∷◌, ◌++◌, Option, None, Some, refl, sym, ap, ◌∙◌, bytes_eq, inl, inr, arith, ap₂}
+use Rattle.std.proofs.Common.{◌≡◌, ◌⊎◌, ℕ, ◌+◌, ◌*◌, Bool, true, false, cond, ◌||◌, eqb, ltb, List, [], ◌∷◌, ◌++◌, Option, None, Some, refl, ap, ◌∙◌, bytes_eq, inl, inr, arith, ap₂}
 use Rattle.std.specs.Option.{option_or}
 use Rattle.std.specs.List.{range_with_len}
-use Rattle.std.proofs.lemmas.Bool.{cond-true, cond-false, cases_Bool, false≢true, le-ltb, both_ways}
+use Rattle.std.proofs.lemmas.Bool.{cases_Bool, le-ltb, both_ways}
 use Rattle.pay_echo.specs.Broadcast.{Group, Vote, Send, Echo, Ready, value_of, sent, echoed_by, readied_by, find_map, first_known, is_for, size, echoed, echo_of, echo_set, other_ready_of, other_ready_set, may_ready, readied, ready_of, ready_set, may_deliver, delivered}
 use Rattle.pay_echo.proofs.Lists.{either, find_map-push, bytes_eq-true, bytes_eq-same, count_by-same, count_by-none}
 use Rattle.pay_echo.proofs.Known.{Steps, first_known-push}

@@ -1,7 +1,7 @@
 -- A second vote of a place changes nothing, and so the step function gives the meaning of one vote more.
-use Rattle.std.proofs.Common.{◌≡◌, ◌≢◌, ℕ, ◌<◌, Bool, true, false, cond, eqb, List, [], ◌∷◌, ◌++◌, map, get_or, Option, None, Some, is_none, refl, sym, ap, ap₂, ◌∙◌, zero-add, subst}
+use Rattle.std.proofs.Common.{◌≡◌, ◌≢◌, ℕ, ◌<◌, cond, eqb, List, [], ◌∷◌, ◌++◌, Option, None, Some, is_none, refl, sym, ap, ap₂, ◌∙◌, zero-add, subst}
 use Rattle.std.specs.List.{range_with_len}
-use Rattle.std.proofs.lemmas.Bool.{cond-true, cond-false, cases_eq}
+use Rattle.std.proofs.lemmas.Bool.{cases_eq}
 use Rattle.std.proofs.lemmas.List.FromFn.{get_or-map-range_with_len}
 use Rattle.pay_echo.specs.Broadcast.{Group, Vote, Send, Echo, Ready, IsForeign, value_of, sent, echoed_by, readied_by, find_map, echoed, echo_of, readied, ready_of, delivered}
 use Rattle.pay_echo.specs.Meaning.{Meaning, meaning_of}

@@ -1,12 +1,12 @@
 -- The laws of sizes, by induction over a list of processes.
-use Rattle.std.proofs.Common.{◌≡◌, ℕ, zero, suc, ◌+◌, ◌*◌, ◌<◌, ◌≤◌, Bool, true, false, not, cond, ◌&&◌, List, [], ◌∷◌, length, count_by, refl, sym, ap, ◌∙◌, arith}
+use Rattle.std.proofs.Common.{◌≡◌, ℕ, zero, suc, ◌+◌, ◌<◌, ◌≤◌, Bool, true, false, not, ◌&&◌, List, [], ◌∷◌, length, count_by, refl, ◌∙◌, arith}
 use Rattle.std.specs.List.{range_with_len}
 use Rattle.std.proofs.lemmas.Bool.{false≢true}
 use Rattle.std.proofs.lemmas.List.FromFn.{length-range_with_len}
 use Rattle.std.proofs.lemmas.List.Sums.{count_by-le-length}
 use Rattle.pay_echo.specs.Broadcast.{size}
 use Rattle.pay_echo.specs.Quorums.{SizeIsAtMost, SizeOfOthers, PartIsSmaller, QuorumsShare, LargerHasAnother, RestIsQuorum, QuorumIsMore, MoreRemain}
-use Rattle.pay_echo.proofs.Lists.{either, one, count_by-cons, count_by-none}
+use Rattle.pay_echo.proofs.Lists.{one, count_by-cons}
 
 pub size_is_at_most : SizeIsAtMost
 unfolding size

@@ -1,15 +1,14 @@
 -- The step function gives the meaning of one vote more.
-use Rattle.std.proofs.Common.{◌≡◌, ◌≢◌, ℕ, ◌+◌, ◌*◌, ◌<◌, Bool, true, false, cond, ◌||◌, ◌&&◌, eqb, ltb, List, [], ◌∷◌, ◌++◌, map, set, get_or, Option, None, Some, count_by, is_none, refl, sym, ap, ap₂, ◌∙◌, arith, eqb-true, ne_eqb, eq-eqb}
+use Rattle.std.proofs.Common.{◌≡◌, ◌≢◌, ℕ, ◌+◌, ◌*◌, ◌<◌, true, false, cond, ◌||◌, eqb, ltb, List, [], ◌∷◌, ◌++◌, map, set, Option, None, Some, count_by, refl, sym, ap, ap₂, ◌∙◌, ne_eqb, eq-eqb}
 use Rattle.std.specs.Option.{option_or}
 use Rattle.std.specs.List.{range_with_len}
-use Rattle.std.proofs.lemmas.Bool.{cond-true, cond-false, cases_Bool, cases_eq}
-use Rattle.std.proofs.lemmas.List.FromFn.{get_or-map-range_with_len}
-use Rattle.pay_echo.specs.Broadcast.{Group, Vote, Send, Echo, Ready, IsForeign, value_of, sent, echoed_by, readied_by, find_map, is_for, size, echoed, echo_of, echo_set, other_ready_of, other_ready_set, may_ready, readied, ready_of, ready_set, may_deliver, delivered}
+use Rattle.std.proofs.lemmas.Bool.{cond-true, cond-false, cases_Bool}
+use Rattle.pay_echo.specs.Broadcast.{Group, Vote, Send, Echo, Ready, value_of, sent, echoed_by, readied_by, find_map, is_for, size, echoed, echo_of, echo_set, other_ready_of, other_ready_set, may_ready, readied, ready_of, ready_set, may_deliver, delivered}
 use Rattle.pay_echo.specs.Meaning.{Meaning, meaning_of}
-use Rattle.pay_echo.specs.Step.{can_ready, can_deliver, now_ready, now_delivered, settled, with_send, with_echo, with_ready, after}
+use Rattle.pay_echo.specs.Step.{can_ready, can_deliver, now_ready, now_delivered, settled, with_send, with_echo, with_ready}
 use Rattle.pay_echo.proofs.Lists.{either, find_map-push, option_or-None, count_by-map, map-range-set, map-same}
 use Rattle.pay_echo.proofs.Known.{not_yet}
-use Rattle.pay_echo.proofs.OneMore.{echoed-push, echo_of-push, may_ready-Steps, may_deliver-Steps, readied-push, delivered-push}
+use Rattle.pay_echo.proofs.OneMore.{echoed-push, may_ready-Steps, may_deliver-Steps, readied-push, delivered-push}
 
 pub ready_not_yet : (g : Group) (votes : List Vote) → readied g votes ≡ None → (v : List ℕ) → may_ready g votes v ≡ false
 unfolding readied

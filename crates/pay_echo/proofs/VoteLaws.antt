@@ -1,16 +1,13 @@
 -- The laws of `specs/Laws.antt`.
-use Rattle.std.proofs.Common.{◌≡◌, ◌≢◌, ℕ, ◌+◌, ◌*◌, ◌<◌, ◌⊎◌, ◌↔◌, Bool, true, false, cond, ◌&&◌, ◌||◌, eqb, ltb, List, [], ◌∷◌, ◌++◌, Option, None, Some, Contains, refl, sym, ap, ◌∙◌, inl, inr, arith, append_assoc, append-nil, eqb-true, ne_eqb, eq-eqb, bytes_eq, lt-ltb}
+use Rattle.std.proofs.Common.{◌≡◌, ◌≢◌, ℕ, ◌↔◌, Bool, true, false, cond, eqb, List, [], ◌∷◌, ◌++◌, Option, None, Some, Contains, refl, sym, ap, ◌∙◌, arith, append_assoc, append-nil, eqb-true, ne_eqb, eq-eqb}
 use Rattle.std.specs.Option.{option_or}
-use Rattle.std.proofs.lemmas.Bool.{cond-true, cond-false, cases_Bool, cases_eq, false≢true, both_ways, ltb-true, or_cases, or_left, or_right}
-use Rattle.std.proofs.lemmas.List.Elements.{Contains-append_left, Contains-append_right, Contains-append_cases}
-use Rattle.pay_echo.specs.Broadcast.{Group, Vote, Send, Echo, Ready, value_of, sent, echoed_by, readied_by, find_map, is_for, size, echoed, echo_of, echo_set, other_ready_of, other_ready_set, may_ready, readied, ready_of, ready_set, may_deliver, delivered}
-use Rattle.pay_echo.specs.Meaning.{meaning_of}
-use Rattle.pay_echo.specs.Laws.{EchoedByOneMore, ReadiedByOneMore, DeliveredByOneMore, EchoedStays, ReadiedStays, DeliveredStays, EchoStays, ReadyStays, OtherReadyStays, SecondSend, SecondEcho, SecondReady, InEchoSet, InReadySet, InOtherReadySet, OwnEcho, OwnReady, SendCame, EchoCame, ReadyCame, SendIsEchoed, EchoCounts, ReadyCounts, WhyReady, WhyDelivered, QuorumMakesReady, AmplificationMakesReady, ReadysDeliver, OneValueByQuorum}
-use Rattle.pay_echo.proofs.Lists.{either, by_push, option_or-None, find_map-push, bytes_eq-true, bytes_eq-same}
-use Rattle.pay_echo.proofs.OneMore.{echoed-push, readied-push, delivered-push, readied-none, delivered-none}
-use Rattle.pay_echo.proofs.StepLaw.{ready_not_yet, deliver_not_yet}
+use Rattle.std.proofs.lemmas.Bool.{cond-true, cond-false, false≢true}
+use Rattle.std.proofs.lemmas.List.Elements.{Contains-append_right}
+use Rattle.pay_echo.specs.Broadcast.{Group, Vote, Send, Echo, Ready, value_of, sent, echoed_by, readied_by, find_map, is_for, echoed, echo_of, echo_set, other_ready_of, other_ready_set, may_ready, readied, ready_of, ready_set, may_deliver, delivered}
+use Rattle.pay_echo.specs.Laws.{EchoedByOneMore, ReadiedByOneMore, DeliveredByOneMore, EchoedStays, ReadiedStays, DeliveredStays, EchoStays, ReadyStays, OtherReadyStays, SecondSend, SecondEcho, SecondReady, InEchoSet, InReadySet, InOtherReadySet, OwnEcho, OwnReady, SendCame, EchoCame, ReadyCame}
+use Rattle.pay_echo.proofs.Lists.{find_map-push, bytes_eq-true, bytes_eq-same}
+use Rattle.pay_echo.proofs.OneMore.{echoed-push, readied-push, delivered-push}
 use Rattle.pay_echo.proofs.SecondVotes.{push_send, push_echo, push_ready}
-use Rattle.pay_echo.proofs.Sets.{part_is_smaller, quorums_share, larger_has_another, size_is_at_most}
 
 pub echoed_by_one_more : EchoedByOneMore
 echoed_by_one_more votes x = echoed-push votes x

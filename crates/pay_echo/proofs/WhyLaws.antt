@@ -1,15 +1,14 @@
 -- Where a vote came the first is known; why one is READY and why one delivers.
-use Rattle.std.proofs.Common.{◌≡◌, ◌≢◌, ℕ, zero, suc, ◌+◌, ◌*◌, ◌<◌, ◌≤◌, ◌⊎◌, Bool, true, false, cond, ◌&&◌, ◌||◌, eqb, ltb, List, [], ◌∷◌, ◌++◌, length, get_or, Option, None, Some, Contains, count_by, refl, sym, ap, ◌∙◌, inl, inr, arith, eqb-true, eq-eqb, lt-ltb}
+use Rattle.std.proofs.Common.{◌≡◌, ℕ, zero, suc, ◌+◌, ◌*◌, ◌<◌, ◌⊎◌, Bool, true, false, cond, ◌&&◌, eqb, ltb, List, [], ◌∷◌, ◌++◌, length, get_or, Option, None, Some, refl, sym, ap, ◌∙◌, inl, inr, arith, eq-eqb, lt-ltb}
 use Rattle.std.specs.Option.{option_or}
-use Rattle.std.specs.List.{range_with_len}
-use Rattle.std.proofs.lemmas.Bool.{cond-true, cases_Bool, false≢true, both_ways, ltb-true, or_cases, or_left, or_right, and_parts}
-use Rattle.pay_echo.specs.Broadcast.{Group, Vote, Send, Echo, Ready, value_of, sent, echoed_by, readied_by, find_map, size, echoed, echo_of, echo_set, other_ready_of, other_ready_set, may_ready, readied, ready_of, ready_set, may_deliver, delivered}
+use Rattle.std.proofs.lemmas.Bool.{cond-true, both_ways, ltb-true, or_cases, or_left, or_right, and_parts}
+use Rattle.pay_echo.specs.Broadcast.{Group, Vote, Send, Echo, Ready, value_of, sent, echoed_by, readied_by, find_map, size, echoed, echo_of, echo_set, other_ready_set, may_ready, readied, ready_set, may_deliver, delivered}
 use Rattle.pay_echo.specs.Laws.{EchoSetGrows, ReadySetGrows, OtherReadySetGrows, SendIsEchoed, EchoCounts, ReadyCounts, WhyReady, WhyDelivered, QuorumMakesReady, AmplificationMakesReady, ReadysDeliver, OneValueByQuorum}
-use Rattle.pay_echo.proofs.Lists.{either, by_push, option_or-None}
+use Rattle.pay_echo.proofs.Lists.{either, by_push}
 use Rattle.pay_echo.proofs.OneMore.{readied-push, delivered-push, size-none, readied-none, delivered-none}
 use Rattle.pay_echo.proofs.StepLaw.{ready_not_yet, deliver_not_yet}
 use Rattle.pay_echo.proofs.Sets.{part_is_smaller, quorums_share, larger_has_another}
-use Rattle.pay_echo.proofs.VoteLaws.{echo_of-found, ready_of-found, echo_stays, ready_stays, other_ready_stays, in_echo_set, in_ready_set, in_other_ready_set, None-Some, cond-Some, is_for-true}
+use Rattle.pay_echo.proofs.VoteLaws.{echo_of-found, ready_of-found, echo_stays, ready_stays, in_echo_set, in_ready_set, in_other_ready_set, None-Some, cond-Some}
 
 -- what comes is found, that vote's answer or an earlier one's
 comes_found : (f : Vote → Option (List ℕ)) (y : Vote) (v : List ℕ) → f y ≡ Some v → (votes : List Vote) (k : ℕ) → k < length votes → get_or votes k y ≡ y → find_map f votes ≡ None → ⊥

@@ -81,10 +81,11 @@ echo_of g votes p = if p == g.own then echoed votes else find_map (echoed_by p) 
 unfoldable pub echo_set : Group → List Vote → List ℕ → ℕ → Bool
 echo_set g votes v p = is_for v (echo_of g votes p)
 
--- the other processes whose READY is v
+-- another process's READY: the first that came
 unfoldable pub other_ready_of : Group → List Vote → ℕ → Option (List ℕ)
 other_ready_of g votes p = if p == g.own then None else find_map (readied_by p) votes
 
+-- the other processes whose READY is v
 unfoldable pub other_ready_set : Group → List Vote → List ℕ → ℕ → Bool
 other_ready_set g votes v p = is_for v (other_ready_of g votes p)
 

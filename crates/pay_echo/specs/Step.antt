@@ -2,7 +2,7 @@
 -- representations are proved against it, and a law ties it to `Meaning`.
 use Rattle.std.specs.Prelude.{ℕ, ◌+◌, ◌*◌, Bool, ◌&&◌, ◌||◌, nat_lt, if◌then◌else◌, List, slice_set, slice_index_or, Option, Some, None, is_none}
 use Rattle.std.specs.List.{count_by}
-use Rattle.pay_echo.specs.Broadcast.{Group, Vote, Send, Echo, Ready, is_for}
+use Rattle.pay_echo.specs.Broadcast.{Vote, Send, Echo, Ready, is_for}
 use Rattle.pay_echo.specs.Meaning.{Meaning}
 
 unfoldable pub can_ready : Meaning → List ℕ → Bool
