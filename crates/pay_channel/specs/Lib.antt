@@ -1,0 +1,4 @@
+pub mod Source
+pub mod History
+pub mod State
+pub mod Applied
