@@ -8,7 +8,7 @@ use Rattle.pay_echo.specs.Broadcast.{Group, Vote, echoed, readied, delivered}
 use Rattle.pay_echo.specs.Meaning.{Meaning, meaning_of, Sees}
 use Rattle.pay_echo.proofs.Lists.{either}
 use Rattle.pay_channel.specs.History.{Event, Ask, From, is_ask, asks, owner_of, seq_of, vote_of, is_about, votes_in, votes, send_of, newly, says, out, listed, delivered_at, list_of}
-use Rattle.pay_channel.specs.State.{State, Follows, meaning_at, value_at, lists}
+use Rattle.pay_channel.specs.State.{State, Follows, meaning_at, value_at, lists_of}
 use Rattle.pay_channel.specs.Applied.{SeesIfVote, said, Takes, IsAsBefore}
 use Rattle.pay_channel.proofs.Project.{asks_with, votes-push, asks-push, out-push, votes_in-other, votes_in-here}
 
@@ -41,9 +41,9 @@ module _ (old new : State) (history : List Event) (e : Event) (takes : Takes old
   meaning_now : (a s : ℕ) → meaning_at new a s ≡ meaning_of old.group (votes old.group.own a s (history ++ e ∷ []))
   meaning_now a s =
       either (cases_Bool (is_about old.group.own a s old.asks e))
-        (λ about. let same = and_parts (eqb (owner_of old.group.own e) a) (eqb (seq_of old.asks e) s) about in
-          meaning_here a s about (vote_of e) refl (here_at a s (eqb-true (owner_of old.group.own e) a same.0) (eqb-true (seq_of old.asks e) s same.1)))
-        (λ about. meaning_other a s about)
+      (λ about. let same = and_parts (eqb (owner_of old.group.own e) a) (eqb (seq_of old.asks e) s) about in
+      meaning_here a s about (vote_of e) refl (here_at a s (eqb-true (owner_of old.group.own e) a same.0) (eqb-true (seq_of old.asks e) s same.1)))
+      (λ about. meaning_other a s about)
 
   says_now : send_of old.group.own old.asks e ++ said (owner_of old.group.own e) (seq_of old.asks e) (meaning_at old (owner_of old.group.own e) (seq_of old.asks e)) (meaning_at new (owner_of old.group.own e) (seq_of old.asks e)) ≡ says old.group history e
   unfolding says meaning_of
@@ -55,8 +55,8 @@ module _ (old new : State) (history : List Event) (e : Event) (takes : Takes old
       ap₂ (λ m n. send_of old.group.own old.asks e ++ said a s m n) (follows.meanings a s) (meaning_now a s)
       ∙ sym (append_assoc (send_of old.group.own old.asks e) (newly Echo a s (echoed before) (echoed after)) (newly Ready a s (readied old.group before) (readied old.group after)))
       ∙ ap (λ k. send_of old.group.own k e
-          ++ newly Echo a (seq_of k e) (echoed (votes old.group.own a (seq_of k e) history)) (echoed (votes old.group.own a (seq_of k e) (history ++ e ∷ [])))
-          ++ newly Ready a (seq_of k e) (readied old.group (votes old.group.own a (seq_of k e) history)) (readied old.group (votes old.group.own a (seq_of k e) (history ++ e ∷ [])))) follows.asks
+      ++ newly Echo a (seq_of k e) (echoed (votes old.group.own a (seq_of k e) history)) (echoed (votes old.group.own a (seq_of k e) (history ++ e ∷ [])))
+      ++ newly Ready a (seq_of k e) (readied old.group (votes old.group.own a (seq_of k e) history)) (readied old.group (votes old.group.own a (seq_of k e) (history ++ e ∷ [])))) follows.asks
 
   pub Follows-push : Follows new (history ++ e ∷ [])
   Follows-push =
@@ -76,8 +76,8 @@ Follows-before old new history same follows =
     }
 
 -- the lists are those of the history
-pub lists-Follows : (c : State) (history : List Event) → Follows c history → (a : ℕ) → lists c a ≡ list_of c.group history a
-unfolding lists list_of value_at delivered_at meaning_of
+pub lists-Follows : (c : State) (history : List Event) → Follows c history → (a : ℕ) → lists_of c a ≡ list_of c.group history a
+unfolding lists_of list_of value_at delivered_at meaning_of
 lists-Follows c history follows a =
     let same : value_at c ≡ delivered_at c.group history = λ i b s. (follows.meanings b s i).delivered in
     ap (λ at. listed c.group at a) same

@@ -26,9 +26,9 @@ votes_from-push own a s k (x ∷ history) e =
     ap (λ vs. votes_in own a s k x ++ vs) more
     ∙ sym (append_assoc (votes_in own a s k x) (votes_from own a s later history) (votes_in own a s (later + count_by is_ask history) e))
     ∙ ap (λ n. (votes_in own a s k x ++ votes_from own a s later history) ++ votes_in own a s n e) sum where
-  passed : (b : Bool) (m n : ℕ) → cond b (m + 1) m + n ≡ m + (one b + n)
-  passed true m n = omega arith
-  passed false m n = omega arith
+      passed : (b : Bool) (m n : ℕ) → cond b (m + 1) m + n ≡ m + (one b + n)
+      passed true m n = omega arith
+      passed false m n = omega arith
 
 pub votes-push : (own a s : ℕ) (history : List Event) (e : Event) → votes own a s (history ++ e ∷ []) ≡ votes own a s history ++ votes_in own a s (asks history) e
 unfolding votes asks

@@ -5,7 +5,7 @@ use Rattle.pay_frame.specs.Frame.{BodyFields}
 use Rattle.pay_echo.specs.Broadcast.{Group, Vote}
 use Rattle.pay_echo.specs.Meaning.{Meaning, Sees, became}
 use Rattle.pay_channel.specs.History.{Event, Ask, From, is_ask, owner_of, seq_of, vote_of, is_about, send_of, newly}
-use Rattle.pay_channel.specs.State.{State, meaning_at, lists}
+use Rattle.pay_channel.specs.State.{State, meaning_at, lists_of}
 use Rattle.pay_channel.specs.declared.applied.Applied.{Applied}
 
 -- one vote more, or none
@@ -25,10 +25,10 @@ pub record Takes (old new : State) (e : Event) : Type 0 where
   pub here : SeesIfVote (meaning_at old (owner_of old.group.own e) (seq_of old.asks e)) (meaning_at new (owner_of old.group.own e) (seq_of old.asks e)) (vote_of e)
   pub others : (a s : ℕ) → is_about old.group.own a s old.asks e ≡ false → meaning_at new a s ≡ meaning_at old a s
   pub sent :
-    new.sent
-    ≡ old.sent
-    ++ (send_of old.group.own old.asks e
-    ++ said (owner_of old.group.own e) (seq_of old.asks e)
+      new.sent
+      ≡ old.sent
+      ++ (send_of old.group.own old.asks e
+      ++ said (owner_of old.group.own e) (seq_of old.asks e)
       (meaning_at old (owner_of old.group.own e) (seq_of old.asks e))
       (meaning_at new (owner_of old.group.own e) (seq_of old.asks e)))
 
@@ -37,7 +37,7 @@ pub record IsApplied (old new : State) (e : Event) (applied : Applied) : Type 0 
   pub echo : applied.echo ≡ became (meaning_at old (owner_of old.group.own e) (seq_of old.asks e)).echoed (meaning_at new (owner_of old.group.own e) (seq_of old.asks e)).echoed
   pub ready : applied.ready ≡ became (meaning_at old (owner_of old.group.own e) (seq_of old.asks e)).readied (meaning_at new (owner_of old.group.own e) (seq_of old.asks e)).readied
   pub deliver : applied.deliver ≡ became (meaning_at old (owner_of old.group.own e) (seq_of old.asks e)).delivered (meaning_at new (owner_of old.group.own e) (seq_of old.asks e)).delivered
-  pub grown : length (lists old (owner_of old.group.own e)) + applied.grown ≡ length (lists new (owner_of old.group.own e))
+  pub grown : length (lists_of old (owner_of old.group.own e)) + applied.grown ≡ length (lists_of new (owner_of old.group.own e))
 
 -- nothing that can be seen changed
 pub record IsAsBefore (old new : State) : Type 0 where

@@ -109,7 +109,7 @@ abbrev pub seqs : ℕ
 seqs = 65536
 
 -- the values of numbers from s on, at most n of them, up to the first that is missing
-abbrev pub known_from : (ℕ → Option (List ℕ)) → ℕ → ℕ → List (List ℕ)
+unfoldable pub known_from : (ℕ → Option (List ℕ)) → ℕ → ℕ → List (List ℕ)
 known_from value_at s zero = []
 known_from value_at s (suc n) = elim (value_at s) [ None ↦ [] | Some v ↦ v ∷ known_from value_at (s + 1) n ]
 

@@ -6,6 +6,10 @@
 mod applied;
 mod channel;
 mod event;
+pub mod examples;
+mod instances;
+pub mod laws;
+mod members;
 mod source;
 
 pub use applied::Applied;
