@@ -63,18 +63,18 @@ module _ (g : Group) (a s : ℕ) where
       ∙ filter-append (is_said is_echo a s) (out g history) (says g history e)
       ∙ ap₂ (λ (xs ys : List BodyFields). xs ++ ys) before said
       ∙ either (cases_Bool (is_about g.own a s (asks history) e))
-        (λ about.
-          let same = same_place b a t s about in
-          let grows : (w : List ℕ) → echoed old ≡ Some w → echoed new ≡ Some w = λ w is. ap echoed (votes-push g.own a s history e) ∙ echoed_stays old (votes_in g.own a s (asks history) e) w is in
-          ap (λ (xs : List BodyFields). map (body_of Echo a s) (option_to_list (echoed old)) ++ xs)
-            (newly-kept (is_said is_echo a s) Echo b t o n (λ v. about)
-              ∙ ap₂ (λ x y. newly Echo x y (echoed (votes g.own x y history)) (echoed (votes g.own x y (history ++ e ∷ [])))) same.0 same.1)
-          ∙ joined Echo a s (echoed old) (echoed new) grows)
-        (λ about.
-          let still : new ≡ old = votes-push g.own a s history e ∙ ap (λ vs. old ++ vs) (votes_in-other g.own a s (asks history) e about) ∙ append-nil old in
-          ap (λ (xs : List BodyFields). map (body_of Echo a s) (option_to_list (echoed old)) ++ xs) (newly-apart (is_said is_echo a s) Echo b t o n (λ v. about))
-          ∙ append-nil (map (body_of Echo a s) (option_to_list (echoed old)))
-          ∙ ap (λ vs. map (body_of Echo a s) (option_to_list (echoed vs))) (sym still))
+      (λ about.
+      let same = same_place b a t s about in
+      let grows : (w : List ℕ) → echoed old ≡ Some w → echoed new ≡ Some w = λ w is. ap echoed (votes-push g.own a s history e) ∙ echoed_stays old (votes_in g.own a s (asks history) e) w is in
+      ap (λ (xs : List BodyFields). map (body_of Echo a s) (option_to_list (echoed old)) ++ xs)
+      (newly-kept (is_said is_echo a s) Echo b t o n (λ v. about)
+      ∙ ap₂ (λ x y. newly Echo x y (echoed (votes g.own x y history)) (echoed (votes g.own x y (history ++ e ∷ [])))) same.0 same.1)
+      ∙ joined Echo a s (echoed old) (echoed new) grows)
+      (λ about.
+      let still : new ≡ old = votes-push g.own a s history e ∙ ap (λ vs. old ++ vs) (votes_in-other g.own a s (asks history) e about) ∙ append-nil old in
+      ap (λ (xs : List BodyFields). map (body_of Echo a s) (option_to_list (echoed old)) ++ xs) (newly-apart (is_said is_echo a s) Echo b t o n (λ v. about))
+      ∙ append-nil (map (body_of Echo a s) (option_to_list (echoed old)))
+      ∙ ap (λ vs. map (body_of Echo a s) (option_to_list (echoed vs))) (sym still))
 
 pub echo_in_out : EchoInOut
 unfolding HasEcho out votes echoed
@@ -88,8 +88,8 @@ module _ (g : Group) (a s : ℕ) where
   ready_said history e b t o n r q =
       filter-append (is_said is_ready a s) (send_of g.own (asks history) e ++ newly Echo b t o n) (newly Ready b t r q)
       ∙ ap (λ (xs : List BodyFields). xs ++ filter (is_said is_ready a s) (newly Ready b t r q))
-        (filter-append (is_said is_ready a s) (send_of g.own (asks history) e) (newly Echo b t o n)
-          ∙ ap₂ (λ (xs ys : List BodyFields). xs ++ ys) (send-apart (is_said is_ready a s) g.own (asks history) e (λ v. refl)) (newly-apart (is_said is_ready a s) Echo b t o n (λ v. refl)))
+      (filter-append (is_said is_ready a s) (send_of g.own (asks history) e) (newly Echo b t o n)
+      ∙ ap₂ (λ (xs ys : List BodyFields). xs ++ ys) (send-apart (is_said is_ready a s) g.own (asks history) e (λ v. refl)) (newly-apart (is_said is_ready a s) Echo b t o n (λ v. refl)))
 
   HasReady-push : (history : List Event) (e : Event) → HasReady history → HasReady (history ++ e ∷ [])
   unfolding HasReady says
@@ -105,18 +105,18 @@ module _ (g : Group) (a s : ℕ) where
       ∙ filter-append (is_said is_ready a s) (out g history) (says g history e)
       ∙ ap₂ (λ (xs ys : List BodyFields). xs ++ ys) before said
       ∙ either (cases_Bool (is_about g.own a s (asks history) e))
-        (λ about.
-          let same = same_place b a t s about in
-          let grows : (w : List ℕ) → readied g old ≡ Some w → readied g new ≡ Some w = λ w is. ap (readied g) (votes-push g.own a s history e) ∙ readied_stays g old (votes_in g.own a s (asks history) e) w is in
-          ap (λ (xs : List BodyFields). map (body_of Ready a s) (option_to_list (readied g old)) ++ xs)
-            (newly-kept (is_said is_ready a s) Ready b t r q (λ v. about)
-              ∙ ap₂ (λ x y. newly Ready x y (readied g (votes g.own x y history)) (readied g (votes g.own x y (history ++ e ∷ [])))) same.0 same.1)
-          ∙ joined Ready a s (readied g old) (readied g new) grows)
-        (λ about.
-          let still : new ≡ old = votes-push g.own a s history e ∙ ap (λ vs. old ++ vs) (votes_in-other g.own a s (asks history) e about) ∙ append-nil old in
-          ap (λ (xs : List BodyFields). map (body_of Ready a s) (option_to_list (readied g old)) ++ xs) (newly-apart (is_said is_ready a s) Ready b t r q (λ v. about))
-          ∙ append-nil (map (body_of Ready a s) (option_to_list (readied g old)))
-          ∙ ap (λ vs. map (body_of Ready a s) (option_to_list (readied g vs))) (sym still))
+      (λ about.
+      let same = same_place b a t s about in
+      let grows : (w : List ℕ) → readied g old ≡ Some w → readied g new ≡ Some w = λ w is. ap (readied g) (votes-push g.own a s history e) ∙ readied_stays g old (votes_in g.own a s (asks history) e) w is in
+      ap (λ (xs : List BodyFields). map (body_of Ready a s) (option_to_list (readied g old)) ++ xs)
+      (newly-kept (is_said is_ready a s) Ready b t r q (λ v. about)
+      ∙ ap₂ (λ x y. newly Ready x y (readied g (votes g.own x y history)) (readied g (votes g.own x y (history ++ e ∷ [])))) same.0 same.1)
+      ∙ joined Ready a s (readied g old) (readied g new) grows)
+      (λ about.
+      let still : new ≡ old = votes-push g.own a s history e ∙ ap (λ vs. old ++ vs) (votes_in-other g.own a s (asks history) e about) ∙ append-nil old in
+      ap (λ (xs : List BodyFields). map (body_of Ready a s) (option_to_list (readied g old)) ++ xs) (newly-apart (is_said is_ready a s) Ready b t r q (λ v. about))
+      ∙ append-nil (map (body_of Ready a s) (option_to_list (readied g old)))
+      ∙ ap (λ vs. map (body_of Ready a s) (option_to_list (readied g vs))) (sym still))
 
 pub ready_in_out : ReadyInOut
 unfolding HasReady out votes

@@ -33,5 +33,5 @@ said-of_vote a s g votes x old new e sees =
     let test = may_ready g (votes ++ x ∷ []) (value_of x) in
     let ready : new.readied ≡ option_or old.readied (cond test (Some (value_of x)) None) = ap (λ (m : Meaning). m.readied) now ∙ readied-push g votes x ∙ ap (λ (m : Meaning). option_or m.readied (cond test (Some (value_of x)) None)) (sym e) in
     ap₂ (λ (xs ys : List BodyFields). xs ++ ys)
-      (newly-of Echo a s (value_of x) old.echoed new.echoed (sent x) echo (sent-IsOf x))
-      (newly-of Ready a s (value_of x) old.readied new.readied (cond test (Some (value_of x)) None) ready (test-IsOf test (value_of x)))
+    (newly-of Echo a s (value_of x) old.echoed new.echoed (sent x) echo (sent-IsOf x))
+    (newly-of Ready a s (value_of x) old.readied new.readied (cond test (Some (value_of x)) None) ready (test-IsOf test (value_of x)))

@@ -6,6 +6,7 @@ use std::process::Abort;
 use std::test::Fail;
 
 const A: &[u8] = b"A";
+
 const B: &[u8] = b"B";
 
 const ECHO: Moves = Moves {

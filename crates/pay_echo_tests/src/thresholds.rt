@@ -7,7 +7,11 @@ use std::test::Fail;
 const A: &[u8] = b"A";
 
 // How many ECHOs there are, one's own included, when READY comes; 0 where it never comes.
-fn echo_threshold<I: Instance + Drop>(alloc: Global, members: u16, faults: u16) -> Result<u16, AllocError>
+fn echo_threshold<I: Instance + Drop>(
+    alloc: Global,
+    members: u16,
+    faults: u16,
+) -> Result<u16, AllocError>
     requires few { members ≤ MOST_MEMBERS }
     requires some { 0 < members }
 {
@@ -24,7 +28,11 @@ fn echo_threshold<I: Instance + Drop>(alloc: Global, members: u16, faults: u16) 
 }
 
 // How many READYs of others there are when one's own comes and when the delivery comes; 0 where it never comes.
-fn ready_thresholds<I: Instance + Drop>(alloc: Global, members: u16, faults: u16) -> Result<(u16, u16), AllocError>
+fn ready_thresholds<I: Instance + Drop>(
+    alloc: Global,
+    members: u16,
+    faults: u16,
+) -> Result<(u16, u16), AllocError>
     requires few { members ≤ MOST_MEMBERS }
     requires some { 0 < members }
 {
@@ -49,11 +57,27 @@ fn thresholds_of_all_groups(rt: HostRuntime) -> Result<(), Fail> {
     for members in 1..=MOST_MEMBERS {
         for faults in 0..members.div_ceil(3) {
             let echoes = echo_threshold::<PlainInstance>(rt.alloc(), members, faults)?;
-            assert_eq!(rt; echoes, (members + faults) / 2 + 1, "the quorum at {members} and {faults}");
+            assert_eq!(rt;
+                echoes,
+                (members + faults) / 2 + 1,
+                "the quorum at {members} and {faults}"
+            );
             if members > 1 {
-                let (ready, deliver) = ready_thresholds::<PlainInstance>(rt.alloc(), members, faults)?;
-                assert_eq!(rt; ready, faults + 1, "amplification at {members} and {faults}");
-                assert_eq!(rt; deliver, (2 * faults).max(1), "delivery at {members} and {faults}");
+                let (ready, deliver) = ready_thresholds::<PlainInstance>(
+                    rt.alloc(),
+                    members,
+                    faults,
+                )?;
+                assert_eq!(rt;
+                    ready,
+                    faults + 1,
+                    "amplification at {members} and {faults}"
+                );
+                assert_eq!(rt;
+                    deliver,
+                    (2 * faults).max(1),
+                    "delivery at {members} and {faults}"
+                );
             }
         }
     }
@@ -63,9 +87,18 @@ fn thresholds_of_all_groups(rt: HostRuntime) -> Result<(), Fail> {
 #[test]
 fn thresholds_of_named_groups(rt: HostRuntime) -> Result<(), Fail> {
     for (members, faults, echoes) in [(1, 0, 1), (4, 1, 3), (64, 21, 43)] {
-        assert_eq!(rt; echo_threshold::<PlainInstance>(rt.alloc(), members, faults)?, echoes);
+        assert_eq!(rt;
+            echo_threshold::<PlainInstance>(rt.alloc(), members, faults)?,
+            echoes
+        );
     }
-    assert_eq!(rt; ready_thresholds::<PlainInstance>(rt.alloc(), 4, 1)?, (2, 2));
-    assert_eq!(rt; ready_thresholds::<PlainInstance>(rt.alloc(), 64, 21)?, (22, 42));
+    assert_eq!(rt;
+        ready_thresholds::<PlainInstance>(rt.alloc(), 4, 1)?,
+        (2, 2)
+    );
+    assert_eq!(rt;
+        ready_thresholds::<PlainInstance>(rt.alloc(), 64, 21)?,
+        (22, 42)
+    );
     Ok(())
 }
