@@ -1,16 +1,15 @@
 -- A channel that takes an event follows the longer history.
-use Rattle.std.proofs.Common.{◌≡◌, ◌≢◌, ℕ, ◌+◌, Bool, true, false, cond, ◌&&◌, eqb, List, [], ◌∷◌, ◌++◌, Option, None, Some, option_to_list, refl, sym, ap, ap₂, ◌∙◌, subst, append_assoc, append-nil, eqb-true}
+use Rattle.std.proofs.Common.{◌≡◌, ℕ, ◌+◌, true, false, cond, eqb, List, [], ◌∷◌, ◌++◌, Option, None, Some, option_to_list, refl, sym, ap, ap₂, ◌∙◌, subst, append_assoc, append-nil, eqb-true}
 use Rattle.std.proofs.lemmas.Bool.{cases_Bool, and_parts}
-use Rattle.pay_frame.specs.declared.kind.Kind.{Kind}
 use Rattle.pay_frame.specs.declared.kind.Kind.TheVariants.{Echo, Ready}
 use Rattle.pay_frame.specs.Frame.{BodyFields}
-use Rattle.pay_echo.specs.Broadcast.{Group, Vote, echoed, readied, delivered}
-use Rattle.pay_echo.specs.Meaning.{Meaning, meaning_of, Sees}
+use Rattle.pay_echo.specs.Broadcast.{Group, Vote, echoed, readied}
+use Rattle.pay_echo.specs.Meaning.{meaning_of}
 use Rattle.pay_echo.proofs.Lists.{either}
-use Rattle.pay_channel.specs.History.{Event, Ask, From, is_ask, asks, owner_of, seq_of, vote_of, is_about, votes_in, votes, send_of, newly, says, out, listed, delivered_at, list_of}
+use Rattle.pay_channel.specs.History.{Event, is_ask, owner_of, seq_of, vote_of, is_about, votes_in, votes, send_of, newly, says, out, listed, delivered_at, list_of}
 use Rattle.pay_channel.specs.State.{State, Follows, meaning_at, value_at, lists_of}
 use Rattle.pay_channel.specs.Applied.{SeesIfVote, said, Takes, IsAsBefore}
-use Rattle.pay_channel.proofs.Project.{asks_with, votes-push, asks-push, out-push, votes_in-other, votes_in-here}
+use Rattle.pay_channel.proofs.Project.{votes-push, asks-push, out-push, votes_in-other, votes_in-here}
 
 module _ (old new : State) (history : List Event) (e : Event) (takes : Takes old new e) (follows : Follows old history) where
   -- the votes of a broadcast after the event, in the old state's words

@@ -1,9 +1,9 @@
 -- What one vote more does to the lists, and that a channel stays sound.
-use Rattle.std.proofs.Common.{◌≡◌, ◌≢◌, ℕ, zero, suc, ◌+◌, ◌-◌, ◌<◌, ◌≤◌, Bool, true, false, cond, ◌&&◌, eqb, ltb, List, [], ◌∷◌, ◌++◌, length, get_or, set, slice_index, Option, None, Some, refl, sym, ap, ap₂, ◌∙◌, subst, arith, eqb-true, ne_eqb, lt-ltb, append-nil, length-append, length-set, get_or-set_same, get_or-set_other, zero-add}
-use Rattle.std.proofs.lemmas.Bool.{cond-true, cond-false, cases_Bool, cases_eq, and_left, and_parts}
+use Rattle.std.proofs.Common.{◌≡◌, ◌≢◌, ℕ, zero, suc, ◌+◌, ◌-◌, ◌<◌, ◌≤◌, true, false, cond, ◌&&◌, eqb, ltb, List, [], ◌∷◌, ◌++◌, length, get_or, set, Option, None, Some, refl, sym, ap, ap₂, ◌∙◌, subst, arith, eqb-true, ne_eqb, lt-ltb, append-nil, length-append, length-set, get_or-set_same, get_or-set_other, zero-add}
+use Rattle.std.proofs.lemmas.Bool.{cond-true, cases_Bool, cases_eq, and_left, and_parts}
 use Rattle.pay_echo.specs.declared.instance.TheConstants.{MOST_MEMBERS}
-use Rattle.pay_echo.specs.Broadcast.{Group, Vote, delivered}
-use Rattle.pay_echo.specs.Meaning.{Meaning, meaning_of, Sees}
+use Rattle.pay_echo.specs.Broadcast.{Group, Vote}
+use Rattle.pay_echo.specs.Meaning.{Meaning, meaning_of}
 use Rattle.pay_echo.proofs.Lists.{either}
 use Rattle.pay_echo.proofs.VoteLaws.{delivered_stays}
 use Rattle.pay_channel.specs.Source.{GrowsOnly}

@@ -1,8 +1,8 @@
 -- The laws of `specs/Laws.antt`.
-use Rattle.std.proofs.Common.{◌≡◌, ℕ, List, [], ◌∷◌, ◌++◌, false, refl, sym, ap, ◌∙◌, append_assoc, append-nil}
+use Rattle.std.proofs.Common.{◌≡◌, ℕ, List, [], ◌∷◌, ◌++◌, sym, ap, ◌∙◌, append_assoc, append-nil}
 use Rattle.pay_frame.specs.Frame.{BodyFields}
 use Rattle.pay_echo.specs.Broadcast.{Group, Vote}
-use Rattle.pay_channel.specs.History.{Event, is_ask, asks, is_about, votes_in, votes, says, out, list_of}
+use Rattle.pay_channel.specs.History.{Event, asks, votes_in, votes, says, out}
 use Rattle.pay_channel.specs.Laws.{VotesByOneMore, AsksByOneMore, OutByOneMore, OthersUntouched, VotesGrow, OutGrows, ChannelFollows, UnchangedFollows, ListsFollow}
 use Rattle.pay_channel.proofs.Project.{votes-push, asks-push, out-push, votes_in-other}
 use Rattle.pay_channel.proofs.Follow.{Follows-push, Follows-before, lists-Follows}

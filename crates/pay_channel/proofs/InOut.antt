@@ -1,12 +1,12 @@
 -- What stands in the sent list about one broadcast: one ECHO exactly where its value is echoed, and one
 -- READY exactly where its value is readied.
-use Rattle.std.proofs.Common.{◌≡◌, ℕ, Bool, true, false, cond, ◌&&◌, eqb, List, [], ◌∷◌, ◌++◌, map, filter, Option, None, Some, option_to_list, refl, sym, ap, ap₂, ◌∙◌, subst, append-nil, eqb-true}
+use Rattle.std.proofs.Common.{◌≡◌, ℕ, Bool, true, false, ◌&&◌, eqb, List, [], ◌∷◌, ◌++◌, map, filter, Option, None, Some, option_to_list, refl, sym, ap, ap₂, ◌∙◌, append-nil, eqb-true}
 use Rattle.std.proofs.lemmas.Bool.{cond-true, cond-false, cases_Bool, and_parts}
 use Rattle.std.proofs.lemmas.List.Elements.{filter-append}
 use Rattle.pay_frame.specs.declared.kind.Kind.{Kind}
-use Rattle.pay_frame.specs.declared.kind.Kind.TheVariants.{Send, Echo, Ready, Want}
+use Rattle.pay_frame.specs.declared.kind.Kind.TheVariants.{Send, Echo, Ready}
 use Rattle.pay_frame.specs.Frame.{BodyFields}
-use Rattle.pay_echo.specs.Broadcast.{Group, Vote, echoed, readied}
+use Rattle.pay_echo.specs.Broadcast.{Group, echoed, readied}
 use Rattle.pay_echo.proofs.Lists.{either, by_push}
 use Rattle.pay_echo.proofs.OneMore.{readied-none}
 use Rattle.pay_echo.proofs.VoteLaws.{echoed_stays, readied_stays}

@@ -1,5 +1,5 @@
 -- An account's list by place, and the lists of a channel that took nothing.
-use Rattle.std.proofs.Common.{◌≡◌, ◌≢◌, ℕ, zero, suc, ◌+◌, ◌<◌, ◌≤◌, Bool, true, false, cond, ltb, List, [], ◌∷◌, length, slice_get, slice_index, replicate, Option, None, Some, refl, sym, ap, ◌∙◌, arith, le-ltb, lt-ltb, zero-add}
+use Rattle.std.proofs.Common.{◌≡◌, ℕ, zero, suc, ◌+◌, ◌<◌, ◌≤◌, Bool, true, false, cond, ltb, List, [], ◌∷◌, length, slice_get, replicate, Option, None, Some, refl, sym, ap, ◌∙◌, arith, le-ltb, zero-add}
 use Rattle.std.proofs.lemmas.Bool.{cond-true, cond-false}
 use Rattle.std.proofs.lemmas.List.{get_or-replicate, length-replicate}
 use Rattle.pay_echo.specs.declared.instance.TheConstants.{MOST_MEMBERS}

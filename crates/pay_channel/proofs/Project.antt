@@ -1,11 +1,9 @@
 -- The functions of a history over one event more.
-use Rattle.std.proofs.Common.{◌≡◌, ◌≢◌, ℕ, ◌+◌, Bool, true, false, cond, ◌&&◌, eqb, List, [], ◌∷◌, ◌++◌, Option, None, Some, count_by, option_to_list, refl, sym, ap, ap₂, ◌∙◌, arith, append_assoc, append-nil, eqb-true, ne_eqb, eq-eqb, add-zero, zero-add}
-use Rattle.std.specs.List.{sum_by}
+use Rattle.std.proofs.Common.{◌≡◌, ℕ, ◌+◌, Bool, true, false, cond, List, [], ◌∷◌, ◌++◌, count_by, option_to_list, refl, sym, ap, ◌∙◌, arith, append_assoc, append-nil, add-zero, zero-add}
 use Rattle.std.proofs.lemmas.Bool.{cond-true, cond-false}
 use Rattle.std.proofs.lemmas.List.Sums.{sum_by-cons}
-use Rattle.pay_echo.specs.Broadcast.{Group, Vote}
-use Rattle.pay_frame.specs.Frame.{BodyFields}
-use Rattle.pay_channel.specs.History.{Event, Ask, From, is_ask, asks, owner_of, seq_of, vote_of, is_about, votes_in, votes_from, votes, says, out_after, out}
+use Rattle.pay_echo.specs.Broadcast.{Group}
+use Rattle.pay_channel.specs.History.{Event, is_ask, asks, vote_of, is_about, votes_in, votes_from, votes, says, out_after, out}
 
 -- how many asks there are after an event
 abbrev pub asks_with : Event → ℕ → ℕ

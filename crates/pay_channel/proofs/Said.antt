@@ -4,7 +4,7 @@ use Rattle.std.specs.Option.{option_or}
 use Rattle.pay_frame.specs.declared.kind.Kind.{Kind}
 use Rattle.pay_frame.specs.declared.kind.Kind.TheVariants.{Echo, Ready}
 use Rattle.pay_frame.specs.Frame.{BodyFields}
-use Rattle.pay_echo.specs.Broadcast.{Group, Vote, value_of, sent, echoed, may_ready, readied}
+use Rattle.pay_echo.specs.Broadcast.{Group, Vote, value_of, sent, may_ready}
 use Rattle.pay_echo.specs.Meaning.{Meaning, meaning_of, Sees, became}
 use Rattle.pay_echo.proofs.Lists.{either}
 use Rattle.pay_echo.proofs.OneMore.{IsOf, sent-IsOf, echoed-push, readied-push}

@@ -1,5 +1,5 @@
 -- What a channel holds, and how it follows a history.
-use Rattle.std.specs.Prelude.{◌≡◌, ◌≢◌, ℕ, ◌+◌, ◌<◌, ◌≤◌, slice_index, ◌&&◌, ◌==◌, if◌then◌else◌, List, [], ◌∷◌, ◌++◌, length, Option}
+use Rattle.std.specs.Prelude.{◌≡◌, ℕ, ◌<◌, ◌≤◌, slice_index, ◌&&◌, ◌==◌, if◌then◌else◌, List, [], ◌∷◌, length, Option}
 use Rattle.pay_frame.specs.Frame.{BodyFields}
 use Rattle.pay_echo.specs.Broadcast.{Group, Vote}
 use Rattle.pay_echo.specs.declared.instance.TheConstants.{MOST_MEMBERS}

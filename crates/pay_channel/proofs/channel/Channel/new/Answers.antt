@@ -1,4 +1,3 @@
-use Rattle.std.proofs.Common.{◌≡◌, sym}
 use Rattle.pay_channel.proofs.Listing.{IsSound-blank, Follows-blank}
 use Rattle.pay_channel.proofs.channel.Channel.new.Goals as goal
 

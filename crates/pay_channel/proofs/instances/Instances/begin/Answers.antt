@@ -1,5 +1,5 @@
-use Rattle.std.proofs.Common.{◌≡◌, [], ap, sym, ◌∙◌, subst₂}
-use Rattle.pay_echo.specs.Meaning.{Meaning, meaning_of}
+use Rattle.std.proofs.Common.{ap, sym, ◌∙◌, subst₂}
+use Rattle.pay_echo.specs.Meaning.{Meaning}
 use Rattle.pay_echo.specs.Moves.{IsMoves}
 use Rattle.pay_channel.specs.History.{vote_by}
 use Rattle.pay_channel.specs.Group.{group_of}

@@ -1,4 +1,4 @@
-use Rattle.std.proofs.Common.{None, Option, List, ℕ, ap, sym, ◌∙◌, ◌≡◌}
+use Rattle.std.proofs.Common.{ap, sym, ◌∙◌}
 use Rattle.pay_echo.specs.Meaning.{Meaning, meaning_of}
 use Rattle.pay_echo.proofs.OneMore.{delivered-none}
 use Rattle.pay_channel.specs.State.{meaning_in}

@@ -1,9 +1,8 @@
-use Rattle.std.proofs.Common.{◌≡◌, ◌≢◌, ◌<◌, ℕ, ap, sym, ◌∙◌, subst, subst₂, []}
+use Rattle.std.proofs.Common.{◌≢◌, ◌<◌, ap, sym, ◌∙◌, subst, subst₂, []}
 use Rattle.std.proofs.lemmas.Result.{on_ok_weaker, on_err_weaker, IfOk-weaker}
 use Rattle.pay_echo.specs.Broadcast.{Group}
 use Rattle.pay_echo.specs.Meaning.{Meaning, meaning_of}
 use Rattle.pay_echo.specs.Moves.{IsMoves}
-use Rattle.pay_echo.specs.declared.moves.Moves.{Moves}
 use Rattle.pay_channel.specs.History.{vote_by}
 use Rattle.pay_channel.specs.Group.{group_of}
 use Rattle.pay_channel.specs.State.{meaning_in}
