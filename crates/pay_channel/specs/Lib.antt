@@ -1,1 +1,7 @@
 pub mod Source
+pub mod History
+pub mod State
+pub mod Applied
+pub mod Group
+pub mod Laws
+pub mod Examples

@@ -1,0 +1,47 @@
+-- What one event does to a channel.
+use Rattle.std.specs.Prelude.{◌≡◌, ℕ, ◌+◌, false, ◌++◌, List, length, Option, Some, None, if◌then◌else◌}
+use Rattle.pay_frame.specs.declared.kind.Kind.TheVariants.{Echo, Ready}
+use Rattle.pay_frame.specs.Frame.{BodyFields}
+use Rattle.pay_echo.specs.Broadcast.{Vote}
+use Rattle.pay_echo.specs.Meaning.{Meaning, Sees, became}
+use Rattle.pay_channel.specs.History.{Event, is_ask, owner_of, seq_of, vote_of, is_about, send_of, newly}
+use Rattle.pay_channel.specs.State.{State, meaning_at, lists_of}
+use Rattle.pay_channel.specs.declared.applied.Applied.{Applied}
+
+-- one vote more, or none
+abbrev pub SeesIfVote : Meaning → Meaning → Option Vote → Type 0
+SeesIfVote old new None = new ≡ old
+SeesIfVote old new (Some x) = Sees old new x
+
+-- what is said where a broadcast's meaning goes from old to new
+abbrev pub said : ℕ → ℕ → Meaning → Meaning → List BodyFields
+said a s old new = newly Echo a s old.echoed new.echoed ++ newly Ready a s old.readied new.readied
+
+-- The state after an event: its broadcast has one vote more, the others are as they were, and what
+-- became known is at the end of the sent list.
+pub record Takes (old new : State) (e : Event) : Type 0 where
+  pub group : new.group ≡ old.group
+  pub asks : new.asks ≡ (if is_ask e then old.asks + 1 else old.asks)
+  pub here : SeesIfVote (meaning_at old (owner_of old.group.own e) (seq_of old.asks e)) (meaning_at new (owner_of old.group.own e) (seq_of old.asks e)) (vote_of e)
+  pub others : (a s : ℕ) → is_about old.group.own a s old.asks e ≡ false → meaning_at new a s ≡ meaning_at old a s
+  pub sent :
+      new.sent
+      ≡ old.sent
+      ++ (send_of old.group.own old.asks e
+      ++ said (owner_of old.group.own e) (seq_of old.asks e)
+      (meaning_at old (owner_of old.group.own e) (seq_of old.asks e))
+      (meaning_at new (owner_of old.group.own e) (seq_of old.asks e)))
+
+-- what `apply` answers: what became known of the event's broadcast, and by how much its owner's list grew
+pub record IsApplied (old new : State) (e : Event) (applied : Applied) : Type 0 where
+  pub echo : applied.echo ≡ became (meaning_at old (owner_of old.group.own e) (seq_of old.asks e)).echoed (meaning_at new (owner_of old.group.own e) (seq_of old.asks e)).echoed
+  pub ready : applied.ready ≡ became (meaning_at old (owner_of old.group.own e) (seq_of old.asks e)).readied (meaning_at new (owner_of old.group.own e) (seq_of old.asks e)).readied
+  pub deliver : applied.deliver ≡ became (meaning_at old (owner_of old.group.own e) (seq_of old.asks e)).delivered (meaning_at new (owner_of old.group.own e) (seq_of old.asks e)).delivered
+  pub grown : length (lists_of old (owner_of old.group.own e)) + applied.grown ≡ length (lists_of new (owner_of old.group.own e))
+
+-- nothing that can be seen changed
+pub record IsAsBefore (old new : State) : Type 0 where
+  pub group : new.group ≡ old.group
+  pub asks : new.asks ≡ old.asks
+  pub sent : new.sent ≡ old.sent
+  pub meanings : (a s : ℕ) → meaning_at new a s ≡ meaning_at old a s

@@ -1,0 +1,124 @@
+-- One member's broadcast as functions of its history, the list of the events that it took, oldest first
+-- (Cachin, Guerraoui, Rodrigues, chapter 3: a Byzantine channel made of one double-echo broadcast for
+-- each owner and number).
+use Rattle.std.specs.Prelude.{◌≢◌, ℕ, ◌+◌, ◌<◌, ◌≤◌, zero, suc, Bool, true, false, ◌&&◌, ◌==◌, nat_lt, if◌then◌else◌, List, [], ◌∷◌, ◌++◌, length, Option, Some, None}
+use Rattle.std.specs.Option.{option_to_list}
+use Rattle.std.specs.List.{count_by}
+use Rattle.pay_frame.specs.declared.kind.Kind.{Kind}
+use Rattle.pay_frame.specs.declared.kind.Kind.TheVariants.{Send, Echo, Ready, Want}
+use Rattle.pay_frame.specs.Frame.{BodyFields, greatest_value}
+use Rattle.pay_echo.specs.Broadcast as one
+use Rattle.pay_echo.specs.Broadcast.{Group, Vote, echoed, readied, delivered}
+
+-- The member broadcasts a value of its own, or takes a body from another member.
+pub data Event : Type 0 where
+  Ask : List ℕ → Event
+  From : ℕ → BodyFields → Event
+
+-- what may come: values within a frame's limits, and bodies of other members about members
+abbrev pub IsEvent : Group → Event → Type 0
+IsEvent g (Ask v) = length v ≤ greatest_value
+IsEvent g (From p body) = (p < g.members) × (p ≢ g.own) × (body.owner < g.members) × (body.kind ≢ Want)
+
+abbrev pub is_ask : Event → Bool
+is_ask (Ask v) = true
+is_ask (From p body) = false
+
+-- the number of values of its own that the member broadcast
+unfoldable pub asks : List Event → ℕ
+asks history = count_by is_ask history
+
+-- the broadcast that an event is about, where k asks came before it: the k-th of one's own, or the body's
+abbrev pub owner_of : ℕ → Event → ℕ
+owner_of own (Ask v) = own
+owner_of own (From p body) = body.owner
+
+abbrev pub seq_of : ℕ → Event → ℕ
+seq_of k (Ask v) = k
+seq_of k (From p body) = body.seq
+
+abbrev pub vote_by : Kind → ℕ → List ℕ → Option Vote
+vote_by Send p v = Some (one.Send v)
+vote_by Echo p v = Some (one.Echo p v)
+vote_by Ready p v = Some (one.Ready p v)
+vote_by Want p v = None
+
+-- a SEND counts from its owner alone
+abbrev pub counts : ℕ → BodyFields → Bool
+counts p body = counts_as body.kind where
+  counts_as : Kind → Bool
+  counts_as Send = p == body.owner
+  counts_as Echo = true
+  counts_as Ready = true
+  counts_as Want = false
+
+-- the vote that an event is in its broadcast
+abbrev pub vote_of : Event → Option Vote
+vote_of (Ask v) = Some (one.Send v)
+vote_of (From p body) = if counts p body then vote_by body.kind p body.value else None
+
+abbrev pub is_about : ℕ → ℕ → ℕ → ℕ → Event → Bool
+is_about own a s k e = owner_of own e == a && seq_of k e == s
+
+-- an event's votes in the broadcast s of account a: one or none
+unfoldable pub votes_in : ℕ → ℕ → ℕ → ℕ → Event → List Vote
+votes_in own a s k e = if is_about own a s k e then option_to_list (vote_of e) else []
+
+-- the votes of a history, where k asks came before it
+abbrev pub votes_from : ℕ → ℕ → ℕ → ℕ → List Event → List Vote
+votes_from own a s k [] = []
+votes_from own a s k (e ∷ history) = votes_in own a s k e ++ votes_from own a s (if is_ask e then k + 1 else k) history
+
+-- All that a history says about the broadcast s of account a: the votes of one instance.
+unfoldable pub votes : ℕ → ℕ → ℕ → List Event → List Vote
+votes own a s history = votes_from own a s 0 history
+
+abbrev pub body_of : Kind → ℕ → ℕ → List ℕ → BodyFields
+body_of kind a s v = record { kind = kind; owner = a; seq = s; value = v }
+
+-- a body of this kind, where its value wasn't known before and now is
+abbrev pub newly : Kind → ℕ → ℕ → Option (List ℕ) → Option (List ℕ) → List BodyFields
+newly kind a s None (Some v) = body_of kind a s v ∷ []
+newly kind a s None None = []
+newly kind a s (Some w) new = []
+
+abbrev pub send_of : ℕ → ℕ → Event → List BodyFields
+send_of own k (Ask v) = body_of Send own k v ∷ []
+send_of own k (From p body) = []
+
+-- What is sent to all by an event that follows a history: SEND if it is an ask, then ECHO and READY if
+-- they became known by it.
+unfoldable pub says : Group → List Event → Event → List BodyFields
+says g history e =
+    let a = owner_of g.own e in
+    let s = seq_of (asks history) e in
+    let before = votes g.own a s history in
+    let after = votes g.own a s (history ++ e ∷ []) in
+    send_of g.own (asks history) e ++ newly Echo a s (echoed before) (echoed after) ++ newly Ready a s (readied g before) (readied g after)
+
+abbrev pub out_after : Group → List Event → List Event → List BodyFields
+out_after g before [] = []
+out_after g before (e ∷ history) = says g before e ++ out_after g (before ++ e ∷ []) history
+
+-- All that the member sent to all, in order. A frame's number is a place in this list.
+unfoldable pub out : Group → List Event → List BodyFields
+out g history = out_after g [] history
+
+-- the numbers that a broadcast may have
+abbrev pub seqs : ℕ
+seqs = 65536
+
+-- the values of numbers from s on, at most n of them, up to the first that is missing
+unfoldable pub known_from : (ℕ → Option (List ℕ)) → ℕ → ℕ → List (List ℕ)
+known_from value_at s zero = []
+known_from value_at s (suc n) = elim (value_at s) [ None ↦ [] | Some v ↦ v ∷ known_from value_at (s + 1) n ]
+
+-- an account's list: its values up to the first that is missing; nothing, where there is no such account
+unfoldable pub listed : Group → (ℕ → ℕ → Option (List ℕ)) → ℕ → List (List ℕ)
+listed g value_at a = if nat_lt a g.members then known_from (value_at a) 0 seqs else []
+
+unfoldable pub delivered_at : Group → List Event → ℕ → ℕ → Option (List ℕ)
+delivered_at g history a s = delivered g (votes g.own a s history)
+
+unfoldable pub list_of : Group → List Event → ℕ → List (List ℕ)
+list_of g history a = listed g (delivered_at g history) a

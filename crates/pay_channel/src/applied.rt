@@ -1,0 +1,9 @@
+/// What one event made known: that the member sends ECHO, sends READY, delivers, and by how many places
+/// the list of the event's owner grew.
+#[derive(Clone, Copy, Debug, PartialEq, Eq)]
+pub struct Applied {
+    pub echo: bool,
+    pub ready: bool,
+    pub deliver: bool,
+    pub grown: u32,
+}

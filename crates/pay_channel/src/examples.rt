@@ -1,0 +1,19 @@
+//! A worked example of the definitions, computed from them alone.
+
+ghost use Rattle.std.specs.Prelude.{◌≡◌, [], ◌∷◌};
+ghost use Rattle.pay_frame.specs.declared.kind.Kind.TheVariants.{Send, Echo, Ready};
+ghost use Rattle.pay_channel.specs.History.{body_of, out, delivered_at, list_of};
+ghost use Rattle.pay_channel.specs.Examples.{four, late_first_number, A, X, Y};
+
+/// What is sent to all: READY for each number, and SEND and ECHO of the ask; the SEND of account 3 by
+/// another member does nothing.
+pub fn late_first_number_out()
+    ensures { out four late_first_number ≡ body_of Ready 3 1 X ∷ body_of Ready 3 0 Y ∷ body_of Send 0 0 A ∷ body_of Echo 0 0 A ∷ [] }
+{}
+
+/// Number 1 is delivered before number 0; the list has both, in their order.
+pub fn late_first_number_list()
+    ensures delivered { delivered_at four late_first_number 3 1 ≡ Some X }
+    ensures listed { list_of four late_first_number 3 ≡ Y ∷ X ∷ [] }
+    ensures own { list_of four late_first_number 0 ≡ [] }
+{}

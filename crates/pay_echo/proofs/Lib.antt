@@ -1,0 +1,9 @@
+pub mod Lists
+pub mod Known
+pub mod OneMore
+pub mod StepLaw
+pub mod SecondVotes
+pub mod Clauses
+pub mod Sets
+pub mod VoteLaws
+pub mod WhyLaws

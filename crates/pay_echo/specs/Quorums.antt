@@ -1,0 +1,38 @@
+-- What holds of sets of processes and their sizes, as statements. Each is proved as a public law.
+use Rattle.std.specs.Prelude.{◌≡◌, ℕ, ◌+◌, ◌*◌, ◌<◌, ◌≤◌, Bool, true, false, not, ◌&&◌}
+use Rattle.pay_echo.specs.Broadcast.{size}
+
+abbrev pub SizeIsAtMost : Type 0
+SizeIsAtMost = (n : ℕ) (set : ℕ → Bool) → size n set ≤ n
+
+-- a set and the processes outside it are all
+abbrev pub SizeOfOthers : Type 0
+SizeOfOthers = (n : ℕ) (set : ℕ → Bool) → size n set + size n (λ p. not (set p)) ≡ n
+
+abbrev pub PartIsSmaller : Type 0
+PartIsSmaller = (n : ℕ) (part set : ℕ → Bool) → ((p : ℕ) → p < n → part p ≡ true → set p ≡ true) → size n part ≤ size n set
+
+-- two sets of which each has a size c with 2c > N + f share more than f processes
+abbrev pub QuorumsShare : Type 0
+QuorumsShare =
+    (n f : ℕ) (one other : ℕ → Bool) → n + f < 2 * size n one → n + f < 2 * size n other
+    → f < size n (λ p. one p && other p)
+
+abbrev pub LargerHasAnother : Type 0
+LargerHasAnother =
+    (n : ℕ) (larger smaller : ℕ → Bool) → size n smaller < size n larger
+    → (p : ℕ) × (p < n) × (larger p ≡ true) × (smaller p ≡ false)
+
+-- where N > 3f, all but f processes are enough for a quorum
+abbrev pub RestIsQuorum : Type 0
+RestIsQuorum = (n f c : ℕ) → 3 * f < n → n ≤ c + f → n + f < 2 * c
+
+-- a quorum has more than f processes
+abbrev pub QuorumIsMore : Type 0
+QuorumIsMore = (n f : ℕ) (set : ℕ → Bool) → n + f < 2 * size n set → f < size n set
+
+-- of more than 2f processes more than f remain without any f
+abbrev pub MoreRemain : Type 0
+MoreRemain =
+    (n f : ℕ) (set faulty : ℕ → Bool) → 2 * f < size n set → size n faulty ≤ f
+    → f < size n (λ p. set p && not (faulty p))

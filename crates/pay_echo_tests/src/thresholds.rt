@@ -1,0 +1,104 @@
+ghost use Rattle.std.specs.Prelude.{◌≡◌, ◌≤◌, ◌<◌};
+
+use pay_echo::{Instance, MOST_MEMBERS, PlainInstance};
+use std::alloc::{AllocError, Global};
+use std::test::Fail;
+
+const A: &[u8] = b"A";
+
+// How many ECHOs there are, one's own included, when READY comes; 0 where it never comes.
+fn echo_threshold<I: Instance + Drop>(
+    alloc: Global,
+    members: u16,
+    faults: u16,
+) -> Result<u16, AllocError>
+    requires few { members ≤ MOST_MEMBERS }
+    requires some { 0 < members }
+{
+    let mut instance = I::fresh(alloc, members, faults, 0)?;
+    if instance.send(alloc, A)?.ready {
+        return Ok(1);
+    }
+    for process in 1..members {
+        if instance.echo(alloc, process, A)?.ready {
+            return Ok(process + 1);
+        }
+    }
+    Ok(0)
+}
+
+// How many READYs of others there are when one's own comes and when the delivery comes; 0 where it never comes.
+fn ready_thresholds<I: Instance + Drop>(
+    alloc: Global,
+    members: u16,
+    faults: u16,
+) -> Result<(u16, u16), AllocError>
+    requires few { members ≤ MOST_MEMBERS }
+    requires some { 0 < members }
+{
+    let mut instance = I::fresh(alloc, members, faults, 0)?;
+    let mut ready = 0;
+    for process in 1..members {
+        let moves = instance.ready(alloc, process, A)?;
+        if moves.ready {
+            ready = process;
+        }
+        if moves.deliver {
+            return Ok((ready, process));
+        }
+    }
+    Ok((ready, 0))
+}
+
+// For every allowed group the quorum of ECHOs is the least c with 2c > N + f, amplification takes f + 1
+// READYs, delivery 2f + 1, the own one included.
+#[test]
+fn thresholds_of_all_groups(rt: HostRuntime) -> Result<(), Fail> {
+    for members in 1..=MOST_MEMBERS {
+        for faults in 0..members.div_ceil(3) {
+            let echoes = echo_threshold::<PlainInstance>(rt.alloc(), members, faults)?;
+            assert_eq!(rt;
+                echoes,
+                (members + faults) / 2 + 1,
+                "the quorum at {members} and {faults}"
+            );
+            if members > 1 {
+                let (ready, deliver) = ready_thresholds::<PlainInstance>(
+                    rt.alloc(),
+                    members,
+                    faults,
+                )?;
+                assert_eq!(rt;
+                    ready,
+                    faults + 1,
+                    "amplification at {members} and {faults}"
+                );
+                assert_eq!(rt;
+                    deliver,
+                    (2 * faults).max(1),
+                    "delivery at {members} and {faults}"
+                );
+            }
+        }
+    }
+    Ok(())
+}
+
+#[test]
+fn thresholds_of_named_groups(rt: HostRuntime) -> Result<(), Fail> {
+    for (members, faults, echoes) in [(1, 0, 1), (4, 1, 3), (64, 21, 43)] {
+        assert_eq!(rt;
+            echo_threshold::<PlainInstance>(rt.alloc(), members, faults)?,
+            echoes
+        );
+    }
+    assert_eq!(rt;
+        ready_thresholds::<PlainInstance>(rt.alloc(), 4, 1)?,
+        (2, 2)
+    );
+    assert_eq!(rt;
+        ready_thresholds::<PlainInstance>(rt.alloc(), 64, 21)?,
+        (22, 42)
+    );
+    Ok(())
+}
