@@ -1,14 +1,13 @@
 -- How the text of a stream ends.
-use Rattle.std.proofs.Common.{◌≡◌, ℕ, ◌+◌, ◌-◌, ◌<◌, ◌≤◌, List, [], ◌∷◌, ◌++◌, length, take, refl, sym, ◌∙◌, ap, subst, arith, append_assoc, Option, Some, None, inl, inr, Ok, Err, min}
-use Rattle.std.specs.Prelude.{is_some, if◌then◌else◌}
+use Rattle.std.proofs.Common.{◌≡◌, ℕ, ◌-◌, ◌≤◌, List, [], ◌++◌, length, take, refl, sym, ◌∙◌, ap, subst, arith, append_assoc, Option, Some, None, inl, inr, Err, min}
 use Rattle.std.proofs.lemmas.List.{append-nil, take_all}
 use Rattle.pay_frame.specs.declared.fault.FrameFault.{FrameFault}
 use Rattle.pay_frame.specs.Cutting.{Held, Feeds, EndsWith}
-use Rattle.pay_frame.specs.Reading.{IsProperBeginning, IsFault}
+use Rattle.pay_frame.specs.Reading.{IsProperBeginning}
 use Rattle.pay_link.specs.Keys.{KeyFields}
 use Rattle.pay_cli.specs.declared.progress.Progress.{Progress}
 use Rattle.pay_cli.specs.Lines.{fault_line}
-use Rattle.pay_cli.specs.CheckText.{IsText, Nothing, Line, CutOff, Faulty}
+use Rattle.pay_cli.specs.CheckText.{IsText, Nothing, CutOff, Faulty}
 use Rattle.pay_cli.specs.Continuing.{Pushes, PushesAll, PushesToFault}
 use Rattle.pay_cli.specs.Engine.{with_piece, PushesEnding, PushesEnd}
 use Rattle.pay_cli.proofs.Faults.{fault_stays, beginning_is_short}

@@ -1,7 +1,7 @@
 -- A fault stays, whatever follows the bytes; and how long a beginning of a frame may be.
-use Rattle.std.proofs.Common.{◌≡◌, ℕ, zero, suc, ◌+◌, ◌-◌, ◌<◌, ◌≤◌, List, [], ◌∷◌, ◌++◌, length, get_or, take, drop, refl, sym, ◌∙◌, ap, subst, arith, append_assoc, Option, Some, None, inl, inr}
+use Rattle.std.proofs.Common.{◌≡◌, ℕ, zero, suc, ◌+◌, ◌<◌, ◌≤◌, List, ◌++◌, length, get_or, take, drop, refl, sym, ◌∙◌, ap, subst, arith, inl, inr}
 use Rattle.std.proofs.lemmas.Bool.{cases_lt}
-use Rattle.std.proofs.lemmas.List.{append-nil, length-append, length-take-le, take-append-drop, take-append-le, get_or_append_left, take_at}
+use Rattle.std.proofs.lemmas.List.{length-append, take-append-drop, take-append-le, get_or_append_left, take_at}
 use Rattle.pay_frame.specs.declared.fault.FrameFault.{FrameFault}
 use Rattle.pay_frame.specs.Frame.{FrameFields, frame_bytes, IsFrame}
 use Rattle.pay_frame.specs.Reading.{HasFrame, StartsFrame, IsProperBeginning, IsFault, fault_at}
@@ -25,7 +25,7 @@ starts_within x more rest f k is spelled le within = record {
   is = is;
   rest = drop k (frame_bytes f);
   spelled = sym (take-append-drop k (frame_bytes f))
-    ∙ ap (λ (xs : List ℕ). xs ++ drop k (frame_bytes f)) (sym (take-append-le k (frame_bytes f) rest within) ∙ ap (take k) (sym spelled) ∙ front x more k le);
+      ∙ ap (λ (xs : List ℕ). xs ++ drop k (frame_bytes f)) (sym (take-append-le k (frame_bytes f) rest within) ∙ ap (take k) (sym spelled) ∙ front x more k le);
 }
 
 frame_within : (x more rest : List ℕ) (f : FrameFields) → IsFrame f → x ++ more ≡ frame_bytes f ++ rest → length (frame_bytes f) ≤ length x → HasFrame x f

@@ -1,5 +1,5 @@
 -- The engine between two reads: what it has read and written so far.
-use Rattle.std.proofs.Common.{◌≡◌, ℕ, ◌+◌, ◌*◌, ◌-◌, ◌<◌, ◌≤◌, List, [], ◌∷◌, ◌++◌, length, get_or, take, refl, sym, ◌∙◌, ap, subst, arith, append_assoc, Option, Some, None, Result, Ok, Err, inl, inr}
+use Rattle.std.proofs.Common.{◌≡◌, ℕ, ◌+◌, ◌<◌, ◌≤◌, List, [], ◌++◌, length, get_or, take, refl, sym, ◌∙◌, ap, subst, arith, append_assoc, Option, Some, None, Result, Ok, Err, inl, inr}
 use Rattle.std.specs.Prelude.{replicate, IfSome, OnOk, OnErr, true, false, ⊤}
 use Rattle.std.specs.Result.{is_err}
 use Rattle.std.specs.Io.KnownBytes.{Appends, Consumes, IsAtEnd}
@@ -16,8 +16,8 @@ use Rattle.pay_frame.proofs.Lists.{IsBytes-none}
 use Rattle.pay_frame.proofs.Answering.{beginning_from_short}
 use Rattle.pay_link.specs.Keys.{KeyFields}
 use Rattle.pay_cli.specs.declared.progress.Progress.{Progress}
-use Rattle.pay_cli.specs.CheckText.{IsText, IsCheckText, at_start}
-use Rattle.pay_cli.specs.Continuing.{Rest, Continues, IsInLine, Pushes, PushesAll}
+use Rattle.pay_cli.specs.CheckText.{IsText, at_start}
+use Rattle.pay_cli.specs.Continuing.{Continues, IsInLine, PushesAll}
 use Rattle.pay_cli.specs.Engine.{Writes, WritesText, WritesBeginning, Finishes, with_piece, PushesEnding, PushesEnd}
 use Rattle.pay_cli.proofs.Texts.{goes_nowhere, goes_further, comes_more}
 use Rattle.pay_cli.proofs.OneText.{one_text}
@@ -84,7 +84,7 @@ going_at_start k r w p c start empty =
 -- ---- a piece
 
 pub goes_on : (k : KeyFields) (r0 r r1 w0 w w1 : Option (List ℕ)) (p p1 : Progress) (c c1 : Held) (piece text : List ℕ) (most total : ℕ) → IsGoing k r0 r w0 w p c most → Consumes r r1 piece
-  → PushesAll k p (with_piece c piece) [] p1 c1 text → Appends w w1 text → most + length piece ≤ total → IsGoing k r0 r1 w0 w1 p1 c1 total
+    → PushesAll k p (with_piece c piece) [] p1 c1 text → Appends w w1 text → most + length piece ≤ total → IsGoing k r0 r1 w0 w1 p1 c1 total
 goes_on k r0 r r1 w0 w w1 p p1 c c1 piece text most total g consumed pushed appended fits =
     let pushes = pushed.pushes in
     let new : text ≡ pushes.written = pushes.appended in
@@ -96,7 +96,7 @@ goes_on k r0 r r1 w0 w w1 p p1 c c1 piece text most total g consumed pushed appe
       consumed = consumes_more r0 r r1 g.eaten piece g.consumed consumed;
       appended = appends_more w0 w w1 g.written pushes.written g.appended (subst (λ (xs : List ℕ). Appends w w1 xs) new appended);
       continues = goes_further k (at_start k) p p1 (g.eaten ++ piece) (c.bytes ++ piece) c1.bytes g.written pushes.written
-        (comes_more k (at_start k) p g.eaten g.written c.bytes piece g.continues) pushes.continues;
+          (comes_more k (at_start k) p g.eaten g.written c.bytes piece g.continues) pushes.continues;
       in_line = pushes.in_line;
       begins = pushed.begins;
       met = pushed.met;
@@ -105,31 +105,33 @@ goes_on k r0 r r1 w0 w w1 p p1 c c1 piece text most total g consumed pushed appe
     }
 
 pub ends_with_fault : (k : KeyFields) (r0 r r1 w0 w w1 : Option (List ℕ)) (p : Progress) (c : Held) (piece text : List ℕ) (fault : FrameFault) (most : ℕ) → IsGoing k r0 r w0 w p c most → Consumes r r1 piece
-  → PushesEnding k p (c.bytes ++ piece) [] text fault → Appends w w1 text → WritesText k r0 w0 w1 (Some fault)
+    → PushesEnding k p (c.bytes ++ piece) [] text fault → Appends w w1 text → WritesText k r0 w0 w1 (Some fault)
 ends_with_fault k None r r1 w0 w w1 p c piece text fault most g consumed pushed appended = tt
 ends_with_fault k (Some input) None r1 w0 w w1 p c piece text fault most g consumed pushed appended = absurd g.consumed
 ends_with_fault k (Some input) (Some rest) None w0 w w1 p c piece text fault most g consumed pushed appended = absurd consumed
 ends_with_fault k (Some input) (Some rest) (Some left) w0 w w1 p c piece text fault most g consumed pushed appended =
     let later : IsText k p (c.bytes ++ rest) pushed.written (Some fault) =
-      subst (λ (xs : List ℕ). IsText k p xs pushed.written (Some fault)) (append_assoc c.bytes piece left ∙ ap (λ (xs : List ℕ). c.bytes ++ xs) (sym consumed)) (pushed.is left)
+    subst (λ (xs : List ℕ). IsText k p xs pushed.written (Some fault)) (append_assoc c.bytes piece left ∙ ap (λ (xs : List ℕ). c.bytes ++ xs) (sym consumed)) (pushed.is left)
     in
-    let whole = g.continues.goes_on rest pushed.written (Some fault) later in
-    (g.written ++ pushed.written,
+    let whole = g.continues.goes_on rest pushed.written (Some fault) later in (
+      g.written ++ pushed.written,
       subst (λ (xs : List ℕ). IsText k (at_start k) xs (g.written ++ pushed.written) (Some fault)) (sym g.consumed) whole,
-      appends_more w0 w w1 g.written pushed.written g.appended (subst (λ (xs : List ℕ). Appends w w1 xs) pushed.appended appended))
+      appends_more w0 w w1 g.written pushed.written g.appended (subst (λ (xs : List ℕ). Appends w w1 xs) pushed.appended appended),
+    )
 
 pub ends : (k : KeyFields) (r0 r r1 w0 w w1 : Option (List ℕ)) (p : Progress) (c : Held) (text : List ℕ) (ending : Option FrameFault) (most : ℕ) → IsGoing k r0 r w0 w p c most → Consumes r r1 [] → IsAtEnd r1
-  → PushesEnd k p c.bytes [] text ending → Appends w w1 text → WritesText k r0 w0 w1 ending
+    → PushesEnd k p c.bytes [] text ending → Appends w w1 text → WritesText k r0 w0 w1 ending
 ends k None r r1 w0 w w1 p c text ending most g consumed end pushed appended = tt
 ends k (Some input) None r1 w0 w w1 p c text ending most g consumed end pushed appended = absurd g.consumed
 ends k (Some input) (Some rest) None w0 w w1 p c text ending most g consumed end pushed appended = absurd consumed
 ends k (Some input) (Some rest) (Some left) w0 w w1 p c text ending most g consumed end pushed appended =
     let none : rest ≡ [] = consumed ∙ end in
     let later : IsText k p (c.bytes ++ rest) pushed.written ending = subst (λ (xs : List ℕ). IsText k p xs pushed.written ending) (sym (append-nil c.bytes) ∙ ap (λ (xs : List ℕ). c.bytes ++ xs) (sym none)) pushed.is in
-    let whole = g.continues.goes_on rest pushed.written ending later in
-    (g.written ++ pushed.written,
+    let whole = g.continues.goes_on rest pushed.written ending later in (
+      g.written ++ pushed.written,
       subst (λ (xs : List ℕ). IsText k (at_start k) xs (g.written ++ pushed.written) ending) (sym g.consumed) whole,
-      appends_more w0 w w1 g.written pushed.written g.appended (subst (λ (xs : List ℕ). Appends w w1 xs) pushed.appended appended))
+      appends_more w0 w w1 g.written pushed.written g.appended (subst (λ (xs : List ℕ). Appends w w1 xs) pushed.appended appended),
+    )
 
 -- ---- a beginning of the text
 
@@ -157,8 +159,8 @@ wrote_part w0 w w1 written out text appended wrote behind parts t =
     let within = wrote.within in
     let longer : length out ≤ length behind = omega (arith, ap length t.parts, length-append out t.tail) in
     let front : take (length written + wrote.count) text ≡ written ++ take wrote.count out =
-      ap (take (length written + wrote.count)) parts ∙ take-append-add written behind wrote.count
-      ∙ ap (λ (xs : List ℕ). written ++ xs) (ap (take wrote.count) t.parts ∙ take-append-le wrote.count out t.tail within)
+    ap (take (length written + wrote.count)) parts ∙ take-append-add written behind wrote.count
+    ∙ ap (λ (xs : List ℕ). written ++ xs) (ap (take wrote.count) t.parts ∙ take-append-le wrote.count out t.tail within)
     in
     record {
       count = length written + wrote.count;
@@ -182,7 +184,7 @@ begins_all k p p1 c c1 None r1 piece out consumed pushed = tt
 begins_all k p p1 c c1 (Some rest) None piece out consumed pushed = absurd consumed
 begins_all k p p1 c c1 (Some rest) (Some left) piece out consumed pushed = λ text ending is.
     let behind = pushed.pushes.continues.begins left text ending
-      (subst (λ (xs : List ℕ). IsText k p xs text ending) (ap (λ (xs : List ℕ). c.bytes ++ xs) consumed ∙ sym (append_assoc c.bytes piece left)) is)
+    (subst (λ (xs : List ℕ). IsText k p xs text ending) (ap (λ (xs : List ℕ). c.bytes ++ xs) consumed ∙ sym (append_assoc c.bytes piece left)) is)
     in
     record { tail = behind.rest; parts = behind.parts ∙ ap (λ (xs : List ℕ). xs ++ behind.rest) (sym pushed.pushes.appended) }
 
@@ -191,7 +193,7 @@ begins_ending k p c None r1 piece out fault consumed pushed = tt
 begins_ending k p c (Some rest) None piece out fault consumed pushed = absurd consumed
 begins_ending k p c (Some rest) (Some left) piece out fault consumed pushed = λ text ending is.
     let same = one_text k p ((c.bytes ++ piece) ++ left) text pushed.written ending (Some fault)
-      (subst (λ (xs : List ℕ). IsText k p xs text ending) (ap (λ (xs : List ℕ). c.bytes ++ xs) consumed ∙ sym (append_assoc c.bytes piece left)) is) (pushed.is left)
+    (subst (λ (xs : List ℕ). IsText k p xs text ending) (ap (λ (xs : List ℕ). c.bytes ++ xs) consumed ∙ sym (append_assoc c.bytes piece left)) is) (pushed.is left)
     in
     record { tail = []; parts = same ∙ sym pushed.appended ∙ sym (append-nil out) }
 
@@ -200,26 +202,26 @@ begins_end k p c None r1 out fault consumed end pushed = tt
 begins_end k p c (Some rest) None out fault consumed end pushed = absurd consumed
 begins_end k p c (Some rest) (Some left) out fault consumed end pushed = λ text ending is.
     let same = one_text k p c.bytes text pushed.written ending fault
-      (subst (λ (xs : List ℕ). IsText k p xs text ending) (ap (λ (xs : List ℕ). c.bytes ++ xs) (consumed ∙ end) ∙ append-nil c.bytes) is) pushed.is
+    (subst (λ (xs : List ℕ). IsText k p xs text ending) (ap (λ (xs : List ℕ). c.bytes ++ xs) (consumed ∙ end) ∙ append-nil c.bytes) is) pushed.is
     in
     record { tail = []; parts = same ∙ sym pushed.appended ∙ sym (append-nil out) }
 
 pub failed_in_lines : (k : KeyFields) (r0 r r1 w0 w w1 : Option (List ℕ)) (p p1 : Progress) (c c1 : Held) (piece out : List ℕ) (most : ℕ) → IsGoing k r0 r w0 w p c most → Consumes r r1 piece
-  → PushesAll k p (with_piece c piece) [] p1 c1 out → WroteBeginning w w1 out → WritesBeginning k r0 w0 w1
+    → PushesAll k p (with_piece c piece) [] p1 c1 out → WroteBeginning w w1 out → WritesBeginning k r0 w0 w1
 failed_in_lines k r0 r r1 w0 w w1 p p1 c c1 piece out most g consumed pushed wrote = write_failed k r0 r w0 w w1 p c out most g (begins_all k p p1 c c1 r r1 piece out consumed pushed) wrote
 
 pub failed_at_fault : (k : KeyFields) (r0 r r1 w0 w w1 : Option (List ℕ)) (p : Progress) (c : Held) (piece out : List ℕ) (fault : FrameFault) (most : ℕ) → IsGoing k r0 r w0 w p c most → Consumes r r1 piece
-  → PushesEnding k p (c.bytes ++ piece) [] out fault → WroteBeginning w w1 out → WritesBeginning k r0 w0 w1
+    → PushesEnding k p (c.bytes ++ piece) [] out fault → WroteBeginning w w1 out → WritesBeginning k r0 w0 w1
 failed_at_fault k r0 r r1 w0 w w1 p c piece out fault most g consumed pushed wrote = write_failed k r0 r w0 w w1 p c out most g (begins_ending k p c r r1 piece out fault consumed pushed) wrote
 
 pub failed_at_end : (k : KeyFields) (r0 r r1 w0 w w1 : Option (List ℕ)) (p : Progress) (c : Held) (out : List ℕ) (fault : Option FrameFault) (most : ℕ) → IsGoing k r0 r w0 w p c most → Consumes r r1 [] → IsAtEnd r1
-  → PushesEnd k p c.bytes [] out fault → WroteBeginning w w1 out → WritesBeginning k r0 w0 w1
+    → PushesEnd k p c.bytes [] out fault → WroteBeginning w w1 out → WritesBeginning k r0 w0 w1
 failed_at_end k r0 r r1 w0 w w1 p c out fault most g consumed end pushed wrote = write_failed k r0 r w0 w w1 p c out most g (begins_end k p c r r1 out fault consumed end pushed) wrote
 
 -- ---- how the engine ends
 
 pub finished_at_end : (k : KeyFields) (r0 r r1 w0 w w1 : Option (List ℕ)) (p : Progress) (c : Held) (out : List ℕ) (fault : Option FrameFault) (most : ℕ) → IsGoing k r0 r w0 w p c most → Consumes r r1 [] → IsAtEnd r1
-  → PushesEnd k p c.bytes [] out fault → (result : Result ⊤ EngineFault) → Finishes w w1 out fault result → Writes k r0 r1 w0 w1 result
+    → PushesEnd k p c.bytes [] out fault → (result : Result ⊤ EngineFault) → Finishes w w1 out fault result → Writes k r0 r1 w0 w1 result
 finished_at_end k r0 r r1 w0 w w1 p c out fault most g consumed end pushed (Ok done) f =
     (ends k r0 r r1 w0 w w1 p c out None most g consumed end (subst (λ (e : Option FrameFault). PushesEnd k p c.bytes [] out e) f.1 pushed) f.0, end)
 finished_at_end k r0 r r1 w0 w w1 p c out fault most g consumed end pushed (Err (Frame found)) f =
@@ -230,7 +232,7 @@ finished_at_end k r0 r r1 w0 w w1 p c out fault most g consumed end pushed (Err 
 finished_at_end k r0 r r1 w0 w w1 p c out fault most g consumed end pushed (Err Bound) f = absurd f
 
 pub finished_at_fault : (k : KeyFields) (r0 r r1 w0 w w1 : Option (List ℕ)) (p : Progress) (c : Held) (piece out : List ℕ) (fault : FrameFault) (most : ℕ) → IsGoing k r0 r w0 w p c most → Consumes r r1 piece
-  → PushesEnding k p (c.bytes ++ piece) [] out fault → (result : Result ⊤ EngineFault) → Finishes w w1 out (Some fault) result → Writes k r0 r1 w0 w1 result
+    → PushesEnding k p (c.bytes ++ piece) [] out fault → (result : Result ⊤ EngineFault) → Finishes w w1 out (Some fault) result → Writes k r0 r1 w0 w1 result
 finished_at_fault k r0 r r1 w0 w w1 p c piece out fault most g consumed pushed (Ok done) f = let never = f.1 in absurd cc
 finished_at_fault k r0 r r1 w0 w w1 p c piece out fault most g consumed pushed (Err (Frame found)) f =
     let same : fault ≡ found = let e = f.1 in cc in

@@ -1,9 +1,9 @@
 -- A list of bytes has one text.
-use Rattle.std.proofs.Common.{◌≡◌, ℕ, ◌+◌, ◌<◌, List, [], ◌∷◌, ◌++◌, length, refl, sym, ◌∙◌, ap, arith, Option, Some, None, Ok, Err, Result}
+use Rattle.std.proofs.Common.{◌≡◌, ℕ, ◌<◌, List, [], ◌++◌, length, sym, ◌∙◌, ap, arith, Option, None, Ok, Err, Result}
 use Rattle.std.proofs.lemmas.List.{length-append}
 use Rattle.pay_frame.specs.declared.fault.FrameFault.{FrameFault}
-use Rattle.pay_frame.specs.Frame.{FrameFields, frame_bytes, IsFrame}
-use Rattle.pay_frame.specs.Reading.{HasFrame, IsProperBeginning, IsFault, IsReading}
+use Rattle.pay_frame.specs.Frame.{FrameFields, frame_bytes}
+use Rattle.pay_frame.specs.Reading.{IsProperBeginning, IsFault}
 use Rattle.pay_frame.specs.declared.fault.FrameFault.TheVariants.{Truncated}
 use Rattle.pay_frame.proofs.Starting.{length-frame}
 use Rattle.pay_frame.proofs.OneReading.{one_reading, drained_from_beginning}

@@ -1,7 +1,6 @@
 -- What opens is the frame that was judged.
-use Rattle.std.proofs.Common.{◌≡◌, ℕ, ◌<◌, List, length, sym, ap, ◌∙◌, subst, Ok, Result}
+use Rattle.std.proofs.Common.{◌≡◌, ◌<◌, length, ap, Ok}
 use Rattle.pay_frame.specs.Frame.{FrameFields}
-use Rattle.pay_link.specs.declared.link_fault.LinkFault.{LinkFault}
 use Rattle.pay_link.specs.Keys.{KeyFields}
 use Rattle.pay_link.specs.Opening.{OpenedFields, judgement}
 use Rattle.pay_link.proofs.Judged.{opened_law}

@@ -1,5 +1,5 @@
 -- The text of a stream, line by line.
-use Rattle.std.proofs.Common.{◌≡◌, ◌≢◌, ℕ, ◌+◌, ◌<◌, ◌≤◌, List, [], ◌∷◌, ◌++◌, length, get_or, set, refl, sym, ◌∙◌, ap, subst, arith, append_assoc, Option, Some, None, inl, inr, Ok, Err, Result}
+use Rattle.std.proofs.Common.{◌≡◌, ℕ, ◌+◌, ◌<◌, List, [], ◌++◌, length, get_or, set, refl, sym, ◌∙◌, ap, subst, arith, append_assoc, Option, None, inl, inr, Ok, Err, Result}
 use Rattle.std.specs.Prelude.{⊤}
 use Rattle.std.proofs.lemmas.Bool.{cases_eq, cases_lt}
 use Rattle.std.proofs.lemmas.List.{append-nil, length-append, length-set, get_or-set_same, get_or-set_other, get_or_past}
@@ -8,7 +8,7 @@ use Rattle.pay_frame.specs.declared.kind.Kind.{Kind}
 use Rattle.pay_frame.specs.declared.kind.Kind.TheVariants.{Send, Echo, Ready, Want}
 use Rattle.pay_frame.specs.Frame.{FrameFields, frame_bytes, IsFrame}
 use Rattle.pay_frame.specs.Cutting.{Held, HandsOut}
-use Rattle.pay_frame.specs.Reading.{HasFrame, IsFault}
+use Rattle.pay_frame.specs.Reading.{IsFault}
 use Rattle.pay_frame.proofs.OneReading.{same_front, drained_from_beginning}
 use Rattle.pay_frame.proofs.Starting.{length-frame}
 use Rattle.pay_link.specs.declared.link_fault.LinkFault.{LinkFault}
@@ -18,7 +18,7 @@ use Rattle.pay_link.specs.Opening.{OpenedFields, judgement}
 use Rattle.pay_cli.specs.declared.progress.Progress.{Progress}
 use Rattle.pay_cli.specs.Lines.{line_of, moved, turn_fronts, opened_fronts, judged_fronts}
 use Rattle.pay_cli.specs.CheckText.{IsText, Nothing, Line, CutOff, Faulty}
-use Rattle.pay_cli.specs.Continuing.{Rest, Continues, IsInLine, Pushes, PushesToFault}
+use Rattle.pay_cli.specs.Continuing.{Continues, IsInLine, Pushes, PushesToFault}
 
 -- ---- the first line
 
@@ -51,39 +51,39 @@ goes_nowhere k p bytes = record {
 pub goes_a_line : (k : KeyFields) (first p : Progress) (bytes written held : List ℕ) (f : FrameFields) (rest : List ℕ) → IsFrame f → held ≡ frame_bytes f ++ rest → Continues k first bytes written p held → Continues k first bytes (written ++ line_of k p f) (moved k p f) rest
 goes_a_line k first p bytes written held f rest is front c = record {
   goes_on = λ more text ending later.
-    let line : IsText k p (held ++ more) (line_of k p f ++ text) ending =
+      let line : IsText k p (held ++ more) (line_of k p f ++ text) ending =
       Line f (rest ++ more) text is (ap (λ (xs : List ℕ). xs ++ more) front ∙ append_assoc (frame_bytes f) rest more) refl later
-    in
-    subst (λ (xs : List ℕ). IsText k first (bytes ++ more) xs ending) (sym (append_assoc written (line_of k p f) text)) (c.goes_on more (line_of k p f ++ text) ending line);
+      in
+      subst (λ (xs : List ℕ). IsText k first (bytes ++ more) xs ending) (sym (append_assoc written (line_of k p f) text)) (c.goes_on more (line_of k p f ++ text) ending line);
   begins = λ more text ending whole.
-    let behind = c.begins more text ending whole in
-    let line = after_first k p f (held ++ more) (rest ++ more) behind.rest ending is (ap (λ (xs : List ℕ). xs ++ more) front ∙ append_assoc (frame_bytes f) rest more) behind.is in
-    record {
-      rest = line.more;
-      parts = behind.parts ∙ ap (λ (xs : List ℕ). written ++ xs) line.parts ∙ sym (append_assoc written (line_of k p f) line.more);
-      is = line.is;
-    };
+      let behind = c.begins more text ending whole in
+      let line = after_first k p f (held ++ more) (rest ++ more) behind.rest ending is (ap (λ (xs : List ℕ). xs ++ more) front ∙ append_assoc (frame_bytes f) rest more) behind.is in
+      record {
+        rest = line.more;
+        parts = behind.parts ∙ ap (λ (xs : List ℕ). written ++ xs) line.parts ∙ sym (append_assoc written (line_of k p f) line.more);
+        is = line.is;
+      };
 }
 
 pub goes_further : (k : KeyFields) (a b c : Progress) (x y z v w : List ℕ) → Continues k a x v b y → Continues k b y w c z → Continues k a x (v ++ w) c z
 goes_further k a b c x y z v w p q = record {
   goes_on = λ more text ending is.
-    subst (λ (xs : List ℕ). IsText k a (x ++ more) xs ending) (sym (append_assoc v w text)) (p.goes_on more (w ++ text) ending (q.goes_on more text ending is));
+      subst (λ (xs : List ℕ). IsText k a (x ++ more) xs ending) (sym (append_assoc v w text)) (p.goes_on more (w ++ text) ending (q.goes_on more text ending is));
   begins = λ more text ending is.
-    let first = p.begins more text ending is in
-    let second = q.begins more first.rest ending first.is in
-    record { rest = second.rest; parts = first.parts ∙ ap (λ (xs : List ℕ). v ++ xs) second.parts ∙ sym (append_assoc v w second.rest); is = second.is };
+      let first = p.begins more text ending is in
+      let second = q.begins more first.rest ending first.is in
+      record { rest = second.rest; parts = first.parts ∙ ap (λ (xs : List ℕ). v ++ xs) second.parts ∙ sym (append_assoc v w second.rest); is = second.is };
 }
 
 -- more bytes came
 pub comes_more : (k : KeyFields) (a b : Progress) (x written y piece : List ℕ) → Continues k a x written b y → Continues k a (x ++ piece) written b (y ++ piece)
 comes_more k a b x written y piece c = record {
   goes_on = λ more text ending is.
-    subst (λ (xs : List ℕ). IsText k a xs (written ++ text) ending) (sym (append_assoc x piece more))
+      subst (λ (xs : List ℕ). IsText k a xs (written ++ text) ending) (sym (append_assoc x piece more))
       (c.goes_on (piece ++ more) text ending (subst (λ (xs : List ℕ). IsText k b xs text ending) (append_assoc y piece more) is));
   begins = λ more text ending is.
-    let rest = c.begins (piece ++ more) text ending (subst (λ (xs : List ℕ). IsText k a xs text ending) (append_assoc x piece more) is) in
-    record { rest = rest.rest; parts = rest.parts; is = subst (λ (xs : List ℕ). IsText k b xs rest.rest ending) (sym (append_assoc y piece more)) rest.is };
+      let rest = c.begins (piece ++ more) text ending (subst (λ (xs : List ℕ). IsText k a xs text ending) (append_assoc x piece more) is) in
+      record { rest = rest.rest; parts = rest.parts; is = subst (λ (xs : List ℕ). IsText k b xs rest.rest ending) (sym (append_assoc y piece more)) rest.is };
 }
 
 -- ---- fronts stay behind the lines

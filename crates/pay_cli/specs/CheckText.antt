@@ -12,13 +12,13 @@ use Rattle.pay_cli.specs.Lines.{line_of, moved, fault_line}
 -- nothing; a frame and what follows it; a frame that is cut off; or a fault.
 pub data IsText (k : KeyFields) : Progress → List ℕ → List ℕ → Option FrameFault → Type 0 where
   Nothing : {p : Progress} {bytes text : List ℕ} {ending : Option FrameFault}
-    → bytes ≡ [] → text ≡ [] → ending ≡ None → IsText k p bytes text ending
+      → bytes ≡ [] → text ≡ [] → ending ≡ None → IsText k p bytes text ending
   Line : {p : Progress} {bytes text : List ℕ} {ending : Option FrameFault} (f : FrameFields) (rest more : List ℕ)
-    → IsFrame f → bytes ≡ frame_bytes f ++ rest → text ≡ line_of k p f ++ more → IsText k (moved k p f) rest more ending → IsText k p bytes text ending
+      → IsFrame f → bytes ≡ frame_bytes f ++ rest → text ≡ line_of k p f ++ more → IsText k (moved k p f) rest more ending → IsText k p bytes text ending
   CutOff : {p : Progress} {bytes text : List ℕ} {ending : Option FrameFault}
-    → 0 < length bytes → IsProperBeginning bytes → text ≡ fault_line p.line Truncated → ending ≡ Some Truncated → IsText k p bytes text ending
+      → 0 < length bytes → IsProperBeginning bytes → text ≡ fault_line p.line Truncated → ending ≡ Some Truncated → IsText k p bytes text ending
   Faulty : {p : Progress} {bytes text : List ℕ} {ending : Option FrameFault} (fault : FrameFault)
-    → IsFault bytes fault → text ≡ fault_line p.line fault → ending ≡ Some fault → IsText k p bytes text ending
+      → IsFault bytes fault → text ≡ fault_line p.line fault → ending ≡ Some fault → IsText k p bytes text ending
 
 -- before the first line nothing was taken
 abbrev pub at_start : KeyFields → Progress

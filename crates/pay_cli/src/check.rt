@@ -133,7 +133,11 @@ pub fn run_check<R: Input, W: Output, T: Tagger>(
 }
 
 /// Writes the last lines, and answers the fault that they end with.
-fn finish<W: Output>(writer: &mut W, out: &[u8], fault: Option<FrameFault>) -> Result<(), EngineFault>
+fn finish<W: Output>(
+    writer: &mut W,
+    out: &[u8],
+    fault: Option<FrameFault>,
+) -> Result<(), EngineFault>
     ensures ends { Finishes (W.contents writer.old) (W.contents writer.new) out.now fault result }
     ensures failed { IsErrOf result EngineFault.Write → W.failure_count writer.new ≡ counted (W.failure_count writer.old) }
 {

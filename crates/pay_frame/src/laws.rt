@@ -48,5 +48,4 @@ pub fn cuts_do_not_matter()
 /// Where the bytes are a proper beginning of a frame, no whole frame is in front.
 pub fn beginning_is_drained()
     ensures law { (bytes : List ℕ) → IsProperBeginning bytes → IsDrained bytes }
-{
-}
+{}

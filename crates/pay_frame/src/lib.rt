@@ -28,8 +28,8 @@ pub use fault::FrameFault;
 pub use frame_ref::FrameRef;
 pub use kind::Kind;
 pub use laws::{
-    beginning_is_drained, cuts_do_not_matter, none_begins_another, one_reading, one_spelling, read_again,
-    stream_is_frames_and_rest,
+    beginning_is_drained, cuts_do_not_matter, none_begins_another, one_reading, one_spelling,
+    read_again, stream_is_frames_and_rest,
 };
 pub use reader::Reader;
 pub use reading::read;

@@ -14,7 +14,9 @@ use words::{Job, job_of};
 
 /// Members, faults and opening amounts where no file names them.
 const MEMBERS: u64 = 4;
+
 const FAULTS: u64 = 1;
+
 const OPENING: [u64; 4] = [100, 0, 0, 50];
 
 /// The member that judges, where no file names its keys.
@@ -40,7 +42,14 @@ fn check(alloc: Global, rt: &(impl Input + Print)) -> Result<(), EngineFault> {
     let keys = test_keys(alloc, &genesis, OWN)?;
     let mut reader = Reader::new(rt.reader());
     let mut writer = Writer::new(io::writer(rt));
-    run_check(alloc, &HmacSha256, &genesis, &keys, &mut reader, &mut writer)
+    run_check(
+        alloc,
+        &HmacSha256,
+        &genesis,
+        &keys,
+        &mut reader,
+        &mut writer,
+    )
 }
 
 /// A fault in the frames has its line already; another one is named on standard error.

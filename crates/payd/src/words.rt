@@ -3,14 +3,15 @@ use std::alloc::Global;
 
 /// What the program is asked to do.
 #[derive(Clone, Copy, Debug, PartialEq, Eq)]
-pub enum Job {
+pub(crate) enum Job {
     /// Judge the frames on standard input.
     Check,
 }
 
 const ABOUT: &str = "A payment ledger without consensus";
 
-const CHECK_ABOUT: &str = "Reads frames on standard input and writes what a member would make of each";
+const CHECK_ABOUT: &str =
+    "Reads frames on standard input and writes what a member would make of each";
 
 const CHECK_HELP: &str = "\
 Input: frames, one after the other, as members send them. They are judged by member 1 of four, with
@@ -30,7 +31,7 @@ Example: payd check < examples/frames.bin";
 
 /// What the words ask for, the program's name the first of them; or help, or what is wrong with them.
 /// With no further word it is `check`.
-pub fn job_of(alloc: Global, words: &[String]) -> Result<Job, Error> {
+pub(crate) fn job_of(alloc: Global, words: &[String]) -> Result<Job, Error> {
     let check = Command::new(alloc, "check")
         .about(CHECK_ABOUT)
         .after_help(CHECK_HELP);

@@ -1,4 +1,3 @@
-use Rattle.std.proofs.Common.{◌≡◌, ◌++◌, Some, None}
 use Rattle.pay_cli.specs.Continuing.{PushesAll, PushesToFault}
 use Rattle.pay_cli.proofs.Endings.{fed_whole, all_pushed, ending_pushed}
 use Rattle.pay_cli.proofs.check.push_piece.Goals as goal

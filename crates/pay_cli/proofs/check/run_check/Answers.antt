@@ -1,4 +1,4 @@
-use Rattle.std.proofs.Common.{◌≡◌, ◌∙◌, ◌+◌, ◌*◌, ◌++◌, sym, ap, subst, arith, rules, List, [], ℕ, length, take, Some, Ok, Err, None, ◌≤◌}
+use Rattle.std.proofs.Common.{◌≡◌, ◌∙◌, ◌+◌, ◌*◌, ◌++◌, sym, ap, arith, rules, [], ℕ, length, take, Err, ◌≤◌}
 use Rattle.std.specs.Io.KnownBytes.{Appends, Consumes, IsAtEnd}
 use Rattle.pay_frame.specs.Device.{WroteBeginning}
 use Rattle.pay_cli.specs.Continuing.{PushesAll}
@@ -13,7 +13,7 @@ use Rattle.pay_cli.proofs.check.run_check.Goals as goal
 pub loop-init : goal.loop-init
 loop-init g c = record {
   going = going_at_start c.args.keys.now (g.R.Input.remaining c.args.reader.now) (g.W.Output.contents c.args.writer.now) c.in_ok-progress.progress c.in_ok-cutter.cutter
-    (c.in_ok-progress.ensures.start ∙ ap (λ (n : ℕ). let p : Progress = record { fronts = replicate n 0; line = 1 } in p) (c.members.ensures.value ∙ sym c.requires.keys)) c.in_ok-cutter.ensures.empty;
+      (c.in_ok-progress.ensures.start ∙ ap (λ (n : ℕ). let p : Progress = record { fronts = replicate n 0; line = 1 } in p) (c.members.ensures.value ∙ sym c.requires.keys)) c.in_ok-cutter.ensures.empty;
   calls = search rules;
   reads = search rules;
   writes = search rules;
@@ -45,14 +45,14 @@ returns-in_err-fault-2-clause-text g c =
 pub returns-in-Some-clause-text : goal.returns-in-Some-clause-text
 returns-in-Some-clause-text g c =
     let pushed : PushesEnding c.args.keys.now c.loop.progress (c.loop.cutter.bytes ++ take c.in-Ok.count c.read.new.buffer) [] c.push_piece.new.out.items c.in-Some.fault =
-      rw c.clear.ensures.items at (rw c.in-Some.is at c.in_ok-fault-2.ensures.fault)
+    rw c.clear.ensures.items at (rw c.in-Some.is at c.in_ok-fault-2.ensures.fault)
     in
     finished_at_fault _ _ _ _ _ _ _ _ _ _ _ _ _ c.loop.invariant.going c.in-Ok.ensures.bytes.0 pushed c.finish-in-Some.result (rw c.deref-in-Some.ensures.value at c.finish-in-Some.ensures.ends)
 
 pub returns-then-is_err-clause-text : goal.returns-then-is_err-clause-text
 returns-then-is_err-clause-text g c =
     let pushed : PushesAll c.args.keys.now c.loop.progress (with_piece c.loop.cutter (take c.in-Ok.count c.read.new.buffer)) [] c.push_piece.new.progress c.push_piece.new.cutter c.push_piece.new.out.items =
-      rw c.clear.ensures.items at (rw c.in_default-fault.is at c.in_ok-fault-2.ensures.lines)
+    rw c.clear.ensures.items at (rw c.in_default-fault.is at c.in_ok-fault-2.ensures.lines)
     in
     let contents = g.W.Output.contents in
     let wrote : WroteBeginning (contents c.loop.writer) (contents c.write_all.new.writer) c.push_piece.new.out.items = rw c.deref-in-loop.ensures.value at (when_err c.write_all.result c.if-is_err.ensures.value c.write_all.ensures.beginning) in
@@ -61,7 +61,7 @@ returns-then-is_err-clause-text g c =
 pub loop-preserved : goal.loop-preserved
 loop-preserved g c =
     let pushed : PushesAll c.args.keys.now c.loop.progress (with_piece c.loop.cutter (take c.in-Ok.count c.read.new.buffer)) [] c.push_piece.new.progress c.push_piece.new.cutter c.push_piece.new.out.items =
-      rw c.clear.ensures.items at (rw c.in_default-fault.is at c.in_ok-fault-2.ensures.lines)
+    rw c.clear.ensures.items at (rw c.in_default-fault.is at c.in_ok-fault-2.ensures.lines)
     in
     let contents = g.W.Output.contents in
     let wrote : Appends (contents c.loop.writer) (contents c.write_all.new.writer) c.push_piece.new.out.items = rw c.deref-in-loop.ensures.value at (when_ok c.write_all.result c.if-is_err.ensures.value c.write_all.ensures.ok) in

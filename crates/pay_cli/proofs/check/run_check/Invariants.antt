@@ -1,4 +1,4 @@
-use Rattle.std.proofs.Common.{◌≡◌, ◌*◌, ◌≤◌}
+use Rattle.std.proofs.Common.{◌≡◌, ◌*◌}
 use Rattle.pay_frame.specs.Device.{RoseBy}
 use Rattle.pay_cli.proofs.Going.{IsGoing}
 use Rattle.pay_cli.proofs.check.run_check.Given as goal

@@ -1,9 +1,8 @@
-use Rattle.std.proofs.Common.{◌≡◌, ◌∙◌, sym, subst, ◌<◌, ◌++◌, length, Ok, List, arith}
+use Rattle.std.proofs.Common.{◌≡◌, ◌∙◌, sym, subst, ◌<◌, ◌++◌, length}
 use Rattle.std.specs.Prelude.{OnOk}
 use Rattle.pay_frame.specs.Frame.{FrameFields}
 use Rattle.pay_frame.specs.Lent.{fields_of}
-use Rattle.pay_link.specs.Opening.{judgement}
-use Rattle.pay_cli.specs.Lines.{opened_words, opened_fronts, judged_words, judged_fronts}
+use Rattle.pay_cli.specs.Lines.{opened_words, opened_fronts}
 use Rattle.pay_cli.proofs.OpenedFrames.{opened_is}
 use Rattle.pay_cli.proofs.progress.push_judged.Goals as goal
 
