@@ -2,8 +2,10 @@
 #![tactic(auto)]
 
 mod check;
+mod laws;
 mod lines;
 mod progress;
 
 pub use check::run_check;
+pub use laws::one_text;
 pub use progress::Progress;

@@ -1,0 +1,85 @@
+use pay_cli::run_check;
+use pay_frame::{Body, Bytes, EngineFault, FrameFault, Kind, Reader, Writer};
+use pay_hmac::HmacSha256;
+use pay_link::{Genesis, seal, test_keys};
+use std::alloc::Global;
+use std::io;
+use std::io::Read;
+use std::test::Fail;
+
+/// Gives one byte a read.
+#[derive(Drop)]
+struct OneByte<'a>(&'a [u8]);
+
+impl Read for OneByte<'_> {
+    fn read(&mut self, buffer: &mut [u8]) -> io::Result<usize> {
+        match self.0.split_first() {
+            Some((first, rest)) if !buffer.is_empty() => {
+                buffer[0] = *first;
+                self.0 = rest;
+                Ok(1)
+            }
+            _ => Ok(0),
+        }
+    }
+}
+
+/// What member 1 of four makes of the bytes, and how the engine ends.
+fn judged<R: Read + Drop>(
+    alloc: Global,
+    reader: R,
+) -> Result<(Vec<u8>, Result<(), EngineFault>), Fail> {
+    let genesis = Genesis::new(alloc, 4, 1, &[100, 0, 0, 50])?;
+    let keys = test_keys(alloc, &genesis, 1)?;
+    let mut reader = Reader::new(reader);
+    let mut writer = Writer::new(Vec::new(alloc));
+    let ended = run_check(
+        alloc,
+        &HmacSha256,
+        &genesis,
+        &keys,
+        &mut reader,
+        &mut writer,
+    );
+    Ok((writer.into_inner(), ended))
+}
+
+/// The first frame of member 0, a SEND of its own broadcast 0 with no value, sealed for member 1.
+fn first_frame(alloc: Global) -> Result<Vec<u8>, Fail> {
+    let genesis = Genesis::new(alloc, 4, 1, &[100, 0, 0, 50])?;
+    let keys = test_keys(alloc, &genesis, 0)?;
+    let body = Body::new(Kind::Send, 0, 0, Bytes::new(Vec::new(alloc)));
+    Ok(seal(alloc, &HmacSha256, &keys, 1, 0, &body)?)
+}
+
+const TAKEN: &str = "1 ok send from 0 number 0 owner 0 seq 0 value 0\n";
+
+/// The lines for so many bytes of one frame twice.
+fn lines_of(bytes: usize) -> &'static str {
+    match bytes {
+        0 => "",
+        1..=55 => "1 fault 7 Truncated\n",
+        56 => TAKEN,
+        57..=111 => "1 ok send from 0 number 0 owner 0 seq 0 value 0\n2 fault 7 Truncated\n",
+        _ => "1 ok send from 0 number 0 owner 0 seq 0 value 0\n2 refused 5 Repeat next 1\n",
+    }
+}
+
+#[test]
+fn repeated_frame_cut_anywhere(rt: HostRuntime) -> Result<(), Fail> {
+    let mut stream = first_frame(rt.alloc())?;
+    let again = first_frame(rt.alloc())?;
+    stream.extend_from_slice(again.as_slice())?;
+    assert_eq!(rt; stream.len(), 112);
+    for cut in 0..=stream.len() {
+        let bytes = &stream.as_slice()[..cut];
+        let whole = cut % 56 == 0;
+        let (text, ended) = judged(rt.alloc(), bytes)?;
+        assert_eq!(rt; text.as_slice(), lines_of(cut).as_bytes(), "at {cut}");
+        assert_eq!(rt; ended.is_ok(), whole, "at {cut}");
+        let (text, ended) = judged(rt.alloc(), OneByte(bytes))?;
+        assert_eq!(rt; text.as_slice(), lines_of(cut).as_bytes(), "at {cut}");
+        assert!(rt; whole || ended == Err(EngineFault::Frame(FrameFault::Truncated)));
+    }
+    Ok(())
+}
