@@ -1,5 +1,5 @@
 -- The engine between two reads: what it has read and written so far.
-use Rattle.std.proofs.Common.{◌≡◌, ℕ, ◌+◌, ◌<◌, ◌≤◌, List, [], ◌++◌, length, get_or, take, refl, sym, ◌∙◌, ap, subst, arith, append_assoc, Option, Some, None, Result, Ok, Err, inl, inr}
+use Rattle.std.proofs.Common.{◌*◌, ◌≡◌, ℕ, ◌+◌, ◌<◌, ◌≤◌, List, [], ◌++◌, length, get_or, take, refl, sym, ◌∙◌, ap, subst, arith, append_assoc, Option, Some, None, Result, Ok, Err, inl, inr}
 use Rattle.std.specs.Prelude.{replicate, IfSome, OnOk, OnErr, true, false, ⊤}
 use Rattle.std.specs.Result.{is_err}
 use Rattle.std.specs.Io.KnownBytes.{Appends, Consumes, IsAtEnd}
@@ -22,7 +22,7 @@ use Rattle.pay_cli.specs.Engine.{Writes, WritesText, WritesBeginning, Finishes, 
 use Rattle.pay_cli.proofs.Texts.{goes_nowhere, goes_further, comes_more}
 use Rattle.pay_cli.proofs.OneText.{one_text}
 
-pub record IsGoing (k : KeyFields) (r0 r w0 w : Option (List ℕ)) (p : Progress) (c : Held) (most : ℕ) : Type 0 where
+pub record IsGoing (k : KeyFields) (r0 r w0 w : Option (List ℕ)) (p : Progress) (c : Held) (reads : ℕ) : Type 0 where
   pub eaten : List ℕ
   pub written : List ℕ
   pub consumed : Consumes r0 r eaten
@@ -32,7 +32,8 @@ pub record IsGoing (k : KeyFields) (r0 r w0 w : Option (List ℕ)) (p : Progress
   pub begins : IsProperBeginning c.bytes
   pub met : c.met ≡ None
   pub lines : p.line + length c.bytes ≤ 1 + length eaten
-  pub few : length eaten ≤ most
+  pub few : length eaten ≤ reads * 3016
+  pub many : reads ≤ length eaten
 
 -- ---- known bytes
 
@@ -78,14 +79,15 @@ going_at_start k r w p c start empty =
       met = refl;
       lines = omega arith;
       few = omega arith;
+      many = omega arith;
     } in
     subst (λ (q : Progress). IsGoing k r r w w q c 0) (sym start) (subst (λ (h : Held). IsGoing k r r w w (at_start k) h 0) (sym empty) begun)
 
 -- ---- a piece
 
-pub goes_on : (k : KeyFields) (r0 r r1 w0 w w1 : Option (List ℕ)) (p p1 : Progress) (c c1 : Held) (piece text : List ℕ) (most total : ℕ) → IsGoing k r0 r w0 w p c most → Consumes r r1 piece
-    → PushesAll k p (with_piece c piece) [] p1 c1 text → Appends w w1 text → most + length piece ≤ total → IsGoing k r0 r1 w0 w1 p1 c1 total
-goes_on k r0 r r1 w0 w w1 p p1 c c1 piece text most total g consumed pushed appended fits =
+pub goes_on : (k : KeyFields) (r0 r r1 w0 w w1 : Option (List ℕ)) (p p1 : Progress) (c c1 : Held) (piece text : List ℕ) (reads : ℕ) → IsGoing k r0 r w0 w p c reads → Consumes r r1 piece
+    → PushesAll k p (with_piece c piece) [] p1 c1 text → Appends w w1 text → 1 ≤ length piece → length piece ≤ 3016 → IsGoing k r0 r1 w0 w1 p1 c1 (reads + 1)
+goes_on k r0 r r1 w0 w w1 p p1 c c1 piece text reads g consumed pushed appended some fits =
     let pushes = pushed.pushes in
     let new : text ≡ pushes.written = pushes.appended in
     let before = g.lines in
@@ -102,14 +104,15 @@ goes_on k r0 r r1 w0 w w1 p p1 c c1 piece text most total g consumed pushed appe
       met = pushed.met;
       lines = omega (arith, length-append g.eaten piece, length-append c.bytes piece);
       few = let few = g.few in omega (arith, length-append g.eaten piece);
+      many = let many = g.many in omega (arith, length-append g.eaten piece);
     }
 
-pub ends_with_fault : (k : KeyFields) (r0 r r1 w0 w w1 : Option (List ℕ)) (p : Progress) (c : Held) (piece text : List ℕ) (fault : FrameFault) (most : ℕ) → IsGoing k r0 r w0 w p c most → Consumes r r1 piece
+pub ends_with_fault : (k : KeyFields) (r0 r r1 w0 w w1 : Option (List ℕ)) (p : Progress) (c : Held) (piece text : List ℕ) (fault : FrameFault) (reads : ℕ) → IsGoing k r0 r w0 w p c reads → Consumes r r1 piece
     → PushesEnding k p (c.bytes ++ piece) [] text fault → Appends w w1 text → WritesText k r0 w0 w1 (Some fault)
-ends_with_fault k None r r1 w0 w w1 p c piece text fault most g consumed pushed appended = tt
-ends_with_fault k (Some input) None r1 w0 w w1 p c piece text fault most g consumed pushed appended = absurd g.consumed
-ends_with_fault k (Some input) (Some rest) None w0 w w1 p c piece text fault most g consumed pushed appended = absurd consumed
-ends_with_fault k (Some input) (Some rest) (Some left) w0 w w1 p c piece text fault most g consumed pushed appended =
+ends_with_fault k None r r1 w0 w w1 p c piece text fault reads g consumed pushed appended = tt
+ends_with_fault k (Some input) None r1 w0 w w1 p c piece text fault reads g consumed pushed appended = absurd g.consumed
+ends_with_fault k (Some input) (Some rest) None w0 w w1 p c piece text fault reads g consumed pushed appended = absurd consumed
+ends_with_fault k (Some input) (Some rest) (Some left) w0 w w1 p c piece text fault reads g consumed pushed appended =
     let later : IsText k p (c.bytes ++ rest) pushed.written (Some fault) =
     subst (λ (xs : List ℕ). IsText k p xs pushed.written (Some fault)) (append_assoc c.bytes piece left ∙ ap (λ (xs : List ℕ). c.bytes ++ xs) (sym consumed)) (pushed.is left)
     in
@@ -119,12 +122,12 @@ ends_with_fault k (Some input) (Some rest) (Some left) w0 w w1 p c piece text fa
       appends_more w0 w w1 g.written pushed.written g.appended (subst (λ (xs : List ℕ). Appends w w1 xs) pushed.appended appended),
     )
 
-pub ends : (k : KeyFields) (r0 r r1 w0 w w1 : Option (List ℕ)) (p : Progress) (c : Held) (text : List ℕ) (ending : Option FrameFault) (most : ℕ) → IsGoing k r0 r w0 w p c most → Consumes r r1 [] → IsAtEnd r1
+pub ends : (k : KeyFields) (r0 r r1 w0 w w1 : Option (List ℕ)) (p : Progress) (c : Held) (text : List ℕ) (ending : Option FrameFault) (reads : ℕ) → IsGoing k r0 r w0 w p c reads → Consumes r r1 [] → IsAtEnd r1
     → PushesEnd k p c.bytes [] text ending → Appends w w1 text → WritesText k r0 w0 w1 ending
-ends k None r r1 w0 w w1 p c text ending most g consumed end pushed appended = tt
-ends k (Some input) None r1 w0 w w1 p c text ending most g consumed end pushed appended = absurd g.consumed
-ends k (Some input) (Some rest) None w0 w w1 p c text ending most g consumed end pushed appended = absurd consumed
-ends k (Some input) (Some rest) (Some left) w0 w w1 p c text ending most g consumed end pushed appended =
+ends k None r r1 w0 w w1 p c text ending reads g consumed end pushed appended = tt
+ends k (Some input) None r1 w0 w w1 p c text ending reads g consumed end pushed appended = absurd g.consumed
+ends k (Some input) (Some rest) None w0 w w1 p c text ending reads g consumed end pushed appended = absurd consumed
+ends k (Some input) (Some rest) (Some left) w0 w w1 p c text ending reads g consumed end pushed appended =
     let none : rest ≡ [] = consumed ∙ end in
     let later : IsText k p (c.bytes ++ rest) pushed.written ending = subst (λ (xs : List ℕ). IsText k p xs pushed.written ending) (sym (append-nil c.bytes) ∙ ap (λ (xs : List ℕ). c.bytes ++ xs) (sym none)) pushed.is in
     let whole = g.continues.goes_on rest pushed.written ending later in (
@@ -142,10 +145,10 @@ wrote_all w0 w written tail text appended parts = record {
   written = subst (λ (xs : List ℕ). Appends w0 w xs) (sym (ap (take (length written)) parts ∙ take_at written tail (length written) refl)) appended;
 }
 
-pub begun : (k : KeyFields) (r0 r w0 w : Option (List ℕ)) (p : Progress) (c : Held) (most : ℕ) → IsGoing k r0 r w0 w p c most → WritesBeginning k r0 w0 w
-begun k None r w0 w p c most g = tt
-begun k (Some input) None w0 w p c most g = absurd g.consumed
-begun k (Some input) (Some left) w0 w p c most g = λ text ending is.
+pub begun : (k : KeyFields) (r0 r w0 w : Option (List ℕ)) (p : Progress) (c : Held) (reads : ℕ) → IsGoing k r0 r w0 w p c reads → WritesBeginning k r0 w0 w
+begun k None r w0 w p c reads g = tt
+begun k (Some input) None w0 w p c reads g = absurd g.consumed
+begun k (Some input) (Some left) w0 w p c reads g = λ text ending is.
     let rest = g.continues.begins left text ending (subst (λ (xs : List ℕ). IsText k (at_start k) xs text ending) g.consumed is) in
     wrote_all w0 w g.written rest.rest text g.appended rest.parts
 
@@ -172,10 +175,10 @@ wrote_part w0 w w1 written out text appended wrote behind parts t =
 abbrev Begins : KeyFields → Progress → Held → Option (List ℕ) → List ℕ → Type 0
 Begins k p c r out = IfSome r (λ rest. (text : List ℕ) (ending : Option FrameFault) → IsText k p (c.bytes ++ rest) text ending → Tail text out)
 
-write_failed : (k : KeyFields) (r0 r w0 w w1 : Option (List ℕ)) (p : Progress) (c : Held) (out : List ℕ) (most : ℕ) → IsGoing k r0 r w0 w p c most → Begins k p c r out → WroteBeginning w w1 out → WritesBeginning k r0 w0 w1
-write_failed k None r w0 w w1 p c out most g begins wrote = tt
-write_failed k (Some input) None w0 w w1 p c out most g begins wrote = absurd g.consumed
-write_failed k (Some input) (Some left) w0 w w1 p c out most g begins wrote = λ text ending is.
+write_failed : (k : KeyFields) (r0 r w0 w w1 : Option (List ℕ)) (p : Progress) (c : Held) (out : List ℕ) (reads : ℕ) → IsGoing k r0 r w0 w p c reads → Begins k p c r out → WroteBeginning w w1 out → WritesBeginning k r0 w0 w1
+write_failed k None r w0 w w1 p c out reads g begins wrote = tt
+write_failed k (Some input) None w0 w w1 p c out reads g begins wrote = absurd g.consumed
+write_failed k (Some input) (Some left) w0 w w1 p c out reads g begins wrote = λ text ending is.
     let rest = g.continues.begins left text ending (subst (λ (xs : List ℕ). IsText k (at_start k) xs text ending) g.consumed is) in
     wrote_part w0 w w1 g.written out text g.appended wrote rest.rest rest.parts (begins rest.rest ending rest.is)
 
@@ -206,41 +209,41 @@ begins_end k p c (Some rest) (Some left) out fault consumed end pushed = λ text
     in
     record { tail = []; parts = same ∙ sym pushed.appended ∙ sym (append-nil out) }
 
-pub failed_in_lines : (k : KeyFields) (r0 r r1 w0 w w1 : Option (List ℕ)) (p p1 : Progress) (c c1 : Held) (piece out : List ℕ) (most : ℕ) → IsGoing k r0 r w0 w p c most → Consumes r r1 piece
+pub failed_in_lines : (k : KeyFields) (r0 r r1 w0 w w1 : Option (List ℕ)) (p p1 : Progress) (c c1 : Held) (piece out : List ℕ) (reads : ℕ) → IsGoing k r0 r w0 w p c reads → Consumes r r1 piece
     → PushesAll k p (with_piece c piece) [] p1 c1 out → WroteBeginning w w1 out → WritesBeginning k r0 w0 w1
-failed_in_lines k r0 r r1 w0 w w1 p p1 c c1 piece out most g consumed pushed wrote = write_failed k r0 r w0 w w1 p c out most g (begins_all k p p1 c c1 r r1 piece out consumed pushed) wrote
+failed_in_lines k r0 r r1 w0 w w1 p p1 c c1 piece out reads g consumed pushed wrote = write_failed k r0 r w0 w w1 p c out reads g (begins_all k p p1 c c1 r r1 piece out consumed pushed) wrote
 
-pub failed_at_fault : (k : KeyFields) (r0 r r1 w0 w w1 : Option (List ℕ)) (p : Progress) (c : Held) (piece out : List ℕ) (fault : FrameFault) (most : ℕ) → IsGoing k r0 r w0 w p c most → Consumes r r1 piece
+pub failed_at_fault : (k : KeyFields) (r0 r r1 w0 w w1 : Option (List ℕ)) (p : Progress) (c : Held) (piece out : List ℕ) (fault : FrameFault) (reads : ℕ) → IsGoing k r0 r w0 w p c reads → Consumes r r1 piece
     → PushesEnding k p (c.bytes ++ piece) [] out fault → WroteBeginning w w1 out → WritesBeginning k r0 w0 w1
-failed_at_fault k r0 r r1 w0 w w1 p c piece out fault most g consumed pushed wrote = write_failed k r0 r w0 w w1 p c out most g (begins_ending k p c r r1 piece out fault consumed pushed) wrote
+failed_at_fault k r0 r r1 w0 w w1 p c piece out fault reads g consumed pushed wrote = write_failed k r0 r w0 w w1 p c out reads g (begins_ending k p c r r1 piece out fault consumed pushed) wrote
 
-pub failed_at_end : (k : KeyFields) (r0 r r1 w0 w w1 : Option (List ℕ)) (p : Progress) (c : Held) (out : List ℕ) (fault : Option FrameFault) (most : ℕ) → IsGoing k r0 r w0 w p c most → Consumes r r1 [] → IsAtEnd r1
+pub failed_at_end : (k : KeyFields) (r0 r r1 w0 w w1 : Option (List ℕ)) (p : Progress) (c : Held) (out : List ℕ) (fault : Option FrameFault) (reads : ℕ) → IsGoing k r0 r w0 w p c reads → Consumes r r1 [] → IsAtEnd r1
     → PushesEnd k p c.bytes [] out fault → WroteBeginning w w1 out → WritesBeginning k r0 w0 w1
-failed_at_end k r0 r r1 w0 w w1 p c out fault most g consumed end pushed wrote = write_failed k r0 r w0 w w1 p c out most g (begins_end k p c r r1 out fault consumed end pushed) wrote
+failed_at_end k r0 r r1 w0 w w1 p c out fault reads g consumed end pushed wrote = write_failed k r0 r w0 w w1 p c out reads g (begins_end k p c r r1 out fault consumed end pushed) wrote
 
 -- ---- how the engine ends
 
-pub finished_at_end : (k : KeyFields) (r0 r r1 w0 w w1 : Option (List ℕ)) (p : Progress) (c : Held) (out : List ℕ) (fault : Option FrameFault) (most : ℕ) → IsGoing k r0 r w0 w p c most → Consumes r r1 [] → IsAtEnd r1
+pub finished_at_end : (k : KeyFields) (r0 r r1 w0 w w1 : Option (List ℕ)) (p : Progress) (c : Held) (out : List ℕ) (fault : Option FrameFault) (reads : ℕ) → IsGoing k r0 r w0 w p c reads → Consumes r r1 [] → IsAtEnd r1
     → PushesEnd k p c.bytes [] out fault → (result : Result ⊤ EngineFault) → Finishes w w1 out fault result → Writes k r0 r1 w0 w1 result
-finished_at_end k r0 r r1 w0 w w1 p c out fault most g consumed end pushed (Ok done) f =
-    (ends k r0 r r1 w0 w w1 p c out None most g consumed end (subst (λ (e : Option FrameFault). PushesEnd k p c.bytes [] out e) f.1 pushed) f.0, end)
-finished_at_end k r0 r r1 w0 w w1 p c out fault most g consumed end pushed (Err (Frame found)) f =
-    ends k r0 r r1 w0 w w1 p c out (Some found) most g consumed end (subst (λ (e : Option FrameFault). PushesEnd k p c.bytes [] out e) f.1 pushed) f.0
-finished_at_end k r0 r r1 w0 w w1 p c out fault most g consumed end pushed (Err Write) f = failed_at_end k r0 r r1 w0 w w1 p c out fault most g consumed end pushed f
-finished_at_end k r0 r r1 w0 w w1 p c out fault most g consumed end pushed (Err Memory) f = absurd f
-finished_at_end k r0 r r1 w0 w w1 p c out fault most g consumed end pushed (Err Read) f = absurd f
-finished_at_end k r0 r r1 w0 w w1 p c out fault most g consumed end pushed (Err Bound) f = absurd f
+finished_at_end k r0 r r1 w0 w w1 p c out fault reads g consumed end pushed (Ok done) f =
+    (ends k r0 r r1 w0 w w1 p c out None reads g consumed end (subst (λ (e : Option FrameFault). PushesEnd k p c.bytes [] out e) f.1 pushed) f.0, end)
+finished_at_end k r0 r r1 w0 w w1 p c out fault reads g consumed end pushed (Err (Frame found)) f =
+    ends k r0 r r1 w0 w w1 p c out (Some found) reads g consumed end (subst (λ (e : Option FrameFault). PushesEnd k p c.bytes [] out e) f.1 pushed) f.0
+finished_at_end k r0 r r1 w0 w w1 p c out fault reads g consumed end pushed (Err Write) f = failed_at_end k r0 r r1 w0 w w1 p c out fault reads g consumed end pushed f
+finished_at_end k r0 r r1 w0 w w1 p c out fault reads g consumed end pushed (Err Memory) f = absurd f
+finished_at_end k r0 r r1 w0 w w1 p c out fault reads g consumed end pushed (Err Read) f = absurd f
+finished_at_end k r0 r r1 w0 w w1 p c out fault reads g consumed end pushed (Err Bound) f = absurd f
 
-pub finished_at_fault : (k : KeyFields) (r0 r r1 w0 w w1 : Option (List ℕ)) (p : Progress) (c : Held) (piece out : List ℕ) (fault : FrameFault) (most : ℕ) → IsGoing k r0 r w0 w p c most → Consumes r r1 piece
+pub finished_at_fault : (k : KeyFields) (r0 r r1 w0 w w1 : Option (List ℕ)) (p : Progress) (c : Held) (piece out : List ℕ) (fault : FrameFault) (reads : ℕ) → IsGoing k r0 r w0 w p c reads → Consumes r r1 piece
     → PushesEnding k p (c.bytes ++ piece) [] out fault → (result : Result ⊤ EngineFault) → Finishes w w1 out (Some fault) result → Writes k r0 r1 w0 w1 result
-finished_at_fault k r0 r r1 w0 w w1 p c piece out fault most g consumed pushed (Ok done) f = let never = f.1 in absurd cc
-finished_at_fault k r0 r r1 w0 w w1 p c piece out fault most g consumed pushed (Err (Frame found)) f =
+finished_at_fault k r0 r r1 w0 w w1 p c piece out fault reads g consumed pushed (Ok done) f = let never = f.1 in absurd cc
+finished_at_fault k r0 r r1 w0 w w1 p c piece out fault reads g consumed pushed (Err (Frame found)) f =
     let same : fault ≡ found = let e = f.1 in cc in
-    ends_with_fault k r0 r r1 w0 w w1 p c piece out found most g consumed (subst (λ (e : FrameFault). PushesEnding k p (c.bytes ++ piece) [] out e) same pushed) f.0
-finished_at_fault k r0 r r1 w0 w w1 p c piece out fault most g consumed pushed (Err Write) f = failed_at_fault k r0 r r1 w0 w w1 p c piece out fault most g consumed pushed f
-finished_at_fault k r0 r r1 w0 w w1 p c piece out fault most g consumed pushed (Err Memory) f = absurd f
-finished_at_fault k r0 r r1 w0 w w1 p c piece out fault most g consumed pushed (Err Read) f = absurd f
-finished_at_fault k r0 r r1 w0 w w1 p c piece out fault most g consumed pushed (Err Bound) f = absurd f
+    ends_with_fault k r0 r r1 w0 w w1 p c piece out found reads g consumed (subst (λ (e : FrameFault). PushesEnding k p (c.bytes ++ piece) [] out e) same pushed) f.0
+finished_at_fault k r0 r r1 w0 w w1 p c piece out fault reads g consumed pushed (Err Write) f = failed_at_fault k r0 r r1 w0 w w1 p c piece out fault reads g consumed pushed f
+finished_at_fault k r0 r r1 w0 w w1 p c piece out fault reads g consumed pushed (Err Memory) f = absurd f
+finished_at_fault k r0 r r1 w0 w w1 p c piece out fault reads g consumed pushed (Err Read) f = absurd f
+finished_at_fault k r0 r r1 w0 w w1 p c piece out fault reads g consumed pushed (Err Bound) f = absurd f
 
 pub when_err : {X E P : Type 0} (r : Result X E) → true ≡ is_err r → OnErr r P → P
 when_err (Ok x) e h = absurd cc
@@ -249,3 +252,9 @@ when_err (Err x) e h = h
 pub when_ok : {X E P : Type 0} (r : Result X E) → false ≡ is_err r → OnOk r P → P
 when_ok (Ok x) e h = h
 when_ok (Err x) e h = absurd cc
+
+-- every read gave bytes
+pub gave : (k : KeyFields) (r0 r w0 w : Option (List ℕ)) (p : Progress) (c : Held) (reads limit : ℕ) → IsGoing k r0 r w0 w p c reads → limit ≤ reads → IfSome r0 (λ input. limit ≤ length input)
+gave k None r w0 w p c reads limit g le = tt
+gave k (Some input) None w0 w p c reads limit g le = absurd g.consumed
+gave k (Some input) (Some left) w0 w p c reads limit g le = let many = g.many in omega (arith, ap length g.consumed, length-append g.eaten left)

@@ -1,4 +1,4 @@
-use Rattle.std.proofs.Common.{◌≡◌, ◌∙◌, ◌+◌, ◌*◌, ◌++◌, sym, ap, arith, rules, [], ℕ, length, take, Err, ◌≤◌}
+use Rattle.std.proofs.Common.{◌≡◌, ◌∙◌, ◌++◌, sym, ap, arith, rules, [], ℕ, take, Err}
 use Rattle.std.specs.Io.KnownBytes.{Appends, Consumes, IsAtEnd}
 use Rattle.pay_frame.specs.Device.{WroteBeginning}
 use Rattle.pay_cli.specs.Continuing.{PushesAll}
@@ -7,7 +7,7 @@ use Rattle.std.proofs.lemmas.List.{length-take}
 use Rattle.pay_frame.specs.declared.engine_fault.EngineFault.TheVariants.{Memory}
 use Rattle.pay_cli.specs.Engine.{with_piece, PushesEnding, PushesEnd}
 use Rattle.pay_cli.specs.declared.progress.Progress.{Progress}
-use Rattle.pay_cli.proofs.Going.{going_at_start, begun, goes_on, finished_at_end, finished_at_fault, failed_in_lines, when_err, when_ok}
+use Rattle.pay_cli.proofs.Going.{going_at_start, begun, goes_on, finished_at_end, finished_at_fault, failed_in_lines, gave, when_err, when_ok}
 use Rattle.pay_cli.proofs.check.run_check.Goals as goal
 
 pub loop-init : goal.loop-init
@@ -65,9 +65,10 @@ loop-preserved g c =
     in
     let contents = g.W.Output.contents in
     let wrote : Appends (contents c.loop.writer) (contents c.write_all.new.writer) c.push_piece.new.out.items = rw c.deref-in-loop.ensures.value at (when_ok c.write_all.result c.if-is_err.ensures.value c.write_all.ensures.ok) in
-    let fits : c.loop.counter * 3016 + length (take c.in-Ok.count c.read.new.buffer) ≤ (c.loop.counter + 1) * 3016 = omega (arith, length-take c.in-Ok.count c.read.new.buffer, c.in-Ok.ensures.bound) in
+    let count = length-take c.in-Ok.count c.read.new.buffer in
+    let bound = c.in-Ok.ensures.bound in
     record {
-      going = goes_on _ _ _ _ _ _ _ _ _ _ _ _ _ _ _ c.loop.invariant.going c.in-Ok.ensures.bytes.0 pushed wrote fits;
+      going = goes_on _ _ _ _ _ _ _ _ _ _ _ _ _ _ c.loop.invariant.going c.in-Ok.ensures.bytes.0 pushed wrote (omega arith) (omega arith);
       calls = search rules;
       reads = search rules;
       writes = search rules;
@@ -75,3 +76,6 @@ loop-preserved g c =
 
 pub returns-clause-text : goal.returns-clause-text
 returns-clause-text g c = begun _ _ _ _ _ _ _ _ c.loop.invariant.going
+
+pub returns-clause-gave : goal.returns-clause-gave
+returns-clause-gave g c = λ _. gave _ _ _ _ _ _ _ _ _ c.loop.invariant.going (omega arith)

@@ -1,4 +1,4 @@
-use Rattle.std.proofs.Common.{◌≡◌, ◌*◌}
+use Rattle.std.proofs.Common.{◌≡◌}
 use Rattle.pay_frame.specs.Device.{RoseBy}
 use Rattle.pay_cli.proofs.Going.{IsGoing}
 use Rattle.pay_cli.proofs.check.run_check.Given as goal
@@ -9,7 +9,7 @@ invariant-loop g l =
     let remaining = g.R.Input.remaining in
     let contents = g.W.Output.contents in
     record {
-      going : IsGoing l.keys (remaining l.fn.reader) (remaining l.reader) (contents l.fn.writer) (contents l.writer) l.progress l.cutter (l.counter * 3016);
+      going : IsGoing l.keys (remaining l.fn.reader) (remaining l.reader) (contents l.fn.writer) (contents l.writer) l.progress l.cutter l.counter;
       calls : RoseBy l.counter (g.R.Input.call_count l.fn.reader) (g.R.Input.call_count l.reader);
       reads : g.R.Input.failure_count l.reader ≡ g.R.Input.failure_count l.fn.reader;
       writes : g.W.Output.failure_count l.writer ≡ g.W.Output.failure_count l.fn.writer;
