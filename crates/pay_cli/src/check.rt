@@ -105,8 +105,8 @@ pub fn run_check<R: Input, W: Output, T: Tagger>(
     ensures text { Writes keys.now (R.remaining reader.old) (R.remaining reader.new) (W.contents writer.old) (W.contents writer.new) result }
     ensures read { IsErrOf result EngineFault.Read → RoseBy 1 (R.failure_count reader.old) (R.failure_count reader.new) }
     ensures write { IsErrOf result EngineFault.Write → RoseBy 1 (W.failure_count writer.old) (W.failure_count writer.new) }
-    ensures bound { IsErrOf result EngineFault.Bound → RoseBy READS (R.call_count reader.old) (R.call_count reader.new) }
-    ensures gave { IsErrOf result EngineFault.Bound → IfSome (R.remaining reader.old) (λ input. READS ≤ length input) }
+    ensures bound { IsErrOf result EngineFault.Bound → RoseBy 1000000 (R.call_count reader.old) (R.call_count reader.new) }
+    ensures gave { IsErrOf result EngineFault.Bound → IfSome (R.remaining reader.old) (λ input. 1000000 ≤ length input) }
 {
     let mut cutter = Cutter::new(alloc)?;
     let mut progress = Progress::new(alloc, genesis.members())?;
