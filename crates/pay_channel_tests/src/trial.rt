@@ -1,0 +1,121 @@
+//! A channel that is given steps.
+
+ghost use Rattle.std.specs.Prelude.{◌≡◌, ◌≤◌};
+
+use crate::step::{Group, Said, Step, Value, said_by};
+use pay_channel::{Applied, Channel, EventRef};
+use pay_echo::{Instance, MOST_MEMBERS};
+use pay_frame::{Body, Bytes, Kind};
+use std::alloc::{AllocError, Global};
+
+// What a broadcast's numbers are below.
+const SEQS: u32 = 65_536;
+
+// The most bytes that a value may have.
+const GREATEST_VALUE: usize = 1024;
+
+/// A channel, with what is to be known of it before an event may come.
+#[derive(Drop)]
+pub(crate) struct Trial<I: Instance + Drop> {
+    members: u16,
+    own: u16,
+    asks: u32,
+    channel: Channel<I>,
+    ghost same_members: { channel.group.members ≡ members },
+    ghost same_own: { channel.group.own ≡ own },
+    ghost same_asks: { channel.asks ≡ asks },
+}
+
+impl<I: Instance + Drop> Trial<I> {
+    /// A channel that took no step, if there can be such a group.
+    pub(crate) fn new(alloc: Global, group: Group) -> Result<Option<Self>, AllocError> {
+        let Group {
+            members,
+            faults,
+            own,
+        } = group;
+        if members > MOST_MEMBERS || own >= members {
+            return Ok(None);
+        }
+        Ok(Some(Trial {
+            members,
+            own,
+            asks: 0,
+            channel: Channel::new(alloc, members, faults, own)?,
+        }))
+    }
+
+    pub(crate) fn channel(&self) -> &Channel<I> {
+        &self.channel
+    }
+
+    /// What the channel answers to this step; nothing, where it may not come.
+    pub(crate) fn take(
+        &mut self,
+        alloc: Global,
+        step: Step,
+    ) -> Result<Option<Applied>, AllocError> {
+        match step {
+            Step::Ask(value) => self.ask(alloc, value),
+            Step::From(process, said) => match body_of(alloc, said)? {
+                Some(body) => self.hear(alloc, process, &body),
+                None => Ok(None),
+            },
+        }
+    }
+
+    fn ask(&mut self, alloc: Global, value: Value) -> Result<Option<Applied>, AllocError> {
+        if value.len() > GREATEST_VALUE || self.asks >= SEQS {
+            return Ok(None);
+        }
+        let applied = self.channel.apply(alloc, EventRef::Ask(value))?;
+        self.asks += 1;
+        Ok(Some(applied))
+    }
+
+    fn hear(
+        &mut self,
+        alloc: Global,
+        process: u16,
+        body: &Body,
+    ) -> Result<Option<Applied>, AllocError> {
+        let about_members = process < self.members && body.owner() < self.members;
+        if !about_members || process == self.own || body.kind() == Kind::Want {
+            return Ok(None);
+        }
+        if self.asks >= SEQS {
+            return Ok(None);
+        }
+        let applied = self.channel.apply(alloc, EventRef::From(process, body))?;
+        Ok(Some(applied))
+    }
+}
+
+// A body that says this, if it is no WANT and within a frame's limits.
+fn body_of(alloc: Global, said: Said<'_>) -> Result<Option<Body>, AllocError> {
+    let Said {
+        kind,
+        owner,
+        seq,
+        value,
+    } = said;
+    if kind == Kind::Want || seq >= SEQS || value.len() > GREATEST_VALUE {
+        return Ok(None);
+    }
+    let value = Bytes::from_slice(alloc, value)?;
+    Ok(Some(Body::new(kind, owner, seq, value)))
+}
+
+/// All that the channel sent, in order.
+pub(crate) fn sent_by<I: Instance + Drop>(
+    alloc: Global,
+    channel: &Channel<I>,
+) -> Result<Vec<Said<'_>>, AllocError> {
+    let mut sent = Vec::new(alloc);
+    for place in 0..channel.sent_len() {
+        if let Some(body) = channel.sent(place) {
+            sent.push(said_by(body))?;
+        }
+    }
+    Ok(sent)
+}
