@@ -80,7 +80,7 @@ fn draw_said(state: &mut u64, owner: u16) -> Said<'static> {
     }
 }
 
-// What the definitions say that some histories reached.
+// How often something was delivered in some histories, and by how much a list grew at most, by the definitions.
 #[derive(Clone, Copy, Debug)]
 struct Reached {
     deliveries: u32,

@@ -17,7 +17,7 @@ fn fresh<I: Instance + Drop>(alloc: Global) -> Result<Option<Trial<I>>, AllocErr
     }
 }
 
-// Nothing that the channels show differs.
+// The channels show the same of all that the row is about.
 fn show_the_same<I: Instance + Drop>(
     rt: &impl Abort,
     one: &Channel<I>,
@@ -44,8 +44,8 @@ fn show_the_same<I: Instance + Drop>(
     }
 }
 
-// Gives a channel a step, once more where memory is refused. Then it is as the other, which is to be where
-// it was before the step.
+// Gives a channel a step, and once more where memory is refused; before that it has to show what another
+// shows that took the steps so far.
 fn takes<I: Instance + Drop>(
     rt: &impl Abort,
     alloc: Global,
