@@ -6,3 +6,5 @@ pub mod HistoryLaws
 pub mod Listing
 pub mod Said
 pub mod InOut
+pub mod Asks
+pub mod Longer
