@@ -1,10 +1,9 @@
-ghost use Rattle.std.specs.Prelude.{◌≡◌, ◌≢◌, ◌≤◌, ◌<◌, ◌+◌, ◌-◌, ◌^◌, ◌++◌, ℕ, List, [], ◌∷◌, length, slice_get, replicate, vec_len, vec_capacity, IfOk, OnOk, OnErr};
+ghost use Rattle.std.specs.Prelude.{◌≡◌, ◌≢◌, ◌≤◌, ◌<◌, ◌+◌, ◌++◌, List, [], ◌∷◌, length, slice_get, replicate, vec_len, vec_capacity, IfOk, OnOk, OnErr};
 ghost use Rattle.std.specs.Option.{option_copied, option_to_list};
 ghost use Rattle.pay_frame.specs.Frame.{greatest_value};
-ghost use Rattle.pay_echo.specs.Broadcast.{Group};
 ghost use Rattle.pay_channel.specs.Source.{GrowsOnly};
-ghost use Rattle.pay_channel.specs.History.{Event, Ask, From, IsEvent, owner_of, counts, vote_by, seqs, known_from};
-ghost use Rattle.pay_channel.specs.State.{State, Follows, meaning_in, value_at, lists_of};
+ghost use Rattle.pay_channel.specs.History.{Event, Ask, From, IsEvent, owner_of, counts, vote_by, seqs};
+ghost use Rattle.pay_channel.specs.State.{State, Follows, value_at, lists_of};
 ghost use Rattle.pay_channel.specs.Applied.{TakesVote, IsToldOf, Takes, IsApplied, IsAsBefore, event_of};
 
 use crate::applied::Applied;
@@ -154,7 +153,7 @@ impl<I: Instance + Drop> Channel<I> {
         say(&mut self.sent, moves.echo.then_some(echo));
         say(&mut self.sent, moves.ready.then_some(ready));
         let from = self.listed[usize::from(owner)];
-        let grown = count_following(&self.instances, owner, from);
+        let grown = self.instances.count_following(owner, from);
         self.listed[usize::from(owner)] = from + grown;
         Ok(Applied {
             echo: moves.echo,
@@ -262,17 +261,4 @@ fn say(sent: &mut Vec<Body>, body: Option<Body>)
     if let Some(body) = body {
         sent.push_reserved(body);
     }
-}
-
-// How many numbers from this one on have a delivered value, up to the first that has none.
-fn count_following<I: Instance + Drop>(instances: &Instances<I>, owner: u16, from: u32) -> u32
-    requires { from ≤ seqs }
-    ensures { (g : Group) → result ≡ length (known_from (λ s. (meaning_in g instances.now owner s).delivered) from (seqs - from)) }
-{
-    for seq in from..65_536 {
-        if instances.delivered(owner, seq).is_none() {
-            return seq - from;
-        }
-    }
-    65_536 - from
 }
