@@ -13,7 +13,7 @@ use Rattle.pay_channel.specs.Applied.{SeesIfVote, IsAsBefore}
 
 -- ---- values up to the first that is missing
 
-abbrev Keeps : (ℕ → Option (List ℕ)) → (ℕ → Option (List ℕ)) → Type 0
+abbrev pub Keeps : (ℕ → Option (List ℕ)) → (ℕ → Option (List ℕ)) → Type 0
 Keeps old new = (s : ℕ) (v : List ℕ) → old s ≡ Some v → new s ≡ Some v
 
 pub known_from-some : (at : ℕ → Option (List ℕ)) (s n : ℕ) (v : List ℕ) → at s ≡ Some v → known_from at s (suc n) ≡ v ∷ known_from at (s + 1) n
@@ -33,7 +33,7 @@ known_from-short at s (suc n) = go (at s) refl (known_from-short at (s + 1) n) w
   go (Some v) e rest = omega (arith, ap length (known_from-some at s n v e))
 
 -- a longer list goes on where the shorter one ends
-known_from-grows : (old new : ℕ → Option (List ℕ)) (s n : ℕ) → Keeps old new → known_from new s n ≡ known_from old s n ++ known_from new (s + length (known_from old s n)) (n - length (known_from old s n))
+pub known_from-grows : (old new : ℕ → Option (List ℕ)) (s n : ℕ) → Keeps old new → known_from new s n ≡ known_from old s n ++ known_from new (s + length (known_from old s n)) (n - length (known_from old s n))
 unfolding known_from
 known_from-grows old new s zero keeps = refl
 known_from-grows old new s (suc n) keeps = go (old s) refl (known_from-grows old new (s + 1) n keeps) where

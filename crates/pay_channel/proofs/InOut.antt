@@ -15,7 +15,7 @@ use Rattle.pay_channel.specs.Laws.{is_echo, is_ready, is_said, EchoInOut, ReadyI
 use Rattle.pay_channel.proofs.Project.{votes-push, out-push, votes_in-other}
 
 -- bodies of another kind, or about another broadcast
-newly-apart : (t : BodyFields → Bool) (kind : Kind) (a s : ℕ) (o n : Option (List ℕ)) → ((v : List ℕ) → t (body_of kind a s v) ≡ false) → filter t (newly kind a s o n) ≡ []
+pub newly-apart : (t : BodyFields → Bool) (kind : Kind) (a s : ℕ) (o n : Option (List ℕ)) → ((v : List ℕ) → t (body_of kind a s v) ≡ false) → filter t (newly kind a s o n) ≡ []
 newly-apart t kind a s None None no_body = refl
 newly-apart t kind a s None (Some v) no_body = cond-false (t (body_of kind a s v)) (body_of kind a s v ∷ []) [] (no_body v)
 newly-apart t kind a s (Some w) n no_body = refl

@@ -6,3 +6,8 @@ pub mod HistoryLaws
 pub mod Listing
 pub mod Said
 pub mod InOut
+pub mod Counting
+pub mod Voting
+pub mod Asks
+pub mod Longer
+pub mod Asking

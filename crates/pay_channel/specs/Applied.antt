@@ -1,12 +1,19 @@
 -- What one event does to a channel.
-use Rattle.std.specs.Prelude.{◌≡◌, ℕ, ◌+◌, false, ◌++◌, List, length, Option, Some, None, if◌then◌else◌}
+use Rattle.std.specs.Prelude.{◌≡◌, ℕ, ◌+◌, false, ◌&&◌, ◌==◌, ◌++◌, List, length, Option, Some, None, if◌then◌else◌}
 use Rattle.pay_frame.specs.declared.kind.Kind.TheVariants.{Echo, Ready}
 use Rattle.pay_frame.specs.Frame.{BodyFields}
 use Rattle.pay_echo.specs.Broadcast.{Vote}
 use Rattle.pay_echo.specs.Meaning.{Meaning, Sees, became}
-use Rattle.pay_channel.specs.History.{Event, is_ask, owner_of, seq_of, vote_of, is_about, send_of, newly}
+use Rattle.pay_channel.specs.History.{Event, Ask, From, is_ask, owner_of, seq_of, vote_of, is_about, send_of, newly}
 use Rattle.pay_channel.specs.State.{State, meaning_at, lists_of}
 use Rattle.pay_channel.specs.declared.applied.Applied.{Applied}
+use Rattle.pay_channel.specs.declared.event.EventRef.{EventRef}
+use Rattle.pay_channel.specs.declared.event.EventRef.TheVariants as given
+
+-- what an `EventRef` holds
+abbrev pub event_of : EventRef → Event
+event_of (given.Ask value) = Ask value.now
+event_of (given.From process body) = From process body.now
 
 -- one vote more, or none
 abbrev pub SeesIfVote : Meaning → Meaning → Option Vote → Type 0
@@ -16,6 +23,22 @@ SeesIfVote old new (Some x) = Sees old new x
 -- what is said where a broadcast's meaning goes from old to new
 abbrev pub said : ℕ → ℕ → Meaning → Meaning → List BodyFields
 said a s old new = newly Echo a s old.echoed new.echoed ++ newly Ready a s old.readied new.readied
+
+-- one vote more in the broadcast s of account a: the others are as they were, and a SEND, where there is one, and
+-- what became known are at the end of the sent list
+pub record TakesVote (old new : State) (a s : ℕ) (vote : Option Vote) (send : List BodyFields) : Type 0 where
+  pub group : new.group ≡ old.group
+  pub asks : new.asks ≡ old.asks
+  pub here : SeesIfVote (meaning_at old a s) (meaning_at new a s) vote
+  pub others : (b t : ℕ) → (a == b && s == t) ≡ false → meaning_at new b t ≡ meaning_at old b t
+  pub sent : new.sent ≡ old.sent ++ (send ++ said a s (meaning_at old a s) (meaning_at new a s))
+
+-- what became known of the broadcast s of account a, and by how much the account's list grew
+pub record IsToldOf (old new : State) (a s : ℕ) (applied : Applied) : Type 0 where
+  pub echo : applied.echo ≡ became (meaning_at old a s).echoed (meaning_at new a s).echoed
+  pub ready : applied.ready ≡ became (meaning_at old a s).readied (meaning_at new a s).readied
+  pub deliver : applied.deliver ≡ became (meaning_at old a s).delivered (meaning_at new a s).delivered
+  pub grown : length (lists_of old a) + applied.grown ≡ length (lists_of new a)
 
 -- The state after an event: its broadcast has one vote more, the others are as they were, and what
 -- became known is at the end of the sent list.
@@ -33,11 +56,8 @@ pub record Takes (old new : State) (e : Event) : Type 0 where
       (meaning_at new (owner_of old.group.own e) (seq_of old.asks e)))
 
 -- what `apply` answers: what became known of the event's broadcast, and by how much its owner's list grew
-pub record IsApplied (old new : State) (e : Event) (applied : Applied) : Type 0 where
-  pub echo : applied.echo ≡ became (meaning_at old (owner_of old.group.own e) (seq_of old.asks e)).echoed (meaning_at new (owner_of old.group.own e) (seq_of old.asks e)).echoed
-  pub ready : applied.ready ≡ became (meaning_at old (owner_of old.group.own e) (seq_of old.asks e)).readied (meaning_at new (owner_of old.group.own e) (seq_of old.asks e)).readied
-  pub deliver : applied.deliver ≡ became (meaning_at old (owner_of old.group.own e) (seq_of old.asks e)).delivered (meaning_at new (owner_of old.group.own e) (seq_of old.asks e)).delivered
-  pub grown : length (lists_of old (owner_of old.group.own e)) + applied.grown ≡ length (lists_of new (owner_of old.group.own e))
+abbrev pub IsApplied : State → State → Event → Applied → Type 0
+IsApplied old new e applied = IsToldOf old new (owner_of old.group.own e) (seq_of old.asks e) applied
 
 -- nothing that can be seen changed
 pub record IsAsBefore (old new : State) : Type 0 where

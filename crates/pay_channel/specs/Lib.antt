@@ -1,5 +1,6 @@
 pub mod Source
 pub mod History
+pub mod Asked
 pub mod State
 pub mod Applied
 pub mod Group

@@ -7,3 +7,13 @@ pub struct Applied {
     pub deliver: bool,
     pub grown: u32,
 }
+
+impl Applied {
+    /// Nothing became known.
+    pub const NONE: Applied = Applied {
+        echo: false,
+        ready: false,
+        deliver: false,
+        grown: 0,
+    };
+}

@@ -1,10 +1,10 @@
-ghost use Rattle.std.specs.Prelude.{◌≡◌, ◌≢◌, ◌≤◌, ◌<◌, ℕ, Bool, false, ◌&&◌, ◌==◌, [], IfOk, OnOk, OnErr};
+ghost use Rattle.std.specs.Prelude.{◌≡◌, ◌≢◌, ◌≤◌, ◌<◌, ◌-◌, ℕ, length, Bool, false, ◌&&◌, ◌==◌, [], IfOk, OnOk, OnErr};
 ghost use Rattle.std.specs.Option.{option_copied};
 ghost use Rattle.pay_frame.specs.declared.kind.Kind.TheVariants.{Want};
 ghost use Rattle.pay_echo.specs.Broadcast.{Group};
 ghost use Rattle.pay_echo.specs.Meaning.{Meaning, meaning_of};
 ghost use Rattle.pay_echo.specs.Moves.{IsMoves};
-ghost use Rattle.pay_channel.specs.History.{vote_by};
+ghost use Rattle.pay_channel.specs.History.{vote_by, seqs, known_from};
 ghost use Rattle.pay_channel.specs.Group.{group_of};
 ghost use Rattle.pay_channel.specs.State.{Slot, meaning_in};
 ghost use Rattle.pay_channel.specs.Applied.{SeesIfVote};
@@ -49,6 +49,19 @@ impl<I: Instance + Drop> Instances<I> {
             Some(instance) => instance.delivered(),
             None => None,
         }
+    }
+
+    /// How many numbers from this one on have a delivered value, up to the first that has none.
+    pub fn count_following(&self, owner: u16, from: u32) -> u32
+        requires { from ≤ seqs }
+        ensures { (g : Group) → result ≡ length (known_from (λ s. (meaning_in g self.now owner s).delivered) from (seqs - from)) }
+    {
+        for seq in from..65_536 {
+            if self.delivered(owner, seq).is_none() {
+                return seq - from;
+            }
+        }
+        65_536 - from
     }
 
     /// Tells a broadcast's instance one vote; where none is there yet, a fresh one.
