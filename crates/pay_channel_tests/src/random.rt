@@ -81,7 +81,7 @@ fn draw_said(state: &mut u64, owner: u16) -> Said<'static> {
 }
 
 // How often something was delivered in some histories, and by how much a list grew at most, by the definitions.
-#[derive(Clone, Copy, Debug)]
+#[derive(Clone, Copy)]
 struct Reached {
     deliveries: u32,
     most_grown: u32,

@@ -8,7 +8,7 @@ use pay_frame::Kind;
 use std::alloc::{AllocError, Global};
 
 /// What one step says in one broadcast.
-#[derive(Clone, Copy, Debug)]
+#[derive(Clone, Copy)]
 enum Vote {
     Send(Value),
     Echo(u16, Value),
@@ -16,7 +16,7 @@ enum Vote {
 }
 
 /// What is known of one broadcast.
-#[derive(Clone, Copy, Debug)]
+#[derive(Clone, Copy)]
 struct Known {
     echoed: Option<Value>,
     readied: Option<Value>,
@@ -24,7 +24,7 @@ struct Known {
 }
 
 /// What one step makes known, and what is sent to all by it.
-#[derive(Clone, Copy, Debug)]
+#[derive(Clone, Copy)]
 pub(crate) struct Told {
     pub(crate) applied: Applied,
     pub(crate) said: [Option<Said<'static>>; 3],
