@@ -163,6 +163,13 @@ impl<I: Instance + Drop> Channel<I> {
         })
     }
 
+    /// How many values of its own the member broadcast: the number that its next one gets.
+    pub fn asks(&self) -> u32
+        ensures { result ≡ self.now.asks }
+    {
+        self.asks
+    }
+
     /// How many bodies were sent to all.
     pub fn sent_len(&self) -> usize
         ensures { result ≡ length self.now.sent }
