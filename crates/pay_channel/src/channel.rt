@@ -1,8 +1,8 @@
-ghost use Rattle.std.specs.Prelude.{◌≡◌, ◌≢◌, ◌≤◌, ◌<◌, ◌+◌, ◌++◌, List, [], ◌∷◌, length, slice_get, replicate, vec_len, vec_capacity, IfOk, OnOk, OnErr};
+ghost use Rattle.std.specs.Prelude.{true, ◌≡◌, ◌≢◌, ◌≤◌, ◌<◌, ◌+◌, ◌++◌, List, [], ◌∷◌, length, slice_get, replicate, vec_len, vec_capacity, IfOk, OnOk, OnErr};
 ghost use Rattle.std.specs.Option.{option_copied, option_to_list};
 ghost use Rattle.pay_frame.specs.Frame.{greatest_value};
 ghost use Rattle.pay_channel.specs.Source.{GrowsOnly};
-ghost use Rattle.pay_channel.specs.History.{Event, Ask, From, IsEvent, owner_of, counts, vote_by, seqs};
+ghost use Rattle.pay_channel.specs.History.{Event, Ask, From, IsEvent, is_ask, owner_of, counts, vote_by, seqs};
 ghost use Rattle.pay_channel.specs.State.{State, Follows, value_at, lists_of};
 ghost use Rattle.pay_channel.specs.Applied.{TakesVote, IsToldOf, Takes, IsApplied, IsAsBefore, event_of};
 
@@ -64,12 +64,12 @@ impl<I: Instance + Drop> Channel<I> {
 
     /// Takes one event, and tells what became known by it.
     ///
-    /// A value of one's own has a frame's limits and fewer than 65,536 came before it; a body comes from
+    /// A value of one's own has at most a frame's bytes, and fewer than 65,536 came before it. A body comes from
     /// another member, about a member, and is no WANT. Fails only where memory is refused; the channel is then
     /// as it was, since all room is made before the first change.
     pub fn apply(&mut self, alloc: Global, event: EventRef) -> Result<Applied, AllocError>
         requires event { IsEvent self.old.group (event_of event) }
-        requires room { self.old.asks < seqs }
+        requires number { is_ask (event_of event) ≡ true → self.old.asks < seqs }
         ensures takes { OnOk result (Takes self.old self.new (event_of event.entry)) }
         ensures applied { IfOk result (IsApplied self.old self.new (event_of event.entry)) }
         ensures grows { OnOk result (GrowsOnly (lists_of self.old) (lists_of self.new) (owner_of self.old.group.own (event_of event.entry))) }
@@ -85,7 +85,7 @@ impl<I: Instance + Drop> Channel<I> {
     // Broadcasts a value of one's own.
     fn ask(&mut self, alloc: Global, value: &[u8]) -> Result<Applied, AllocError>
         requires value { length value.now ≤ greatest_value }
-        requires room { self.old.asks < seqs }
+        requires number { self.old.asks < seqs }
         ensures takes { OnOk result (Takes self.old self.new (Ask value.now)) }
         ensures applied { IfOk result (IsApplied self.old self.new (Ask value.now)) }
         ensures grows { OnOk result (GrowsOnly (lists_of self.old) (lists_of self.new) self.old.group.own) }
@@ -161,6 +161,13 @@ impl<I: Instance + Drop> Channel<I> {
             deliver: moves.deliver,
             grown,
         })
+    }
+
+    /// How many values of its own the member broadcast: the number that its next one gets.
+    pub fn asks(&self) -> u32
+        ensures { result ≡ self.now.asks }
+    {
+        self.asks
     }
 
     /// How many bodies were sent to all.
