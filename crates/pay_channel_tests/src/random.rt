@@ -141,6 +141,7 @@ fn history_agrees<I: Instance + Drop>(
         sent.as_slice(),
         "seed {seed} of {group:?}: sent after {history:?}"
     );
+    assert_eq!(rt; trial.channel().asks(), asks(&history));
     lists_agree(rt, alloc, group, &trial, &history)
 }
 

@@ -1,6 +1,6 @@
 //! A channel that is given steps.
 
-ghost use Rattle.std.specs.Prelude.{◌≡◌, ◌≤◌};
+ghost use Rattle.std.specs.Prelude.{◌≡◌};
 
 use crate::step::{Group, Said, Step, Value, said_by};
 use pay_channel::{Applied, Channel, EventRef};
@@ -19,11 +19,9 @@ const GREATEST_VALUE: usize = 1024;
 pub(crate) struct Trial<I: Instance + Drop> {
     members: u16,
     own: u16,
-    asks: u32,
     channel: Channel<I>,
     ghost same_members: { channel.group.members ≡ members },
     ghost same_own: { channel.group.own ≡ own },
-    ghost same_asks: { channel.asks ≡ asks },
 }
 
 impl<I: Instance + Drop> Trial<I> {
@@ -40,7 +38,6 @@ impl<I: Instance + Drop> Trial<I> {
         Ok(Some(Trial {
             members,
             own,
-            asks: 0,
             channel: Channel::new(alloc, members, faults, own)?,
         }))
     }
@@ -65,11 +62,10 @@ impl<I: Instance + Drop> Trial<I> {
     }
 
     fn ask(&mut self, alloc: Global, value: Value) -> Result<Option<Applied>, AllocError> {
-        if value.len() > GREATEST_VALUE || self.asks >= SEQS {
+        if value.len() > GREATEST_VALUE || self.channel.asks() >= SEQS {
             return Ok(None);
         }
         let applied = self.channel.apply(alloc, EventRef::Ask(value))?;
-        self.asks += 1;
         Ok(Some(applied))
     }
 
@@ -81,9 +77,6 @@ impl<I: Instance + Drop> Trial<I> {
     ) -> Result<Option<Applied>, AllocError> {
         let about_members = process < self.members && body.owner() < self.members;
         if !about_members || process == self.own || body.kind() == Kind::Want {
-            return Ok(None);
-        }
-        if self.asks >= SEQS {
             return Ok(None);
         }
         let applied = self.channel.apply(alloc, EventRef::From(process, body))?;
