@@ -1,7 +1,7 @@
 //! A refused allocation: `rt try --test --fail-alloc N` refuses the Nth.
 
-use crate::rows::{FOUR, LATE_FIRST_NUMBER};
-use crate::step::{Step, said_by};
+use crate::rows::{ALONE, FOUR, LATE_FIRST_NUMBER, ONE};
+use crate::step::{Group, Step, said_by};
 use crate::trial::Trial;
 use pay_channel::{Applied, Channel};
 use pay_echo::{Instance, PlainInstance};
@@ -10,14 +10,14 @@ use std::process::Abort;
 use std::test::Fail;
 
 // A new channel, at the second try where memory is refused at the first.
-fn fresh<I: Instance + Drop>(alloc: Global) -> Result<Option<Trial<I>>, AllocError> {
-    match Trial::new(alloc, FOUR) {
+fn fresh<I: Instance + Drop>(alloc: Global, group: Group) -> Result<Option<Trial<I>>, AllocError> {
+    match Trial::new(alloc, group) {
         Ok(trial) => Ok(trial),
-        Err(_) => Trial::new(alloc, FOUR),
+        Err(_) => Trial::new(alloc, group),
     }
 }
 
-// The channels show the same of all that the row is about.
+// The channels show the same of all that a row is about.
 fn show_the_same<I: Instance + Drop>(
     rt: &impl Abort,
     one: &Channel<I>,
@@ -62,10 +62,15 @@ fn takes<I: Instance + Drop>(
     }
 }
 
-fn refusals_change_nothing<I: Instance + Drop>(rt: &impl Abort, alloc: Global) -> Result<(), Fail> {
-    let mut trial = fresh::<I>(alloc)?.ok_or("no such group")?;
-    let mut other = fresh::<I>(alloc)?.ok_or("no such group")?;
-    for (step, applied) in &LATE_FIRST_NUMBER {
+fn refusals_change_nothing<I: Instance + Drop>(
+    rt: &impl Abort,
+    alloc: Global,
+    group: Group,
+    row: &[(Step, Applied)],
+) -> Result<(), Fail> {
+    let mut trial = fresh::<I>(alloc, group)?.ok_or("no such group")?;
+    let mut other = fresh::<I>(alloc, group)?.ok_or("no such group")?;
+    for (step, applied) in row {
         assert_eq!(rt;
             takes(rt, alloc, &mut trial, &other, step)?,
             Some(*applied),
@@ -83,5 +88,6 @@ fn refusals_change_nothing<I: Instance + Drop>(rt: &impl Abort, alloc: Global) -
 
 #[test]
 fn refusals_change_nothing_in_the_plain_form(rt: HostRuntime) -> Result<(), Fail> {
-    refusals_change_nothing::<PlainInstance>(&rt, rt.alloc())
+    refusals_change_nothing::<PlainInstance>(&rt, rt.alloc(), ONE, &ALONE)?;
+    refusals_change_nothing::<PlainInstance>(&rt, rt.alloc(), FOUR, &LATE_FIRST_NUMBER)
 }

@@ -83,6 +83,17 @@ pub(crate) const LATE_FIRST_NUMBER: [(Step, Applied); 6] = [
     (Step::Ask(A), ECHOED),
 ];
 
+// All at once, as it is with the only member.
+const ALL: Applied = Applied {
+    echo: true,
+    ready: true,
+    deliver: true,
+    grown: 1,
+};
+
+/// The first ask of the only member.
+pub(crate) const ALONE: [(Step, Applied); 1] = [(Step::Ask(A), ALL)];
+
 // A body about the first ask of member 0.
 fn about_ask(kind: Kind) -> Said<'static> {
     Said {
@@ -158,14 +169,8 @@ fn sends_what_is_new<I: Instance + Drop>(
 }
 
 fn one_member<I: Instance + Drop>(rt: &impl Abort, alloc: Global) -> Result<(), Fail> {
-    let applied = Applied {
-        echo: true,
-        ready: true,
-        deliver: true,
-        grown: 1,
-    };
     let mut trial = Trial::<I>::new(alloc, ONE)?.ok_or("no such group")?;
-    plays(rt, alloc, &mut trial, &[(Step::Ask(A), applied)])?;
+    plays(rt, alloc, &mut trial, &ALONE)?;
     let all = [
         about_ask(Kind::Send),
         about_ask(Kind::Echo),
