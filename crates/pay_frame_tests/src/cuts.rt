@@ -4,7 +4,6 @@ ghost use Rattle.std.specs.Prelude.{◌≡◌, None, IfOk, IfNone, IfSome, OnOk}
 ghost use Rattle.pay_frame.specs.Cutting.{IsDrained};
 
 use crate::samples::{READY_HEAD, SEND_HEAD, SEND_VALUE, WANT_HEAD, spelled, spelled_echo};
-use hex::FromHexError;
 use pay_frame::{Cutter, FrameFault, FrameRef, beginning_is_drained};
 use std::alloc::{AllocError, AllocFailed, Global};
 use std::process::Abort;
@@ -76,6 +75,11 @@ fn take_frames(alloc: Global, cutter: &mut Cutter, frames: &mut Vec<Vec<u8>>) ->
     Err(Stop::Endless)
 }
 
+/// A cutter takes so many bytes of a piece.
+fn try_feed(rt: &impl Abort, cutter: &mut Cutter, piece: &[u8], taken: usize) {
+    assert_eq!(rt; cutter.feed(piece), taken);
+}
+
 /// Feeds the pieces and then ends the stream: the frames, and what `end` answered.
 fn cut(
     rt: &(impl Abort + AllocGlobal),
@@ -85,7 +89,7 @@ fn cut(
     let mut cutter = Cutter::new(alloc)?;
     let mut frames = Vec::new(alloc);
     for piece in pieces {
-        assert_eq!(rt; cutter.feed(piece), piece.len());
+        try_feed(rt, &mut cutter, piece, piece.len());
         take_frames(alloc, &mut cutter, &mut frames)?;
     }
     take_frames(alloc, &mut cutter, &mut frames)?;
@@ -93,17 +97,12 @@ fn cut(
 }
 
 /// Frames of 56, 67, 56 and 1,080 bytes.
-fn four_frames(alloc: Global) -> Result<Vec<Vec<u8>>, FromHexError> {
+fn four_frames(alloc: Global) -> Result<Vec<Vec<u8>>, Fail> {
     let mut frames = Vec::new(alloc);
-    for (head, value) in [
-        (READY_HEAD, [].as_slice()),
-        (SEND_HEAD, SEND_VALUE.as_slice()),
-        (WANT_HEAD, [].as_slice()),
-    ] {
-        let frame = spelled(alloc, head, value)?;
-        frames.push(frame).map_err(AllocError::from)?;
-    }
-    frames.push(spelled_echo(alloc)?).map_err(AllocError::from)?;
+    frames.push(spelled(alloc, READY_HEAD, &[])?)?;
+    frames.push(spelled(alloc, SEND_HEAD, SEND_VALUE)?)?;
+    frames.push(spelled(alloc, WANT_HEAD, &[])?)?;
+    frames.push(spelled_echo(alloc)?)?;
     Ok(frames)
 }
 
@@ -187,9 +186,9 @@ fn feed_both(
     frame: &[u8],
     text: &str,
 ) -> Result<(), Fail> {
+    try_feed(rt, cutter, frame, frame.len());
     let bytes = hex::decode(rt.alloc(), text)?;
-    assert_eq!(rt; cutter.feed(frame), frame.len());
-    assert_eq!(rt; cutter.feed(bytes.as_slice()), bytes.len());
+    try_feed(rt, cutter, bytes.as_slice(), bytes.len());
     Ok(())
 }
 
@@ -198,9 +197,9 @@ fn try_stopped(rt: &impl Abort, cutter: &mut Cutter, frame: &[u8], fault: FrameF
     requires { IsDrained cutter.old.bytes }
 {
     assert_eq!(rt; cutter.end(), Err(fault));
-    assert_eq!(rt; cutter.feed(frame), 0);
+    try_feed(rt, cutter, frame, 0);
     assert_eq!(rt; cutter.next().err(), Some(fault));
-    assert_eq!(rt; cutter.feed(b"more"), 0);
+    try_feed(rt, cutter, b"more", 0);
 }
 
 /// Behind a frame, bytes in hexadecimal are met with this fault, for good.
@@ -245,10 +244,6 @@ fn five_echoes(alloc: Global) -> Result<Vec<u8>, Fail> {
         stream.extend_from_slice(echo.as_slice())?;
     }
     Ok(stream)
-}
-
-fn try_feed(rt: &impl Abort, cutter: &mut Cutter, piece: &[u8], taken: usize) {
-    assert_eq!(rt; cutter.feed(piece), taken);
 }
 
 /// How many frames are in front.

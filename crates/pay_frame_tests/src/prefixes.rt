@@ -1,13 +1,9 @@
 //! What stands in front of bytes.
 
-use crate::samples::{echo_value, spelled};
-use pay_frame::{FrameFault, read};
+use crate::samples::{echo_value, size_read, spelled};
+use pay_frame::FrameFault;
 use std::process::Abort;
 use std::test::Fail;
-
-fn size_read(bytes: &[u8]) -> Result<Option<usize>, FrameFault> {
-    Ok(read(bytes)?.map(|(_, size)| size))
-}
 
 /// Tries the reading of bytes that are spelled in hexadecimal.
 fn try_reading(
