@@ -11,7 +11,7 @@ use std::marker::Model;
 
 /// A book, and the lists that it settles.
 #[derive(Drop)]
-pub struct Ledger<B: Settle> {
+pub(crate) struct Ledger<B: Settle> {
     accounts: u16,
     lists: Lists,
     book: B,
@@ -32,7 +32,7 @@ impl<B: Settle> Model for Ledger<B> {
 
 impl<B: Settle + Drop> Ledger<B> {
     /// A fresh book over empty lists.
-    pub fn new(alloc: Global, genesis: &Genesis) -> Result<Self, AllocError>
+    pub(crate) fn new(alloc: Global, genesis: &Genesis) -> Result<Self, AllocError>
         ensures { IfOk result (λ ledger. ledger ≡ fresh genesis.now.opening) }
     {
         Ok(Ledger {
@@ -44,7 +44,7 @@ impl<B: Settle + Drop> Ledger<B> {
 
     /// Puts a value on an owner's list, and says how many entries settled; nothing where there is no such owner
     /// or no room on its list.
-    pub fn add(&mut self, owner: u16, value: Vec<u8>) -> Result<Option<u32>, AllocError> {
+    pub(crate) fn add(&mut self, owner: u16, value: Vec<u8>) -> Result<Option<u32>, AllocError> {
         if owner >= self.accounts || !self.lists.has_room(owner) {
             return Ok(None);
         }
@@ -53,16 +53,16 @@ impl<B: Settle + Drop> Ledger<B> {
     }
 
     /// How many entries of each account are settled.
-    pub fn fronts(&self, alloc: Global) -> Result<Vec<u32>, AllocError> {
+    pub(crate) fn fronts(&self, alloc: Global) -> Result<Vec<usize>, AllocError> {
         let mut fronts = Vec::new(alloc);
         for account in 0..self.accounts {
-            fronts.push(self.book.front(account))?;
+            fronts.push(self.book.front(account) as usize)?;
         }
         Ok(fronts)
     }
 
     /// The balance of each account.
-    pub fn balances(&self, alloc: Global) -> Result<Vec<u64>, AllocError> {
+    pub(crate) fn balances(&self, alloc: Global) -> Result<Vec<u64>, AllocError> {
         let mut balances = Vec::new(alloc);
         for account in 0..self.accounts {
             balances.push(self.book.balance(account))?;
@@ -71,7 +71,11 @@ impl<B: Settle + Drop> Ledger<B> {
     }
 
     /// An account's statement, if there is that account.
-    pub fn statement(&self, alloc: Global, account: u16) -> Result<Option<Vec<Line>>, AllocError> {
+    pub(crate) fn statement(
+        &self,
+        alloc: Global,
+        account: u16,
+    ) -> Result<Option<Vec<Line>>, AllocError> {
         if account >= self.accounts {
             return Ok(None);
         }

@@ -9,14 +9,14 @@ use std::alloc::{AllocError, Global};
 
 /// The values of some owners, each owner's in order.
 #[derive(Drop)]
-pub struct Lists {
+pub(crate) struct Lists {
     values: Vec<Vec<Vec<u8>>>,
     ghost short: { All (λ list. vec_len list ≤ 65536) values.items },
 }
 
 impl Lists {
     /// Empty lists of so many owners.
-    pub fn new(alloc: Global, owners: u16) -> Result<Self, AllocError>
+    pub(crate) fn new(alloc: Global, owners: u16) -> Result<Self, AllocError>
         ensures owners { IfOk result (λ lists. vec_len lists.values ≡ owners) }
         ensures empty { IfOk result (λ lists. (owner : ℕ) → length (values_of lists.values.items owner) ≡ 0) }
     {
@@ -28,7 +28,7 @@ impl Lists {
     }
 
     /// Whether there is such an owner, and its list has room for another value.
-    pub fn has_room(&self, owner: u16) -> bool
+    pub(crate) fn has_room(&self, owner: u16) -> bool
         ensures owner { IsTrue result → owner < vec_len self.now.values }
         ensures room { IsTrue result → length (values_of self.now.values.items owner) < 65536 }
     {
@@ -39,7 +39,7 @@ impl Lists {
     }
 
     /// Appends a value to an owner's list.
-    pub fn append(&mut self, owner: u16, value: Vec<u8>) -> Result<(), AllocError>
+    pub(crate) fn append(&mut self, owner: u16, value: Vec<u8>) -> Result<(), AllocError>
         requires owner { owner < vec_len self.old.values }
         requires room { length (values_of self.old.values.items owner) < 65536 }
         ensures owners { vec_len self.new.values ≡ vec_len self.old.values }

@@ -6,7 +6,7 @@
 use std::alloc::{AllocError, Global};
 
 /// What an owner asks: a payee and an amount, or nothing.
-pub type Request = Option<(usize, u64)>;
+pub(crate) type Request = Option<(usize, u64)>;
 
 /// What the settled requests bring to an account.
 fn income(requests: &[Vec<Request>], front: &[usize], account: usize) -> u64 {
@@ -56,7 +56,7 @@ fn next_fronts(
 }
 
 /// All fronts that steps reach from the one where nothing is settled.
-pub fn reached_fronts(
+pub(crate) fn reached_fronts(
     alloc: Global,
     opening: &[u64],
     requests: &[Vec<Request>],
@@ -86,7 +86,7 @@ pub fn reached_fronts(
 }
 
 /// The farthest place of each account in any of these fronts.
-pub fn greatest_front(
+pub(crate) fn greatest_front(
     alloc: Global,
     accounts: usize,
     fronts: &[Vec<usize>],
@@ -103,7 +103,7 @@ pub fn greatest_front(
 }
 
 /// The balances at a front.
-pub fn balances_at(
+pub(crate) fn balances_at(
     alloc: Global,
     opening: &[u64],
     requests: &[Vec<Request>],

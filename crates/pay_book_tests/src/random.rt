@@ -10,12 +10,12 @@ use std::alloc::{AllocError, Global};
 
 /// What a book shows after random steps, and what trying every order gives.
 #[derive(Drop)]
-pub struct Run {
-    pub fronts: Vec<u32>,
-    pub balances: Vec<u64>,
-    pub greatest: Vec<usize>,
-    pub greatest_is_reached: bool,
-    pub greatest_balances: Vec<u64>,
+pub(crate) struct Run {
+    pub(crate) fronts: Vec<usize>,
+    pub(crate) balances: Vec<u64>,
+    pub(crate) greatest: Vec<usize>,
+    pub(crate) greatest_is_reached: bool,
+    pub(crate) greatest_balances: Vec<u64>,
 }
 
 /// The next number below a bound.
@@ -60,7 +60,7 @@ fn draw_value(
 }
 
 /// Puts random values on the lists of a book made from this genesis, whose opening balances these are.
-pub fn random_run<B: Settle + Drop>(
+pub(crate) fn random_run<B: Settle + Drop>(
     alloc: Global,
     genesis: &Genesis,
     opening: &[u64],

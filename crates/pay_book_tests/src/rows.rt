@@ -6,31 +6,31 @@ use pay_link::Genesis;
 use std::alloc::{AllocError, Global};
 
 /// A value that its owner puts on its list.
-pub struct Step {
-    pub owner: u16,
-    pub value: &'static [u8],
+pub(crate) struct Step {
+    pub(crate) owner: u16,
+    pub(crate) value: &'static [u8],
 }
 
 /// What a book answers and shows after some steps from these opening balances.
-pub struct Row {
-    pub name: &'static str,
-    pub opening: [u64; 4],
-    pub steps: &'static [Step],
-    pub settled: &'static [u32],
-    pub fronts: [u32; 4],
-    pub balances: [u64; 4],
+pub(crate) struct Row {
+    pub(crate) name: &'static str,
+    pub(crate) opening: [u64; 4],
+    pub(crate) steps: &'static [Step],
+    pub(crate) settled: &'static [u32],
+    pub(crate) fronts: [usize; 4],
+    pub(crate) balances: [u64; 4],
 }
 
 /// How many entries settled by each step, and what the book shows in the end.
 #[derive(Drop)]
-pub struct Played {
-    pub settled: Vec<u32>,
-    pub fronts: Vec<u32>,
-    pub balances: Vec<u64>,
+pub(crate) struct Played {
+    pub(crate) settled: Vec<u32>,
+    pub(crate) fronts: Vec<usize>,
+    pub(crate) balances: Vec<u64>,
 }
 
 /// Plays the steps on a new book. A step of no owner, or past the end of a full list, has no answer.
-pub fn play<B: Settle + Drop>(
+pub(crate) fn play<B: Settle + Drop>(
     alloc: Global,
     genesis: &Genesis,
     steps: &[Step],
@@ -51,7 +51,7 @@ pub fn play<B: Settle + Drop>(
 }
 
 /// Rows that every book meets.
-pub const ROWS: [Row; 10] = [
+pub(crate) const ROWS: [Row; 10] = [
     Row {
         name: "a payment settles",
         opening: [100, 0, 0, 50],

@@ -1,7 +1,7 @@
 //! Frames with one byte of the head changed, against a slow reading that tries every frame there is.
 
-use crate::samples::{READY_HEAD, SEND_HEAD, SEND_VALUE, WANT_HEAD, spelled};
-use pay_frame::{FrameFault, read};
+use crate::samples::{READY_HEAD, SEND_HEAD, SEND_VALUE, WANT_HEAD, size_read, spelled};
+use pay_frame::FrameFault;
 use std::alloc::{AllocError, Global};
 use std::process::Abort;
 use std::test::Fail;
@@ -141,8 +141,8 @@ fn slow_reading(bytes: &[u8], shapes: &[Shape]) -> Found {
 }
 
 fn reading(bytes: &[u8]) -> Found {
-    match read(bytes) {
-        Ok(Some((_, size))) => Found::Frame(size),
+    match size_read(bytes) {
+        Ok(Some(size)) => Found::Frame(size),
         Ok(None) => Found::Beginning,
         Err(fault) => Found::Fault(Some(fault)),
     }

@@ -3,10 +3,7 @@
 ghost use Rattle.std.specs.Prelude.{◌≡◌, None, IfOk, IfNone, IfSome, OnOk};
 ghost use Rattle.pay_frame.specs.Cutting.{IsDrained};
 
-use crate::samples::{
-    ECHO_HEAD, ECHO_VALUE, READY_HEAD, SEND_HEAD, SEND_VALUE, WANT_HEAD, spelled,
-};
-use hex::FromHexError;
+use crate::samples::{READY_HEAD, SEND_HEAD, SEND_VALUE, WANT_HEAD, spelled, spelled_echo};
 use pay_frame::{Cutter, FrameFault, FrameRef, beginning_is_drained};
 use std::alloc::{AllocError, AllocFailed, Global};
 use std::process::Abort;
@@ -78,6 +75,11 @@ fn take_frames(alloc: Global, cutter: &mut Cutter, frames: &mut Vec<Vec<u8>>) ->
     Err(Stop::Endless)
 }
 
+/// A cutter takes so many bytes of a piece.
+fn try_feed(rt: &impl Abort, cutter: &mut Cutter, piece: &[u8], taken: usize) {
+    assert_eq!(rt; cutter.feed(piece), taken);
+}
+
 /// Feeds the pieces and then ends the stream: the frames, and what `end` answered.
 fn cut(
     rt: &(impl Abort + AllocGlobal),
@@ -87,7 +89,7 @@ fn cut(
     let mut cutter = Cutter::new(alloc)?;
     let mut frames = Vec::new(alloc);
     for piece in pieces {
-        assert_eq!(rt; cutter.feed(piece), piece.len());
+        try_feed(rt, &mut cutter, piece, piece.len());
         take_frames(alloc, &mut cutter, &mut frames)?;
     }
     take_frames(alloc, &mut cutter, &mut frames)?;
@@ -95,17 +97,12 @@ fn cut(
 }
 
 /// Frames of 56, 67, 56 and 1,080 bytes.
-fn four_frames(alloc: Global) -> Result<Vec<Vec<u8>>, FromHexError> {
+fn four_frames(alloc: Global) -> Result<Vec<Vec<u8>>, Fail> {
     let mut frames = Vec::new(alloc);
-    for (head, value) in [
-        (READY_HEAD, [].as_slice()),
-        (SEND_HEAD, SEND_VALUE.as_slice()),
-        (WANT_HEAD, [].as_slice()),
-        (ECHO_HEAD, ECHO_VALUE.as_slice()),
-    ] {
-        let frame = spelled(alloc, head, value)?;
-        frames.push(frame).map_err(AllocError::from)?;
-    }
+    frames.push(spelled(alloc, READY_HEAD, &[])?)?;
+    frames.push(spelled(alloc, SEND_HEAD, SEND_VALUE)?)?;
+    frames.push(spelled(alloc, WANT_HEAD, &[])?)?;
+    frames.push(spelled_echo(alloc)?)?;
     Ok(frames)
 }
 
@@ -117,58 +114,109 @@ fn one_stream(alloc: Global, frames: &[Vec<u8>]) -> Result<Vec<u8>, AllocError> 
     Ok(stream)
 }
 
-#[test]
-fn every_cut_gives_the_same_frames(rt: HostRuntime) -> Result<(), Fail> {
-    let alloc = rt.alloc();
-    let frames = four_frames(alloc)?;
-    let stream = one_stream(alloc, frames.as_slice())?;
-    assert_eq!(rt; stream.len(), 1259);
-    let expected = (frames, Ok(()));
-    assert_eq!(rt; cut(&rt, &[stream.as_slice()])?, expected);
-    let mut single: Vec<&[u8]> = Vec::new(alloc);
-    for place in 0..stream.len() {
-        let (front, back) = stream.split_at(place);
-        assert_eq!(rt; cut(&rt, &[front, back])?, expected, "cut at {place}");
-        single.push(back.get(..1).unwrap_or_default())?;
-    }
-    assert_eq!(rt; cut(&rt, single.as_slice())?, expected, "byte by byte");
+/// The pieces give these frames, and the stream ends behind them.
+fn try_cut(
+    rt: &(impl Abort + AllocGlobal),
+    pieces: &[&[u8]],
+    frames: &[Vec<u8>],
+) -> Result<(), Fail> {
+    let (found, end) = cut(rt, pieces)?;
+    let count = pieces.len();
+    assert_eq!(rt; found.as_slice(), frames, "of {count} pieces");
+    assert_eq!(rt; end, Ok(()), "after {count} pieces");
     Ok(())
 }
 
 #[test]
+fn every_cut_gives_the_same_frames(rt: HostRuntime) -> Result<(), Fail> {
+    let frames = four_frames(rt.alloc())?;
+    let stream = one_stream(rt.alloc(), frames.as_slice())?;
+    assert_eq!(rt; stream.len(), 1259);
+    for place in 0..=stream.len() {
+        let (front, back) = stream.split_at(place);
+        try_cut(&rt, &[front, back], frames.as_slice())?;
+    }
+    Ok(())
+}
+
+#[test]
+fn single_bytes_give_the_same_frames(rt: HostRuntime) -> Result<(), Fail> {
+    let frames = four_frames(rt.alloc())?;
+    let stream = one_stream(rt.alloc(), frames.as_slice())?;
+    try_cut(&rt, &[stream.as_slice()], frames.as_slice())?;
+    let mut single: Vec<&[u8]> = Vec::new(rt.alloc());
+    for piece in stream.chunks(1) {
+        single.push(piece)?;
+    }
+    try_cut(&rt, single.as_slice(), frames.as_slice())
+}
+
+/// How many frames there are in so many bytes of the stream, and whether it may end there.
+fn found_before(place: usize) -> (usize, Result<(), FrameFault>) {
+    let cut_off = Err(FrameFault::Truncated);
+    match place {
+        0 => (0, Ok(())),
+        1..56 => (0, cut_off),
+        56 => (1, Ok(())),
+        57..123 => (1, cut_off),
+        123 => (2, Ok(())),
+        124..179 => (2, cut_off),
+        179 => (3, Ok(())),
+        180..1259 => (3, cut_off),
+        _ => (4, Ok(())),
+    }
+}
+
+#[test]
 fn streams_end_between_frames_alone(rt: HostRuntime) -> Result<(), Fail> {
-    let alloc = rt.alloc();
-    let frames = four_frames(alloc)?;
-    let stream = one_stream(alloc, frames.as_slice())?;
+    let frames = four_frames(rt.alloc())?;
+    let stream = one_stream(rt.alloc(), frames.as_slice())?;
     for place in 0..=stream.len() {
         let (front, _) = stream.split_at(place);
         let (found, end) = cut(&rt, &[front])?;
-        let (count, between) = match place {
-            0 => (0, true),
-            1..56 => (0, false),
-            56 => (1, true),
-            57..123 => (1, false),
-            123 => (2, true),
-            124..179 => (2, false),
-            179 => (3, true),
-            180..1259 => (3, false),
-            _ => (4, true),
-        };
-        assert_eq!(rt; found.len(), count, "of {place} bytes");
-        let expected = if between {
-            Ok(())
-        } else {
-            Err(FrameFault::Truncated)
-        };
-        assert_eq!(rt; end, expected, "after {place} bytes");
+        assert_eq!(rt; (found.len(), end), found_before(place), "of {place} bytes");
     }
+    Ok(())
+}
+
+/// Feeds a cutter a frame, and then bytes in hexadecimal.
+fn feed_both(
+    rt: &(impl Abort + AllocGlobal),
+    cutter: &mut Cutter,
+    frame: &[u8],
+    text: &str,
+) -> Result<(), Fail> {
+    try_feed(rt, cutter, frame, frame.len());
+    let bytes = hex::decode(rt.alloc(), text)?;
+    try_feed(rt, cutter, bytes.as_slice(), bytes.len());
+    Ok(())
+}
+
+/// A cutter that met a fault takes nothing, and has no other answer than the fault.
+fn try_stopped(rt: &impl Abort, cutter: &mut Cutter, frame: &[u8], fault: FrameFault)
+    requires { IsDrained cutter.old.bytes }
+{
+    assert_eq!(rt; cutter.end(), Err(fault));
+    try_feed(rt, cutter, frame, 0);
+    assert_eq!(rt; cutter.next().err(), Some(fault));
+    try_feed(rt, cutter, b"more", 0);
+}
+
+/// Behind a frame, bytes in hexadecimal are met with this fault, for good.
+fn try_fault(rt: &(impl Abort + AllocGlobal), text: &str, fault: FrameFault) -> Result<(), Fail> {
+    let ready = spelled(rt.alloc(), READY_HEAD, &[])?;
+    let mut cutter = Cutter::new(rt.alloc())?;
+    feed_both(rt, &mut cutter, ready.as_slice(), text)?;
+    let first = next_bytes(rt.alloc(), &mut cutter)?.ok_or("no frame")?;
+    assert_eq!(rt; first, ready);
+    let met = next_fault(&mut cutter).ok_or("no fault")?;
+    assert_eq!(rt; met, fault, "at {text}");
+    try_stopped(rt, &mut cutter, ready.as_slice(), fault);
     Ok(())
 }
 
 #[test]
 fn faults_are_for_good(rt: HostRuntime) -> Result<(), Fail> {
-    let alloc = rt.alloc();
-    let ready = spelled(alloc, READY_HEAD, &[])?;
     for (text, fault) in [
         ("05", FrameFault::BadLength),
         ("003602", FrameFault::BadVersion),
@@ -183,44 +231,50 @@ fn faults_are_for_good(rt: HostRuntime) -> Result<(), Fail> {
             FrameFault::BadValueLength,
         ),
     ] {
-        let bytes = hex::decode(alloc, text)?;
-        let mut cutter = Cutter::new(alloc)?;
-        assert_eq!(rt; cutter.feed(ready.as_slice()), 56);
-        assert_eq!(rt; cutter.feed(bytes.as_slice()), bytes.len());
-        let first = next_bytes(alloc, &mut cutter)?.ok_or("no frame")?;
-        assert_eq!(rt; first, ready);
-        let met = next_fault(&mut cutter).ok_or("no fault")?;
-        assert_eq!(rt; met, fault, "at {text}");
-        assert_eq!(rt; cutter.end(), Err(fault));
-        assert_eq!(rt; cutter.feed(ready.as_slice()), 0);
-        assert_eq!(rt; cutter.next().err(), Some(fault));
-        assert_eq!(rt; cutter.feed(b"more"), 0);
+        try_fault(&rt, text, fault)?;
     }
     Ok(())
 }
 
-#[test]
-fn cutters_take_what_fits(rt: HostRuntime) -> Result<(), Fail> {
-    let alloc = rt.alloc();
-    let echo = spelled(alloc, ECHO_HEAD, &ECHO_VALUE)?;
+/// Five frames of 1,080 bytes.
+fn five_echoes(alloc: Global) -> Result<Vec<u8>, Fail> {
+    let echo = spelled_echo(alloc)?;
     let mut stream = Vec::new(alloc);
     for _ in 0..5 {
         stream.extend_from_slice(echo.as_slice())?;
     }
-    assert_eq!(rt; stream.len(), 5400);
-    let mut cutter = Cutter::new(alloc)?;
-    assert_eq!(rt; cutter.end(), Ok(()));
-    assert_eq!(rt; cutter.feed(stream.as_slice()), 4096);
-    assert_eq!(rt; cutter.feed(stream.as_slice()), 0);
+    Ok(stream)
+}
+
+/// How many frames are in front.
+fn count_frames(alloc: Global, cutter: &mut Cutter) -> Result<usize, Stop>
+    ensures drained { OnOk result (IsDrained cutter.new.bytes) }
+{
     let mut frames = Vec::new(alloc);
-    take_frames(alloc, &mut cutter, &mut frames)?;
-    assert_eq!(rt; frames.len(), 3);
+    take_frames(alloc, cutter, &mut frames)?;
+    Ok(frames.len())
+}
+
+#[test]
+fn cutters_take_what_fits(rt: HostRuntime) -> Result<(), Fail> {
+    let stream = five_echoes(rt.alloc())?;
+    assert_eq!(rt; stream.len(), 5400);
+    let mut cutter = Cutter::new(rt.alloc())?;
+    try_feed(&rt, &mut cutter, stream.as_slice(), 4096);
+    try_feed(&rt, &mut cutter, stream.as_slice(), 0);
+    assert_eq!(rt; count_frames(rt.alloc(), &mut cutter)?, 3);
     // 4,096 - 3 * 1,080 = 856 bytes are held, and 3,240 more fit
     let (_, rest) = stream.split_at(4096);
-    assert_eq!(rt; cutter.feed(rest), 1304);
-    assert_eq!(rt; cutter.feed(stream.as_slice()), 1936);
-    take_frames(alloc, &mut cutter, &mut frames)?;
-    assert_eq!(rt; frames.len(), 6);
+    try_feed(&rt, &mut cutter, rest, 1304);
+    try_feed(&rt, &mut cutter, stream.as_slice(), 1936);
+    assert_eq!(rt; count_frames(rt.alloc(), &mut cutter)?, 3);
     assert_eq!(rt; cutter.end(), Err(FrameFault::Truncated));
+    Ok(())
+}
+
+#[test]
+fn streams_of_nothing_end(rt: HostRuntime) -> Result<(), Fail> {
+    let cutter = Cutter::new(rt.alloc())?;
+    assert_eq!(rt; cutter.end(), Ok(()));
     Ok(())
 }

@@ -2,11 +2,25 @@
 
 use pay_frame::{DeviceFailed, EngineFault, FrameFault};
 use std::alloc::{AllocError, AllocFailed};
+use std::fmt::Display;
+use std::process::Abort;
 use std::test::Fail;
+
+/// A fault prints as this text, which ends with its name.
+fn try_printed(
+    rt: &(impl Abort + AllocGlobal),
+    fault: impl Display + Drop,
+    name: &str,
+    text: &str,
+) -> Result<(), Fail> {
+    let printed = format!(in rt.alloc(); "{fault}")?;
+    assert_eq!(rt; printed.as_str(), text);
+    assert!(rt; text.ends_with(name), "at {text}");
+    Ok(())
+}
 
 #[test]
 fn frame_faults_print_number_and_name(rt: HostRuntime) -> Result<(), Fail> {
-    let alloc = rt.alloc();
     for (fault, number, text) in [
         (FrameFault::BadLength, 1, "1 BadLength"),
         (FrameFault::BadVersion, 2, "2 BadVersion"),
@@ -16,16 +30,14 @@ fn frame_faults_print_number_and_name(rt: HostRuntime) -> Result<(), Fail> {
         (FrameFault::BadWant, 6, "6 BadWant"),
         (FrameFault::Truncated, 7, "7 Truncated"),
     ] {
-        assert_eq!(rt; format!(in alloc; "{fault}")?.as_str(), text);
         assert_eq!(rt; fault.number(), number);
-        assert!(rt; text.ends_with(fault.name()), "at {text}");
+        try_printed(&rt, fault, fault.name(), text)?;
     }
     Ok(())
 }
 
 #[test]
 fn engine_faults_print_number_and_name(rt: HostRuntime) -> Result<(), Fail> {
-    let alloc = rt.alloc();
     for (fault, number, text) in [
         (EngineFault::Memory, 0, "0 Memory"),
         (EngineFault::Frame(FrameFault::Truncated), 1, "1 Frame"),
@@ -33,15 +45,15 @@ fn engine_faults_print_number_and_name(rt: HostRuntime) -> Result<(), Fail> {
         (EngineFault::Write, 3, "3 Write"),
         (EngineFault::Bound, 4, "4 Bound"),
     ] {
-        assert_eq!(rt; format!(in alloc; "{fault}")?.as_str(), text);
         assert_eq!(rt; fault.number(), number);
-        assert!(rt; text.ends_with(fault.name()), "at {text}");
+        try_printed(&rt, fault, fault.name(), text)?;
     }
-    assert_eq!(rt;
-        format!(in alloc; "{DeviceFailed}")?.as_str(),
-        "the device failed"
-    );
     Ok(())
+}
+
+#[test]
+fn failed_devices_print(rt: HostRuntime) -> Result<(), Fail> {
+    try_printed(&rt, DeviceFailed, "failed", "the device failed")
 }
 
 #[test]

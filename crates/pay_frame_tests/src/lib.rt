@@ -16,4 +16,6 @@ mod faults;
 #[cfg(test)]
 mod prefixes;
 #[cfg(test)]
+mod round;
+#[cfg(test)]
 mod samples;

@@ -6,3 +6,7 @@
 mod frames;
 #[cfg(test)]
 mod limits;
+#[cfg(test)]
+mod printing;
+#[cfg(test)]
+mod worlds;
