@@ -1,16 +1,48 @@
 -- The laws of sizes, by induction over a list of processes.
-use Rattle.std.proofs.Common.{◌≡◌, ℕ, zero, suc, ◌+◌, ◌<◌, ◌≤◌, Bool, true, false, not, ◌&&◌, List, [], ◌∷◌, length, count_by, refl, ◌∙◌, arith}
-use Rattle.std.specs.List.{range_with_len}
-use Rattle.std.proofs.lemmas.Bool.{false≢true}
+use Rattle.std.proofs.Common.{◌≡◌, ℕ, zero, suc, ◌+◌, ◌<◌, ◌≤◌, Bool, true, false, not, ◌&&◌, ◌||◌, eqb, List, [], ◌∷◌, length, count_by, refl, ap, ap₂, ◌∙◌, arith, ne_eqb}
+use Rattle.std.specs.List.{range_with_len, list_any}
+use Rattle.std.proofs.lemmas.Bool.{false≢true, cases_eq}
 use Rattle.std.proofs.lemmas.List.FromFn.{length-range_with_len}
 use Rattle.std.proofs.lemmas.List.Sums.{count_by-le-length}
 use Rattle.pay_echo.specs.Broadcast.{size}
-use Rattle.pay_echo.specs.Quorums.{SizeIsAtMost, SizeOfOthers, PartIsSmaller, QuorumsShare, LargerHasAnother, RestIsQuorum, QuorumIsMore, MoreRemain}
-use Rattle.pay_echo.proofs.Lists.{one, count_by-cons}
+use Rattle.pay_echo.specs.Quorums.{SizeIsAtMost, SizeOfListed, SizeOfOthers, PartIsSmaller, QuorumsShare, LargerHasAnother, RestIsQuorum, QuorumIsMore, MoreRemain}
+use Rattle.pay_echo.proofs.Lists.{either, one, count_by-cons, count_by-none}
 
 pub size_is_at_most : SizeIsAtMost
 unfolding size
 size_is_at_most n set = omega (arith, count_by-le-length set (range_with_len 0 n), length-range_with_len 0 n)
+
+-- a number below all of these is none of them, and any number is one of them at most
+count_by-below : (x a n : ℕ) → x < a → count_by (λ p. eqb x p) (range_with_len a n) ≡ 0
+count_by-below x a zero below = refl
+count_by-below x a (suc n) below =
+    let first : eqb x a ≡ false = ne_eqb x a (λ e. omega (arith, e)) in
+    count_by-cons (λ p. eqb x p) a (range_with_len (a + 1) n) ∙ ap₂ (λ b m. one b + m) first (count_by-below x (a + 1) n (omega arith))
+
+count_by-single : (x a n : ℕ) → count_by (λ p. eqb x p) (range_with_len a n) ≤ 1
+count_by-single x a zero = omega arith
+count_by-single x a (suc n) =
+    either (cases_eq x a)
+    (λ same. omega (arith, count_by-cons (λ p. eqb x p) a (range_with_len (a + 1) n), one-most (eqb x a), count_by-below x (a + 1) n (omega arith)))
+    (λ ne. let first : one (eqb x a) ≡ 0 = ap one (ne_eqb x a ne) in omega (arith, count_by-cons (λ p. eqb x p) a (range_with_len (a + 1) n), first, count_by-single x (a + 1) n)) where
+      one-most : (b : Bool) → one b ≤ 1
+      one-most true = omega arith
+      one-most false = omega arith
+
+one-or : (a b : Bool) → one (a || b) ≤ one a + one b
+one-or true b = omega arith
+one-or false b = omega arith
+
+count_by-either : (P Q : ℕ → Bool) (xs : List ℕ) → count_by (λ p. P p || Q p) xs ≤ count_by P xs + count_by Q xs
+count_by-either P Q [] = omega arith
+count_by-either P Q (x ∷ xs) =
+    omega (arith, count_by-cons P x xs, count_by-cons Q x xs, count_by-cons (λ p. P p || Q p) x xs, one-or (P x) (Q x), count_by-either P Q xs)
+
+pub size_of_listed : SizeOfListed
+unfolding size
+size_of_listed n [] = omega (arith, count_by-none (λ p. list_any (λ x. eqb x p) []) (λ p. refl) (range_with_len 0 n))
+size_of_listed n (x ∷ xs) =
+    omega (arith, count_by-either (λ p. eqb x p) (λ p. list_any (λ y. eqb y p) xs) (range_with_len 0 n), count_by-single x 0 n, size_of_listed n xs)
 
 one-not : (b : Bool) → one b + one (not b) ≡ 1
 one-not true = refl

@@ -4,7 +4,22 @@ use Rattle.std.specs.Option.{option_or}
 use Rattle.pay_echo.specs.Broadcast.{Group, Vote, Send, Echo, Ready, value_of, sent, size, echoed, echo_of, echo_set, other_ready_of, other_ready_set, may_ready, readied, ready_of, ready_set, may_deliver, delivered}
 use Rattle.pay_echo.specs.Meaning.{meaning_of}
 
+-- ---- before any vote
+
+abbrev pub NotEchoedAtFirst : Type 0
+NotEchoedAtFirst = echoed [] ≡ None
+
+abbrev pub NotReadyAtFirst : Type 0
+NotReadyAtFirst = (g : Group) → readied g [] ≡ None
+
+abbrev pub NotDeliveredAtFirst : Type 0
+NotDeliveredAtFirst = (g : Group) → delivered g [] ≡ None
+
 -- ---- one vote more
+
+-- what a SEND makes oneself echo is its value
+abbrev pub SentIsItsValue : Type 0
+SentIsItsValue = (x : Vote) → (sent x ≡ None) ⊎ (sent x ≡ Some (value_of x))
 
 abbrev pub EchoedByOneMore : Type 0
 EchoedByOneMore = (votes : List Vote) (x : Vote) → echoed (votes ++ x ∷ []) ≡ option_or (echoed votes) (sent x)

@@ -1,9 +1,14 @@
 -- What holds of sets of processes and their sizes, as statements. Each is proved as a public law.
-use Rattle.std.specs.Prelude.{◌≡◌, ℕ, ◌+◌, ◌*◌, ◌<◌, ◌≤◌, Bool, true, false, not, ◌&&◌}
+use Rattle.std.specs.Prelude.{◌≡◌, ℕ, ◌+◌, ◌*◌, ◌<◌, ◌≤◌, Bool, true, false, not, ◌&&◌, ◌==◌, List, length}
+use Rattle.std.specs.List.{list_any}
 use Rattle.pay_echo.specs.Broadcast.{size}
 
 abbrev pub SizeIsAtMost : Type 0
 SizeIsAtMost = (n : ℕ) (set : ℕ → Bool) → size n set ≤ n
+
+-- the processes of a list are at most as many as the list is long
+abbrev pub SizeOfListed : Type 0
+SizeOfListed = (n : ℕ) (xs : List ℕ) → size n (λ p. list_any (λ x. x == p) xs) ≤ length xs
 
 -- a set and the processes outside it are all
 abbrev pub SizeOfOthers : Type 0

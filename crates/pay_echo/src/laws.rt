@@ -1,8 +1,15 @@
 //! Laws of authenticated double-echo broadcast over its definitions. Each function's contract is the law;
 //! its body is empty.
 
-ghost use Rattle.pay_echo.specs.Laws.{EchoedByOneMore, ReadiedByOneMore, DeliveredByOneMore, EchoedStays, ReadiedStays, DeliveredStays, EchoStays, ReadyStays, OtherReadyStays, EchoSetGrows, ReadySetGrows, OtherReadySetGrows, SecondSend, SecondEcho, SecondReady, InEchoSet, InReadySet, InOtherReadySet, OwnEcho, OwnReady, SendCame, EchoCame, ReadyCame, SendIsEchoed, EchoCounts, ReadyCounts, WhyReady, WhyDelivered, QuorumMakesReady, AmplificationMakesReady, ReadysDeliver, OneValueByQuorum};
-ghost use Rattle.pay_echo.specs.Quorums.{SizeIsAtMost, SizeOfOthers, PartIsSmaller, QuorumsShare, LargerHasAnother, RestIsQuorum, QuorumIsMore, MoreRemain};
+ghost use Rattle.pay_echo.specs.Laws.{NotEchoedAtFirst, NotReadyAtFirst, NotDeliveredAtFirst, SentIsItsValue, EchoedByOneMore, ReadiedByOneMore, DeliveredByOneMore, EchoedStays, ReadiedStays, DeliveredStays, EchoStays, ReadyStays, OtherReadyStays, EchoSetGrows, ReadySetGrows, OtherReadySetGrows, SecondSend, SecondEcho, SecondReady, InEchoSet, InReadySet, InOtherReadySet, OwnEcho, OwnReady, SendCame, EchoCame, ReadyCame, SendIsEchoed, EchoCounts, ReadyCounts, WhyReady, WhyDelivered, QuorumMakesReady, AmplificationMakesReady, ReadysDeliver, OneValueByQuorum};
+ghost use Rattle.pay_echo.specs.Quorums.{SizeIsAtMost, SizeOfListed, SizeOfOthers, PartIsSmaller, QuorumsShare, LargerHasAnother, RestIsQuorum, QuorumIsMore, MoreRemain};
+
+/// Before any vote nothing is echoed, readied or delivered.
+pub fn nothing_known_at_first()
+    ensures echoed { NotEchoedAtFirst }
+    ensures readied { NotReadyAtFirst }
+    ensures delivered { NotDeliveredAtFirst }
+{}
 
 /// What is known after one vote more: what was known, and else what this vote makes known.
 /// READY and delivery come by the vote whose value's set of processes then is large enough.
@@ -10,6 +17,7 @@ pub fn one_vote_more()
     ensures echoed { EchoedByOneMore }
     ensures readied { ReadiedByOneMore }
     ensures delivered { DeliveredByOneMore }
+    ensures sent { SentIsItsValue }
 {}
 
 /// What was echoed, readied or delivered stays so, with its value, whatever comes.
@@ -71,9 +79,11 @@ pub fn one_value_by_quorum()
     ensures { OneValueByQuorum }
 {}
 
-/// A set of processes has at most all, those outside it are the rest, and a part of it is no larger.
+/// A set of processes has at most all, those of a list are at most its length, those outside a set are the
+/// rest, and a part of it is no larger.
 pub fn sizes_of_sets()
     ensures most { SizeIsAtMost }
+    ensures listed { SizeOfListed }
     ensures others { SizeOfOthers }
     ensures part { PartIsSmaller }
 {}
