@@ -6,7 +6,8 @@ use Rattle.std.specs.Option.{option_to_list}
 use Rattle.std.specs.List.{count_by}
 use Rattle.pay_frame.specs.declared.kind.Kind.{Kind}
 use Rattle.pay_frame.specs.declared.kind.Kind.TheVariants.{Send, Echo, Ready, Want}
-use Rattle.pay_frame.specs.Frame.{BodyFields, greatest_value}
+use Rattle.pay_frame.specs.declared.limits.TheConstants.{GREATEST_VALUE, SEQS}
+use Rattle.pay_frame.specs.Frame.{BodyFields}
 use Rattle.pay_echo.specs.Broadcast as one
 use Rattle.pay_echo.specs.Broadcast.{Group, Vote, echoed, readied, delivered}
 
@@ -17,7 +18,7 @@ pub data Event : Type 0 where
 
 -- what may come: values within a frame's limits, and bodies of other members about members
 abbrev pub IsEvent : Group → Event → Type 0
-IsEvent g (Ask v) = length v ≤ greatest_value
+IsEvent g (Ask v) = length v ≤ GREATEST_VALUE
 IsEvent g (From p body) = (p < g.members) × (p ≢ g.own) × (body.owner < g.members) × (body.kind ≢ Want)
 
 abbrev pub is_ask : Event → Bool
@@ -106,7 +107,7 @@ out g history = out_after g [] history
 
 -- the numbers that a broadcast may have
 abbrev pub seqs : ℕ
-seqs = 65536
+seqs = SEQS
 
 -- the values of numbers from s on, at most n of them, up to the first that is missing
 unfoldable pub known_from : (ℕ → Option (List ℕ)) → ℕ → ℕ → List (List ℕ)

@@ -1,6 +1,5 @@
 ghost use Rattle.std.specs.Prelude.{true, ◌≡◌, ◌≢◌, ◌≤◌, ◌<◌, ◌+◌, ◌++◌, List, [], ◌∷◌, length, slice_get, replicate, vec_len, vec_capacity, IfOk, OnOk, OnErr};
 ghost use Rattle.std.specs.Option.{option_copied, option_to_list};
-ghost use Rattle.pay_frame.specs.Frame.{greatest_value};
 ghost use Rattle.pay_channel.specs.Source.{GrowsOnly};
 ghost use Rattle.pay_channel.specs.History.{Event, Ask, From, IsEvent, is_ask, owner_of, counts, vote_by, seqs};
 ghost use Rattle.pay_channel.specs.State.{State, Follows, value_at, lists_of};
@@ -12,7 +11,7 @@ use crate::instances::Instances;
 use crate::members::Members;
 use crate::source::Source;
 use pay_echo::{Instance, MOST_MEMBERS};
-use pay_frame::{Body, Bytes, Kind};
+use pay_frame::{Body, Bytes, GREATEST_VALUE, Kind};
 use std::alloc::{AllocError, Global};
 use std::marker::Model;
 
@@ -84,7 +83,7 @@ impl<I: Instance + Drop> Channel<I> {
 
     // Broadcasts a value of one's own.
     fn ask(&mut self, alloc: Global, value: &[u8]) -> Result<Applied, AllocError>
-        requires value { length value.now ≤ greatest_value }
+        requires value { length value.now ≤ GREATEST_VALUE }
         requires number { self.old.asks < seqs }
         ensures takes { OnOk result (Takes self.old self.new (Ask value.now)) }
         ensures applied { IfOk result (IsApplied self.old self.new (Ask value.now)) }
@@ -137,7 +136,7 @@ impl<I: Instance + Drop> Channel<I> {
         requires kind { kind ≢ Kind.Want }
         requires process { process < self.old.group.members }
         requires other { kind ≢ Kind.Send → process ≢ self.old.group.own }
-        requires value { length value.now ≤ greatest_value }
+        requires value { length value.now ≤ GREATEST_VALUE }
         ensures takes { OnOk result (TakesVote self.old self.new owner seq (vote_by kind process value.now) (option_to_list send)) }
         ensures applied { IfOk result (IsToldOf self.old self.new owner seq) }
         ensures grows { OnOk result (GrowsOnly (lists_of self.old) (lists_of self.new) owner) }
@@ -251,7 +250,7 @@ fn body_of(
 ) -> Result<Body, AllocError>
     requires kind { kind ≢ Kind.Want }
     requires seq { seq < seqs }
-    requires value { length value.now ≤ greatest_value }
+    requires value { length value.now ≤ GREATEST_VALUE }
     ensures { IfOk result (λ body. body ≡ record { kind = kind; owner = owner; seq = seq; value = value.now }) }
 {
     let value = Bytes::from_slice(alloc, value)?;

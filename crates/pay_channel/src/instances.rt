@@ -11,7 +11,7 @@ ghost use Rattle.pay_channel.specs.Applied.{SeesIfVote};
 
 use crate::members::Members;
 use pay_echo::{Instance, MOST_MEMBERS, Moves};
-use pay_frame::Kind;
+use pay_frame::{Kind, SEQS};
 use std::alloc::{AllocError, Global};
 use std::collections::BTreeMap;
 use std::marker::Model;
@@ -56,12 +56,12 @@ impl<I: Instance + Drop> Instances<I> {
         requires { from ≤ seqs }
         ensures { (g : Group) → result ≡ length (known_from (λ s. (meaning_in g self.now owner s).delivered) from (seqs - from)) }
     {
-        for seq in from..65_536 {
+        for seq in from..SEQS {
             if self.delivered(owner, seq).is_none() {
                 return seq - from;
             }
         }
-        65_536 - from
+        SEQS - from
     }
 
     /// Tells a broadcast's instance one vote; where none is there yet, a fresh one.

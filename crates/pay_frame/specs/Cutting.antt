@@ -1,6 +1,7 @@
 -- A stream is cut into frames, in whatever pieces it comes. What a cutter holds is a list of bytes, and
 -- its calls are said by that list.
 use Rattle.std.specs.Prelude.{◌≡◌, ℕ, ◌-◌, ◌<◌, ◌⊎◌, List, [], ◌∷◌, ◌++◌, length, min, take, is_some, if◌then◌else◌, Option, Some, None, Result, Ok, Err}
+use Rattle.pay_frame.specs.declared.limits.TheConstants.{CUTTER_ROOM}
 use Rattle.pay_frame.specs.declared.fault.FrameFault.{FrameFault}
 use Rattle.pay_frame.specs.declared.fault.FrameFault.TheVariants.{Truncated}
 use Rattle.pay_frame.specs.Frame.{FrameFields, frame_bytes, IsFrame}
@@ -12,13 +13,9 @@ pub record Held : Type 0 where
   pub bytes : List ℕ
   pub met : Option FrameFault
 
--- the greatest number of bytes that a cutter holds
-abbrev pub room : ℕ
-room = 4096
-
 -- A piece is offered: as much of it as fits is held behind what is held, and nothing after a fault.
 pub record Feeds (old new : Held) (piece : List ℕ) (taken : ℕ) : Type 0 where
-  pub count : taken ≡ (if is_some old.met then 0 else min (length piece) (room - length old.bytes))
+  pub count : taken ≡ (if is_some old.met then 0 else min (length piece) (CUTTER_ROOM - length old.bytes))
   pub appended : new.bytes ≡ old.bytes ++ take taken piece
   pub same_met : new.met ≡ old.met
 

@@ -2,6 +2,7 @@
 -- project's own; the table of its fields stands in docs/DEFINITIONS.md.
 use Rattle.std.specs.Prelude.{◌≡◌, ℕ, ◌+◌, ◌^◌, ◌<◌, ◌≤◌, List, [], ◌∷◌, ◌++◌, length}
 use Rattle.std.specs.Int.{w16, w32, w64, to_be_bytes}
+use Rattle.pay_frame.specs.declared.limits.TheConstants.{LEAST_LENGTH, GREATEST_VALUE, TAG_LEN, SEQS}
 use Rattle.pay_frame.specs.declared.kind.Kind.{Kind}
 use Rattle.pay_frame.specs.declared.kind.Kind.TheVariants.{Send, Echo, Ready, Want}
 
@@ -26,24 +27,10 @@ code_of Echo = 2
 code_of Ready = 3
 code_of Want = 4
 
--- bytes that stand before the value, and bytes of the tag behind it
-abbrev pub head_len : ℕ
-head_len = 24
-
-abbrev pub tag_len : ℕ
-tag_len = 32
-
--- bytes that follow the length field where the value is empty
-abbrev pub least_length : ℕ
-least_length = 54
-
-abbrev pub greatest_value : ℕ
-greatest_value = 1024
-
 -- the 24 bytes before the value: length, version 1, kind, from, to, number, owner, seq, value length
 abbrev pub head_bytes : ℕ → ℕ → ℕ → BodyFields → List ℕ
 head_bytes from to number body =
-    to_be_bytes w16 (least_length + length body.value) ++ (1 ∷ code_of body.kind ∷ [])
+    to_be_bytes w16 (LEAST_LENGTH + length body.value) ++ (1 ∷ code_of body.kind ∷ [])
     ++ to_be_bytes w16 from ++ to_be_bytes w16 to ++ to_be_bytes w64 number
     ++ to_be_bytes w16 body.owner ++ to_be_bytes w32 body.seq ++ to_be_bytes w16 (length body.value)
 
@@ -58,8 +45,8 @@ IsBare body = (body.owner ≡ 0) × (body.seq ≡ 0) × (body.value ≡ [])
 -- the limits of what a frame may say
 pub record IsBody (body : BodyFields) : Type 0 where
   pub owner : body.owner < 2 ^ 16
-  pub seq : body.seq < 2 ^ 16
-  pub value : length body.value ≤ greatest_value
+  pub seq : body.seq < SEQS
+  pub value : length body.value ≤ GREATEST_VALUE
   pub want : body.kind ≡ Want → IsBare body
 
 -- the limits of a frame. Its value and tag are lists of numbers here: where they stand in a slice
@@ -69,4 +56,4 @@ pub record IsFrame (f : FrameFields) : Type 0 where
   pub to : f.to < 2 ^ 16
   pub number : f.number < 2 ^ 64
   pub body : IsBody f.body
-  pub tag : length f.tag ≡ tag_len
+  pub tag : length f.tag ≡ TAG_LEN

@@ -2,7 +2,7 @@
 -- test. That it is the right one is proved, against frames as Reading.antt asks about them.
 use Rattle.std.specs.Prelude.{◌≡◌, ℕ, ◌+◌, ◌-◌, ◌*◌, ◌/◌, ◌%◌, ◌<◌, ◌≤◌, Bool, true, false, not, ◌&&◌, ◌||◌, ◌==◌, nat_lt, nat_le, if◌then◌else◌, List, [], ◌∷◌, length, take, slice_index}
 use Rattle.std.specs.Int.{w16, w32, w64, from_be_bytes}
-use Rattle.pay_frame.specs.Frame.{least_length, greatest_value}
+use Rattle.pay_frame.specs.declared.limits.TheConstants.{LEAST_LENGTH, GREATEST_VALUE}
 
 -- what the length field says
 abbrev pub length_field : List ℕ → ℕ
@@ -15,15 +15,15 @@ abbrev pub may_stand : List ℕ → ℕ → Bool
 may_stand bytes place =
     let byte = slice_index bytes place in
     if place == 0 then nat_le byte 4
-    else if place == 1 then nat_le least_length (length_field bytes) && nat_le (length_field bytes) (least_length + greatest_value)
+    else if place == 1 then nat_le LEAST_LENGTH (length_field bytes) && nat_le (length_field bytes) (LEAST_LENGTH + GREATEST_VALUE)
     else if place == 2 then byte == 1
-    else if place == 3 then nat_le 1 byte && nat_le byte 4 && (not (byte == 4) || length_field bytes == least_length)
+    else if place == 3 then nat_le 1 byte && nat_le byte 4 && (not (byte == 4) || length_field bytes == LEAST_LENGTH)
     else if nat_lt place 16 then true
     else if nat_lt place 18 then not (is_want bytes) || byte == 0
     else if nat_lt place 20 then byte == 0
     else if nat_lt place 22 then not (is_want bytes) || byte == 0
-    else if place == 22 then byte == (length_field bytes - least_length) / 256
-    else if place == 23 then byte == (length_field bytes - least_length) % 256
+    else if place == 22 then byte == (length_field bytes - LEAST_LENGTH) / 256
+    else if place == 23 then byte == (length_field bytes - LEAST_LENGTH) % 256
     else true
 
 -- the bytes that stand before a place all pass

@@ -3,13 +3,14 @@ ghost use Rattle.std.specs.Vec.{vec_capacity};
 
 use crate::fault::FrameFault;
 use crate::frame_ref::FrameRef;
+use crate::limits::CUTTER_ROOM;
 use crate::reading::{frame_of, read, size_in_front};
 use std::alloc::{AllocError, Global};
 use std::marker::Model;
 
 /// Cuts a stream of bytes into frames, in whatever pieces it comes.
 ///
-/// It holds at most 4,096 bytes, in room that `new` makes once: no later call takes memory.
+/// It holds at most `CUTTER_ROOM` bytes, in room that `new` makes once: no later call takes memory.
 #[derive(Debug, Drop)]
 pub struct Cutter {
     buffer: Vec<u8>,
@@ -32,8 +33,6 @@ impl Model for Cutter {
     ghost invariant = { IsWindow };
 }
 
-const ROOM: usize = 4096;
-
 impl Cutter {
     ghost use Rattle.std.specs.Prelude.{◌≡◌, ◌<◌, ◌≤◌, ◌++◌, [], ⊤, true, false, IfOk, IfErr, Err, length, drop, vec_len};
     ghost use Rattle.std.specs.Vec.{vec_capacity};
@@ -42,7 +41,7 @@ impl Cutter {
     ghost use denote.Follow.{follows_so};
     ghost use Rattle.pay_frame.specs.contracts.cutter.Cutter.{the_row};
     ghost use Rattle.pay_frame.specs.Reading.{HasFrame};
-    ghost use Rattle.pay_frame.specs.Cutting.{Held, Feeds, HandsOut, EndsWith, IsDrained, nothing_held, room};
+    ghost use Rattle.pay_frame.specs.Cutting.{Held, Feeds, HandsOut, EndsWith, IsDrained, nothing_held};
     ghost use Rattle.pay_frame.specs.Places.{IsWhole};
     ghost use Rattle.pay_frame.specs.Frame.{frame_bytes};
     ghost use Rattle.pay_frame.specs.Lent.{fields_of, given_of};
@@ -52,7 +51,7 @@ impl Cutter {
     pub fn new(alloc: Global) -> Result<Cutter, AllocError>
         ensures empty { IfOk result (λ cutter. cutter ≡ nothing_held) }
     {
-        let buffer = Vec::with_capacity(alloc, ROOM)?;
+        let buffer = Vec::with_capacity(alloc, CUTTER_ROOM)?;
         Ok(Cutter {
             buffer,
             given: 0,
@@ -72,7 +71,7 @@ impl Cutter {
         drop_front(&mut self.buffer, self.start);
         self.given = 0;
         self.start = 0;
-        let count = piece.len().min(ROOM - self.buffer.len());
+        let count = piece.len().min(CUTTER_ROOM - self.buffer.len());
         let _ = self.buffer.extend_from_slice(&piece[..count]);
         count
     }

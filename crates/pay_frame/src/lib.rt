@@ -14,6 +14,7 @@ mod fault;
 mod frame_ref;
 mod kind;
 mod laws;
+mod limits;
 mod reader;
 mod reading;
 mod writer;
@@ -30,6 +31,10 @@ pub use kind::Kind;
 pub use laws::{
     beginning_is_drained, cuts_do_not_matter, none_begins_another, one_reading, one_spelling,
     read_again, stream_is_frames_and_rest,
+};
+pub use limits::{
+    CUTTER_ROOM, GREATEST_FRAME, GREATEST_PIECE, GREATEST_VALUE, HEAD_LEN, LEAST_LENGTH,
+    MOST_MEMBERS, MOST_READS, SEQS, TAG_LEN,
 };
 pub use reader::Reader;
 pub use reading::read;

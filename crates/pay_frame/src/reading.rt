@@ -7,14 +7,10 @@ ghost use Rattle.pay_frame.specs.Places.{length_field, is_want, may_stand, PassB
 use crate::fault::FrameFault;
 use crate::frame_ref::FrameRef;
 use crate::kind::Kind;
+use crate::limits::{GREATEST_VALUE, HEAD_LEN, LEAST_LENGTH, TAG_LEN};
 
-const HEAD_LEN: usize = 24;
-
-const TAG_LEN: usize = 32;
-
-const LEAST_LENGTH: u16 = 54;
-
-const GREATEST_LENGTH: u16 = 1078;
+/// The greatest that a length field says.
+const GREATEST_LENGTH: u16 = LEAST_LENGTH + GREATEST_VALUE;
 
 const WANT: u8 = 4;
 

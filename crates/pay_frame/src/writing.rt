@@ -2,18 +2,17 @@ ghost use Rattle.std.specs.Prelude.{◌≡◌, IfOk};
 ghost use Rattle.pay_frame.specs.Frame.{IsFrame, frame_bytes, head_bytes};
 
 use crate::body::Body;
+use crate::limits::LEAST_LENGTH;
 use std::alloc::{AllocError, Global};
 
 const VERSION: u8 = 1;
-
-const LEAST_LENGTH: usize = 54;
 
 /// Writes the 24 bytes that stand before the value.
 pub fn head_into(head: &mut [u8; 24], from: u16, to: u16, number: u64, body: &Body)
     ensures spelled { head.new ≡ head_bytes from to number body.now }
 {
     let value_len = body.value().len();
-    let length = ((LEAST_LENGTH + value_len) as u16).to_be_bytes();
+    let length = ((usize::from(LEAST_LENGTH) + value_len) as u16).to_be_bytes();
     let value_length = (value_len as u16).to_be_bytes();
     let sender = from.to_be_bytes();
     let receiver = to.to_be_bytes();
