@@ -6,7 +6,8 @@ use Rattle.pay_frame.specs.declared.fault.FrameFault.{FrameFault}
 use Rattle.pay_frame.specs.Frame.{FrameFields, frame_bytes, IsFrame}
 use Rattle.pay_frame.specs.Places.{length_field, may_stand, PassBelow, IsFirstWrong, IsSizeOf}
 use Rattle.pay_frame.specs.Reading.{HasFrame, StartsFrame, IsProperBeginning, IsFault, fault_at}
-use Rattle.pay_frame.proofs.Lists.{IsBytes, IsBytes-take, SameUpTo}
+use Rattle.pay_frame.specs.Stream.{IsBytes}
+use Rattle.pay_frame.proofs.Lists.{IsBytes-take, SameUpTo}
 use Rattle.pay_frame.proofs.Heads.{may_stand-same}
 use Rattle.pay_frame.proofs.Passing.{head_from_passing}
 use Rattle.pay_frame.proofs.Starting.{starts_long, starts_short, passes_in_frame, proper_from}

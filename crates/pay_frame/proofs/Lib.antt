@@ -7,3 +7,6 @@ pub mod OneReading
 pub mod Windows
 pub mod WholeRuns
 pub mod Written
+pub mod EveryReading
+pub mod FaultStays
+pub mod Streams

@@ -6,9 +6,7 @@ use Rattle.std.proofs.lemmas.Bool.{cases_lt}
 use Rattle.std.proofs.lemmas.List.{length-take-le, get_or-take, get_or_past, length-take}
 use Rattle.std.proofs.lemmas.List.FromFn.{get_or-map-range_with_len, length-map-range_with_len}
 use Rattle.std.proofs.lemmas.Grind.{same_number_lists}
-
-pub record IsBytes (bytes : List ℕ) : Type 0 where
-  pub fits : (i : ℕ) → get_or bytes i 0 < 256
+use Rattle.pay_frame.specs.Stream.{IsBytes}
 
 pub IsBytes-none : IsBytes []
 IsBytes-none = record { fits = λ i. omega arith }

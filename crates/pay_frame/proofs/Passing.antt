@@ -9,7 +9,8 @@ use Rattle.pay_frame.specs.declared.kind.Kind.{Kind}
 use Rattle.pay_frame.specs.declared.kind.Kind.TheVariants.{Want}
 use Rattle.pay_frame.specs.Frame.{BodyFields, FrameFields, code_of, head_bytes, IsBody}
 use Rattle.pay_frame.specs.Places.{length_field, PassBelow, two_at, four_at, eight_at}
-use Rattle.pay_frame.proofs.Lists.{IsBytes, IsBytes-none, IsBytes-cons, cells}
+use Rattle.pay_frame.specs.Stream.{IsBytes}
+use Rattle.pay_frame.proofs.Lists.{IsBytes-none, IsBytes-cons, cells}
 
 -- what the tests tell
 pub record IsHead (h : List ℕ) : Type 0 where

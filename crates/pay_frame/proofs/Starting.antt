@@ -8,7 +8,8 @@ use Rattle.pay_frame.specs.declared.kind.Kind.TheVariants.{Send, Echo, Ready, Wa
 use Rattle.pay_frame.specs.Frame.{FrameFields, code_of, head_bytes, frame_bytes, IsFrame}
 use Rattle.pay_frame.specs.Places.{length_field, may_stand, PassBelow, two_at, four_at, eight_at}
 use Rattle.pay_frame.specs.Reading.{StartsFrame, IsProperBeginning}
-use Rattle.pay_frame.proofs.Lists.{IsBytes, IsBytes-none, IsBytes-cons, at_each, SameUpTo}
+use Rattle.pay_frame.specs.Stream.{IsBytes}
+use Rattle.pay_frame.proofs.Lists.{IsBytes-none, IsBytes-cons, at_each, SameUpTo}
 use Rattle.pay_frame.proofs.Heads.{may_stand-same, may_stand-frame, both, second}
 use Rattle.pay_frame.proofs.Passing.{IsHead, head_from_passing, frame_in, head_spelled, body_fits}
 

@@ -7,7 +7,7 @@ use Rattle.pay_frame.specs.Frame.{FrameFields, frame_bytes, IsFrame}
 use Rattle.pay_frame.specs.Cutting.{Held, Call, Fed, Gave, Runs, stream_of, frames_of, nothing_held, IsDrained}
 use Rattle.pay_frame.proofs.OneReading.{same_front}
 
-abbrev AllFrames : List FrameFields → Type 0
+abbrev pub AllFrames : List FrameFields → Type 0
 AllFrames [] = Unit {0}
 AllFrames (f ∷ fs) = IsFrame f × AllFrames fs
 
@@ -46,7 +46,7 @@ pub record SameCut (fs gs : List FrameFields) (r s : List ℕ) : Type 0 where
   pub frames : fs ≡ gs
   pub rest : r ≡ s
 
-same_cut : (fs gs : List FrameFields) (r s : List ℕ) → AllFrames fs → AllFrames gs → IsDrained r → IsDrained s → spelled fs ++ r ≡ spelled gs ++ s → SameCut fs gs r s
+pub same_cut : (fs gs : List FrameFields) (r s : List ℕ) → AllFrames fs → AllFrames gs → IsDrained r → IsDrained s → spelled fs ++ r ≡ spelled gs ++ s → SameCut fs gs r s
 same_cut [] [] r s is js d e same = record { frames = refl; rest = same }
 same_cut [] (g ∷ gs) r s is js d e same = absurd (d g (record { is = js.0; rest = spelled gs ++ s; spelled = same ∙ append_assoc (frame_bytes g) (spelled gs) s }))
 same_cut (f ∷ fs) [] r s is js d e same = absurd (e f (record { is = is.0; rest = spelled fs ++ r; spelled = sym same ∙ append_assoc (frame_bytes f) (spelled fs) r }))

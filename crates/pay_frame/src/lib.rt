@@ -17,6 +17,7 @@ mod laws;
 mod limits;
 mod reader;
 mod reading;
+mod stream_laws;
 mod writer;
 mod writing;
 
@@ -38,5 +39,9 @@ pub use limits::{
 };
 pub use reader::Reader;
 pub use reading::read;
+pub use stream_laws::{
+    cutter_follows_stream, every_reading, every_stream, fault_is_for_good, frame_sizes, one_stream,
+    stream_goes_on, stream_grows,
+};
 pub use writer::Writer;
 pub use writing::{head_into, write};

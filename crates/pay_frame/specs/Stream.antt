@@ -1,0 +1,42 @@
+-- A whole stream of bytes: frames one after the other, and how it ends. Nothing here speaks of the pieces
+-- in which it comes, or of how far a reader is.
+use Rattle.std.specs.Prelude.{◌≡◌, ℕ, ◌<◌, List, [], ◌++◌, length, slice_index, Option, Some, None}
+use Rattle.std.specs.List.{All, flat_map}
+use Rattle.pay_frame.specs.declared.fault.FrameFault.{FrameFault}
+use Rattle.pay_frame.specs.declared.fault.FrameFault.TheVariants.{Truncated}
+use Rattle.pay_frame.specs.Frame.{FrameFields, frame_bytes, IsFrame}
+use Rattle.pay_frame.specs.Reading.{IsProperBeginning, IsFault}
+
+-- each item is a byte
+pub record IsBytes (bytes : List ℕ) : Type 0 where
+  pub fits : (i : ℕ) → slice_index bytes i < 256
+
+-- the bytes are these frames, and a rest behind them
+pub record IsFramesThen (bytes : List ℕ) (frames : List FrameFields) (rest : List ℕ) : Type 0 where
+  pub each : All IsFrame frames
+  pub parts : bytes ≡ flat_map frame_bytes frames ++ rest
+
+-- What is behind the frames, and the fault that it ends the stream with, if any: nothing, a frame that is
+-- cut off, or bytes that begin no frame.
+pub data IsEnd (rest : List ℕ) : Option FrameFault → Type 0 where
+  Nothing : rest ≡ [] → IsEnd rest None
+  CutOff : 0 < length rest → IsProperBeginning rest → IsEnd rest (Some Truncated)
+  Faulty : {fault : FrameFault} → IsFault rest fault → IsEnd rest (Some fault)
+
+-- the stream is these frames, and ends so
+pub record IsStream (bytes : List ℕ) (frames : List FrameFields) (ending : Option FrameFault) : Type 0 where
+  pub rest : List ℕ
+  pub cut : IsFramesThen bytes frames rest
+  pub ends : IsEnd rest ending
+
+-- some frames are it, and it ends somehow
+pub record HasStream (bytes : List ℕ) : Type 0 where
+  pub frames : List FrameFields
+  pub ending : Option FrameFault
+  pub is : IsStream bytes frames ending
+
+-- Behind its first frames comes the rest of a stream: the frames that follow, and the same end.
+pub record GoesOn (rest : List ℕ) (first all : List FrameFields) (ending : Option FrameFault) : Type 0 where
+  pub more : List FrameFields
+  pub parts : all ≡ first ++ more
+  pub is : IsStream rest more ending

@@ -1,0 +1,72 @@
+//! Laws of streams: how bytes are frames and an end, and how that grows as they come. Each body is empty:
+//! the contract is the law.
+
+ghost use Rattle.std.specs.Prelude.{◌≡◌, ℕ, ◌+◌, ◌<◌, ◌≤◌, List, [], ◌∷◌, ◌++◌, length, take, Option, Some, None, Result};
+ghost use Rattle.pay_frame.specs.declared.fault.FrameFault.{FrameFault as Fault};
+ghost use Rattle.pay_frame.specs.Frame.{FrameFields, frame_bytes, IsFrame};
+ghost use Rattle.pay_frame.specs.Reading.{IsReading, IsProperBeginning, IsFault};
+ghost use Rattle.pay_frame.specs.Cutting.{Held, Feeds, HandsOut, frame_in};
+ghost use Rattle.pay_frame.specs.Stream.{IsBytes, IsFramesThen, IsStream, HasStream, GoesOn};
+
+/// Any bytes read in one of the three ways: as a frame, as the beginning of one, or as a fault.
+pub fn every_reading()
+    ensures law { (bytes : List ℕ) → IsBytes bytes
+        → (answer : Result (Option (FrameFields × ℕ)) Fault) × IsReading bytes answer }
+{}
+
+/// Any bytes are a stream: some frames, and an end.
+pub fn every_stream()
+    ensures law { (bytes : List ℕ) → IsBytes bytes → HasStream bytes }
+{}
+
+/// Bytes are one stream: its frames and its end depend on the bytes alone.
+pub fn one_stream()
+    ensures frames { (bytes : List ℕ) (one two : List FrameFields) (a b : Option Fault)
+        → IsStream bytes one a → IsStream bytes two b → one ≡ two }
+    ensures ending { (bytes : List ℕ) (one two : List FrameFields) (a b : Option Fault)
+        → IsStream bytes one a → IsStream bytes two b → a ≡ b }
+{}
+
+/// How a stream grows while it is read: what comes is behind what is left, and the next frame is one more.
+pub fn stream_grows()
+    ensures nothing { (bytes : List ℕ) → IsFramesThen bytes [] bytes }
+    ensures piece { (bytes rest more : List ℕ) (frames : List FrameFields)
+        → IsFramesThen bytes frames rest → IsFramesThen (bytes ++ more) frames (rest ++ more) }
+    ensures frame { (bytes held rest : List ℕ) (frames : List FrameFields) (f : FrameFields)
+        → IsFramesThen bytes frames held → IsFrame f → held ≡ frame_bytes f ++ rest
+        → IsFramesThen bytes (frames ++ f ∷ []) rest }
+    ensures frames { (bytes held rest : List ℕ) (first more : List FrameFields)
+        → IsFramesThen bytes first held → IsFramesThen held more rest
+        → IsFramesThen bytes (first ++ more) rest }
+{}
+
+/// Frames and then a stream are a stream, and behind the first frames of a stream is a stream.
+pub fn stream_goes_on()
+    ensures joined { (bytes rest : List ℕ) (first more : List FrameFields) (ending : Option Fault)
+        → IsFramesThen bytes first rest → IsStream rest more ending → IsStream bytes (first ++ more) ending }
+    ensures parted { (bytes rest : List ℕ) (first all : List FrameFields) (ending : Option Fault)
+        → IsFramesThen bytes first rest → IsStream bytes all ending → GoesOn rest first all ending }
+{}
+
+/// A fault ends a stream, whatever comes behind it.
+pub fn fault_is_for_good()
+    ensures fault { (bytes more : List ℕ) (fault : Fault) → IsFault bytes fault → IsFault (bytes ++ more) fault }
+    ensures stream { (bytes more : List ℕ) (fault : Fault) → IsFault bytes fault
+        → IsStream (bytes ++ more) [] (Some fault) }
+{}
+
+/// What a cutter was fed is the frames that it handed out and then what it holds, after each call.
+pub fn cutter_follows_stream()
+    ensures feed { (old new : Held) (piece bytes : List ℕ) (taken : ℕ) (frames : List FrameFields)
+        → Feeds old new piece taken → IsFramesThen bytes frames old.bytes
+        → IsFramesThen (bytes ++ take taken piece) frames new.bytes }
+    ensures next { (old new : Held) (answer : Result (Option FrameFields) Fault) (bytes : List ℕ) (frames : List FrameFields)
+        → HandsOut old answer new → IsFramesThen bytes frames old.bytes
+        → IsFramesThen bytes (frames ++ frame_in answer) new.bytes }
+{}
+
+/// How long a frame is, and that less than one is shorter than the longest.
+pub fn frame_sizes()
+    ensures frame { (f : FrameFields) → IsFrame f → length (frame_bytes f) ≡ 56 + length f.body.value }
+    ensures beginning { (bytes : List ℕ) → IsProperBeginning bytes → length bytes < 1080 }
+{}
