@@ -11,15 +11,19 @@ use Rattle.pay_frame.specs.declared.kind.Kind.TheVariants.{Send, Echo, Ready, Wa
 use Rattle.pay_frame.specs.Frame.{BodyFields}
 use Rattle.pay_echo.specs.Broadcast as one
 use Rattle.pay_echo.specs.Broadcast.{Group, Vote, sent, echoed, readied}
-use Rattle.pay_echo.proofs.Lists.{either, by_push, option_or-None}
-use Rattle.pay_echo.proofs.OneMore.{echoed-push}
+use Rattle.pay_echo.specs.Laws.{EchoedByOneMore}
 use Rattle.pay_channel.specs.History.{Event, IsEvent, Ask, From, asks, owner_of, seq_of, vote_of, is_about, votes_in, votes, body_of, newly, send_of, says, out}
 use Rattle.pay_channel.specs.Asked.{ask_of, asked, is_send, sends_in, sends_of}
-use Rattle.pay_channel.specs.Laws.{AskedGrows, AsksAreCounted, SendsAreAsks, SendInOut, SentIsAsked, OwnEchoIsAsk}
+use Rattle.pay_channel.specs.SentLaws.{NothingAskedAtFirst, AskedGrows, AsksAreCounted, SendsAreAsks, SendInOut, SentIsAsked, OwnEchoIsAsk}
+use Rattle.pay_channel.proofs.Lists.{either, by_push, option_or-None, Contains-filter, filter-Contains, filter-both}
 use Rattle.pay_channel.proofs.Project.{votes-push, asks-push, out-push, votes_in-other, votes_in-here}
 use Rattle.pay_channel.proofs.InOut.{newly-apart}
 
 -- ---- values asked for
+
+pub nothing_asked_at_first : NothingAskedAtFirst
+unfolding asked
+nothing_asked_at_first = refl
 
 pub asked_grows : AskedGrows
 unfolding asked
@@ -82,38 +86,6 @@ sends-Contains own n (suc k) (w ∷ values) v is =
     let place : (n + 1) + k ≡ n + suc k = omega arith in
     let P : ℕ → Type 0 = λ s. Contains (sends_from own n (w ∷ values)) (body_of Send own s v) in
     subst P place (suc rest.0, omega arith, rest.2)
-
--- ---- what a filter keeps
-
-Contains-later : {X : Type 0} (x : X) (xs : List X) (y : X) → Contains xs y → Contains (x ∷ xs) y
-Contains-later x xs y at = (suc at.0, omega (arith, at.1), at.2)
-
-Contains-filter : {X : Type 0} (p : X → Bool) (xs : List X) (y : X) → p y ≡ true → Contains xs y → Contains (filter p xs) y
-Contains-filter p [] y passes (k, below, is) = absurd (omega arith)
-Contains-filter {X} p (x ∷ xs) y passes (zero, below, is) =
-    let kept = cond-true (p x) (x ∷ filter p xs) (filter p xs) (ap p is ∙ passes) in
-    let P : List X → Type 0 = λ ys. Contains ys y in
-    subst P (sym kept) (zero, omega arith, is)
-Contains-filter {X} p (x ∷ xs) y passes (suc k, below, is) = go (p x) (Contains-filter p xs y passes (k, omega arith, is)) where
-  go : (b : Bool) → Contains (filter p xs) y → Contains (cond b (x ∷ filter p xs) (filter p xs)) y
-  go true rest = Contains-later x (filter p xs) y rest
-  go false rest = rest
-
-filter-Contains : {X : Type 0} (p : X → Bool) (xs : List X) (y : X) → Contains (filter p xs) y → Contains xs y
-filter-Contains p [] y at = at
-filter-Contains {X} p (x ∷ xs) y at = go (p x) at (λ later. filter-Contains p xs y later) where
-  go : (b : Bool) → Contains (cond b (x ∷ filter p xs) (filter p xs)) y → (Contains (filter p xs) y → Contains xs y) → Contains (x ∷ xs) y
-  go true (zero, below, is) rest = (zero, omega arith, is)
-  go true (suc k, below, is) rest = Contains-later x xs y (rest (k, omega arith, is))
-  go false later rest = Contains-later x xs y (rest later)
-
--- the items that pass two tests, one test after the other
-filter-both : {X : Type 0} (p q : X → Bool) (xs : List X) → filter (λ x. p x && q x) xs ≡ filter q (filter p xs)
-filter-both p q [] = refl
-filter-both {X} p q (x ∷ xs) = go (p x) (filter-both p q xs) where
-  go : (b : Bool) → filter (λ y. p y && q y) xs ≡ filter q (filter p xs) → cond (b && q x) (x ∷ filter (λ y. p y && q y) xs) (filter (λ y. p y && q y) xs) ≡ filter q (cond b (x ∷ filter p xs) (filter p xs))
-  go true rest = ap (λ ys. cond (q x) (x ∷ ys) ys) rest
-  go false rest = rest
 
 -- ---- the SENDs of the sent list
 
@@ -231,61 +203,62 @@ IsNoSend : Option Vote → Type 0
 IsNoSend None = Unit {0}
 IsNoSend (Some x) = sent x ≡ None
 
-echoed-no_send : (vs : List Vote) (o : Option Vote) → IsNoSend o → echoed (vs ++ option_to_list o) ≡ echoed vs
-unfolding IsNoSend
-echoed-no_send vs None none = ap echoed (append-nil vs)
-echoed-no_send vs (Some x) none = echoed-push vs x ∙ ap (option_or (echoed vs)) none ∙ option_or-None (echoed vs)
+module _ (echoed-push : EchoedByOneMore) where
+  echoed-no_send : (vs : List Vote) (o : Option Vote) → IsNoSend o → echoed (vs ++ option_to_list o) ≡ echoed vs
+  unfolding IsNoSend
+  echoed-no_send vs None none = ap echoed (append-nil vs)
+  echoed-no_send vs (Some x) none = echoed-push vs x ∙ ap (option_or (echoed vs)) none ∙ option_or-None (echoed vs)
 
--- no other member's body is a SEND in one's own broadcasts
-no_send_of : (own p s : ℕ) (kind : Kind) (v : List ℕ) → p ≢ own → IsNoSend (vote_of (From p (body_of kind own s v)))
-unfolding IsNoSend sent
-no_send_of own p s Send v ne = subst IsNoSend (sym (cond-false (eqb p own) (Some (one.Send v)) None (ne_eqb p own ne))) tt
-no_send_of own p s Echo v ne = refl
-no_send_of own p s Ready v ne = refl
-no_send_of own p s Want v ne = tt
+  -- no other member's body is a SEND in one's own broadcasts
+  no_send_of : (own p s : ℕ) (kind : Kind) (v : List ℕ) → p ≢ own → IsNoSend (vote_of (From p (body_of kind own s v)))
+  unfolding IsNoSend sent
+  no_send_of own p s Send v ne = subst IsNoSend (sym (cond-false (eqb p own) (Some (one.Send v)) None (ne_eqb p own ne))) tt
+  no_send_of own p s Echo v ne = refl
+  no_send_of own p s Ready v ne = refl
+  no_send_of own p s Want v ne = tt
 
-echoed-from : (vs : List Vote) (own k s p : ℕ) (body : BodyFields) → p ≢ own → echoed (vs ++ votes_in own own s k (From p body)) ≡ echoed vs
-echoed-from vs own k s p body ne =
-    either (cases_Bool (is_about own own s k (From p body)))
-    (λ about.
-    let mine : body.owner ≡ own = eqb-true body.owner own (and_parts (eqb body.owner own) (eqb body.seq s) about).0 in
-    let P : ℕ → Type 0 = λ a. IsNoSend (vote_of (From p (body_of body.kind a body.seq body.value))) in
-    ap (λ more. echoed (vs ++ more)) (votes_in-here own own s k (From p body) about)
-    ∙ echoed-no_send vs (vote_of (From p body)) (subst P (sym mine) (no_send_of own p body.seq body.kind body.value ne)))
-    (λ about. ap (λ more. echoed (vs ++ more)) (votes_in-other own own s k (From p body) about) ∙ ap echoed (append-nil vs))
+  echoed-from : (vs : List Vote) (own k s p : ℕ) (body : BodyFields) → p ≢ own → echoed (vs ++ votes_in own own s k (From p body)) ≡ echoed vs
+  echoed-from vs own k s p body ne =
+      either (cases_Bool (is_about own own s k (From p body)))
+      (λ about.
+      let mine : body.owner ≡ own = eqb-true body.owner own (and_parts (eqb body.owner own) (eqb body.seq s) about).0 in
+      let P : ℕ → Type 0 = λ a. IsNoSend (vote_of (From p (body_of body.kind a body.seq body.value))) in
+      ap (λ more. echoed (vs ++ more)) (votes_in-here own own s k (From p body) about)
+      ∙ echoed-no_send vs (vote_of (From p body)) (subst P (sym mine) (no_send_of own p body.seq body.kind body.value ne)))
+      (λ about. ap (λ more. echoed (vs ++ more)) (votes_in-other own own s k (From p body) about) ∙ ap echoed (append-nil vs))
 
--- an ask is a SEND in the broadcast of its number
-echoed-ask : (vs : List Vote) (own k s : ℕ) (v : List ℕ) → echoed (vs ++ votes_in own own s k (Ask v)) ≡ option_or (echoed vs) (cond (eqb k s) (Some v) None)
-unfolding votes_in sent
-echoed-ask vs own k s v =
-    ap (λ b. echoed (vs ++ cond (b && eqb k s) (one.Send v ∷ []) [])) (eq-eqb own own refl) ∙ go (eqb k s) where
-      go : (b : Bool) → echoed (vs ++ cond b (one.Send v ∷ []) []) ≡ option_or (echoed vs) (cond b (Some v) None)
-      go true = echoed-push vs (one.Send v)
-      go false = ap echoed (append-nil vs) ∙ sym (option_or-None (echoed vs))
+  -- an ask is a SEND in the broadcast of its number
+  echoed-ask : (vs : List Vote) (own k s : ℕ) (v : List ℕ) → echoed (vs ++ votes_in own own s k (Ask v)) ≡ option_or (echoed vs) (cond (eqb k s) (Some v) None)
+  unfolding votes_in sent
+  echoed-ask vs own k s v =
+      ap (λ b. echoed (vs ++ cond (b && eqb k s) (one.Send v ∷ []) [])) (eq-eqb own own refl) ∙ go (eqb k s) where
+        go : (b : Bool) → echoed (vs ++ cond b (one.Send v ∷ []) []) ≡ option_or (echoed vs) (cond b (Some v) None)
+        go true = echoed-push vs (one.Send v)
+        go false = ap echoed (append-nil vs) ∙ sym (option_or-None (echoed vs))
 
-module _ (g : Group) (s : ℕ) where
-  EchoesAsk : List Event → Type 0
-  EchoesAsk history = All (IsEvent g) history → echoed (votes g.own g.own s history) ≡ slice_get (asked history) s
+  module _ (g : Group) (s : ℕ) where
+    EchoesAsk : List Event → Type 0
+    EchoesAsk history = All (IsEvent g) history → echoed (votes g.own g.own s history) ≡ slice_get (asked history) s
 
-  EchoesAsk-more : (history : List Event) (e : Event) → IsEvent g e → echoed (votes g.own g.own s history) ≡ slice_get (asked history) s → echoed (votes g.own g.own s history ++ votes_in g.own g.own s (asks history) e) ≡ slice_get (asked (history ++ e ∷ [])) s
-  EchoesAsk-more history (Ask v) event before =
-      echoed-ask (votes g.own g.own s history) g.own (asks history) s v
-      ∙ ap₂ (λ (o : Option (List ℕ)) k. option_or o (cond (eqb k s) (Some v) None)) before (asks_are_counted history)
-      ∙ sym (slice_get-push (asked history) v s)
-      ∙ ap (λ (xs : List (List ℕ)). slice_get xs s) (sym (asked-ask history v))
-  EchoesAsk-more history (From p body) event before =
-      echoed-from (votes g.own g.own s history) g.own (asks history) s p body event.1
-      ∙ before
-      ∙ ap (λ (xs : List (List ℕ)). slice_get xs s) (sym (asked-from history p body))
+    EchoesAsk-more : (history : List Event) (e : Event) → IsEvent g e → echoed (votes g.own g.own s history) ≡ slice_get (asked history) s → echoed (votes g.own g.own s history ++ votes_in g.own g.own s (asks history) e) ≡ slice_get (asked (history ++ e ∷ [])) s
+    EchoesAsk-more history (Ask v) event before =
+        echoed-ask (votes g.own g.own s history) g.own (asks history) s v
+        ∙ ap₂ (λ (o : Option (List ℕ)) k. option_or o (cond (eqb k s) (Some v) None)) before (asks_are_counted history)
+        ∙ sym (slice_get-push (asked history) v s)
+        ∙ ap (λ (xs : List (List ℕ)). slice_get xs s) (sym (asked-ask history v))
+    EchoesAsk-more history (From p body) event before =
+        echoed-from (votes g.own g.own s history) g.own (asks history) s p body event.1
+        ∙ before
+        ∙ ap (λ (xs : List (List ℕ)). slice_get xs s) (sym (asked-from history p body))
 
-  EchoesAsk-push : (history : List Event) (e : Event) → EchoesAsk history → EchoesAsk (history ++ e ∷ [])
-  unfolding EchoesAsk
-  EchoesAsk-push history e before events =
-      let longer : length (history ++ e ∷ []) ≡ length history + 1 = length-append history (e ∷ []) in
-      let shorter : All (IsEvent g) history = λ k d below. subst (IsEvent g) (get_or_append_left history (e ∷ []) d k below) (events k d (omega arith)) in
-      ap echoed (votes-push g.own g.own s history e)
-      ∙ EchoesAsk-more history e (All-contains (IsEvent g) (history ++ e ∷ []) e events (Contains-push history e)) (before shorter)
+    EchoesAsk-push : (history : List Event) (e : Event) → EchoesAsk history → EchoesAsk (history ++ e ∷ [])
+    unfolding EchoesAsk
+    EchoesAsk-push history e before events =
+        let longer : length (history ++ e ∷ []) ≡ length history + 1 = length-append history (e ∷ []) in
+        let shorter : All (IsEvent g) history = λ k d below. subst (IsEvent g) (get_or_append_left history (e ∷ []) d k below) (events k d (omega arith)) in
+        ap echoed (votes-push g.own g.own s history e)
+        ∙ EchoesAsk-more history e (All-contains (IsEvent g) (history ++ e ∷ []) e events (Contains-push history e)) (before shorter)
 
-pub own_echo_is_ask : OwnEchoIsAsk
+pub own_echo_is_ask : EchoedByOneMore → OwnEchoIsAsk
 unfolding EchoesAsk votes echoed asked
-own_echo_is_ask g history s = by_push (EchoesAsk g s) (λ _. refl) (EchoesAsk-push g s) history
+own_echo_is_ask echoed-push g history s = by_push (EchoesAsk echoed-push g s) (λ _. refl) (EchoesAsk-push echoed-push g s) history

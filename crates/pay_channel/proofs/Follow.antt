@@ -5,7 +5,7 @@ use Rattle.pay_frame.specs.declared.kind.Kind.TheVariants.{Echo, Ready}
 use Rattle.pay_frame.specs.Frame.{BodyFields}
 use Rattle.pay_echo.specs.Broadcast.{Group, Vote, echoed, readied}
 use Rattle.pay_echo.specs.Meaning.{meaning_of}
-use Rattle.pay_echo.proofs.Lists.{either}
+use Rattle.pay_channel.proofs.Lists.{either}
 use Rattle.pay_channel.specs.History.{Event, is_ask, owner_of, seq_of, vote_of, is_about, votes_in, votes, send_of, newly, says, out, listed, delivered_at, list_of}
 use Rattle.pay_channel.specs.State.{State, Follows, meaning_at, value_at, lists_of}
 use Rattle.pay_channel.specs.Applied.{SeesIfVote, said, Takes, IsAsBefore}

@@ -1,11 +1,19 @@
--- The laws of `specs/Laws.antt`.
-use Rattle.std.proofs.Common.{◌≡◌, ℕ, List, [], ◌∷◌, ◌++◌, sym, ap, ◌∙◌, append_assoc, append-nil}
+-- One event more, and longer histories.
+use Rattle.std.proofs.Common.{◌≡◌, ℕ, List, [], ◌∷◌, ◌++◌, refl, sym, ap, ◌∙◌, append_assoc, append-nil}
 use Rattle.pay_frame.specs.Frame.{BodyFields}
 use Rattle.pay_echo.specs.Broadcast.{Group, Vote}
 use Rattle.pay_channel.specs.History.{Event, asks, votes_in, votes, says, out}
-use Rattle.pay_channel.specs.Laws.{VotesByOneMore, AsksByOneMore, OutByOneMore, OthersUntouched, VotesGrow, OutGrows, ChannelFollows, UnchangedFollows, ListsFollow}
+use Rattle.pay_channel.specs.VoteLaws.{NoAsksAtFirst, VotesByOneMore, AsksByOneMore, OthersUntouched, VotesGrow}
+use Rattle.pay_channel.specs.SentLaws.{NothingSentAtFirst, OutByOneMore, OutGrows}
 use Rattle.pay_channel.proofs.Project.{votes-push, asks-push, out-push, votes_in-other}
-use Rattle.pay_channel.proofs.Follow.{Follows-push, Follows-before, lists-Follows}
+
+pub no_asks_at_first : NoAsksAtFirst
+unfolding asks
+no_asks_at_first = refl
+
+pub nothing_sent_at_first : NothingSentAtFirst
+unfolding out
+nothing_sent_at_first g = refl
 
 pub votes_by_one_more : VotesByOneMore
 votes_by_one_more own a s history e = votes-push own a s history e
@@ -33,7 +41,7 @@ longer_votes own a s history (e ∷ more) =
     )
 
 pub votes_grow : VotesGrow
-votes_grow own a s history more = longer_votes own a s history more
+votes_grow own a s history more = let longer = longer_votes own a s history more in record { rest = longer.0; is = longer.1 }
 
 longer_out : (g : Group) (history more : List Event) → (rest : List BodyFields) × (out g (history ++ more) ≡ out g history ++ rest)
 longer_out g history [] = ([], ap (out g) (append-nil history) ∙ sym (append-nil (out g history)))
@@ -46,13 +54,4 @@ longer_out g history (e ∷ more) =
     )
 
 pub out_grows : OutGrows
-out_grows g history more = longer_out g history more
-
-pub channel_follows : ChannelFollows
-channel_follows old new history e takes follows = Follows-push old new history e takes follows
-
-pub unchanged_follows : UnchangedFollows
-unchanged_follows old new history same follows = Follows-before old new history same follows
-
-pub lists_follow : ListsFollow
-lists_follow c history follows a = lists-Follows c history follows a
+out_grows g history more = let longer = longer_out g history more in record { rest = longer.0; is = longer.1 }

@@ -1,17 +1,16 @@
 -- What stands in the sent list about one broadcast: one ECHO exactly where its value is echoed, and one
 -- READY exactly where its value is readied.
-use Rattle.std.proofs.Common.{◌≡◌, ℕ, Bool, true, false, ◌&&◌, eqb, List, [], ◌∷◌, ◌++◌, map, filter, Option, None, Some, option_to_list, refl, sym, ap, ap₂, ◌∙◌, append-nil, eqb-true}
-use Rattle.std.proofs.lemmas.Bool.{cond-true, cond-false, cases_Bool, and_parts}
+use Rattle.std.proofs.Common.{◌≡◌, ℕ, Bool, true, false, ◌&&◌, eqb, List, [], ◌∷◌, ◌++◌, map, filter, Option, None, Some, option_to_list, Contains, refl, sym, ap, ap₂, ◌∙◌, subst, append-nil, eqb-true, eq-eqb}
+use Rattle.std.proofs.lemmas.Bool.{cond-true, cond-false, cases_Bool, and_parts, and_from}
 use Rattle.std.proofs.lemmas.List.Elements.{filter-append}
 use Rattle.pay_frame.specs.declared.kind.Kind.{Kind}
 use Rattle.pay_frame.specs.declared.kind.Kind.TheVariants.{Send, Echo, Ready}
 use Rattle.pay_frame.specs.Frame.{BodyFields}
 use Rattle.pay_echo.specs.Broadcast.{Group, echoed, readied}
-use Rattle.pay_echo.proofs.Lists.{either, by_push}
-use Rattle.pay_echo.proofs.OneMore.{readied-none}
-use Rattle.pay_echo.proofs.VoteLaws.{echoed_stays, readied_stays}
+use Rattle.pay_echo.specs.Laws.{EchoedStays, ReadiedStays, NotReadyAtFirst}
 use Rattle.pay_channel.specs.History.{Event, Ask, From, asks, owner_of, seq_of, is_about, votes_in, votes, body_of, newly, send_of, says, out}
-use Rattle.pay_channel.specs.Laws.{is_echo, is_ready, is_said, EchoInOut, ReadyInOut}
+use Rattle.pay_channel.specs.SentLaws.{is_echo, is_ready, is_said, EchoInOut, ReadyInOut, EchoIsSaid, ReadyIsSaid}
+use Rattle.pay_channel.proofs.Lists.{either, by_push, Contains-filter, filter-Contains, option-Contains, Contains-option}
 use Rattle.pay_channel.proofs.Project.{votes-push, out-push, votes_in-other}
 
 -- bodies of another kind, or about another broadcast
@@ -38,7 +37,7 @@ joined kind a s (Some w) n stays = ap (λ m. map (body_of kind a s) (option_to_l
 same_place : (a b s t : ℕ) → (eqb a b && eqb s t) ≡ true → (a ≡ b) × (s ≡ t)
 same_place a b s t e = let both = and_parts (eqb a b) (eqb s t) e in (eqb-true a b both.0, eqb-true s t both.1)
 
-module _ (g : Group) (a s : ℕ) where
+module _ (stays : EchoedStays) (g : Group) (a s : ℕ) where
   HasEcho : List Event → Type 0
   HasEcho history = filter (is_said is_echo a s) (out g history) ≡ map (body_of Echo a s) (option_to_list (echoed (votes g.own a s history)))
 
@@ -65,7 +64,7 @@ module _ (g : Group) (a s : ℕ) where
       ∙ either (cases_Bool (is_about g.own a s (asks history) e))
       (λ about.
       let same = same_place b a t s about in
-      let grows : (w : List ℕ) → echoed old ≡ Some w → echoed new ≡ Some w = λ w is. ap echoed (votes-push g.own a s history e) ∙ echoed_stays old (votes_in g.own a s (asks history) e) w is in
+      let grows : (w : List ℕ) → echoed old ≡ Some w → echoed new ≡ Some w = λ w is. ap echoed (votes-push g.own a s history e) ∙ stays old (votes_in g.own a s (asks history) e) w is in
       ap (λ (xs : List BodyFields). map (body_of Echo a s) (option_to_list (echoed old)) ++ xs)
       (newly-kept (is_said is_echo a s) Echo b t o n (λ v. about)
       ∙ ap₂ (λ x y. newly Echo x y (echoed (votes g.own x y history)) (echoed (votes g.own x y (history ++ e ∷ [])))) same.0 same.1)
@@ -76,11 +75,11 @@ module _ (g : Group) (a s : ℕ) where
       ∙ append-nil (map (body_of Echo a s) (option_to_list (echoed old)))
       ∙ ap (λ vs. map (body_of Echo a s) (option_to_list (echoed vs))) (sym still))
 
-pub echo_in_out : EchoInOut
+pub echo_in_out : EchoedStays → EchoInOut
 unfolding HasEcho out votes echoed
-echo_in_out g history a s = by_push (HasEcho g a s) refl (HasEcho-push g a s) history
+echo_in_out stays g history a s = by_push (HasEcho stays g a s) refl (HasEcho-push stays g a s) history
 
-module _ (g : Group) (a s : ℕ) where
+module _ (stays : ReadiedStays) (g : Group) (a s : ℕ) where
   HasReady : List Event → Type 0
   HasReady history = filter (is_said is_ready a s) (out g history) ≡ map (body_of Ready a s) (option_to_list (readied g (votes g.own a s history)))
 
@@ -107,7 +106,7 @@ module _ (g : Group) (a s : ℕ) where
       ∙ either (cases_Bool (is_about g.own a s (asks history) e))
       (λ about.
       let same = same_place b a t s about in
-      let grows : (w : List ℕ) → readied g old ≡ Some w → readied g new ≡ Some w = λ w is. ap (readied g) (votes-push g.own a s history e) ∙ readied_stays g old (votes_in g.own a s (asks history) e) w is in
+      let grows : (w : List ℕ) → readied g old ≡ Some w → readied g new ≡ Some w = λ w is. ap (readied g) (votes-push g.own a s history e) ∙ stays g old (votes_in g.own a s (asks history) e) w is in
       ap (λ (xs : List BodyFields). map (body_of Ready a s) (option_to_list (readied g old)) ++ xs)
       (newly-kept (is_said is_ready a s) Ready b t r q (λ v. about)
       ∙ ap₂ (λ x y. newly Ready x y (readied g (votes g.own x y history)) (readied g (votes g.own x y (history ++ e ∷ [])))) same.0 same.1)
@@ -118,6 +117,45 @@ module _ (g : Group) (a s : ℕ) where
       ∙ append-nil (map (body_of Ready a s) (option_to_list (readied g old)))
       ∙ ap (λ vs. map (body_of Ready a s) (option_to_list (readied g vs))) (sym still))
 
-pub ready_in_out : ReadyInOut
+pub ready_in_out : ReadiedStays → NotReadyAtFirst → ReadyInOut
 unfolding HasReady out votes
-ready_in_out g history a s = by_push (HasReady g a s) (ap (λ o. map (body_of Ready a s) (option_to_list o)) (sym (readied-none g))) (HasReady-push g a s) history
+ready_in_out stays none g history a s =
+    by_push (HasReady stays g a s) (ap (λ o. map (body_of Ready a s) (option_to_list o)) (sym (none g))) (HasReady-push stays g a s) history
+
+-- ---- the same as membership
+
+said-self : (a s : ℕ) → (eqb a a && eqb s s) ≡ true
+said-self a s = and_from (eqb a a) (eqb s s) (eq-eqb a a refl) (eq-eqb s s refl)
+
+same-value : (kind : Kind) (a s : ℕ) (v w : List ℕ) → body_of kind a s w ≡ body_of kind a s v → w ≡ v
+same-value kind a s v w e = ap (λ (b : BodyFields). b.value) e
+
+module _ (kind : Kind) (a s : ℕ) (v : List ℕ) (bodies : List BodyFields) (test : BodyFields → Bool) (o : Option (List ℕ)) (passes : test (body_of kind a s v) ≡ true) (kept : filter test bodies ≡ map (body_of kind a s) (option_to_list o)) where
+  Has : List BodyFields → Type 0
+  Has xs = Contains xs (body_of kind a s v)
+
+  pub known-said : Contains bodies (body_of kind a s v) → o ≡ Some v
+  unfolding Has
+  known-said at =
+      let found = option-Contains (body_of kind a s) o (body_of kind a s v) (subst Has kept (Contains-filter test bodies (body_of kind a s v) passes at)) in
+      found.1 ∙ ap Some (same-value kind a s v found.0 found.2)
+
+  pub said-known : o ≡ Some v → Contains bodies (body_of kind a s v)
+  unfolding Has
+  said-known is = filter-Contains test bodies (body_of kind a s v) (subst Has (sym kept) (Contains-option (body_of kind a s) o v is))
+
+pub echo_is_said : EchoedStays → EchoIsSaid
+echo_is_said stays g history a s v =
+    let kept = echo_in_out stays g history a s in
+    let o = echoed (votes g.own a s history) in (
+      known-said Echo a s v (out g history) (is_said is_echo a s) o (said-self a s) kept,
+      said-known Echo a s v (out g history) (is_said is_echo a s) o (said-self a s) kept,
+    )
+
+pub ready_is_said : ReadiedStays → NotReadyAtFirst → ReadyIsSaid
+ready_is_said stays none g history a s v =
+    let kept = ready_in_out stays none g history a s in
+    let o = readied g (votes g.own a s history) in (
+      known-said Ready a s v (out g history) (is_said is_ready a s) o (said-self a s) kept,
+      said-known Ready a s v (out g history) (is_said is_ready a s) o (said-self a s) kept,
+    )

@@ -1,5 +1,7 @@
+pub mod Lists
 pub mod Project
 pub mod Follow
+pub mod Following
 pub mod SlotLemmas
 pub mod Grown
 pub mod HistoryLaws
@@ -9,5 +11,8 @@ pub mod InOut
 pub mod Counting
 pub mod Voting
 pub mod Asks
+pub mod Taking
+pub mod VotesTaken
+pub mod Places
 pub mod Longer
 pub mod Asking

@@ -1,8 +1,15 @@
 pub mod Source
+pub mod Prefix
 pub mod History
 pub mod Asked
+pub mod Taken
 pub mod State
 pub mod Applied
+pub mod Answer
 pub mod Group
-pub mod Laws
+pub mod VoteLaws
+pub mod TakenLaws
+pub mod SentLaws
+pub mod ListLaws
+pub mod FollowLaws
 pub mod Examples

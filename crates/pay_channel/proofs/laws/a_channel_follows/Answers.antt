@@ -1,5 +1,13 @@
-use Rattle.pay_channel.proofs.HistoryLaws.{channel_follows, unchanged_follows, lists_follow}
+use Rattle.pay_channel.proofs.Following.{channel_follows, unchanged_follows, values_follow, lists_follow, answers_follow, followers_are_alike}
 use Rattle.pay_channel.proofs.laws.a_channel_follows.Goals as goal
 
 pub returns : goal.returns
-returns c = record { event = channel_follows; unchanged = unchanged_follows; lists = lists_follow }
+returns c =
+    record {
+      event = channel_follows;
+      unchanged = unchanged_follows;
+      values = values_follow;
+      lists = lists_follow;
+      answers = answers_follow;
+      alike = followers_are_alike;
+    }

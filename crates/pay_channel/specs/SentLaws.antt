@@ -1,0 +1,95 @@
+-- What holds of the sent list, as statements. Each is proved as a public law.
+use Rattle.std.specs.Prelude.{◌≡◌, ℕ, ◌↔◌, Bool, true, false, ◌&&◌, ◌==◌, List, [], ◌∷◌, ◌++◌, map, length, slice_get, Some, All, Contains}
+use Rattle.std.specs.List.{filter}
+use Rattle.std.specs.Option.{option_to_list}
+use Rattle.pay_frame.specs.declared.kind.Kind.{Kind}
+use Rattle.pay_frame.specs.declared.kind.Kind.TheVariants.{Send, Echo, Ready, Want}
+use Rattle.pay_frame.specs.Frame.{BodyFields}
+use Rattle.pay_echo.specs.Broadcast.{Group, echoed, readied}
+use Rattle.pay_channel.specs.Prefix.{IsPrefix}
+use Rattle.pay_channel.specs.History.{Event, IsEvent, asks, votes, body_of, says, out}
+use Rattle.pay_channel.specs.Asked.{asked, is_send, sends_in, sends_of}
+
+abbrev pub NothingSentAtFirst : Type 0
+NothingSentAtFirst = (g : Group) → out g [] ≡ []
+
+-- one event more
+abbrev pub OutByOneMore : Type 0
+OutByOneMore = (g : Group) (history : List Event) (e : Event) → out g (history ++ e ∷ []) ≡ out g history ++ says g history e
+
+-- the sent list grows at its end alone
+abbrev pub OutGrows : Type 0
+OutGrows = (g : Group) (history more : List Event) → IsPrefix (out g history) (out g (history ++ more))
+
+-- ---- what stands in the sent list about one broadcast
+
+abbrev pub is_echo : Kind → Bool
+is_echo Send = false
+is_echo Echo = true
+is_echo Ready = false
+is_echo Want = false
+
+abbrev pub is_ready : Kind → Bool
+is_ready Send = false
+is_ready Echo = false
+is_ready Ready = true
+is_ready Want = false
+
+-- a body of this kind about the broadcast s of account a
+abbrev pub is_said : (Kind → Bool) → ℕ → ℕ → BodyFields → Bool
+is_said of_kind a s body = of_kind body.kind && (body.owner == a && body.seq == s)
+
+-- one ECHO exactly where a value is echoed, with that value
+abbrev pub EchoInOut : Type 0
+EchoInOut =
+    (g : Group) (history : List Event) (a s : ℕ)
+    → filter (is_said is_echo a s) (out g history) ≡ map (body_of Echo a s) (option_to_list (echoed (votes g.own a s history)))
+
+-- one READY exactly where a value is readied, with that value
+abbrev pub ReadyInOut : Type 0
+ReadyInOut =
+    (g : Group) (history : List Event) (a s : ℕ)
+    → filter (is_said is_ready a s) (out g history) ≡ map (body_of Ready a s) (option_to_list (readied g (votes g.own a s history)))
+
+-- the same as membership: what stands there is what was echoed and readied
+abbrev pub EchoIsSaid : Type 0
+EchoIsSaid =
+    (g : Group) (history : List Event) (a s : ℕ) (v : List ℕ)
+    → Contains (out g history) (body_of Echo a s v) ↔ (echoed (votes g.own a s history) ≡ Some v)
+
+abbrev pub ReadyIsSaid : Type 0
+ReadyIsSaid =
+    (g : Group) (history : List Event) (a s : ℕ) (v : List ℕ)
+    → Contains (out g history) (body_of Ready a s v) ↔ (readied g (votes g.own a s history) ≡ Some v)
+
+-- ---- the SENDs of the sent list are the values asked for
+
+abbrev pub NothingAskedAtFirst : Type 0
+NothingAskedAtFirst = asked [] ≡ []
+
+abbrev pub AskedGrows : Type 0
+AskedGrows = (history more : List Event) → asked (history ++ more) ≡ asked history ++ asked more
+
+abbrev pub AsksAreCounted : Type 0
+AsksAreCounted = (history : List Event) → asks history ≡ length (asked history)
+
+abbrev pub SendsAreAsks : Type 0
+SendsAreAsks = (g : Group) (history : List Event) → sends_in (out g history) ≡ sends_of g.own (asked history)
+
+-- one SEND about a number of one's own exactly where a value was asked for under it, with that value
+abbrev pub SendInOut : Type 0
+SendInOut =
+    (g : Group) (history : List Event) (s : ℕ)
+    → filter (is_said is_send g.own s) (out g history) ≡ map (body_of Send g.own s) (option_to_list (slice_get (asked history) s))
+
+-- a SEND stands there exactly if it is about one's own account, with the value asked for under its number
+abbrev pub SentIsAsked : Type 0
+SentIsAsked =
+    (g : Group) (history : List Event) (a s : ℕ) (v : List ℕ)
+    → Contains (out g history) (body_of Send a s v) ↔ ((a ≡ g.own) × (slice_get (asked history) s ≡ Some v))
+
+-- in one's own broadcasts the values asked for are echoed, whatever the others send
+abbrev pub OwnEchoIsAsk : Type 0
+OwnEchoIsAsk =
+    (g : Group) (history : List Event) (s : ℕ) → All (IsEvent g) history
+    → echoed (votes g.own g.own s history) ≡ slice_get (asked history) s

@@ -1,0 +1,40 @@
+-- What holds of the bodies taken from one other member, as statements. Each is proved as a public law.
+use Rattle.std.specs.Prelude.{◌≡◌, ℕ, ◌+◌, ◌↔◌, false, if◌then◌else◌, List, [], ◌∷◌, ◌++◌, Contains}
+use Rattle.std.specs.List.{count_by}
+use Rattle.std.specs.Option.{option_to_list}
+use Rattle.pay_frame.specs.Frame.{BodyFields}
+use Rattle.pay_channel.specs.History.{Event, From}
+use Rattle.pay_channel.specs.Taken.{is_from, body_from, taken, next}
+
+abbrev pub NothingTakenAtFirst : Type 0
+NothingTakenAtFirst = (p : ℕ) → taken p [] ≡ []
+
+-- one event more: its body, exactly where it came from p
+abbrev pub TakenByOneMore : Type 0
+TakenByOneMore =
+    (p : ℕ) (history : List Event) (e : Event)
+    → taken p (history ++ e ∷ []) ≡ taken p history ++ option_to_list (body_from p e)
+
+abbrev pub TakenFromHere : Type 0
+TakenFromHere =
+    (p : ℕ) (history : List Event) (body : BodyFields)
+    → taken p (history ++ From p body ∷ []) ≡ taken p history ++ body ∷ []
+
+abbrev pub TakenFromElsewhere : Type 0
+TakenFromElsewhere = (p : ℕ) (history : List Event) (e : Event) → is_from p e ≡ false → taken p (history ++ e ∷ []) ≡ taken p history
+
+-- a longer history
+abbrev pub TakenGrows : Type 0
+TakenGrows = (p : ℕ) (history more : List Event) → taken p (history ++ more) ≡ taken p history ++ taken p more
+
+abbrev pub TakenIsFrom : Type 0
+TakenIsFrom = (p : ℕ) (history : List Event) (body : BodyFields) → Contains (taken p history) body ↔ Contains history (From p body)
+
+-- the next number counts the events from p
+abbrev pub NextIsCount : Type 0
+NextIsCount = (p : ℕ) (history : List Event) → next p history ≡ count_by (is_from p) history
+
+abbrev pub NextByOneMore : Type 0
+NextByOneMore =
+    (p : ℕ) (history : List Event) (e : Event)
+    → next p (history ++ e ∷ []) ≡ (if is_from p e then next p history + 1 else next p history)
