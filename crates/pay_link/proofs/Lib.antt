@@ -1,3 +1,4 @@
 pub mod Judged
 mod Lists
+mod Owned
 pub mod TestKeysLemmas

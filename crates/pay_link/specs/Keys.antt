@@ -1,7 +1,7 @@
 -- One member's keys: one for each other member, which that member has too.
 use Rattle.std.specs.Prelude.{◌≡◌, ◌≢◌, ℕ, ◌<◌, ◌≤◌, ◌==◌, nat_le, nat_lt, Bool, not, ◌&&◌, List, length, replicate, slice_index_or, slice_set, Option, Some, None, if◌then◌else◌}
 use Rattle.pay_link.specs.Genesis.{GenesisFields}
-use Rattle.pay_link.specs.declared.limits.TheConstants.{MOST_MEMBERS}
+use Rattle.pay_frame.specs.declared.limits.TheConstants.{MOST_MEMBERS}
 use Rattle.pay_link.specs.declared.keys_fault.KeysFault.{KeysFault}
 use Rattle.pay_link.specs.declared.keys_fault.KeysFault.TheVariants.{BadKeyCount, BadOwn}
 

@@ -1,6 +1,7 @@
 -- What a member sends to a peer.
-use Rattle.std.specs.Prelude.{ℕ, List, ◌++◌}
+use Rattle.std.specs.Prelude.{ℕ, List, [], ◌++◌}
 use Rattle.pay_frame.specs.Frame.{BodyFields, FrameFields, head_bytes}
+use Rattle.pay_frame.specs.declared.kind.Kind.TheVariants.{Want}
 use Rattle.pay_hmac.specs.Mac.{mac}
 use Rattle.pay_link.specs.Keys.{KeyFields, key_for}
 
@@ -17,3 +18,11 @@ sealed k to number body = record {
   body = body;
   tag = mac (key_for k to) (tagged_bytes k.own to number body);
 }
+
+-- what a WANT says beside the number from which it asks
+abbrev pub want_body : BodyFields
+want_body = record { kind = Want; owner = 0; seq = 0; value = [] }
+
+-- the WANT that asks a peer for its frames from a number on
+abbrev pub wanted : KeyFields → ℕ → ℕ → FrameFields
+wanted k to number = sealed k to number want_body

@@ -2,7 +2,8 @@ ghost use Rattle.std.specs.Prelude.{◌≡◌, ◌<◌, ◌≤◌, ◌↔◌, If
 ghost use Rattle.pay_link.specs.Genesis.{IsGenesis, genesis_fault};
 
 use crate::genesis_fault::GenesisFault;
-use crate::limits::{GREATEST_TOTAL, MOST_MEMBERS};
+use crate::limits::GREATEST_TOTAL;
+use pay_frame::MOST_MEMBERS;
 use std::alloc::{AllocError, Global};
 use std::marker::Model;
 

@@ -1,8 +1,9 @@
-ghost use Rattle.std.specs.Prelude.{◌≡◌, ◌<◌, ◌↔◌, IfOk, IsOkUnless, IsTrue, MatchOption, length};
+ghost use Rattle.std.specs.Prelude.{◌≡◌, ◌<◌, ◌↔◌, [], IfOk, IsOkUnless, IsTrue, MatchOption, length};
 ghost use Rattle.pay_link.specs.Keys.{IsKeys, IsKeysOf, IsPeer, kept_keys, key_for, keys_fault};
 
 use crate::genesis::Genesis;
 use crate::keys_fault::KeysFault;
+use pay_frame::Bytes;
 use std::alloc::{AllocError, Global};
 use std::marker::Model;
 
@@ -95,6 +96,13 @@ impl Keys {
         ensures { result.now ≡ key_for self.now peer }
     {
         &self.keys[usize::from(peer)]
+    }
+
+    /// Bytes that take no memory.
+    pub(crate) fn no_bytes(&self) -> Bytes
+        ensures { result ≡ [] }
+    {
+        Bytes::new(Vec::new(*self.keys.allocator()))
     }
 
     /// Equal keys.

@@ -1,7 +1,8 @@
 //! What holds of the definitions. The functions do nothing: their contracts are the laws.
 
 ghost use Rattle.std.specs.Prelude.{◌≡◌, ◌≢◌, ◌*◌, ◌<◌, ◌≤◌, ◌↔◌, ◌⊎◌, ℕ, length, sum};
-ghost use Rattle.pay_frame.specs.Frame.{BodyFields, FrameFields};
+ghost use Rattle.pay_frame.specs.Frame.{BodyFields, FrameFields, IsFrame};
+ghost use Rattle.pay_link.specs.Checked.{CheckedFields, IsChecked, IsFor, checked_fields};
 ghost use Rattle.pay_link.specs.Genesis.{GenesisFields, IsGenesis, genesis_fault};
 ghost use Rattle.pay_link.specs.Keys.{IsPeer, KeyFields, key_for};
 ghost use Rattle.pay_link.specs.Opening.{IsTagged, OpenedFields, Opens, judgement, opened_fields};
@@ -9,8 +10,9 @@ ghost use Rattle.pay_link.specs.Sealing.{sealed};
 ghost use Rattle.pay_link.specs.TestKeys.{test_keys_of};
 
 use crate::genesis_fault::GenesisFault;
-use crate::limits::{GREATEST_TOTAL, MOST_MEMBERS};
+use crate::limits::GREATEST_TOTAL;
 use crate::link_fault::LinkFault;
+use pay_frame::{Kind, MOST_MEMBERS};
 
 /// A genesis has no fault exactly where its limits hold.
 pub fn genesis_limits()
@@ -50,6 +52,17 @@ pub fn refused()
         (judgement k f ≡ Err LinkFault.BadTag)
         ↔ ((f.to ≡ k.own) × IsPeer k f.from × (f.body.owner < length k.keys)
         × ¬ (IsTagged (key_for k f.from) f)) }
+{}
+
+/// What opens at a member, once it is owned, is for that member; and what is for a member opens there
+/// again, and is then what was owned.
+pub fn owned()
+    ensures kept { (k : KeyFields) (f : FrameFields) (o : OpenedFields) → IsFrame f
+        → f.body.kind ≢ Kind.Want → judgement k f ≡ Ok o
+        → IsChecked (checked_fields o) × IsFor k (checked_fields o) }
+    ensures opens_again { (k : KeyFields) (c : CheckedFields) → IsChecked c → IsFor k c
+        → (judgement k c.frame ≡ Ok (opened_fields k c.frame))
+        × (checked_fields (opened_fields k c.frame) ≡ c) }
 {}
 
 /// What one of two members seals for the other opens there, where both have one key for each other.

@@ -1,7 +1,8 @@
 //! Links: what a ledger begins with, the keys of its members, and frames that are rightly tagged and
-//! for me.
+//! for the member that opens them.
 #![tactic(auto)]
 
+mod checked;
 mod fronts;
 mod genesis;
 mod genesis_fault;
@@ -14,13 +15,15 @@ mod link_fault;
 mod opened;
 mod sealing;
 
+pub use checked::Checked;
 pub use fronts::Fronts;
 pub use genesis::Genesis;
 pub use genesis_fault::GenesisFault;
 pub use keys::Keys;
 pub use keys_fault::KeysFault;
 pub use known_keys::test_keys;
-pub use limits::{GREATEST_TOTAL, MOST_MEMBERS};
+pub use limits::{GREATEST_TOTAL, WANT_LEN};
 pub use link_fault::LinkFault;
 pub use opened::{Opened, open};
-pub use sealing::seal;
+pub use pay_frame::MOST_MEMBERS;
+pub use sealing::{seal, want};

@@ -1,16 +1,23 @@
-ghost use Rattle.std.specs.Prelude.{◌≡◌};
+ghost use Rattle.std.specs.Prelude.{◌≡◌, ◌≢◌, IfOk};
 ghost use Rattle.std.specs.Str.{bytes_eq};
 ghost use Rattle.pay_frame.specs.Lent.{fields_of};
+ghost use Rattle.pay_link.specs.Checked.{checked_fields};
 ghost use Rattle.pay_link.specs.Opening.{IsOpened, judgement, right_tag};
 
+use crate::checked::Checked;
 use crate::keys::Keys;
 use crate::link_fault::LinkFault;
-use pay_frame::FrameRef;
+use pay_frame::{Body, Bytes, FrameRef, Kind, TAG_LEN};
 use pay_hmac::Tagger;
+use std::alloc::{AllocError, Global};
 use std::marker::Model;
 
-/// A frame for me from another member, about the broadcast of a member, with the tag under the key
-/// that is shared with its sender. `open` alone makes one.
+/// A frame that was opened, in the buffer that lends it, with the key that it was opened under.
+///
+/// Its type keeps that the tag is right under that key, that sender and owner are among the members,
+/// and that the sender isn't the receiver. That the receiver is the member who opened it, and the key
+/// the one that this member shares with the sender, is what `open` says of its answer. `open` alone
+/// makes one.
 #[derive(Drop)]
 pub struct Opened<'a> {
     frame: FrameRef<'a>,
@@ -36,6 +43,27 @@ impl<'a> Opened<'a> {
         ensures limits { IsOpened self.now }
     {
         &self.frame
+    }
+
+    /// The frame by itself, with its key. The value is copied. A WANT is answered at once and never
+    /// kept.
+    pub fn own(&self, alloc: Global) -> Result<Checked, AllocError>
+        requires { self.now.frame.body.kind ≢ Kind.Want }
+        ensures { IfOk result (λ checked. checked ≡ checked_fields self.now) }
+    {
+        let frame = &self.frame;
+        let mut tag = [0; TAG_LEN];
+        tag.copy_from_slice(frame.tag());
+        let value = Bytes::from_slice(alloc, frame.value())?;
+        let body = Body::new(frame.kind(), frame.owner(), frame.seq(), value);
+        Ok(Checked {
+            from: frame.from(),
+            to: frame.to(),
+            number: frame.number(),
+            body,
+            tag,
+            key: self.key,
+        })
     }
 }
 

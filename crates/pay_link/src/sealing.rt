@@ -1,11 +1,12 @@
-ghost use Rattle.std.specs.Prelude.{◌≡◌, IfOk};
-ghost use Rattle.pay_frame.specs.Frame.{frame_bytes};
+ghost use Rattle.std.specs.Prelude.{◌≡◌, ◌++◌, IfOk};
+ghost use Rattle.pay_frame.specs.Frame.{IsFrame, frame_bytes};
 ghost use Rattle.pay_hmac.specs.Mac.{mac};
 ghost use Rattle.pay_link.specs.Keys.{IsPeer, key_for};
-ghost use Rattle.pay_link.specs.Sealing.{sealed, tagged_bytes};
+ghost use Rattle.pay_link.specs.Sealing.{sealed, tagged_bytes, wanted};
 
 use crate::keys::Keys;
-use pay_frame::{Body, head_into, write};
+use crate::limits::WANT_LEN;
+use pay_frame::{Body, HEAD_LEN, Kind, TAG_LEN, head_into, write};
 use pay_hmac::Tagger;
 use std::alloc::{AllocError, Global};
 
@@ -19,18 +20,45 @@ pub fn seal<T: Tagger>(
     body: &Body,
 ) -> Result<Vec<u8>, AllocError>
     requires { IsPeer keys.now to }
-    ensures { IfOk result (λ bytes. bytes.items ≡ frame_bytes (sealed keys.now to number body.now)) }
+    ensures bytes { IfOk result (λ bytes.
+        bytes.items ≡ frame_bytes (sealed keys.now to number body.now)) }
+    ensures frame { IfOk result (λ _. IsFrame (sealed keys.now to number body.now)) }
 {
     let tag = tag_for(t, keys, to, number, body);
     write(alloc, keys.own(), to, number, body, &tag)
 }
 
+/// The bytes of a WANT to a peer, with its right tag: it asks for the frames from a number on. It takes
+/// no memory.
+pub fn want<T: Tagger>(t: &T, keys: &Keys, to: u16, number: u64) -> [u8; WANT_LEN]
+    requires { IsPeer keys.now to }
+    ensures bytes { result ≡ frame_bytes (wanted keys.now to number) }
+    ensures frame { IsFrame (wanted keys.now to number) }
+{
+    let body = Body::new(Kind::Want, 0, 0, keys.no_bytes());
+    let mut head = [0; HEAD_LEN];
+    head_into(&mut head, keys.own(), to, number, &body);
+    let tag = tag_for(t, keys, to, number, &body);
+    joined(&head, &tag)
+}
+
+// A head and a tag with no value between them.
+fn joined(head: &[u8; HEAD_LEN], tag: &[u8; TAG_LEN]) -> [u8; WANT_LEN]
+    ensures { result ≡ head.now ++ tag.now }
+{
+    let mut bytes = [0; WANT_LEN];
+    let (front, back) = bytes.split_at_mut(head.len());
+    front.copy_from_slice(head);
+    back.copy_from_slice(tag);
+    bytes
+}
+
 #[tactic(auto, unfolding(crate::specs::Sealing::tagged_bytes))]
-fn tag_for<T: Tagger>(t: &T, keys: &Keys, to: u16, number: u64, body: &Body) -> [u8; 32]
+fn tag_for<T: Tagger>(t: &T, keys: &Keys, to: u16, number: u64, body: &Body) -> [u8; TAG_LEN]
     requires { IsPeer keys.now to }
     ensures { result ≡ mac (key_for keys.now to) (tagged_bytes keys.now.own to number body.now) }
 {
-    let mut head = [0u8; 24];
+    let mut head = [0; HEAD_LEN];
     head_into(&mut head, keys.own(), to, number, body);
     t.tag(keys.key(to), &head, body.value())
 }

@@ -1,0 +1,5 @@
+use Rattle.pay_link.proofs.Owned.{kept_law, opens_again_law}
+use Rattle.pay_link.proofs.laws.owned.Goals as goal
+
+pub returns : goal.returns
+returns c = record { kept = kept_law; opens_again = opens_again_law }

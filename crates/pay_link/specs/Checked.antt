@@ -1,0 +1,33 @@
+-- A frame that was opened and is kept, with the key that it was opened under.
+use Rattle.std.specs.Prelude.{◌≡◌, ◌≢◌, ◌<◌, ℕ, List, length}
+use Rattle.pay_frame.specs.Frame.{FrameFields, IsFrame, frame_bytes}
+use Rattle.pay_frame.specs.declared.kind.Kind.TheVariants.{Want}
+use Rattle.pay_link.specs.Keys.{IsPeer, KeyFields, key_for}
+use Rattle.pay_link.specs.Opening.{IsTagged, OpenedFields}
+
+-- a frame, and the key that its receiver shares with its sender
+pub record CheckedFields : Type 0 where
+  pub frame : FrameFields
+  pub key : List ℕ
+
+-- within a frame's limits, rightly tagged under that key, and no WANT
+pub record IsChecked (c : CheckedFields) : Type 0 where
+  pub frame : IsFrame c.frame
+  pub tagged : IsTagged c.key c.frame
+  pub kind : c.frame.body.kind ≢ Want
+
+-- what is kept of an opened frame
+abbrev pub checked_fields : OpenedFields → CheckedFields
+checked_fields o = record { frame = o.frame; key = o.key }
+
+-- the bytes of the frame, its tag included
+abbrev pub bytes_of : CheckedFields → List ℕ
+bytes_of c = frame_bytes c.frame
+
+-- for the member with these keys: sent to it, from a peer, about a member's broadcast, and under the
+-- very key that it shares with that peer
+pub record IsFor (k : KeyFields) (c : CheckedFields) : Type 0 where
+  pub receiver : c.frame.to ≡ k.own
+  pub sender : IsPeer k c.frame.from
+  pub owner : c.frame.body.owner < length k.keys
+  pub key : c.key ≡ key_for k c.frame.from
