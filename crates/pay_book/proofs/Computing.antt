@@ -3,15 +3,15 @@ use Rattle.std.proofs.Common.{◌≡◌, ℕ, zero, suc, ◌+◌, ◌<◌, ◌�
 use Rattle.std.specs.Prelude.{slice_get, slice_set, Option, Some, None}
 use Rattle.std.specs.List.{find, range_with_len}
 use Rattle.std.proofs.lemmas.Int.{ints}
-use Rattle.std.proofs.lemmas.Bool.{cases_eq, cases_lt, cases_Bool, leb-true, both_ways, le-leb}
-use Rattle.std.proofs.lemmas.List.{length-set, get_or-set_same, get_or-set_other, length-replicate, get_or_past, get_or-replicate}
+use Rattle.std.proofs.lemmas.Bool.{cases_eq, cases_Bool, leb-true, both_ways, le-leb}
+use Rattle.std.proofs.lemmas.List.{length-set, get_or-set_same, get_or-set_other, length-replicate}
 use Rattle.pay_book.specs.declared.payment.Entry.{Entry}
 use Rattle.pay_book.specs.declared.payment.Entry.TheVariants.{Pay, Void}
 use Rattle.pay_book.specs.Balance.{sum_below, paid_in, paid_out, balance_at}
 use Rattle.pay_book.specs.Front.{Covers, MayStep, IsOneFurther, Reach, Start, Step, IsLargest, covers, may_step, front_after_step, front_after_turns, entry_count, largest_front}
 use Rattle.pay_book.proofs.Sums.{sum_below-one_more, sum_below-lt}
 use Rattle.std.proofs.lemmas.Grind.{same_number_lists}
-use Rattle.pay_book.proofs.Reaching.{Reach-within, within_from_Covers, largest_from_stuck, largest_is_one}
+use Rattle.pay_book.proofs.Reaching.{zero_front, Reach-within, within_from_Covers, largest_from_stuck, largest_is_one}
 use Rattle.pay_book.proofs.Growing.{largest-same}
 
 -- the test says what the definition says
@@ -99,12 +99,7 @@ pub largest_front_is_largest : (opening : List ℕ) (logs : ℕ → List Entry) 
 unfolding largest_front
 largest_front_is_largest opening logs =
     let n = length opening in
-    let zeros : (a : ℕ) → slice_index (replicate n 0) a ≡ 0 =
-    λ a. elim (cases_lt a n) [
-      | inl below ↦ get_or-replicate n a 0 0 below
-      | inr past ↦ get_or_past (replicate n 0) a 0 (let long = length-replicate {A = ℕ} n 0 in omega arith)
-    ] in
-    after_turns opening logs (entry_count n logs) (replicate n 0) (length-replicate {A = ℕ} n 0) (Start zeros) (omega arith)
+    after_turns opening logs (entry_count n logs) (replicate n 0) (length-replicate {A = ℕ} n 0) (Start (zero_front n)) (omega arith)
 
 -- Any list whose places are a largest front is the computed one.
 pub same_largest_front : (opening : List ℕ) (logs : ℕ → List Entry) (front : List ℕ) → length front ≡ length opening → IsLargest opening logs (slice_index front) → front ≡ largest_front opening logs

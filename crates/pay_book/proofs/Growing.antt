@@ -18,7 +18,7 @@ slice_get-append_left (x ∷ xs) more zero h = refl
 slice_get-append_left (x ∷ xs) more (suc k) h = slice_get-append_left xs more k (omega arith)
 
 -- what is before a front stays
-pub take-grown : (old new : List Entry) (k : ℕ) → (more : List Entry) × (new ≡ old ++ more) → k ≤ length old → take k new ≡ take k old
+pub take-grown : {X : Type 0} (old new : List X) (k : ℕ) → (more : List X) × (new ≡ old ++ more) → k ≤ length old → take k new ≡ take k old
 take-grown old new k (more, e) h = ap (take k) e ∙ take-append-le k old more h
 
 pub paid_in-grown : (accounts : ℕ) (old new : ℕ → List Entry) (front : ℕ → ℕ) (a : ℕ) → AllGrow accounts old new → ((b : ℕ) → b < accounts → front b ≤ length (old b)) → paid_in accounts new front a ≡ paid_in accounts old front a

@@ -6,6 +6,7 @@ pub mod Growing
 pub mod Computing
 pub mod Entries
 pub mod Settling
+pub mod Settled
 pub mod OneStep
 pub mod PlainLoops
 pub mod Lines

@@ -1,12 +1,21 @@
 -- Fronts that steps reach.
-use Rattle.std.proofs.Common.{◌≡◌, ◌≢◌, ℕ, ◌+◌, ◌<◌, ◌≤◌, max, ℤ, cond, eqb, List, length, refl, ap, ◌∙◌, sym, subst, arith, inl, inr}
+use Rattle.std.proofs.Common.{◌≡◌, ◌≢◌, ℕ, ◌+◌, ◌<◌, ◌≤◌, max, ℤ, cond, eqb, List, length, replicate, slice_index, refl, ap, ◌∙◌, sym, subst, arith, inl, inr}
 use Rattle.std.specs.Prelude.{slice_get, Option, Some, None}
 use Rattle.std.proofs.lemmas.Bool.{cases_eq, cases_lt, cond-true, cond-false, eq-eqb, ne_eqb}
+use Rattle.std.proofs.lemmas.List.{length-replicate, get_or_past, get_or-replicate}
 use Rattle.std.proofs.lemmas.Option.{slice_get_within}
 use Rattle.pay_book.specs.declared.payment.Entry.{Entry}
 use Rattle.pay_book.specs.Balance.{balance_at}
 use Rattle.pay_book.specs.Front.{Covers, MayStep, IsOneFurther, Reach, Start, Step, IsLargest}
 use Rattle.pay_book.proofs.Stepping.{MayStep-mono}
+
+-- the front where nothing is settled, as a list
+pub zero_front : (n a : ℕ) → slice_index (replicate n 0) a ≡ 0
+zero_front n a =
+    elim (cases_lt a n) [
+      | inl below ↦ get_or-replicate n a 0 0 below
+      | inr past ↦ get_or_past (replicate n 0) a 0 (let long = length-replicate {A = ℕ} n 0 in omega arith)
+    ]
 
 -- a front that agrees everywhere with a reached one is reached
 pub Reach-same : (opening : List ℕ) (logs : ℕ → List Entry) {front : ℕ → ℕ} (other : ℕ → ℕ) → Reach opening logs front → ((a : ℕ) → other a ≡ front a) → Reach opening logs other

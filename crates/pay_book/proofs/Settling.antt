@@ -1,21 +1,22 @@
 -- From what a book shows to what it can do next.
 use Rattle.std.proofs.Common.{◌≡◌, ℕ, ◌*◌, ◌<◌, ◌≤◌, ◌^◌, ℤ, pos, List, [], ◌++◌, length, replicate, take, sum, sum_by, slice_index, get_or, refl, ap, ◌∙◌, sym, subst, arith, inl, inr}
 use Rattle.std.proofs.lemmas.Int.{ints}
-use Rattle.std.proofs.lemmas.Bool.{cases_eq, cases_lt}
-use Rattle.std.proofs.lemmas.List.{append-nil, length-replicate, get_or_past, get_or-replicate}
+use Rattle.std.proofs.lemmas.Bool.{cases_eq}
+use Rattle.std.proofs.lemmas.List.{append-nil, length-replicate}
 use Rattle.std.proofs.lemmas.Grind.{same_number_lists}
+use Rattle.pay_frame.specs.declared.limits.TheConstants.{SEQS, MOST_MEMBERS}
 use Rattle.pay_channel.specs.Source.{GrowsOnly}
 use Rattle.pay_book.specs.declared.payment.Entry.{Entry}
-use Rattle.pay_book.specs.Payment.{entries_of}
+use Rattle.pay_book.specs.Payment.{most_entries, entries_of}
 use Rattle.pay_book.specs.Balance.{amount_of, amount_to, paid_in, paid_out, balance_at}
 use Rattle.pay_book.specs.Front.{MayStep, Start, IsLargest, entry_count, largest_front, AllGrow}
 use Rattle.pay_book.specs.Book.{Standing, fresh, entries_for, IsBook, IsSettled, AreCountable, CanSettle}
 use Rattle.pay_book.proofs.Sums.{sum_below-le, sum_below-same, sum_below-zero, sum_below-bounded}
 use Rattle.pay_book.proofs.Conserving.{sum-places}
-use Rattle.pay_book.proofs.Reaching.{Reach-within, within_from_Covers, largest_from_stuck, largest_is_stuck}
+use Rattle.pay_book.proofs.Reaching.{zero_front, Reach-within, within_from_Covers, largest_from_stuck, largest_is_stuck}
 use Rattle.pay_book.proofs.Growing.{balance_at-grown, MayStep-same_list, Reach-grown, AllGrow-same}
 use Rattle.pay_book.proofs.Computing.{largest_front_is_largest, same_largest_front, largest_front-same}
-use Rattle.pay_book.proofs.Entries.{length-entries_of, entries_of-grow, entries_of-same}
+use Rattle.pay_book.proofs.Entries.{length-entries_of, length-entries_of-le, entries_of-grow, entries_of-same}
 
 -- one owner's growth is growth
 pub AllGrow-from_one : (old new : ℕ → List (List ℕ)) (owner accounts : ℕ) → GrowsOnly old new owner → AllGrow accounts old new
@@ -78,15 +79,10 @@ fresh_balance opening logs front zeros a =
 pub fresh_is_book : (opening : List ℕ) (lists : ℕ → List (List ℕ)) → IsBook lists (fresh opening)
 fresh_is_book opening lists =
     let n = length opening in
-    let zeros : (a : ℕ) → slice_index (replicate n 0) a ≡ 0 =
-    λ a. elim (cases_lt a n) [
-      | inl below ↦ get_or-replicate n a 0 0 below
-      | inr past ↦ get_or_past (replicate n 0) a 0 (let long = length-replicate {A = ℕ} n 0 in omega arith)
-    ] in
     record {
-      reached = Start zeros;
+      reached = Start (zero_front n);
       one_for_each = length-replicate {A = ℕ} n 0;
-      are = record { one_for_each = refl; exact = λ a _. fresh_balance opening (entries_of n lists) (slice_index (replicate n 0)) zeros a };
+      are = record { one_for_each = refl; exact = λ a _. fresh_balance opening (entries_of n lists) (slice_index (replicate n 0)) (zero_front n) a };
     }
 
 pub fresh_is_settled : (opening : List ℕ) (lists : ℕ → List (List ℕ)) → ((a : ℕ) → a < length opening → length (lists a) ≡ 0) → IsSettled lists (fresh opening)
@@ -136,9 +132,18 @@ same_books lists p q opening at_p at_q =
     same_pos : (m n : ℕ) → pos m ≡ pos n → m ≡ n
     same_pos m n e = omega (arith, ints)
 
--- short lists have few entries
-pub short_is_countable : (lists : ℕ → List (List ℕ)) (book : Standing) (most : ℕ) → ((a : ℕ) → a < length book.opening → length (lists a) ≤ most) → length book.opening * most < 2 ^ 32 → AreCountable lists book
-short_is_countable lists book most short few =
+-- a bound on each account's entries
+pub few_are_countable : (lists : ℕ → List (List ℕ)) (book : Standing) (most : ℕ) → ((a : ℕ) → a < length book.opening → length (entries_for book lists a) ≤ most) → length book.opening * most < 2 ^ 32 → AreCountable lists book
+few_are_countable lists book most few small =
     let n = length book.opening in
-    let bounded = sum_below-bounded n (λ a. length (entries_for book lists a)) most (λ a h. let long = length-entries_of n lists a in let at_a = short a h in omega arith) in
+    let bounded = sum_below-bounded n (λ a. length (entries_for book lists a)) most few in
     omega arith
+
+-- a bound on each account's values
+pub short_are_countable : (lists : ℕ → List (List ℕ)) (book : Standing) (most : ℕ) → ((a : ℕ) → a < length book.opening → length (lists a) ≤ most) → length book.opening * (most * most_entries) < 2 ^ 32 → AreCountable lists book
+short_are_countable lists book most short small =
+    few_are_countable lists book (most * most_entries) (λ a h. length-entries_of-le (length book.opening) lists a most (short a h)) small
+
+-- within the limits of a group
+pub group_is_countable : (lists : ℕ → List (List ℕ)) (book : Standing) → ((a : ℕ) → a < length book.opening → length (lists a) ≤ SEQS) → length book.opening ≤ MOST_MEMBERS → AreCountable lists book
+group_is_countable lists book short few = short_are_countable lists book SEQS short (omega arith)

@@ -1,11 +1,14 @@
 -- The laws of settling, over any entries; src/laws.rt says each in words.
-use Rattle.std.specs.Prelude.{◌≡◌, ℕ, ◌*◌, ◌^◌, ◌<◌, ◌≤◌, max, pos, ◌≤ℤ◌, List, length, slice_index, sum}
+use Rattle.std.specs.Prelude.{◌≡◌, ◌⊎◌, ℕ, ◌*◌, ◌^◌, ◌<◌, ◌≤◌, max, pos, ◌≤ℤ◌, List, length, slice_index, sum}
+use Rattle.std.specs.List.{flat_map}
+use Rattle.pay_frame.specs.declared.limits.TheConstants.{SEQS, MOST_MEMBERS}
 use Rattle.pay_channel.specs.Source.{GrowsOnly}
 use Rattle.pay_book.specs.declared.payment.Entry.{Entry}
-use Rattle.pay_book.specs.Payment.{entries_of}
+use Rattle.pay_book.specs.Payment.{most_entries, entries_in, entries_of}
 use Rattle.pay_book.specs.Balance.{balance_at, AreBalances}
 use Rattle.pay_book.specs.Front.{MayStep, Reach, IsLargest, largest_front, AllGrow}
-use Rattle.pay_book.specs.Book.{Standing, fresh, IsSettled, AreCountable, CanSettle}
+use Rattle.pay_book.specs.Book.{Standing, fresh, entries_for, IsBook, IsSettled, AreCountable, CanSettle}
+use Rattle.pay_book.specs.Settled.{settled_front, settled_book, settled_entries, IsPrefix}
 
 abbrev pub ReachedFrontsJoin : Type 0
 ReachedFrontsJoin =
@@ -89,12 +92,76 @@ GrownListCanSettle =
     (old new : ℕ → List (List ℕ)) (book : Standing) (owner : ℕ) →
     IsSettled old book → GrowsOnly old new owner → owner < length book.opening → AreCountable new book → CanSettle new book owner
 
+abbrev pub FewEntriesAreCountable : Type 0
+FewEntriesAreCountable =
+    (lists : ℕ → List (List ℕ)) (book : Standing) (most : ℕ) →
+    ((a : ℕ) → a < length book.opening → length (entries_for book lists a) ≤ most) →
+    length book.opening * most < 2 ^ 32 → AreCountable lists book
+
 abbrev pub ShortListsAreCountable : Type 0
 ShortListsAreCountable =
     (lists : ℕ → List (List ℕ)) (book : Standing) (most : ℕ) →
-    ((a : ℕ) → a < length book.opening → length (lists a) ≤ most) → length book.opening * most < 2 ^ 32 → AreCountable lists book
+    ((a : ℕ) → a < length book.opening → length (lists a) ≤ most) →
+    length book.opening * (most * most_entries) < 2 ^ 32 → AreCountable lists book
+
+abbrev pub GroupListsAreCountable : Type 0
+GroupListsAreCountable =
+    (lists : ℕ → List (List ℕ)) (book : Standing) →
+    ((a : ℕ) → a < length book.opening → length (lists a) ≤ SEQS) →
+    length book.opening ≤ MOST_MEMBERS → AreCountable lists book
+
+abbrev pub ValuesHaveFewEntries : Type 0
+ValuesHaveFewEntries =
+    (accounts owner : ℕ) (value : List ℕ) → length (entries_in accounts owner value) ≤ most_entries
 
 abbrev pub SameListsStaySettled : Type 0
 SameListsStaySettled =
     (old new : ℕ → List (List ℕ)) (book : Standing) →
     ((a : ℕ) → a < length book.opening → old a ≡ new a) → IsSettled old book → IsSettled new book
+
+-- ---- the book that has settled all it can
+
+abbrev pub SettledBookExists : Type 0
+SettledBookExists = (opening : List ℕ) (lists : ℕ → List (List ℕ)) → IsSettled lists (settled_book opening lists)
+
+abbrev pub SettledBookIsOne : Type 0
+SettledBookIsOne =
+    (lists : ℕ → List (List ℕ)) (book : Standing) → IsSettled lists book → book ≡ settled_book book.opening lists
+
+abbrev pub BookKeepsTotal : Type 0
+BookKeepsTotal = (lists : ℕ → List (List ℕ)) (book : Standing) → IsBook lists book → sum book.balances ≡ sum book.opening
+
+abbrev pub NobodyOwesOnceSettled : Type 0
+NobodyOwesOnceSettled =
+    (opening : List ℕ) (lists : ℕ → List (List ℕ)) (a : ℕ) →
+    pos 0 ≤ℤ balance_at opening (entries_of (length opening) lists) (slice_index (settled_front opening lists)) a
+
+-- ---- lists that grow, and what is settled of them
+
+abbrev pub OneListGrows : Type 0
+OneListGrows =
+    (old new : ℕ → List (List ℕ)) (owner accounts : ℕ) → GrowsOnly old new owner → AllGrow accounts old new
+
+abbrev pub SettledCountGrows : Type 0
+SettledCountGrows =
+    (opening : List ℕ) (old new : ℕ → List (List ℕ)) →
+    AllGrow (length opening) old new → sum (settled_front opening old) ≤ sum (settled_front opening new)
+
+abbrev pub SettledEntriesGrow : Type 0
+SettledEntriesGrow =
+    (opening : List ℕ) (old new : ℕ → List (List ℕ)) →
+    AllGrow (length opening) old new →
+    (a : ℕ) → a < length opening → IsPrefix (settled_entries opening old a) (settled_entries opening new a)
+
+abbrev pub SettledEntriesCompare : Type 0
+SettledEntriesCompare =
+    (opening : List ℕ) (one other : ℕ → List (List ℕ)) (a : ℕ) →
+    IsPrefix (one a) (other a) ⊎ IsPrefix (other a) (one a) →
+    IsPrefix (settled_entries opening one a) (settled_entries opening other a)
+    ⊎ IsPrefix (settled_entries opening other a) (settled_entries opening one a)
+
+abbrev pub SettledEntriesWereAsked : Type 0
+SettledEntriesWereAsked =
+    (opening : List ℕ) (lists : ℕ → List (List ℕ)) (a : ℕ) (asked : List (List ℕ)) →
+    IsPrefix (lists a) asked →
+    IsPrefix (settled_entries opening lists a) (flat_map (entries_in (length opening) a) asked)

@@ -3,6 +3,7 @@ use Rattle.std.specs.Prelude.{ℕ, List, [], ◌∷◌, length, slice_index, sli
 use Rattle.std.specs.List.{flat_map}
 use Rattle.std.specs.Int.{from_be_bytes, w16, w64}
 use Rattle.pay_book.specs.declared.payment.Entry.{Entry}
+use Rattle.pay_book.specs.declared.payment.TheConstants.{PAYMENT_LENGTH, PAYMENT_VERSION}
 use Rattle.pay_book.specs.declared.payment.Entry.TheVariants.{Pay, Void}
 
 -- A payment to an account that is there, that isn't the owner's own, of more than nothing; else nothing moves.
@@ -10,12 +11,16 @@ abbrev pub payment : ℕ → ℕ → ℕ → ℕ → Entry
 payment accounts owner payee amount =
     if nat_lt payee accounts && not (payee == owner) && not (amount == 0) then Pay payee amount else Void
 
--- Eleven bytes: the version 1, the payee in two bytes and the amount in eight, the greatest byte first.
+-- The version, the payee in two bytes and the amount in eight, the greatest byte first.
 unfoldable pub entry_of : ℕ → ℕ → List ℕ → Entry
 entry_of accounts owner value =
-    if length value == 11 && slice_index value 0 == 1
-    then payment accounts owner (from_be_bytes w16 (slice_range value 1 3)) (from_be_bytes w64 (slice_range value 3 11))
+    if length value == PAYMENT_LENGTH && slice_index value 0 == PAYMENT_VERSION
+    then payment accounts owner (from_be_bytes w16 (slice_range value 1 3)) (from_be_bytes w64 (slice_range value 3 PAYMENT_LENGTH))
     else Void
+
+-- how many entries a value has at most
+abbrev pub most_entries : ℕ
+most_entries = 1
 
 -- A value's entries, in its order: a value is one entry.
 unfoldable pub entries_in : ℕ → ℕ → List ℕ → List Entry

@@ -3,18 +3,14 @@
 ghost use Rattle.std.specs.Prelude.{◌≡◌};
 ghost use Rattle.pay_book.specs.Payment.{payment, entry_of};
 
-use crate::payment::Entry;
-
-const VERSION: u8 = 1;
-
-const LENGTH: usize = 11;
+use crate::payment::{Entry, PAYMENT_LENGTH, PAYMENT_VERSION};
 
 /// The entry that a value means in the list of this owner, among this many accounts.
 #[tactic(auto, unfolding(crate::specs::Payment::entry_of))]
 pub fn decode_payment(value: &[u8], owner: u16, accounts: u16) -> Entry
     ensures { result ≡ entry_of accounts owner value.now }
 {
-    if value.len() != LENGTH || value[0] != VERSION {
+    if value.len() != PAYMENT_LENGTH || value[0] != PAYMENT_VERSION {
         return Entry::Void;
     }
     let payee = u16::from_be_bytes([value[1], value[2]]);

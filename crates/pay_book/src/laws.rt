@@ -1,7 +1,7 @@
 //! The laws of settling. Each function does nothing: what it ensures is the law, which
 //! specs/Laws.antt spells out.
 
-ghost use Rattle.pay_book.specs.Laws.{ReachedFrontsJoin, StuckIsLargest, LargestIsStuck, LargestIsOne, LargestIsComputed, ReachedIsWithinLists, NoBalanceBelowZero, BalancesSumToOpening, ReachedStaysReached, LargestGrows, EqualListsEqualLargest, EqualListsEqualBalances, EqualListsEqualBooks, FreshBookIsSettled, GrownListCanSettle, SameListsStaySettled, ShortListsAreCountable};
+ghost use Rattle.pay_book.specs.Laws.{ReachedFrontsJoin, StuckIsLargest, LargestIsStuck, LargestIsOne, LargestIsComputed, ReachedIsWithinLists, NoBalanceBelowZero, BalancesSumToOpening, ReachedStaysReached, LargestGrows, EqualListsEqualLargest, EqualListsEqualBalances, EqualListsEqualBooks, FreshBookIsSettled, GrownListCanSettle, SameListsStaySettled, FewEntriesAreCountable, ShortListsAreCountable, GroupListsAreCountable, ValuesHaveFewEntries, SettledBookExists, SettledBookIsOne, BookKeepsTotal, NobodyOwesOnceSettled, OneListGrows, SettledCountGrows, SettledEntriesGrow, SettledEntriesCompare, SettledEntriesWereAsked};
 
 /// Two fronts that steps reach have a common one: the front that is as far as either at each account
 /// is reached too.
@@ -85,7 +85,70 @@ pub fn same_lists_stay_settled()
     ensures { SameListsStaySettled }
 {}
 
-/// Lists of a bounded length have few enough entries, where the accounts times that length are.
+/// Lists are countable where no account's has more than some number of entries, and the accounts
+/// times that number are fewer than 2^32.
+pub fn few_entries_are_countable()
+    ensures { FewEntriesAreCountable }
+{}
+
+/// The same for lists of a bounded number of values, each of which has few entries.
 pub fn short_lists_are_countable()
     ensures { ShortListsAreCountable }
+{}
+
+/// Every group's lists are countable: at most `MOST_MEMBERS` accounts have at most `SEQS` values each.
+pub fn group_lists_are_countable()
+    ensures { GroupListsAreCountable }
+{}
+
+/// A value has no more entries than `most_entries`.
+pub fn values_have_few_entries()
+    ensures { ValuesHaveFewEntries }
+{}
+
+/// Over any lists there is a book that has settled all it can, and `settled_book` computes it.
+pub fn settled_book_exists()
+    ensures { SettledBookExists }
+{}
+
+/// There is no other: every book that has settled all it can is the computed one.
+pub fn settled_book_is_one()
+    ensures { SettledBookIsOne }
+{}
+
+/// A book's balances sum to what all accounts opened with.
+pub fn book_keeps_total()
+    ensures { BookKeepsTotal }
+{}
+
+/// Where all that can be settled is, nobody owes.
+pub fn nobody_owes_once_settled()
+    ensures { NobodyOwesOnceSettled }
+{}
+
+/// Where one owner's list grew at its end and no other changed, all accounts' lists grew at their ends.
+pub fn one_list_grows()
+    ensures { OneListGrows }
+{}
+
+/// As lists grow at their ends, no fewer entries are settled in all.
+pub fn settled_count_grows()
+    ensures { SettledCountGrows }
+{}
+
+/// As lists grow at their ends, an account's settled entries stay, and others come behind them.
+pub fn settled_entries_grow()
+    ensures { SettledEntriesGrow }
+{}
+
+/// Where of two lists of an account one is a prefix of the other, so it is with the entries that are
+/// settled of them, whatever the other accounts' lists are.
+pub fn settled_entries_compare()
+    ensures { SettledEntriesCompare }
+{}
+
+/// Where an account's list is a prefix of the values that its owner asked for, the settled entries
+/// are a prefix of the entries of these.
+pub fn settled_entries_were_asked()
+    ensures { SettledEntriesWereAsked }
 {}

@@ -16,7 +16,7 @@ mod statements;
 pub use accounts::Accounts;
 pub use decode::decode_payment;
 pub use line::Line;
-pub use payment::Entry;
+pub use payment::{Entry, PAYMENT_LENGTH, PAYMENT_VERSION};
 pub use plain::PlainBook;
 pub use settle::Settle;
 pub use statements::statement;

@@ -9,7 +9,11 @@ use std::alloc::{AllocError, Global};
 
 /// A book over the lists of a [`Source`].
 ///
-/// It takes all its memory when it is made; settling always succeeds.
+/// It takes all its memory when it is made. Settling takes none and has no error, but it is asked
+/// only of a book that can settle: one that stands at a reached front of the source's lists, in
+/// which no account but `owner` has a step, over fewer than 2^32 entries in all. A settled book can
+/// settle again whenever one owner's list grew (`laws::grown_list_can_settle`), and the lists of a
+/// group are never too long (`laws::group_lists_are_countable`).
 pub trait Settle {
     // What the book shows.
     ghost shows: { Self → Standing };

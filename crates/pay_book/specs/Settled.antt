@@ -1,0 +1,34 @@
+-- What a book shows once it has settled all that it can, as a function of the lists.
+use Rattle.std.specs.Prelude.{◌≡◌, ℕ, ◌+◌, ◌-◌, List, ◌++◌, length, map, take, slice_index}
+use Rattle.std.specs.List.{range_with_len}
+use Rattle.pay_book.specs.declared.payment.Entry.{Entry}
+use Rattle.pay_book.specs.Payment.{entries_of}
+use Rattle.pay_book.specs.Balance.{paid_in, paid_out}
+use Rattle.pay_book.specs.Front.{largest_front}
+use Rattle.pay_book.specs.Book.{Standing}
+
+-- The balances at a front, each account's at its place, where none is below zero.
+unfoldable pub balances_of : List ℕ → (ℕ → List Entry) → (ℕ → ℕ) → List ℕ
+balances_of opening logs front =
+    map (λ a. (slice_index opening a + paid_in (length opening) logs front a) - paid_out logs front a) (range_with_len 0 (length opening))
+
+-- The largest front of the accounts' lists.
+abbrev pub settled_front : List ℕ → (ℕ → List (List ℕ)) → List ℕ
+settled_front opening lists = largest_front opening (entries_of (length opening) lists)
+
+-- The book at that front.
+abbrev pub settled_book : List ℕ → (ℕ → List (List ℕ)) → Standing
+settled_book opening lists = record {
+  opening = opening;
+  front = settled_front opening lists;
+  balances = balances_of opening (entries_of (length opening) lists) (slice_index (settled_front opening lists));
+}
+
+-- An account's settled entries: those of its list before that front.
+abbrev pub settled_entries : List ℕ → (ℕ → List (List ℕ)) → ℕ → List Entry
+settled_entries opening lists account =
+    take (slice_index (settled_front opening lists) account) (entries_of (length opening) lists account)
+
+-- The longer list goes on from the shorter one, or is equal to it.
+abbrev pub IsPrefix : {X : Type 0} → List X → List X → Type 0
+IsPrefix {X} shorter longer = (rest : List X) × (longer ≡ shorter ++ rest)
