@@ -1,2 +1,1 @@
 pub mod ListValues
-pub mod LedgerFacts

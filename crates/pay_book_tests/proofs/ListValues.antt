@@ -107,9 +107,9 @@ value_at-read items owner k list value bytes h is value_is bytes_is =
     ∙ ap Some (sym bytes_is)
 
 -- a list of less than the bound is within it after one push
-pub pushed_len : (pushed : Bool) (before after : ℕ) → after ≡ cond pushed (before + 1) before → before < 65536 → after ≤ 65536
-pushed_len true before after e h = omega arith
-pushed_len false before after e h = omega arith
+pub pushed_len : (pushed : Bool) (before after most : ℕ) → after ≡ cond pushed (before + 1) before → before < most → after ≤ most
+pushed_len true before after most e h = omega arith
+pushed_len false before after most e h = omega arith
 
 pub OnErr-from : {T E : Type 0} {P : Type 0} (r : Result T E) → P → OnErr r P
 OnErr-from (Ok x) p = tt

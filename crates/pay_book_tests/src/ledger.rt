@@ -4,7 +4,7 @@ ghost use Rattle.std.specs.Prelude.{◌≡◌, IfOk};
 ghost use Rattle.pay_book.specs.Book.{fresh};
 
 use crate::lists::Lists;
-use pay_book::{Line, Settle, statement};
+use pay_book::{Line, Settle, laws, statement};
 use pay_link::Genesis;
 use std::alloc::{AllocError, Global};
 use std::marker::Model;
@@ -35,6 +35,7 @@ impl<B: Settle + Drop> Ledger<B> {
     pub(crate) fn new(alloc: Global, genesis: &Genesis) -> Result<Self, AllocError>
         ensures { IfOk result (λ ledger. ledger ≡ fresh genesis.now.opening) }
     {
+        laws::fresh_book_is_settled();
         Ok(Ledger {
             accounts: genesis.members(),
             lists: Lists::new(alloc, genesis.members())?,
@@ -48,37 +49,36 @@ impl<B: Settle + Drop> Ledger<B> {
         if owner >= self.accounts || !self.lists.has_room(owner) {
             return Ok(None);
         }
+        laws::grown_list_can_settle();
+        laws::group_lists_are_countable();
         self.lists.append(owner, value)?;
         Ok(Some(self.book.settle(&self.lists, owner)))
     }
 
-    /// How many entries of each account are settled.
-    pub(crate) fn fronts(&self, alloc: Global) -> Result<Vec<usize>, AllocError> {
-        let mut fronts = Vec::new(alloc);
+    /// Whether each account has this front and this balance.
+    pub(crate) fn shows(&self, fronts: &[u32], balances: &[u64]) -> bool {
         for account in 0..self.accounts {
-            fronts.push(self.book.front(account) as usize)?;
+            let place = account as usize;
+            if fronts.get(place) != Some(&self.book.front(account))
+                || balances.get(place) != Some(&self.book.balance(account))
+            {
+                return false;
+            }
         }
-        Ok(fronts)
+        true
     }
 
-    /// The balance of each account.
-    pub(crate) fn balances(&self, alloc: Global) -> Result<Vec<u64>, AllocError> {
-        let mut balances = Vec::new(alloc);
-        for account in 0..self.accounts {
-            balances.push(self.book.balance(account))?;
-        }
-        Ok(balances)
-    }
-
-    /// An account's statement, if there is that account.
-    pub(crate) fn statement(
+    /// Whether there is this account, with this statement.
+    pub(crate) fn states(
         &self,
         alloc: Global,
         account: u16,
-    ) -> Result<Option<Vec<Line>>, AllocError> {
+        lines: &[Line],
+    ) -> Result<bool, AllocError> {
         if account >= self.accounts {
-            return Ok(None);
+            return Ok(false);
         }
-        Ok(Some(statement(alloc, &self.lists, &self.book, self.accounts, account)?))
+        let found = statement(alloc, &self.lists, &self.book, self.accounts, account)?;
+        Ok(found.as_slice() == lines)
     }
 }

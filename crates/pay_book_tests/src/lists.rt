@@ -1,17 +1,18 @@
 //! A source of lists that are held in memory.
 
-ghost use Rattle.std.specs.Prelude.{◌≡◌, ◌+◌, ◌<◌, ◌≤◌, ℕ, All, length, vec_len, IfOk, IsTrue, OnOk, OnErr};
+ghost use Rattle.std.specs.Prelude.{◌≡◌, ◌+◌, ◌<◌, ℕ, length, vec_len, IfOk, IsTrue, OnOk, OnErr};
 ghost use Rattle.pay_channel.specs.Source.{GrowsOnly};
-ghost use Rattle.pay_book_tests.specs.Lists.{values_of};
+ghost use Rattle.pay_book_tests.specs.Lists.{values_of, AreShort};
 
 use pay_channel::Source;
+use pay_frame::SEQS;
 use std::alloc::{AllocError, Global};
 
 /// The values of some owners, each owner's in order.
 #[derive(Drop)]
 pub(crate) struct Lists {
     values: Vec<Vec<Vec<u8>>>,
-    ghost short: { All (λ list. vec_len list ≤ 65536) values.items },
+    ghost short: { AreShort values.items },
 }
 
 impl Lists {
@@ -30,10 +31,10 @@ impl Lists {
     /// Whether there is such an owner, and its list has room for another value.
     pub(crate) fn has_room(&self, owner: u16) -> bool
         ensures owner { IsTrue result → owner < vec_len self.now.values }
-        ensures room { IsTrue result → length (values_of self.now.values.items owner) < 65536 }
+        ensures room { IsTrue result → length (values_of self.now.values.items owner) < SEQS }
     {
         match self.values.get(owner as usize) {
-            Some(list) => list.len() < 65536,
+            Some(list) => list.len() < SEQS as usize,
             None => false,
         }
     }
@@ -41,7 +42,7 @@ impl Lists {
     /// Appends a value to an owner's list.
     pub(crate) fn append(&mut self, owner: u16, value: Vec<u8>) -> Result<(), AllocError>
         requires owner { owner < vec_len self.old.values }
-        requires room { length (values_of self.old.values.items owner) < 65536 }
+        requires room { length (values_of self.old.values.items owner) < SEQS }
         ensures owners { vec_len self.new.values ≡ vec_len self.old.values }
         ensures ok { OnOk result (GrowsOnly (values_of self.old.values.items) (values_of self.new.values.items) owner) }
         ensures err { OnErr result ((a : ℕ) → values_of self.new.values.items a ≡ values_of self.old.values.items a) }

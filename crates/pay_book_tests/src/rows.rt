@@ -1,229 +1,304 @@
-//! Worked examples of four accounts: values put on lists one after another, and what a book then shows.
+//! Worked examples of four accounts, as steps on a new book and what each is to give.
 
 use crate::ledger::Ledger;
-use pay_book::Settle;
-use pay_link::Genesis;
+use pay_book::{Entry, Line, Settle};
 use std::alloc::{AllocError, Global};
 
-/// A value that its owner puts on its list.
-pub(crate) struct Step {
-    pub(crate) owner: u16,
-    pub(crate) value: &'static [u8],
+/// What is done to a book, or looked at, with what comes of it.
+pub(crate) enum Step {
+    /// The owner's list gets this value, and so many entries settle.
+    Add {
+        owner: u16,
+        value: &'static [u8],
+        settled: u32,
+    },
+    /// The accounts' fronts and balances.
+    Show {
+        fronts: [u32; 4],
+        balances: [u64; 4],
+    },
+    /// The statement of an account.
+    State {
+        account: u16,
+        lines: &'static [Line],
+    },
 }
 
-/// What a book answers and shows after some steps from these opening balances.
+impl Step {
+    /// Takes the step, and says whether it gave what was expected.
+    pub(crate) fn is_met<B: Settle + Drop>(
+        &self,
+        alloc: Global,
+        ledger: &mut Ledger<B>,
+    ) -> Result<bool, AllocError> {
+        match self {
+            Step::Add {
+                owner,
+                value,
+                settled,
+            } => Ok(ledger.add(*owner, value.to_vec(alloc)?)? == Some(*settled)),
+            Step::Show { fronts, balances } => Ok(ledger.shows(fronts, balances)),
+            Step::State { account, lines } => ledger.states(alloc, *account, lines),
+        }
+    }
+}
+
+/// An example: opening balances, and steps on their book.
 pub(crate) struct Row {
     pub(crate) name: &'static str,
     pub(crate) opening: [u64; 4],
     pub(crate) steps: &'static [Step],
-    pub(crate) settled: &'static [u32],
-    pub(crate) fronts: [usize; 4],
-    pub(crate) balances: [u64; 4],
 }
 
-/// How many entries settled by each step, and what the book shows in the end.
-#[derive(Drop)]
-pub(crate) struct Played {
-    pub(crate) settled: Vec<u32>,
-    pub(crate) fronts: Vec<usize>,
-    pub(crate) balances: Vec<u64>,
-}
+const TEN_TO_0: &[u8] = &[1, 0, 0, 0, 0, 0, 0, 0, 0, 0, 10];
 
-/// Plays the steps on a new book. A step of no owner, or past the end of a full list, has no answer.
-pub(crate) fn play<B: Settle + Drop>(
-    alloc: Global,
-    genesis: &Genesis,
-    steps: &[Step],
-) -> Result<Played, AllocError> {
-    let mut ledger: Ledger<B> = Ledger::new(alloc, genesis)?;
-    let mut settled = Vec::new(alloc);
-    for step in steps {
-        let value = step.value.to_vec(alloc)?;
-        if let Some(count) = ledger.add(step.owner, value)? {
-            settled.push(count)?;
-        }
-    }
-    Ok(Played {
-        settled,
-        fronts: ledger.fronts(alloc)?,
-        balances: ledger.balances(alloc)?,
-    })
-}
+const TEN_TO_1: &[u8] = &[1, 0, 1, 0, 0, 0, 0, 0, 0, 0, 10];
 
-/// Rows that every book meets.
-pub(crate) const ROWS: [Row; 10] = [
-    Row {
-        name: "a payment settles",
-        opening: [100, 0, 0, 50],
-        steps: &[Step {
-            owner: 0,
-            value: &[1, 0, 1, 0, 0, 0, 0, 0, 0, 0, 30],
-        }],
-        settled: &[1],
-        fronts: [1, 0, 0, 0],
-        balances: [70, 30, 0, 50],
-    },
-    Row {
-        name: "circular debts wait",
-        opening: [0, 0, 0, 50],
-        steps: &[
-            Step {
-                owner: 0,
-                value: &[1, 0, 1, 0, 0, 0, 0, 0, 0, 0, 10],
-            },
-            Step {
-                owner: 1,
-                value: &[1, 0, 0, 0, 0, 0, 0, 0, 0, 0, 10],
-            },
-        ],
-        settled: &[0, 0],
-        fronts: [0, 0, 0, 0],
-        balances: [0, 0, 0, 50],
-    },
+const THIRTY_TO_1: &[u8] = &[1, 0, 1, 0, 0, 0, 0, 0, 0, 0, 30];
+
+const FIFTY_TO_0: &[u8] = &[1, 0, 0, 0, 0, 0, 0, 0, 0, 0, 50];
+
+const ONE_FIFTY_TO_1: &[u8] = &[1, 0, 1, 0, 0, 0, 0, 0, 0, 0, 150];
+
+const GREATEST_AMOUNT_TO_1: &[u8] = &[1, 0, 1, 255, 255, 255, 255, 255, 255, 255, 255];
+
+const GREATEST_TOTAL_TO_1: &[u8] = &[1, 0, 1, 127, 255, 255, 255, 255, 255, 255, 255];
+
+const FIVE_TO_0: &[u8] = &[1, 0, 0, 0, 0, 0, 0, 0, 0, 0, 5];
+
+const FIVE_TO_1: &[u8] = &[1, 0, 1, 0, 0, 0, 0, 0, 0, 0, 5];
+
+const FIVE_TO_2: &[u8] = &[1, 0, 2, 0, 0, 0, 0, 0, 0, 0, 5];
+
+const FIVE_TO_3: &[u8] = &[1, 0, 3, 0, 0, 0, 0, 0, 0, 0, 5];
+
+const FIVE_TO_4: &[u8] = &[1, 0, 4, 0, 0, 0, 0, 0, 0, 0, 5];
+
+const NOTHING_TO_1: &[u8] = &[1, 0, 1, 0, 0, 0, 0, 0, 0, 0, 0];
+
+const BYTE_SHORT: &[u8] = &[1, 0, 1, 0, 0, 0, 0, 0, 0, 0];
+
+const OTHER_VERSION: &[u8] = &[255];
+
+const LONG: &[u8] = &[255; 1024];
+
+/// Values in the list of account 3, and what they mean.
+pub(crate) const VALUES: [(&[u8], Entry); 9] = [
+    (
+        THIRTY_TO_1,
+        Entry::Pay {
+            payee: 1,
+            amount: 30,
+        },
+    ),
+    (
+        FIVE_TO_0,
+        Entry::Pay {
+            payee: 0,
+            amount: 5,
+        },
+    ),
+    (
+        FIVE_TO_1,
+        Entry::Pay {
+            payee: 1,
+            amount: 5,
+        },
+    ),
+    (
+        FIVE_TO_2,
+        Entry::Pay {
+            payee: 2,
+            amount: 5,
+        },
+    ),
+    (FIVE_TO_3, Entry::Void),
+    (FIVE_TO_4, Entry::Void),
+    (OTHER_VERSION, Entry::Void),
+    (BYTE_SHORT, Entry::Void),
+    (NOTHING_TO_1, Entry::Void),
+];
+
+/// Examples that every book meets.
+pub(crate) const ROWS: [Row; 6] = [
     Row {
         name: "circular debts settle once money comes",
         opening: [0, 0, 0, 50],
         steps: &[
-            Step {
+            Step::Add {
                 owner: 0,
-                value: &[1, 0, 1, 0, 0, 0, 0, 0, 0, 0, 10],
+                value: TEN_TO_1,
+                settled: 0,
             },
-            Step {
+            Step::Add {
                 owner: 1,
-                value: &[1, 0, 0, 0, 0, 0, 0, 0, 0, 0, 10],
+                value: TEN_TO_0,
+                settled: 0,
             },
-            Step {
+            Step::Show {
+                fronts: [0, 0, 0, 0],
+                balances: [0, 0, 0, 50],
+            },
+            Step::Add {
                 owner: 3,
-                value: &[1, 0, 0, 0, 0, 0, 0, 0, 0, 0, 10],
+                value: TEN_TO_0,
+                settled: 3,
+            },
+            Step::Show {
+                fronts: [1, 1, 0, 1],
+                balances: [10, 0, 0, 40],
+            },
+            Step::State {
+                account: 0,
+                lines: &[
+                    Line::Out {
+                        seq: 0,
+                        payee: 1,
+                        amount: 10,
+                    },
+                    Line::In {
+                        owner: 1,
+                        seq: 0,
+                        amount: 10,
+                    },
+                    Line::In {
+                        owner: 3,
+                        seq: 0,
+                        amount: 10,
+                    },
+                ],
             },
         ],
-        settled: &[0, 0, 3],
-        fronts: [1, 1, 0, 1],
-        balances: [10, 0, 0, 40],
     },
     Row {
-        name: "an uncovered payment holds the next one",
+        name: "an uncovered payment waits, and the next one behind it",
         opening: [100, 0, 0, 50],
         steps: &[
-            Step {
+            Step::Add {
                 owner: 0,
-                value: &[1, 0, 1, 0, 0, 0, 0, 0, 0, 0, 150],
+                value: ONE_FIFTY_TO_1,
+                settled: 0,
             },
-            Step {
+            Step::Add {
                 owner: 0,
-                value: &[1, 0, 1, 0, 0, 0, 0, 0, 0, 0, 10],
+                value: TEN_TO_1,
+                settled: 0,
+            },
+            Step::Show {
+                fronts: [0, 0, 0, 0],
+                balances: [100, 0, 0, 50],
+            },
+            Step::Add {
+                owner: 3,
+                value: FIFTY_TO_0,
+                settled: 2,
+            },
+            Step::Show {
+                fronts: [1, 0, 0, 1],
+                balances: [0, 150, 0, 0],
             },
         ],
-        settled: &[0, 0],
-        fronts: [0, 0, 0, 0],
-        balances: [100, 0, 0, 50],
     },
     Row {
-        name: "an uncovered payment settles once it is covered",
+        name: "a void entry passes",
         opening: [100, 0, 0, 50],
         steps: &[
-            Step {
-                owner: 0,
-                value: &[1, 0, 1, 0, 0, 0, 0, 0, 0, 0, 150],
-            },
-            Step {
-                owner: 0,
-                value: &[1, 0, 1, 0, 0, 0, 0, 0, 0, 0, 10],
-            },
-            Step {
+            Step::Add {
                 owner: 3,
-                value: &[1, 0, 0, 0, 0, 0, 0, 0, 0, 0, 50],
+                value: OTHER_VERSION,
+                settled: 1,
+            },
+            Step::Add {
+                owner: 3,
+                value: FIVE_TO_1,
+                settled: 1,
+            },
+            Step::Add {
+                owner: 3,
+                value: LONG,
+                settled: 1,
+            },
+            Step::Show {
+                fronts: [0, 0, 0, 3],
+                balances: [100, 5, 0, 45],
+            },
+            Step::State {
+                account: 3,
+                lines: &[
+                    Line::Void { seq: 0 },
+                    Line::Out {
+                        seq: 1,
+                        payee: 1,
+                        amount: 5,
+                    },
+                    Line::Void { seq: 2 },
+                ],
             },
         ],
-        settled: &[0, 0, 2],
-        fronts: [1, 0, 0, 1],
-        balances: [0, 150, 0, 0],
     },
     Row {
-        name: "a void entry holds nothing",
-        opening: [100, 0, 0, 50],
-        steps: &[
-            Step {
-                owner: 3,
-                value: &[255],
-            },
-            Step {
-                owner: 3,
-                value: &[1, 0, 1, 0, 0, 0, 0, 0, 0, 0, 5],
-            },
-        ],
-        settled: &[1, 1],
-        fronts: [0, 0, 0, 2],
-        balances: [100, 5, 0, 45],
-    },
-    Row {
-        name: "a long void entry holds nothing",
-        opening: [100, 0, 0, 50],
-        steps: &[
-            Step {
-                owner: 3,
-                value: &[255; 1024],
-            },
-            Step {
-                owner: 3,
-                value: &[1, 0, 1, 0, 0, 0, 0, 0, 0, 0, 5],
-            },
-        ],
-        settled: &[1, 1],
-        fronts: [0, 0, 0, 2],
-        balances: [100, 5, 0, 45],
-    },
-    Row {
-        name: "to oneself, to nobody, nothing, and one byte short are void",
+        name: "to oneself, to nobody, nothing, and a byte short are void",
         opening: [7, 0, 0, 0],
         steps: &[
-            Step {
+            Step::Add {
                 owner: 0,
-                value: &[1, 0, 0, 0, 0, 0, 0, 0, 0, 0, 5],
+                value: FIVE_TO_0,
+                settled: 1,
             },
-            Step {
+            Step::Add {
                 owner: 0,
-                value: &[1, 0, 4, 0, 0, 0, 0, 0, 0, 0, 5],
+                value: FIVE_TO_4,
+                settled: 1,
             },
-            Step {
+            Step::Add {
                 owner: 0,
-                value: &[1, 0, 1, 0, 0, 0, 0, 0, 0, 0, 0],
+                value: NOTHING_TO_1,
+                settled: 1,
             },
-            Step {
+            Step::Add {
                 owner: 0,
-                value: &[1, 0, 1, 0, 0, 0, 0, 0, 0, 0],
+                value: BYTE_SHORT,
+                settled: 1,
+            },
+            Step::Show {
+                fronts: [4, 0, 0, 0],
+                balances: [7, 0, 0, 0],
             },
         ],
-        settled: &[1, 1, 1, 1],
-        fronts: [4, 0, 0, 0],
-        balances: [7, 0, 0, 0],
     },
     Row {
         name: "the greatest amount is not covered",
         opening: [100, 0, 0, 50],
         steps: &[
-            Step {
+            Step::Add {
                 owner: 0,
-                value: &[1, 0, 1, 255, 255, 255, 255, 255, 255, 255, 255],
+                value: GREATEST_AMOUNT_TO_1,
+                settled: 0,
             },
-            Step {
+            Step::Add {
                 owner: 0,
-                value: &[1, 0, 1, 0, 0, 0, 0, 0, 0, 0, 1],
+                value: FIVE_TO_1,
+                settled: 0,
+            },
+            Step::Show {
+                fronts: [0, 0, 0, 0],
+                balances: [100, 0, 0, 50],
             },
         ],
-        settled: &[0, 0],
-        fronts: [0, 0, 0, 0],
-        balances: [100, 0, 0, 50],
     },
     Row {
         name: "the greatest total is paid whole",
         opening: [9_223_372_036_854_775_807, 0, 0, 0],
-        steps: &[Step {
-            owner: 0,
-            value: &[1, 0, 1, 127, 255, 255, 255, 255, 255, 255, 255],
-        }],
-        settled: &[1],
-        fronts: [1, 0, 0, 0],
-        balances: [0, 9_223_372_036_854_775_807, 0, 0],
+        steps: &[
+            Step::Add {
+                owner: 0,
+                value: GREATEST_TOTAL_TO_1,
+                settled: 1,
+            },
+            Step::Show {
+                fronts: [1, 0, 0, 0],
+                balances: [0, 9_223_372_036_854_775_807, 0, 0],
+            },
+        ],
     },
 ];

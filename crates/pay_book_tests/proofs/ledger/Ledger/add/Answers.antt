@@ -1,15 +1,19 @@
-use Rattle.std.proofs.Common.{vec_len, length, ap, ◌∙◌, sym, arith}
+use Rattle.std.proofs.Common.{length, ap, ◌∙◌, sym, arith}
+use Rattle.pay_frame.specs.declared.limits.TheConstants.{SEQS}
 use Rattle.pay_book_tests.specs.Lists.{values_of}
 use Rattle.pay_book_tests.proofs.ListValues.{values_of-short}
-use Rattle.pay_book_tests.proofs.LedgerFacts.{ledger_can_settle}
 use Rattle.pay_book_tests.proofs.ledger.Ledger.add.Goals as goal
 
 pub settle-requires : goal.settle-requires
 settle-requires g c =
-    let old = c.self.inside in
-    let new = c.append.new.self in
-    ledger_can_settle old.accounts (vec_len old.lists.values) c.args.owner (values_of old.lists.values.items) (values_of new.values.items) (g.B.Settle.shows old.book)
-    c.self.invariant c.in_ok-append.ensures.ok (omega arith) (values_of-short new.values.items 65536 new.short)
+    let old = values_of c.self.inside.lists.values.items in
+    let values = c.append.new.self.values.items in
+    let book = g.B.Settle.shows c.self.inside.book in
+    let count = c.self.invariant.count in
+    let few = c.self.invariant.few in
+    let short = values_of-short values SEQS c.append.new.self.short in
+    c.grown_list_can_settle.ensures old (values_of values) book c.args.owner c.self.invariant.settled c.in_ok-append.ensures.ok (omega arith)
+    (c.group_lists_are_countable.ensures (values_of values) book (λ a _. short a) (omega arith))
 
 pub invariant_of-self-2 : goal.invariant_of-self-2
 invariant_of-self-2 g c = record {
