@@ -10,9 +10,9 @@ use sha2::{Digest, Sha256};
 /// How many bytes a block of SHA-256 has.
 const BLOCK: usize = 64;
 
-const INNER_PAD: u8 = 0x36;
+pub(crate) const INNER_PAD: u8 = 0x36;
 
-const OUTER_PAD: u8 = 0x5C;
+pub(crate) const OUTER_PAD: u8 = 0x5C;
 
 /// Keeps nothing between two tags.
 #[derive(Clone, Copy, Debug, Default, PartialEq, Eq)]
@@ -54,7 +54,7 @@ fn digest_of_parts(block: &[u8; BLOCK], head: &[u8], rest: &[u8]) -> [u8; 32]
 
 // The key as one block: a longer key's digest or the key itself, and then zeros.
 #[tactic(auto, using(crate::proofs::Pads::filled_blocks))]
-fn padded_key(key: &[u8]) -> [u8; BLOCK]
+pub(crate) fn padded_key(key: &[u8]) -> [u8; BLOCK]
     ensures { result ≡ padded_key key.now }
 {
     let mut block = [0u8; BLOCK];
@@ -67,7 +67,7 @@ fn padded_key(key: &[u8]) -> [u8; BLOCK]
 }
 
 // The exclusive or of each byte with the byte that a pad repeats.
-fn xor_with(mut block: [u8; BLOCK], pad: u8) -> [u8; BLOCK]
+pub(crate) fn xor_with(mut block: [u8; BLOCK], pad: u8) -> [u8; BLOCK]
     ensures { result ≡ xor_bytes block (replicate block_bytes pad) }
 {
     for byte in block.iter_mut() {

@@ -7,8 +7,12 @@
 #![tactic(auto)]
 
 pub use hmac::{HmacSha256, mac};
+pub use prepared_hmac::PreparedHmac;
+pub use prepared_key::PreparedKey;
 pub use tagger::Tagger;
 
 mod hmac;
 pub mod laws;
+mod prepared_hmac;
+mod prepared_key;
 mod tagger;

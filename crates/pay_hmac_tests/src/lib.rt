@@ -1,4 +1,4 @@
-//! Tests of `pay_hmac`: published tags, keys round the length of a block, and tagging through the
+//! Tests of `pay_hmac`: published tags, keys round the length of a block, and each tagger through the
 //! trait.
 #![tactic(auto)]
 
@@ -6,3 +6,5 @@
 mod formula;
 #[cfg(test)]
 mod published;
+#[cfg(test)]
+mod taggers;
