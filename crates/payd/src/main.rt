@@ -5,9 +5,9 @@ mod words;
 
 use pay_cli::run_check;
 use pay_frame::{EngineFault, Reader, Writer};
-use pay_hmac::HmacSha256;
-use pay_link::{Genesis, GenesisFault, test_keys};
-use std::alloc::Global;
+use pay_hmac::PreparedHmac;
+use pay_link::{Genesis, GenesisFault, Keys, test_keys};
+use std::alloc::{AllocError, Global};
 use std::process::ExitCode;
 use std::{env, io};
 use words::{Job, job_of};
@@ -40,16 +40,21 @@ fn main(rt: HostRuntime) -> io::Result<ExitCode> {
 fn check(alloc: Global, rt: &(impl Input + Print)) -> Result<(), EngineFault> {
     let genesis = Genesis::new(alloc, MEMBERS, FAULTS, &OPENING).map_err(|_| EngineFault::Memory)?;
     let keys = test_keys(alloc, &genesis, OWN)?;
+    let tagger = tagger_of(alloc, &keys)?;
     let mut reader = Reader::new(rt.reader());
     let mut writer = Writer::new(io::writer(rt));
-    run_check(
-        alloc,
-        &HmacSha256,
-        &genesis,
-        &keys,
-        &mut reader,
-        &mut writer,
-    )
+    run_check(alloc, &tagger, &genesis, &keys, &mut reader, &mut writer)
+}
+
+/// Tags with the keys of all peers prepared.
+fn tagger_of(alloc: Global, keys: &Keys) -> Result<PreparedHmac, AllocError> {
+    let mut shared = Vec::new(alloc);
+    for member in 0..keys.members() {
+        if keys.is_peer(member) {
+            shared.push(*keys.key(member))?;
+        }
+    }
+    PreparedHmac::new(alloc, shared.as_slice())
 }
 
 /// A fault in the frames has its line already; another one is named on standard error.
