@@ -1,15 +1,14 @@
 -- Any bytes read in one of the three ways.
-use Rattle.std.proofs.Common.{◌≡◌, ℕ, zero, suc, ◌+◌, ◌<◌, ◌≤◌, true, false, Bool, List, [], ◌∷◌, ◌++◌, length, get_or, take, drop, refl, sym, ◌∙◌, ap, arith, Some, None, Option, Result, Ok, Err, min, below_more, inl, inr, ◌⊎◌}
+use Rattle.std.proofs.Common.{◌≡◌, ℕ, zero, suc, ◌+◌, ◌<◌, ◌≤◌, true, false, Bool, List, [], ◌∷◌, ◌++◌, length, take, refl, sym, ◌∙◌, ap, arith, Some, None, Option, Result, Ok, Err, min, below_more, inl, inr, ◌⊎◌}
 use Rattle.std.proofs.lemmas.Bool.{false≢true, cases_lt}
-use Rattle.std.proofs.lemmas.List.{append-nil, length-append, length-take-le}
+use Rattle.std.proofs.lemmas.List.{append-nil, length-take-le}
 use Rattle.pay_frame.specs.declared.fault.FrameFault.{FrameFault}
-use Rattle.pay_frame.specs.declared.fault.FrameFault.TheVariants.{BadLength, BadVersion, BadKind, BadValueLength, BadSeq, BadWant}
-use Rattle.pay_frame.specs.Frame.{FrameFields, frame_bytes, IsFrame}
-use Rattle.pay_frame.specs.Places.{length_field, may_stand, is_want, PassBelow, IsFirstWrong}
-use Rattle.pay_frame.specs.Reading.{HasFrame, IsReading, fault_at}
+use Rattle.pay_frame.specs.declared.fault.FrameFault.TheVariants.{BadLength, BadVersion, BadValueLength, BadWant}
+use Rattle.pay_frame.specs.Frame.{FrameFields, frame_bytes}
+use Rattle.pay_frame.specs.Places.{length_field, may_stand, PassBelow, IsFirstWrong}
+use Rattle.pay_frame.specs.Reading.{IsReading, fault_at}
 use Rattle.pay_frame.specs.Stream.{IsBytes}
 use Rattle.pay_frame.proofs.Lists.{IsBytes-take, at_each}
-use Rattle.pay_frame.proofs.Heads.{may_stand-same}
 use Rattle.pay_frame.proofs.Passing.{head_from_passing}
 use Rattle.pay_frame.proofs.Answering.{fault_from, beginning_from_short, beginning_from_long, frame_from, size_of_whole}
 use Rattle.pay_frame.proofs.Starting.{starts_long}

@@ -54,10 +54,13 @@ fault_stays x more fault wrong =
       named = same_name (x ++ more) x wrong.place (λ le. get_or_append_left x more 0 3 (omega arith)) ∙ wrong.named;
     }
 
--- less than a frame is less than 1,080 bytes
+-- ---- no frame is longer than the longest, and less than a frame is shorter
+
+pub greatest_frame : (f : FrameFields) → IsFrame f → length (frame_bytes f) ≤ 1080
+greatest_frame f is = let value = is.body.value in omega (arith, length-frame f is)
+
 pub beginning_is_short : (x : List ℕ) → IsProperBeginning x → length x < 1080
 beginning_is_short x begins =
     let s = begins.starts in
     let more = begins.more in
-    let value = s.is.body.value in
-    omega (arith, length-frame s.frame s.is, ap length s.spelled, length-append x s.rest)
+    omega (arith, greatest_frame s.frame s.is, ap length s.spelled, length-append x s.rest)

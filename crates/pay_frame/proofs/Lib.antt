@@ -10,3 +10,6 @@ pub mod Written
 pub mod EveryReading
 pub mod FaultStays
 pub mod Streams
+pub mod Early
+pub mod WholeFrame
+pub mod Computed

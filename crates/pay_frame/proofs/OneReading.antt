@@ -29,16 +29,16 @@ same_kind Want Ready e = absurd (omega arith)
 same_kind Want Want e = refl
 
 -- each field, as it stands in the bytes of its frame and what follows them
-record Spelled (f : FrameFields) (bytes : List ℕ) : Type 0 where
-  from : two_at bytes 4 ≡ f.from
-  to : two_at bytes 6 ≡ f.to
-  number : eight_at bytes 8 ≡ f.number
-  kind : get_or bytes 3 0 ≡ code_of f.body.kind
-  owner : two_at bytes 16 ≡ f.body.owner
-  seq : four_at bytes 18 ≡ f.body.seq
-  len : length_field bytes ≡ 54 + length f.body.value
+pub record Spelled (f : FrameFields) (bytes : List ℕ) : Type 0 where
+  pub from : two_at bytes 4 ≡ f.from
+  pub to : two_at bytes 6 ≡ f.to
+  pub number : eight_at bytes 8 ≡ f.number
+  pub kind : get_or bytes 3 0 ≡ code_of f.body.kind
+  pub owner : two_at bytes 16 ≡ f.body.owner
+  pub seq : four_at bytes 18 ≡ f.body.seq
+  pub len : length_field bytes ≡ 54 + length f.body.value
 
-spelled_in : (f : FrameFields) (x : List ℕ) → IsFrame f → Spelled f (frame_bytes f ++ x)
+pub spelled_in : (f : FrameFields) (x : List ℕ) → IsFrame f → Spelled f (frame_bytes f ++ x)
 spelled_in f x is =
     let short = is.body.value in
     let seq : f.body.seq < 2 ^ 16 = is.body.seq in
@@ -63,10 +63,10 @@ same_parts a b x y len e = record {
   back = sym (drop_at a x (length a) refl) ∙ ap (drop (length a)) e ∙ drop_at b y (length a) (sym len);
 }
 
-same_body : (f g : BodyFields) → f.kind ≡ g.kind → f.owner ≡ g.owner → f.seq ≡ g.seq → f.value ≡ g.value → f ≡ g
+pub same_body : (f g : BodyFields) → f.kind ≡ g.kind → f.owner ≡ g.owner → f.seq ≡ g.seq → f.value ≡ g.value → f ≡ g
 same_body f g k o s v = λ i. record { kind = k i; owner = o i; seq = s i; value = v i }
 
-same_frame : (f g : FrameFields) → f.from ≡ g.from → f.to ≡ g.to → f.number ≡ g.number → f.body ≡ g.body → f.tag ≡ g.tag → f ≡ g
+pub same_frame : (f g : FrameFields) → f.from ≡ g.from → f.to ≡ g.to → f.number ≡ g.number → f.body ≡ g.body → f.tag ≡ g.tag → f ≡ g
 same_frame f g a b n m t = λ i. record { from = a i; to = b i; number = n i; body = m i; tag = t i }
 
 pub record SameFront (f g : FrameFields) (x y : List ℕ) : Type 0 where

@@ -1,13 +1,13 @@
 -- A stream is one list of frames and one end, and how both grow.
-use Rattle.std.proofs.Common.{◌≡◌, ℕ, zero, suc, ◌+◌, ◌<◌, ◌≤◌, List, [], ◌∷◌, ◌++◌, length, get_or, take, drop, refl, sym, ◌∙◌, ap, subst, arith, append_assoc, Some, None, Option, Result, Ok, Err}
+use Rattle.std.proofs.Common.{◌≡◌, ℕ, zero, suc, ◌+◌, ◌<◌, List, [], ◌∷◌, ◌++◌, length, get_or, take, drop, refl, sym, ◌∙◌, ap, subst, arith, append_assoc, Some, None, Option, Result, Ok, Err}
 use Rattle.std.specs.List.{All, flat_map}
 use Rattle.std.proofs.lemmas.List.{append-nil, length-append, drop_at, get_or-drop}
-use Rattle.std.proofs.lemmas.List.Elements.{All-nil, All-cons, All-head, All-tail, All-append, All-push}
+use Rattle.std.proofs.lemmas.List.Elements.{All-nil, All-cons, All-head, All-tail, All-append}
 use Rattle.std.proofs.lemmas.Grind.{flat_map-append}
 use Rattle.pay_frame.specs.declared.fault.FrameFault.{FrameFault}
 use Rattle.pay_frame.specs.declared.fault.FrameFault.TheVariants.{Truncated}
 use Rattle.pay_frame.specs.Frame.{FrameFields, frame_bytes, IsFrame}
-use Rattle.pay_frame.specs.Reading.{HasFrame, IsReading, IsProperBeginning, IsFault}
+use Rattle.pay_frame.specs.Reading.{IsReading, IsProperBeginning, IsFault}
 use Rattle.pay_frame.specs.Cutting.{Held, Feeds, HandsOut, IsDrained, frame_in}
 use Rattle.pay_frame.specs.Stream.{IsBytes, IsFramesThen, IsEnd, Nothing, CutOff, Faulty, IsStream, HasStream, GoesOn}
 use Rattle.pay_frame.proofs.Starting.{length-frame}

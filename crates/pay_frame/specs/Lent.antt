@@ -20,6 +20,11 @@ sized_of (Ok (Some (r, size))) = Ok (Some (fields_of r, size))
 sized_of (Ok None) = Ok None
 sized_of (Err fault) = Err fault
 
+-- an answer to a reader of one frame, by fields
+abbrev pub one_of : Result FrameRef FrameFault → Result FrameFields FrameFault
+one_of (Ok r) = Ok (fields_of r)
+one_of (Err fault) = Err fault
+
 -- an answer of a cutter, by fields
 abbrev pub given_of : Result (Option FrameRef) FrameFault → Result (Option FrameFields) FrameFault
 given_of (Ok (Some r)) = Ok (Some (fields_of r))

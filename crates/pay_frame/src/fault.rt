@@ -21,6 +21,8 @@ pub enum FrameFault {
     BadWant,
     /// The bytes end inside a frame.
     Truncated,
+    /// More bytes follow the one frame that was asked for.
+    Trailing,
 }
 
 impl FrameFault {
@@ -36,6 +38,7 @@ impl FrameFault {
             FrameFault::BadSeq => (5, "BadSeq"),
             FrameFault::BadWant => (6, "BadWant"),
             FrameFault::Truncated => (7, "Truncated"),
+            FrameFault::Trailing => (8, "Trailing"),
         }
     }
 

@@ -30,7 +30,8 @@ pub use fault::FrameFault;
 pub use frame_ref::FrameRef;
 pub use kind::Kind;
 pub use laws::{
-    beginning_is_drained, cuts_do_not_matter, none_begins_another, one_reading, one_spelling,
+    beginning_is_drained, cuts_do_not_matter, faults_of_bytes, none_begins_another,
+    nothing_is_a_beginning, one_answer, one_frame_is, one_front, one_reading, one_spelling,
     read_again, stream_is_frames_and_rest,
 };
 pub use limits::{
@@ -38,7 +39,7 @@ pub use limits::{
     MOST_MEMBERS, MOST_READS, SEQS, TAG_LEN,
 };
 pub use reader::Reader;
-pub use reading::read;
+pub use reading::{read, read_one};
 pub use stream_laws::{
     cutter_follows_stream, every_reading, every_stream, fault_is_for_good, frame_sizes, one_stream,
     stream_goes_on, stream_grows,

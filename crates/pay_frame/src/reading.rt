@@ -1,7 +1,8 @@
 ghost use Rattle.std.specs.Prelude.{◌≡◌, ℕ, ◌+◌, ◌<◌, ◌≤◌, true, false, Some, length, MatchOption, min, IfOk, IfErr, IfSome, IfNone};
 ghost use Rattle.pay_frame.specs.Frame.{code_of, frame_bytes};
-ghost use Rattle.pay_frame.specs.Lent.{fields_of, sized_of};
+ghost use Rattle.pay_frame.specs.Lent.{fields_of, sized_of, one_of};
 ghost use Rattle.pay_frame.specs.Reading.{IsReading, IsProperBeginning, IsFault, fault_at};
+ghost use Rattle.pay_frame.specs.OneFrame.{IsOneReading};
 ghost use Rattle.pay_frame.specs.Places.{length_field, is_want, may_stand, PassBelow, IsFirstWrong, IsWhole, IsSizeOf, eight_at};
 
 use crate::fault::FrameFault;
@@ -146,5 +147,17 @@ pub fn read(bytes: &[u8]) -> Result<Option<(FrameRef<'_>, usize)>, FrameFault>
     match size_in_front(bytes)? {
         Some(size) => Ok(Some((frame_of(&bytes[..size]), size))),
         None => Ok(None),
+    }
+}
+
+/// The one frame that the bytes are: `Truncated` where they end inside it, `Trailing` where bytes follow
+/// it, else `read`'s fault.
+pub fn read_one(bytes: &[u8]) -> Result<FrameRef<'_>, FrameFault>
+    ensures one { IsOneReading bytes.now (one_of result) }
+{
+    match read(bytes)? {
+        Some((frame, size)) if size == bytes.len() => Ok(frame),
+        Some(_) => Err(FrameFault::Trailing),
+        None => Err(FrameFault::Truncated),
     }
 }

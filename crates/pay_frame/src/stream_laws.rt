@@ -8,6 +8,8 @@ ghost use Rattle.pay_frame.specs.Reading.{IsReading, IsProperBeginning, IsFault}
 ghost use Rattle.pay_frame.specs.Cutting.{Held, Feeds, HandsOut, frame_in};
 ghost use Rattle.pay_frame.specs.Stream.{IsBytes, IsFramesThen, IsStream, HasStream, GoesOn};
 
+use crate::limits::{GREATEST_FRAME, LEAST_LENGTH};
+
 /// Any bytes read in one of the three ways: as a frame, as the beginning of one, or as a fault.
 pub fn every_reading()
     ensures law { (bytes : List ℕ) → IsBytes bytes
@@ -67,6 +69,8 @@ pub fn cutter_follows_stream()
 
 /// How long a frame is, and that less than one is shorter than the longest.
 pub fn frame_sizes()
-    ensures frame { (f : FrameFields) → IsFrame f → length (frame_bytes f) ≡ 56 + length f.body.value }
-    ensures beginning { (bytes : List ℕ) → IsProperBeginning bytes → length bytes < 1080 }
+    ensures frame { (f : FrameFields) → IsFrame f
+        → length (frame_bytes f) ≡ 2 + LEAST_LENGTH + length f.body.value }
+    ensures greatest { (f : FrameFields) → IsFrame f → length (frame_bytes f) ≤ GREATEST_FRAME }
+    ensures beginning { (bytes : List ℕ) → IsProperBeginning bytes → length bytes < GREATEST_FRAME }
 {}
