@@ -14,7 +14,7 @@ use Rattle.pay_echo.specs.Broadcast.{Group, Vote, sent, echoed, readied}
 use Rattle.pay_echo.specs.Laws.{EchoedByOneMore}
 use Rattle.pay_channel.specs.History.{Event, IsEvent, Ask, From, asks, owner_of, seq_of, vote_of, is_about, votes_in, votes, body_of, newly, send_of, says, out}
 use Rattle.pay_channel.specs.Asked.{ask_of, asked, is_send, sends_in, sends_of}
-use Rattle.pay_channel.specs.SentLaws.{NothingAskedAtFirst, AskedGrows, AsksAreCounted, SendsAreAsks, SendInOut, SentIsAsked, OwnEchoIsAsk}
+use Rattle.pay_channel.specs.SentLaws.{NothingAskedAtFirst, AskedByOneMore, AskedGrows, AsksAreCounted, SendsAreAsks, SendInOut, SentIsAsked, OwnEchoIsAsk}
 use Rattle.pay_channel.proofs.Lists.{either, by_push, option_or-None, Contains-filter, filter-Contains, filter-both}
 use Rattle.pay_channel.proofs.Project.{votes-push, asks-push, out-push, votes_in-other, votes_in-here}
 use Rattle.pay_channel.proofs.InOut.{newly-apart}
@@ -36,6 +36,10 @@ asked-ask history v = filter_map-append ask_of history (Ask v ∷ [])
 pub asked-from : (history : List Event) (p : ℕ) (body : BodyFields) → asked (history ++ From p body ∷ []) ≡ asked history
 unfolding asked
 asked-from history p body = filter_map-append ask_of history (From p body ∷ []) ∙ append-nil (filter_map ask_of history)
+
+pub asked_by_one_more : AskedByOneMore
+asked_by_one_more history (Ask v) = asked-ask history v
+asked_by_one_more history (From p body) = asked-from history p body ∙ sym (append-nil (asked history))
 
 abbrev IsCounted : List Event → Type 0
 IsCounted history = asks history ≡ length (asked history)

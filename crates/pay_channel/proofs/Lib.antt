@@ -11,6 +11,7 @@ pub mod InOut
 pub mod Counting
 pub mod Voting
 pub mod Asks
+pub mod Sendable
 pub mod Taking
 pub mod VotesTaken
 pub mod Places

@@ -5,7 +5,7 @@ use Rattle.pay_echo.specs.Meaning.{became}
 use Rattle.pay_channel.specs.History.{Event, asks, owner_of, seq_of, votes, delivered_at, list_of}
 use Rattle.pay_channel.specs.declared.applied.Applied.{Applied}
 
--- what became known by the event of its broadcast, the broadcast s of account a, and by how much the list of a grew
+-- what became known by the event of the broadcast s of account a, and by how much the list of a grew
 pub record IsAnswerAt (g : Group) (history : List Event) (e : Event) (a s : ℕ) (applied : Applied) : Type 0 where
   pub echo : applied.echo ≡ became (echoed (votes g.own a s history)) (echoed (votes g.own a s (history ++ e ∷ [])))
   pub ready : applied.ready ≡ became (readied g (votes g.own a s history)) (readied g (votes g.own a s (history ++ e ∷ [])))

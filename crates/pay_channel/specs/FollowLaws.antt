@@ -8,17 +8,25 @@ use Rattle.pay_channel.specs.declared.applied.Applied.{Applied}
 
 -- a channel that takes an event follows the longer history
 abbrev pub ChannelFollows : Type 0
-ChannelFollows = (old new : State) (history : List Event) (e : Event) → Takes old new e → Follows old history → Follows new (history ++ e ∷ [])
+ChannelFollows =
+    (old new : State) (history : List Event) (e : Event)
+    → Takes old new e → Follows old history → Follows new (history ++ e ∷ [])
 
 abbrev pub UnchangedFollows : Type 0
-UnchangedFollows = (old new : State) (history : List Event) → IsAsBefore old new → Follows old history → Follows new history
+UnchangedFollows =
+    (old new : State) (history : List Event)
+    → IsAsBefore old new → Follows old history → Follows new history
 
 -- what it delivers and lists is what the history says
 abbrev pub ValuesFollow : Type 0
-ValuesFollow = (c : State) (history : List Event) → Follows c history → (a s : ℕ) → value_at c a s ≡ delivered_at c.group history a s
+ValuesFollow =
+    (c : State) (history : List Event) → Follows c history
+    → (a s : ℕ) → value_at c a s ≡ delivered_at c.group history a s
 
 abbrev pub ListsFollow : Type 0
-ListsFollow = (c : State) (history : List Event) → Follows c history → (a : ℕ) → lists_of c a ≡ list_of c.group history a
+ListsFollow =
+    (c : State) (history : List Event) → Follows c history
+    → (a : ℕ) → lists_of c a ≡ list_of c.group history a
 
 -- so is its answer to an event
 abbrev pub AnswersFollow : Type 0

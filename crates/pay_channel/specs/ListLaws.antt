@@ -24,11 +24,12 @@ DeliveryStays =
 abbrev pub AreKnown : (ℕ → Option (List ℕ)) → ℕ → Type 0
 AreKnown value_at n = (s : ℕ) → s < n → value_at s ≢ None
 
--- Whatever the values are: place k is there exactly if all numbers up to k have a value, and it has the value of number k.
+-- Whatever the values are: place k is there exactly if all numbers up to k have a value, and has that of number k.
 abbrev pub PlaceIsValue : Type 0
 PlaceIsValue =
     (g : Group) (value_at : ℕ → ℕ → Option (List ℕ)) (a k : ℕ) (v : List ℕ)
-    → (slice_get (listed g value_at a) k ≡ Some v) ↔ ((a < g.members) × (k < seqs) × AreKnown (value_at a) k × (value_at a k ≡ Some v))
+    → (slice_get (listed g value_at a) k ≡ Some v)
+    ↔ ((a < g.members) × (k < seqs) × AreKnown (value_at a) k × (value_at a k ≡ Some v))
 
 abbrev pub PlaceIsDelivered : Type 0
 PlaceIsDelivered =
@@ -90,14 +91,19 @@ ListsAlike =
 abbrev pub ListsCompare : Type 0
 ListsCompare =
     (g h : Group) (one other : List Event) (a : ℕ)
-    → ((s : ℕ) (v u : List ℕ) → delivered_at g one a s ≡ Some v → delivered_at h other a s ≡ Some u → v ≡ u)
+    → ((s : ℕ) (v u : List ℕ)
+    → delivered_at g one a s ≡ Some v → delivered_at h other a s ≡ Some u → v ≡ u)
     → IsPrefix (list_of g one a) (list_of h other a) ⊎ IsPrefix (list_of h other a) (list_of g one a)
 
 -- ---- a longer history
 
 abbrev pub ListsGrow : Type 0
-ListsGrow = (g : Group) (history more : List Event) (a : ℕ) → IsPrefix (list_of g history a) (list_of g (history ++ more) a)
+ListsGrow =
+    (g : Group) (history more : List Event) (a : ℕ)
+    → IsPrefix (list_of g history a) (list_of g (history ++ more) a)
 
 -- by one event only the list of the account that it is about
 abbrev pub OneListGrows : Type 0
-OneListGrows = (g : Group) (history : List Event) (e : Event) → GrowsOnly (list_of g history) (list_of g (history ++ e ∷ [])) (owner_of g.own e)
+OneListGrows =
+    (g : Group) (history : List Event) (e : Event)
+    → GrowsOnly (list_of g history) (list_of g (history ++ e ∷ [])) (owner_of g.own e)

@@ -1,5 +1,5 @@
 -- What holds of the sent list, as statements. Each is proved as a public law.
-use Rattle.std.specs.Prelude.{◌≡◌, ℕ, ◌↔◌, Bool, true, false, ◌&&◌, ◌==◌, List, [], ◌∷◌, ◌++◌, map, length, slice_get, Some, All, Contains}
+use Rattle.std.specs.Prelude.{◌≡◌, ◌≢◌, ℕ, ◌<◌, ◌↔◌, Bool, true, false, ◌&&◌, ◌==◌, List, [], ◌∷◌, ◌++◌, map, length, slice_get, Some, All, Contains}
 use Rattle.std.specs.List.{filter}
 use Rattle.std.specs.Option.{option_to_list}
 use Rattle.pay_frame.specs.declared.kind.Kind.{Kind}
@@ -7,15 +7,17 @@ use Rattle.pay_frame.specs.declared.kind.Kind.TheVariants.{Send, Echo, Ready, Wa
 use Rattle.pay_frame.specs.Frame.{BodyFields}
 use Rattle.pay_echo.specs.Broadcast.{Group, echoed, readied}
 use Rattle.pay_channel.specs.Prefix.{IsPrefix}
-use Rattle.pay_channel.specs.History.{Event, IsEvent, asks, votes, body_of, says, out}
-use Rattle.pay_channel.specs.Asked.{asked, is_send, sends_in, sends_of}
+use Rattle.pay_channel.specs.History.{Event, From, IsEvent, asks, votes, body_of, says, out}
+use Rattle.pay_channel.specs.Asked.{ask_of, asked, is_send, sends_in, sends_of}
 
 abbrev pub NothingSentAtFirst : Type 0
 NothingSentAtFirst = (g : Group) → out g [] ≡ []
 
 -- one event more
 abbrev pub OutByOneMore : Type 0
-OutByOneMore = (g : Group) (history : List Event) (e : Event) → out g (history ++ e ∷ []) ≡ out g history ++ says g history e
+OutByOneMore =
+    (g : Group) (history : List Event) (e : Event)
+    → out g (history ++ e ∷ []) ≡ out g history ++ says g history e
 
 -- the sent list grows at its end alone
 abbrev pub OutGrows : Type 0
@@ -43,13 +45,15 @@ is_said of_kind a s body = of_kind body.kind && (body.owner == a && body.seq == 
 abbrev pub EchoInOut : Type 0
 EchoInOut =
     (g : Group) (history : List Event) (a s : ℕ)
-    → filter (is_said is_echo a s) (out g history) ≡ map (body_of Echo a s) (option_to_list (echoed (votes g.own a s history)))
+    → filter (is_said is_echo a s) (out g history)
+    ≡ map (body_of Echo a s) (option_to_list (echoed (votes g.own a s history)))
 
 -- one READY exactly where a value is readied, with that value
 abbrev pub ReadyInOut : Type 0
 ReadyInOut =
     (g : Group) (history : List Event) (a s : ℕ)
-    → filter (is_said is_ready a s) (out g history) ≡ map (body_of Ready a s) (option_to_list (readied g (votes g.own a s history)))
+    → filter (is_said is_ready a s) (out g history)
+    ≡ map (body_of Ready a s) (option_to_list (readied g (votes g.own a s history)))
 
 -- the same as membership: what stands there is what was echoed and readied
 abbrev pub EchoIsSaid : Type 0
@@ -62,10 +66,21 @@ ReadyIsSaid =
     (g : Group) (history : List Event) (a s : ℕ) (v : List ℕ)
     → Contains (out g history) (body_of Ready a s v) ↔ (readied g (votes g.own a s history) ≡ Some v)
 
+-- what a member sends may come to any other member of its group: it is about a member, and no WANT
+abbrev pub SentMayCome : Type 0
+SentMayCome =
+    (g h : Group) (history : List Event) → g.own < g.members → h.members ≡ g.members → g.own ≢ h.own
+    → All (IsEvent g) history → All (λ body. IsEvent h (From g.own body)) (out g history)
+
 -- ---- the SENDs of the sent list are the values asked for
 
 abbrev pub NothingAskedAtFirst : Type 0
 NothingAskedAtFirst = asked [] ≡ []
+
+abbrev pub AskedByOneMore : Type 0
+AskedByOneMore =
+    (history : List Event) (e : Event)
+    → asked (history ++ e ∷ []) ≡ asked history ++ option_to_list (ask_of e)
 
 abbrev pub AskedGrows : Type 0
 AskedGrows = (history more : List Event) → asked (history ++ more) ≡ asked history ++ asked more
@@ -80,7 +95,8 @@ SendsAreAsks = (g : Group) (history : List Event) → sends_in (out g history) �
 abbrev pub SendInOut : Type 0
 SendInOut =
     (g : Group) (history : List Event) (s : ℕ)
-    → filter (is_said is_send g.own s) (out g history) ≡ map (body_of Send g.own s) (option_to_list (slice_get (asked history) s))
+    → filter (is_said is_send g.own s) (out g history)
+    ≡ map (body_of Send g.own s) (option_to_list (slice_get (asked history) s))
 
 -- a SEND stands there exactly if it is about one's own account, with the value asked for under its number
 abbrev pub SentIsAsked : Type 0

@@ -21,14 +21,18 @@ TakenFromHere =
     → taken p (history ++ From p body ∷ []) ≡ taken p history ++ body ∷ []
 
 abbrev pub TakenFromElsewhere : Type 0
-TakenFromElsewhere = (p : ℕ) (history : List Event) (e : Event) → is_from p e ≡ false → taken p (history ++ e ∷ []) ≡ taken p history
+TakenFromElsewhere =
+    (p : ℕ) (history : List Event) (e : Event) → is_from p e ≡ false
+    → taken p (history ++ e ∷ []) ≡ taken p history
 
 -- a longer history
 abbrev pub TakenGrows : Type 0
 TakenGrows = (p : ℕ) (history more : List Event) → taken p (history ++ more) ≡ taken p history ++ taken p more
 
 abbrev pub TakenIsFrom : Type 0
-TakenIsFrom = (p : ℕ) (history : List Event) (body : BodyFields) → Contains (taken p history) body ↔ Contains history (From p body)
+TakenIsFrom =
+    (p : ℕ) (history : List Event) (body : BodyFields)
+    → Contains (taken p history) body ↔ Contains history (From p body)
 
 -- the next number counts the events from p
 abbrev pub NextIsCount : Type 0

@@ -19,7 +19,9 @@ VotesByOneMore =
     → votes own a s (history ++ e ∷ []) ≡ votes own a s history ++ votes_in own a s (asks history) e
 
 abbrev pub AsksByOneMore : Type 0
-AsksByOneMore = (history : List Event) (e : Event) → asks (history ++ e ∷ []) ≡ (if is_ask e then asks history + 1 else asks history)
+AsksByOneMore =
+    (history : List Event) (e : Event)
+    → asks (history ++ e ∷ []) ≡ (if is_ask e then asks history + 1 else asks history)
 
 -- an event is no vote in any broadcast but its own
 abbrev pub OthersUntouched : Type 0
@@ -29,7 +31,9 @@ OthersUntouched =
 
 -- votes grow at their end alone
 abbrev pub VotesGrow : Type 0
-VotesGrow = (own a s : ℕ) (history more : List Event) → IsPrefix (votes own a s history) (votes own a s (history ++ more))
+VotesGrow =
+    (own a s : ℕ) (history more : List Event)
+    → IsPrefix (votes own a s history) (votes own a s (history ++ more))
 
 -- a process's ECHO is among the votes exactly where it was taken from that process; so is its READY
 abbrev pub EchoIsTaken : Type 0

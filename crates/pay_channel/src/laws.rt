@@ -3,7 +3,7 @@
 
 ghost use Rattle.pay_channel.specs.VoteLaws.{NoVotesAtFirst, NoAsksAtFirst, VotesByOneMore, AsksByOneMore, OthersUntouched, VotesGrow, EchoIsTaken, ReadyIsTaken, SendIsTaken};
 ghost use Rattle.pay_channel.specs.TakenLaws.{NothingTakenAtFirst, TakenByOneMore, TakenFromHere, TakenFromElsewhere, TakenGrows, TakenIsFrom, NextIsCount, NextByOneMore};
-ghost use Rattle.pay_channel.specs.SentLaws.{NothingSentAtFirst, OutByOneMore, OutGrows, EchoInOut, ReadyInOut, EchoIsSaid, ReadyIsSaid, NothingAskedAtFirst, AskedGrows, AsksAreCounted, SendsAreAsks, SendInOut, SentIsAsked, OwnEchoIsAsk};
+ghost use Rattle.pay_channel.specs.SentLaws.{NothingSentAtFirst, OutByOneMore, OutGrows, EchoInOut, ReadyInOut, EchoIsSaid, ReadyIsSaid, SentMayCome, NothingAskedAtFirst, AskedByOneMore, AskedGrows, AsksAreCounted, SendsAreAsks, SendInOut, SentIsAsked, OwnEchoIsAsk};
 ghost use Rattle.pay_channel.specs.ListLaws.{DeliveredIs, NothingDeliveredAtFirst, DeliveryStays, PlaceIsValue, PlaceIsDelivered, ListedIsDelivered, ListIsShort, ListReaches, ListEnds, EmptyAtFirst, EmptyOfNobody, ListIsValues, ListBeginsValues, ListsAlike, ListsCompare, ListsGrow, OneListGrows};
 ghost use Rattle.pay_channel.specs.FollowLaws.{ChannelFollows, UnchangedFollows, ValuesFollow, ListsFollow, AnswersFollow, FollowersAreAlike};
 
@@ -22,10 +22,11 @@ pub fn nothing_at_first()
     nothing_known_at_first();
 }
 
-/// What a history's votes, asks and sent list are with one event more; the event is a vote in one broadcast at most.
+/// What a history's votes, asked values and sent list are with one event more; the event is a vote in one broadcast at most.
 pub fn one_event_more()
     ensures votes { VotesByOneMore }
     ensures asks { AsksByOneMore }
+    ensures asked { AskedByOneMore }
     ensures out { OutByOneMore }
     ensures others { OthersUntouched }
 {}
@@ -57,12 +58,13 @@ pub fn taken_in_order()
 {}
 
 /// The sent list has one ECHO about a broadcast exactly where a value was echoed in it, with that value, and
-/// the same for READY.
+/// the same for READY. What it has may come to any other member of the group.
 pub fn what_is_sent()
     ensures echo { EchoInOut }
     ensures ready { ReadyInOut }
     ensures echo_is_said { EchoIsSaid }
     ensures ready_is_said { ReadyIsSaid }
+    ensures may_come { SentMayCome }
 {
     nothing_known_at_first();
     known_stays();
