@@ -9,13 +9,13 @@ use Rattle.std.proofs.lemmas.List.{length-map, length-append}
 use Rattle.std.proofs.lemmas.List.Concat.{flat_map_single, flat_map-append}
 use Rattle.std.proofs.lemmas.List.Elements.{All-map, All-same, All-from_get_or, All-get_or}
 use Rattle.std.proofs.lemmas.Option.{slice_get-map, slice_get_within, get_or_from_slice_get}
+use Rattle.pay_channel.specs.Prefix.{IsPrefix}
 use Rattle.pay_book.specs.declared.payment.Entry.{Entry}
 use Rattle.pay_book.specs.declared.payment.TheConstants.{PAYMENT_LENGTH, PAYMENT_VERSION}
 use Rattle.pay_book.specs.declared.payment.Entry.TheVariants.{Pay, Void}
 use Rattle.pay_book.specs.Payment.{payment, entry_of, most_entries, entries_in, entries_of}
 use Rattle.pay_book.specs.Balance.{PayWithin, AllPayWithin}
 use Rattle.pay_book.specs.Front.{AllGrow}
-use Rattle.pay_book.specs.Settled.{IsPrefix}
 
 -- as long as a value is one entry, an owner's entries are its values' one by one
 pub entries_of-map : (accounts : ℕ) (lists : ℕ → List (List ℕ)) (owner : ℕ) → entries_of accounts lists owner ≡ map (entry_of accounts owner) (lists owner)
@@ -53,10 +53,10 @@ length-entries_of-le accounts lists owner most short =
 -- longer lists have longer entries
 pub entries_of-prefix : (accounts : ℕ) (old new : ℕ → List (List ℕ)) (a : ℕ) → IsPrefix (old a) (new a) → IsPrefix (entries_of accounts old a) (entries_of accounts new a)
 unfolding entries_of
-entries_of-prefix accounts old new a (more, e) = (
-  flat_map (entries_in accounts a) more,
-  ap (flat_map (entries_in accounts a)) e ∙ flat_map-append (entries_in accounts a) (old a) more,
-)
+entries_of-prefix accounts old new a prefix = record {
+  rest = flat_map (entries_in accounts a) prefix.rest;
+  is = ap (flat_map (entries_in accounts a)) prefix.is ∙ flat_map-append (entries_in accounts a) (old a) prefix.rest;
+}
 
 pub entries_of-grow : (accounts : ℕ) (old new : ℕ → List (List ℕ)) → AllGrow accounts old new → AllGrow accounts (entries_of accounts old) (entries_of accounts new)
 entries_of-grow accounts old new grow a h = entries_of-prefix accounts old new a (grow a h)

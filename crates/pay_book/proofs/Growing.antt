@@ -2,6 +2,7 @@
 use Rattle.std.proofs.Common.{◌≡◌, ℕ, zero, suc, ◌+◌, ◌<◌, ◌≤◌, ℤ, pos, ◌-ℤ◌, List, [], ◌∷◌, ◌++◌, length, take, sum_by, slice_index, refl, ap, ◌∙◌, sym, subst, arith}
 use Rattle.std.specs.Prelude.{slice_get, Option}
 use Rattle.std.proofs.lemmas.List.{take-append-le, append-nil}
+use Rattle.pay_channel.specs.Prefix.{IsPrefix}
 use Rattle.pay_book.specs.declared.payment.Entry.{Entry}
 use Rattle.pay_book.specs.Balance.{amount_of, amount_to, paid_in, paid_out, balance_at}
 use Rattle.pay_book.specs.Front.{Covers, MayStep, Reach, Start, Step, IsLargest, AllGrow}
@@ -18,8 +19,8 @@ slice_get-append_left (x ∷ xs) more zero h = refl
 slice_get-append_left (x ∷ xs) more (suc k) h = slice_get-append_left xs more k (omega arith)
 
 -- what is before a front stays
-pub take-grown : {X : Type 0} (old new : List X) (k : ℕ) → (more : List X) × (new ≡ old ++ more) → k ≤ length old → take k new ≡ take k old
-take-grown old new k (more, e) h = ap (take k) e ∙ take-append-le k old more h
+pub take-grown : {X : Type 0} (old new : List X) (k : ℕ) → IsPrefix old new → k ≤ length old → take k new ≡ take k old
+take-grown old new k prefix h = ap (take k) prefix.is ∙ take-append-le k old prefix.rest h
 
 pub paid_in-grown : (accounts : ℕ) (old new : ℕ → List Entry) (front : ℕ → ℕ) (a : ℕ) → AllGrow accounts old new → ((b : ℕ) → b < accounts → front b ≤ length (old b)) → paid_in accounts new front a ≡ paid_in accounts old front a
 paid_in-grown accounts old new front a grow within =
@@ -37,7 +38,7 @@ pub MayStep-grown : (opening : List ℕ) (old new : ℕ → List Entry) (front :
 MayStep-grown opening old new front a grow within may =
     let inside = within_from_Covers (balance_at opening old front a) (old a) (front a) may.1 in
     let next : slice_get (new a) (front a) ≡ slice_get (old a) (front a) =
-    ap (λ log. slice_get log (front a)) (grow a may.0).1 ∙ slice_get-append_left (old a) (grow a may.0).0 (front a) inside in
+    ap (λ log. slice_get log (front a)) (grow a may.0).is ∙ slice_get-append_left (old a) (grow a may.0).rest (front a) inside in
     let P : ℤ → Type 0 = λ b. Covers b (slice_get (old a) (front a)) in
     let Q : Option Entry → Type 0 = λ o. Covers (balance_at opening new front a) o in
     (may.0, subst Q (sym next) (subst P (sym (balance_at-grown opening old new front a grow within may.0)) may.1))
@@ -60,7 +61,7 @@ largest_grows opening old new before after grow p q = q.greatest before (Reach-g
 
 -- lists that are the same for these accounts grow into each other
 pub AllGrow-same : {X : Type 0} (accounts : ℕ) (old new : ℕ → List X) → ((a : ℕ) → a < accounts → new a ≡ old a) → AllGrow accounts old new
-AllGrow-same accounts old new same a h = ([], same a h ∙ sym (append-nil (old a)))
+AllGrow-same accounts old new same a h = record { rest = []; is = same a h ∙ sym (append-nil (old a)) }
 
 pub largest-same : (opening : List ℕ) (one other : ℕ → List Entry) (p q : ℕ → ℕ) → ((a : ℕ) → a < length opening → one a ≡ other a) → IsLargest opening one p → IsLargest opening other q → (a : ℕ) → p a ≡ q a
 largest-same opening one other p q same at_p at_q a =

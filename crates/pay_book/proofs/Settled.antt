@@ -5,12 +5,13 @@ use Rattle.std.proofs.lemmas.Int.{ints}
 use Rattle.std.proofs.lemmas.Bool.{cases_lt}
 use Rattle.std.proofs.lemmas.List.{take-take, take-append-drop}
 use Rattle.std.proofs.lemmas.List.FromFn.{length-map-range_with_len, get_or-map-range_with_len}
+use Rattle.pay_channel.specs.Prefix.{IsPrefix}
 use Rattle.pay_book.specs.declared.payment.Entry.{Entry}
 use Rattle.pay_book.specs.Payment.{entries_in, entries_of}
 use Rattle.pay_book.specs.Balance.{paid_in, paid_out, balance_at, AreBalances}
 use Rattle.pay_book.specs.Front.{Reach, largest_front, AllGrow}
 use Rattle.pay_book.specs.Book.{Standing, IsBook, IsSettled}
-use Rattle.pay_book.specs.Settled.{balances_of, settled_front, settled_book, settled_entries, IsPrefix}
+use Rattle.pay_book.specs.Settled.{balances_of, settled_front, settled_book, settled_entries}
 use Rattle.pay_book.proofs.Sums.{sum_below-le}
 use Rattle.pay_book.proofs.Conserving.{paid_out-le, sum-places, sum-balances, balance_at-nonnegative}
 use Rattle.pay_book.proofs.Reaching.{Reach-within}
@@ -86,7 +87,10 @@ settled_count_grows opening old new grow =
 
 take-prefix : {X : Type 0} (m n : ℕ) (xs : List X) → m ≤ n → IsPrefix (take m xs) (take n xs)
 take-prefix m n xs h =
-    (drop m (take n xs), sym (take-append-drop m (take n xs)) ∙ ap (λ ys. ys ++ drop m (take n xs)) (take-take m n xs h))
+    record {
+      rest = drop m (take n xs);
+      is = sym (take-append-drop m (take n xs)) ∙ ap (λ ys. ys ++ drop m (take n xs)) (take-take m n xs h);
+    }
 
 -- a beginning of the shorter list is one of the longer list
 take-prefix_grown : {X : Type 0} (shorter longer : List X) (m n : ℕ) → IsPrefix shorter longer → m ≤ length shorter → m ≤ n → IsPrefix (take m shorter) (take n longer)
@@ -133,9 +137,11 @@ settled_entries_were_asked opening lists a asked prefix =
     let n = length opening in
     let listed = entries_of n lists a in
     let place = slice_index (settled_front opening lists) a in
-    let of_asked = entries_of-prefix n lists (λ _. asked) a prefix in (
-      drop place listed ++ of_asked.0,
-      of_asked.1
-          ∙ ap (λ xs. xs ++ of_asked.0) (sym (take-append-drop place listed))
-          ∙ append_assoc (take place listed) (drop place listed) of_asked.0,
-    )
+    let of_asked = entries_of-prefix n lists (λ _. asked) a prefix in
+    record {
+      rest = drop place listed ++ of_asked.rest;
+      is =
+          of_asked.is
+          ∙ ap (λ xs. xs ++ of_asked.rest) (sym (take-append-drop place listed))
+          ∙ append_assoc (take place listed) (drop place listed) of_asked.rest;
+    }

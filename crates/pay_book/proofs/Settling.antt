@@ -5,6 +5,7 @@ use Rattle.std.proofs.lemmas.Bool.{cases_eq}
 use Rattle.std.proofs.lemmas.List.{append-nil, length-replicate}
 use Rattle.std.proofs.lemmas.Grind.{same_number_lists}
 use Rattle.pay_frame.specs.declared.limits.TheConstants.{SEQS, MOST_MEMBERS}
+use Rattle.pay_channel.specs.Prefix.{IsPrefix}
 use Rattle.pay_channel.specs.Source.{GrowsOnly}
 use Rattle.pay_book.specs.declared.payment.Entry.{Entry}
 use Rattle.pay_book.specs.Payment.{most_entries, entries_of}
@@ -22,8 +23,8 @@ use Rattle.pay_book.proofs.Entries.{length-entries_of, length-entries_of-le, ent
 pub AllGrow-from_one : (old new : ℕ → List (List ℕ)) (owner accounts : ℕ) → GrowsOnly old new owner → AllGrow accounts old new
 AllGrow-from_one old new owner accounts grows a h =
     elim (cases_eq a owner) [
-      | inl e ↦ (let P : ℕ → Type 0 = λ x. (more : List (List ℕ)) × (new x ≡ old x ++ more) in subst P (sym e) grows.grown)
-      | inr ne ↦ ([], grows.others a ne ∙ sym (append-nil (old a)))
+      | inl e ↦ (let P : ℕ → Type 0 = λ x. IsPrefix (old x) (new x) in subst P (sym e) (record { rest = grows.grown.0; is = grows.grown.1 }))
+      | inr ne ↦ record { rest = []; is = grows.others a ne ∙ sym (append-nil (old a)) }
     ]
 
 -- a settled book's front is the largest

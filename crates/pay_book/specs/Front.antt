@@ -1,6 +1,7 @@
 -- Which fronts settling reaches: one account's next entry at a time, when its balance covers it.
-use Rattle.std.specs.Prelude.{◌≡◌, ◌≢◌, ℕ, zero, suc, ◌+◌, ◌<◌, ◌≤◌, ℤ, pos, ◌≤ℤ◌, Bool, true, false, nat_le, List, ◌++◌, length, replicate, slice_index, slice_get, slice_set, Option, Some, None}
+use Rattle.std.specs.Prelude.{◌≡◌, ◌≢◌, ℕ, zero, suc, ◌+◌, ◌<◌, ◌≤◌, ℤ, pos, ◌≤ℤ◌, Bool, true, false, nat_le, List, length, replicate, slice_index, slice_get, slice_set, Option, Some, None}
 use Rattle.std.specs.List.{find, range_with_len}
+use Rattle.pay_channel.specs.Prefix.{IsPrefix}
 use Rattle.pay_book.specs.declared.payment.Entry.{Entry}
 use Rattle.pay_book.specs.declared.payment.Entry.TheVariants.{Pay, Void}
 use Rattle.pay_book.specs.Balance.{sum_below, paid_in, paid_out, balance_at}
@@ -61,4 +62,4 @@ largest_front opening logs = front_after_turns opening logs (entry_count (length
 
 -- Each of these accounts' new lists begins with its old one.
 abbrev pub AllGrow : {X : Type 0} → ℕ → (ℕ → List X) → (ℕ → List X) → Type 0
-AllGrow {X} accounts old new = (a : ℕ) → a < accounts → (more : List X) × (new a ≡ old a ++ more)
+AllGrow accounts old new = (a : ℕ) → a < accounts → IsPrefix (old a) (new a)

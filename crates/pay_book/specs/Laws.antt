@@ -2,13 +2,14 @@
 use Rattle.std.specs.Prelude.{◌≡◌, ◌⊎◌, ℕ, ◌*◌, ◌^◌, ◌<◌, ◌≤◌, max, pos, ◌≤ℤ◌, List, length, slice_index, sum}
 use Rattle.std.specs.List.{flat_map}
 use Rattle.pay_frame.specs.declared.limits.TheConstants.{SEQS, MOST_MEMBERS}
+use Rattle.pay_channel.specs.Prefix.{IsPrefix}
 use Rattle.pay_channel.specs.Source.{GrowsOnly}
 use Rattle.pay_book.specs.declared.payment.Entry.{Entry}
 use Rattle.pay_book.specs.Payment.{most_entries, entries_in, entries_of}
 use Rattle.pay_book.specs.Balance.{balance_at, AreBalances}
 use Rattle.pay_book.specs.Front.{MayStep, Reach, IsLargest, largest_front, AllGrow}
 use Rattle.pay_book.specs.Book.{Standing, fresh, entries_for, IsBook, IsSettled, AreCountable, CanSettle}
-use Rattle.pay_book.specs.Settled.{settled_front, settled_book, settled_entries, IsPrefix}
+use Rattle.pay_book.specs.Settled.{settled_front, settled_book, settled_entries}
 
 abbrev pub ReachedFrontsJoin : Type 0
 ReachedFrontsJoin =
@@ -128,6 +129,11 @@ abbrev pub SettledBookIsOne : Type 0
 SettledBookIsOne =
     (lists : ℕ → List (List ℕ)) (book : Standing) → IsSettled lists book → book ≡ settled_book book.opening lists
 
+abbrev pub SettledIsLargest : Type 0
+SettledIsLargest =
+    (lists : ℕ → List (List ℕ)) (book : Standing) → IsSettled lists book →
+    IsLargest book.opening (entries_for book lists) (slice_index book.front)
+
 abbrev pub BookKeepsTotal : Type 0
 BookKeepsTotal = (lists : ℕ → List (List ℕ)) (book : Standing) → IsBook lists book → sum book.balances ≡ sum book.opening
 
@@ -141,6 +147,11 @@ NobodyOwesOnceSettled =
 abbrev pub OneListGrows : Type 0
 OneListGrows =
     (old new : ℕ → List (List ℕ)) (owner accounts : ℕ) → GrowsOnly old new owner → AllGrow accounts old new
+
+abbrev pub BookStays : Type 0
+BookStays =
+    (old new : ℕ → List (List ℕ)) (book : Standing) →
+    AllGrow (length book.opening) old new → IsBook old book → IsBook new book
 
 abbrev pub SettledCountGrows : Type 0
 SettledCountGrows =

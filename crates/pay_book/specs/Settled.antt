@@ -1,5 +1,5 @@
 -- What a book shows once it has settled all that it can, as a function of the lists.
-use Rattle.std.specs.Prelude.{◌≡◌, ℕ, ◌+◌, ◌-◌, List, ◌++◌, length, map, take, slice_index}
+use Rattle.std.specs.Prelude.{ℕ, ◌+◌, ◌-◌, List, length, map, take, slice_index}
 use Rattle.std.specs.List.{range_with_len}
 use Rattle.pay_book.specs.declared.payment.Entry.{Entry}
 use Rattle.pay_book.specs.Payment.{entries_of}
@@ -28,7 +28,3 @@ settled_book opening lists = record {
 abbrev pub settled_entries : List ℕ → (ℕ → List (List ℕ)) → ℕ → List Entry
 settled_entries opening lists account =
     take (slice_index (settled_front opening lists) account) (entries_of (length opening) lists account)
-
--- The longer list goes on from the shorter one, or is equal to it.
-abbrev pub IsPrefix : {X : Type 0} → List X → List X → Type 0
-IsPrefix {X} shorter longer = (rest : List X) × (longer ≡ shorter ++ rest)

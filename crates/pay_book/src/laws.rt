@@ -1,7 +1,7 @@
 //! The laws of settling. Each function does nothing: what it ensures is the law, which
 //! specs/Laws.antt spells out.
 
-ghost use Rattle.pay_book.specs.Laws.{ReachedFrontsJoin, StuckIsLargest, LargestIsStuck, LargestIsOne, LargestIsComputed, ReachedIsWithinLists, NoBalanceBelowZero, BalancesSumToOpening, ReachedStaysReached, LargestGrows, EqualListsEqualLargest, EqualListsEqualBalances, EqualListsEqualBooks, FreshBookIsSettled, GrownListCanSettle, SameListsStaySettled, FewEntriesAreCountable, ShortListsAreCountable, GroupListsAreCountable, ValuesHaveFewEntries, SettledBookExists, SettledBookIsOne, BookKeepsTotal, NobodyOwesOnceSettled, OneListGrows, SettledCountGrows, SettledEntriesGrow, SettledEntriesCompare, SettledEntriesWereAsked};
+ghost use Rattle.pay_book.specs.Laws.{ReachedFrontsJoin, StuckIsLargest, LargestIsStuck, LargestIsOne, LargestIsComputed, ReachedIsWithinLists, NoBalanceBelowZero, BalancesSumToOpening, ReachedStaysReached, LargestGrows, EqualListsEqualLargest, EqualListsEqualBalances, EqualListsEqualBooks, FreshBookIsSettled, GrownListCanSettle, SameListsStaySettled, FewEntriesAreCountable, ShortListsAreCountable, GroupListsAreCountable, ValuesHaveFewEntries, SettledBookExists, SettledBookIsOne, SettledIsLargest, BookKeepsTotal, NobodyOwesOnceSettled, OneListGrows, BookStays, SettledCountGrows, SettledEntriesGrow, SettledEntriesCompare, SettledEntriesWereAsked};
 
 /// Two fronts that steps reach have a common one: the front that is as far as either at each account
 /// is reached too.
@@ -116,6 +116,11 @@ pub fn settled_book_is_one()
     ensures { SettledBookIsOne }
 {}
 
+/// The front of a book that has settled all it can is the largest.
+pub fn settled_is_largest()
+    ensures { SettledIsLargest }
+{}
+
 /// A book's balances sum to what all accounts opened with.
 pub fn book_keeps_total()
     ensures { BookKeepsTotal }
@@ -129,6 +134,11 @@ pub fn nobody_owes_once_settled()
 /// Where one owner's list grew at its end and no other changed, all accounts' lists grew at their ends.
 pub fn one_list_grows()
     ensures { OneListGrows }
+{}
+
+/// As lists grow at their ends, a book still stands at a reached front, with the balances there.
+pub fn book_stays()
+    ensures { BookStays }
 {}
 
 /// As lists grow at their ends, no fewer entries are settled in all.
