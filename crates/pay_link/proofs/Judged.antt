@@ -11,7 +11,7 @@ use Rattle.pay_link.specs.Opening.{IsOpened, IsTagged, OpenedFields, Opens, judg
 use Rattle.pay_hmac.specs.Mac.{mac}
 use Rattle.pay_link.specs.Sealing.{sealed, tagged_bytes}
 use Rattle.pay_link.specs.declared.link_fault.LinkFault.{LinkFault}
-use Rattle.pay_link.specs.declared.link_fault.LinkFault.TheVariants.{BadTag, NotForMe, UnknownOwner, UnknownSender}
+use Rattle.pay_link.specs.declared.link_fault.LinkFault.TheVariants.{BadTag, Gap, NotForMe, Repeat, UnknownOwner, UnknownSender}
 
 pub is_peer-Decides : (k : KeyFields) (p : ℕ) → Decides (is_peer k p) (IsPeer k p)
 is_peer-Decides k p =
@@ -128,6 +128,21 @@ from_opened true true false tag o p h = absurd cc
 from_opened true true true false o p h = absurd cc
 from_opened true true true true o p h = (refl, refl, refl, refl, cc)
 
+from_repeat : (me peer owner tag : Bool) (o : OpenedFields) (next : ℕ) →
+    decided me peer owner tag o ≡ Err (Repeat next) → ⊥
+from_repeat false peer owner tag o next h = cc
+from_repeat true false owner tag o next h = cc
+from_repeat true true false tag o next h = cc
+from_repeat true true true false o next h = cc
+from_repeat true true true true o next h = cc
+
+from_gap : (me peer owner tag : Bool) (o : OpenedFields) (next : ℕ) → decided me peer owner tag o ≡ Err (Gap next) → ⊥
+from_gap false peer owner tag o next h = cc
+from_gap true false owner tag o next h = cc
+from_gap true true false tag o next h = cc
+from_gap true true true false o next h = cc
+from_gap true true true true o next h = cc
+
 pub not_for_me_law : (k : KeyFields) (f : FrameFields) → (judgement k f ≡ Err NotForMe) ↔ (f.to ≢ k.own)
 unfolding judgement
 not_for_me_law k f = (
@@ -169,6 +184,18 @@ bad_tag_law k f =
       ),
       λ h. judgement-bad_tag k f h.0 ((is_peer-Decides k f.from).1 h.1) h.2 (false_from_ne_true _ (λ t. h.3 (tag.0 t))),
     )
+
+pub no_repeat_law : (k : KeyFields) (f : FrameFields) (next : ℕ) → judgement k f ≢ Err (Repeat next)
+unfolding judgement
+no_repeat_law k f next =
+    from_repeat (f.to == k.own) (is_peer k f.from) (nat_lt f.body.owner (length k.keys))
+    (bytes_eq f.tag (right_tag (key_for k f.from) f)) (opened_fields k f) next
+
+pub no_gap_law : (k : KeyFields) (f : FrameFields) (next : ℕ) → judgement k f ≢ Err (Gap next)
+unfolding judgement
+no_gap_law k f next =
+    from_gap (f.to == k.own) (is_peer k f.from) (nat_lt f.body.owner (length k.keys))
+    (bytes_eq f.tag (right_tag (key_for k f.from) f)) (opened_fields k f) next
 
 pub opened_law : (k : KeyFields) (f : FrameFields) (o : OpenedFields) →
     (judgement k f ≡ Ok o) ↔ (Opens k f × (o ≡ opened_fields k f))

@@ -2,7 +2,8 @@
 use Rattle.std.proofs.Common.{◌≡◌, ◌≢◌, Ok, refl, sym, ap, subst}
 use Rattle.pay_frame.specs.declared.kind.Kind.TheVariants.{Want}
 use Rattle.pay_frame.specs.Frame.{FrameFields, IsFrame}
-use Rattle.pay_link.specs.Checked.{CheckedFields, IsChecked, IsFor, checked_fields}
+use Rattle.pay_frame.specs.OneFrame.{IsOneFrame}
+use Rattle.pay_link.specs.Checked.{CheckedFields, IsChecked, IsFor, bytes_of, checked_fields}
 use Rattle.pay_link.specs.Keys.{KeyFields}
 use Rattle.pay_link.specs.Opening.{OpenedFields, judgement, opened_fields}
 use Rattle.pay_link.proofs.Judged.{opened_law}
@@ -32,3 +33,6 @@ opens_again_law k c is_checked is_for = (
   ),
   ap (λ key. let x : CheckedFields = record { frame = c.frame; key = key } in x) (sym is_for.key),
 )
+
+pub one_frame_law : (c : CheckedFields) → IsChecked c → IsOneFrame (bytes_of c) c.frame
+one_frame_law c is_checked = record { is = is_checked.frame; spelled = refl }

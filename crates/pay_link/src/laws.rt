@@ -2,14 +2,17 @@
 
 ghost use Rattle.std.specs.Prelude.{◌≡◌, ◌≢◌, ◌*◌, ◌<◌, ◌≤◌, ◌↔◌, ◌⊎◌, ℕ, length, sum};
 ghost use Rattle.pay_frame.specs.Frame.{BodyFields, FrameFields, IsFrame};
-ghost use Rattle.pay_link.specs.Checked.{CheckedFields, IsChecked, IsFor, checked_fields};
+ghost use Rattle.pay_frame.specs.OneFrame.{IsOneFrame};
+ghost use Rattle.pay_link.specs.Checked.{CheckedFields, IsChecked, IsFor, bytes_of, checked_fields};
+ghost use Rattle.pay_link.specs.Fronts.{turn};
 ghost use Rattle.pay_link.specs.Genesis.{GenesisFields, IsGenesis, genesis_fault};
-ghost use Rattle.pay_link.specs.Keys.{IsPeer, KeyFields, key_for};
+ghost use Rattle.pay_link.specs.Keys.{IsPeer, KeyFields, kept_keys, key_for, keys_fault, no_key};
 ghost use Rattle.pay_link.specs.Opening.{IsTagged, OpenedFields, Opens, judgement, opened_fields};
 ghost use Rattle.pay_link.specs.Sealing.{sealed};
 ghost use Rattle.pay_link.specs.TestKeys.{test_keys_of};
 
 use crate::genesis_fault::GenesisFault;
+use crate::keys_fault::KeysFault;
 use crate::limits::GREATEST_TOTAL;
 use crate::link_fault::LinkFault;
 use pay_frame::{Kind, MOST_MEMBERS};
@@ -32,6 +35,34 @@ pub fn genesis_causes()
         × (GREATEST_TOTAL < sum g.opening)) }
 {}
 
+/// Keys have no fault exactly where they are of a member and as many as the members; each fault comes
+/// exactly where its own cause holds and no earlier one.
+pub fn keys_causes()
+    ensures none { (members : ℕ) (k : KeyFields) → (keys_fault members k ≡ None)
+        ↔ ((k.own < members) × (length k.keys ≡ members)) }
+    ensures own { (members : ℕ) (k : KeyFields) → (keys_fault members k ≡ Some KeysFault.BadOwn)
+        ↔ (members ≤ k.own) }
+    ensures count { (members : ℕ) (k : KeyFields) → (keys_fault members k ≡ Some KeysFault.BadKeyCount)
+        ↔ ((k.own < members) × (length k.keys ≢ members)) }
+{}
+
+/// The keys that are kept of a member's are those for its peers, and none for itself.
+pub fn peers_keys_are_kept()
+    ensures members { (k : KeyFields) → length (kept_keys k).keys ≡ length k.keys }
+    ensures peer { (k : KeyFields) (p : ℕ) → IsPeer k p → key_for (kept_keys k) p ≡ key_for k p }
+    ensures own { (k : KeyFields) → key_for (kept_keys k) k.own ≡ no_key }
+{}
+
+/// A number is taken exactly where it is the next one, a repeat is one below it and a gap one above
+/// it. Both name the next one.
+pub fn numbers_in_turn()
+    ensures next { (next number : ℕ) → (turn next number ≡ Ok tt) ↔ (number ≡ next) }
+    ensures repeat { (next number told : ℕ) → (turn next number ≡ Err (LinkFault.Repeat told))
+        ↔ ((number < next) × (told ≡ next)) }
+    ensures gap { (next number told : ℕ) → (turn next number ≡ Err (LinkFault.Gap told))
+        ↔ ((next < number) × (told ≡ next)) }
+{}
+
 /// A frame opens exactly where it is for the member, from a peer, about a member's broadcast and
 /// rightly tagged, and it is then what was opened.
 pub fn opened()
@@ -39,7 +70,8 @@ pub fn opened()
         (judgement k f ≡ Ok o) ↔ (Opens k f × (o ≡ opened_fields k f)) }
 {}
 
-/// Each refusal comes exactly where its own cause holds and no earlier one.
+/// Each refusal comes exactly where its own cause holds and no earlier one. Whether a number is the
+/// next one isn't asked yet.
 pub fn refused()
     ensures not_for_me { (k : KeyFields) (f : FrameFields) →
         (judgement k f ≡ Err LinkFault.NotForMe) ↔ (f.to ≢ k.own) }
@@ -52,10 +84,14 @@ pub fn refused()
         (judgement k f ≡ Err LinkFault.BadTag)
         ↔ ((f.to ≡ k.own) × IsPeer k f.from × (f.body.owner < length k.keys)
         × ¬ (IsTagged (key_for k f.from) f)) }
+    ensures no_repeat { (k : KeyFields) (f : FrameFields) (next : ℕ) →
+        judgement k f ≢ Err (LinkFault.Repeat next) }
+    ensures no_gap { (k : KeyFields) (f : FrameFields) (next : ℕ) →
+        judgement k f ≢ Err (LinkFault.Gap next) }
 {}
 
 /// What opens at a member, once it is owned, is for that member; and what is for a member opens there
-/// again, and is then what was owned.
+/// again, and is then what was owned. Its bytes are that frame and nothing else.
 pub fn owned()
     ensures kept { (k : KeyFields) (f : FrameFields) (o : OpenedFields) → IsFrame f
         → f.body.kind ≢ Kind.Want → judgement k f ≡ Ok o
@@ -63,6 +99,7 @@ pub fn owned()
     ensures opens_again { (k : KeyFields) (c : CheckedFields) → IsChecked c → IsFor k c
         → (judgement k c.frame ≡ Ok (opened_fields k c.frame))
         × (checked_fields (opened_fields k c.frame) ≡ c) }
+    ensures one_frame { (c : CheckedFields) → IsChecked c → IsOneFrame (bytes_of c) c.frame }
 {}
 
 /// What one of two members seals for the other opens there, where both have one key for each other.
