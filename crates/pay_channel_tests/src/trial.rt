@@ -2,17 +2,11 @@
 
 ghost use Rattle.std.specs.Prelude.{◌≡◌};
 
-use crate::step::{Group, Said, Step, Value, said_by};
+use crate::step::{Group, Said, Step, Value};
 use pay_channel::{Applied, Channel, EventRef};
 use pay_echo::{Instance, MOST_MEMBERS};
-use pay_frame::{Body, Bytes, Kind};
+use pay_frame::{Body, Bytes, GREATEST_VALUE, Kind, SEQS};
 use std::alloc::{AllocError, Global};
-
-// What a broadcast's numbers are below.
-const SEQS: u32 = 65_536;
-
-// The most bytes that a value may have.
-const GREATEST_VALUE: usize = 1024;
 
 /// A channel, with what is to be known of it before an event may come.
 #[derive(Drop)]
@@ -62,7 +56,7 @@ impl<I: Instance + Drop> Trial<I> {
     }
 
     fn ask(&mut self, alloc: Global, value: Value) -> Result<Option<Applied>, AllocError> {
-        if value.len() > GREATEST_VALUE || self.channel.asks() >= SEQS {
+        if value.len() > usize::from(GREATEST_VALUE) || self.channel.asks() >= SEQS {
             return Ok(None);
         }
         let applied = self.channel.apply(alloc, EventRef::Ask(value))?;
@@ -92,23 +86,9 @@ fn body_of(alloc: Global, said: Said<'_>) -> Result<Option<Body>, AllocError> {
         seq,
         value,
     } = said;
-    if kind == Kind::Want || seq >= SEQS || value.len() > GREATEST_VALUE {
+    if kind == Kind::Want || seq >= SEQS || value.len() > usize::from(GREATEST_VALUE) {
         return Ok(None);
     }
     let value = Bytes::from_slice(alloc, value)?;
     Ok(Some(Body::new(kind, owner, seq, value)))
-}
-
-/// All that the channel sent, in order.
-pub(crate) fn sent_by<I: Instance + Drop>(
-    alloc: Global,
-    channel: &Channel<I>,
-) -> Result<Vec<Said<'_>>, AllocError> {
-    let mut sent = Vec::new(alloc);
-    for place in 0..channel.sent_len() {
-        if let Some(body) = channel.sent(place) {
-            sent.push(said_by(body))?;
-        }
-    }
-    Ok(sent)
 }
