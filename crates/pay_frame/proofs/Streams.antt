@@ -1,5 +1,5 @@
 -- A stream is one list of frames and one end, and how both grow.
-use Rattle.std.proofs.Common.{◌≡◌, ℕ, zero, suc, ◌+◌, ◌<◌, List, [], ◌∷◌, ◌++◌, length, get_or, take, drop, refl, sym, ◌∙◌, ap, subst, arith, append_assoc, Some, None, Option, Result, Ok, Err}
+use Rattle.std.proofs.Common.{◌≡◌, ℕ, zero, suc, ◌+◌, ◌<◌, ◌≤◌, List, [], ◌∷◌, ◌++◌, length, get_or, take, drop, refl, sym, ◌∙◌, ap, subst, arith, append_assoc, inl, inr, ◌*◌, Some, None, Option, Result, Ok, Err}
 use Rattle.std.specs.List.{All, flat_map}
 use Rattle.std.proofs.lemmas.List.{append-nil, length-append, drop_at, get_or-drop}
 use Rattle.std.proofs.lemmas.List.Elements.{All-nil, All-cons, All-head, All-tail, All-append}
@@ -7,9 +7,9 @@ use Rattle.std.proofs.lemmas.Grind.{flat_map-append}
 use Rattle.pay_frame.specs.declared.fault.FrameFault.{FrameFault}
 use Rattle.pay_frame.specs.declared.fault.FrameFault.TheVariants.{Truncated}
 use Rattle.pay_frame.specs.Frame.{FrameFields, frame_bytes, IsFrame}
-use Rattle.pay_frame.specs.Reading.{IsReading, IsProperBeginning, IsFault}
-use Rattle.pay_frame.specs.Cutting.{Held, Feeds, HandsOut, IsDrained, frame_in}
-use Rattle.pay_frame.specs.Stream.{IsBytes, IsFramesThen, IsEnd, Nothing, CutOff, Faulty, IsStream, HasStream, GoesOn}
+use Rattle.pay_frame.specs.Reading.{HasFrame, IsReading, IsProperBeginning, IsFault}
+use Rattle.pay_frame.specs.Cutting.{Held, Feeds, HandsOut, EndsWith, IsDrained, frame_in}
+use Rattle.pay_frame.specs.Stream.{IsBytes, IsFramesThen, IsEnd, Nothing, CutOff, Faulty, IsStream, HasStream, GoesOn, end_of}
 use Rattle.pay_frame.proofs.Starting.{length-frame}
 use Rattle.pay_frame.proofs.OneReading.{one_reading, same_front, drained_from_beginning}
 use Rattle.pay_frame.proofs.WholeRuns.{AllFrames, same_cut}
@@ -51,8 +51,11 @@ next_frame x h r fs f c is front = more_frames x h r fs (f ∷ []) c (first_fram
 pub joined : (x r : List ℕ) (fs gs : List FrameFields) (e : Option FrameFault) → IsFramesThen x fs r → IsStream r gs e → IsStream x (fs ++ gs) e
 joined x r fs gs e c s = record { rest = s.rest; cut = more_frames x r s.rest fs gs c s.cut; ends = s.ends }
 
-pub fault_ends : (x more : List ℕ) (fault : FrameFault) → IsFault x fault → IsStream (x ++ more) [] (Some fault)
-fault_ends x more fault wrong = record { rest = x ++ more; cut = no_frames (x ++ more); ends = Faulty (fault_stays x more fault wrong) }
+pub joins : (read held more : List ℕ) (first frames : List FrameFields) (e : Option FrameFault) → IsFramesThen read first held → IsStream (held ++ more) frames e → IsStream (read ++ more) (first ++ frames) e
+joins read held more first frames e c s = joined (read ++ more) (held ++ more) first frames e (more_bytes read held more first c) s
+
+pub fault_ends : (read held more : List ℕ) (frames : List FrameFields) (fault : FrameFault) → IsFramesThen read frames held → IsFault held fault → IsStream (read ++ more) frames (Some fault)
+fault_ends read held more frames fault c wrong = record { rest = held ++ more; cut = more_bytes read held more frames c; ends = Faulty (fault_stays held more fault wrong) }
 
 -- ---- one stream
 
@@ -145,6 +148,9 @@ parted x r (f ∷ fs) (g ∷ gs) e c s =
     let tail : gs ≡ fs ++ inner.more = inner.parts in
     record { more = inner.more; parts = cc (head, tail); is = inner.is }
 
+pub parts : (read held more : List ℕ) (first all : List FrameFields) (e : Option FrameFault) → IsFramesThen read first held → IsStream (read ++ more) all e → GoesOn (held ++ more) first all e
+parts read held more first all e c s = parted (read ++ more) (held ++ more) first all e (more_bytes read held more first c) s
+
 -- ---- every stream
 
 bytes_behind : (x front rest : List ℕ) → x ≡ front ++ rest → IsBytes x → IsBytes rest
@@ -202,3 +208,27 @@ pub handed_out : (old new : Held) (answer : Result (Option FrameFields) FrameFau
 handed_out old new (Ok (Some f)) x fs h c = next_frame x old.bytes new.bytes fs f c h.1 h.2
 handed_out old new (Ok None) x fs h c = same_held x fs old.bytes new.bytes h.2 c
 handed_out old new (Err fault) x fs h c = same_held x fs old.bytes new.bytes h.1 c
+
+pub first_fault : (old new : Held) (fault : FrameFault) → old.met ≡ None → HandsOut old (Err fault) new → IsFault new.bytes fault
+first_fault old new fault none (inl some, same, _) = absurd (cc (none, some))
+first_fault old new fault none (inr first, same, _) = subst (λ (xs : List ℕ). IsFault xs fault) (sym same) first.1
+
+cut_off : (rest : List ℕ) (fault : FrameFault) → 0 < length rest → IsProperBeginning rest → fault ≡ Truncated → IsEnd rest (Some fault)
+cut_off rest fault some begins e = subst (λ (f : FrameFault). IsEnd rest (Some f)) (sym e) (CutOff some begins)
+
+pub ended : (held : Held) (answer : Result Unit FrameFault) (read : List ℕ) (frames : List FrameFields) → held.met ≡ None → EndsWith held answer → IsFramesThen read frames held.bytes → IsStream read frames (end_of answer)
+ended held (Ok _) read frames none e c = record { rest = held.bytes; cut = c; ends = Nothing e.1 }
+ended held (Err fault) read frames none (inl some) c = absurd (cc (none, some))
+ended held (Err fault) read frames none (inr (_, some, inl wrong)) c = record { rest = held.bytes; cut = c; ends = Faulty wrong }
+ended held (Err fault) read frames none (inr (_, some, inr (begins, is))) c = record { rest = held.bytes; cut = c; ends = cut_off held.bytes fault some begins is }
+
+-- ---- so many frames
+
+pub many_bytes : (x r : List ℕ) (fs : List FrameFields) → IsFramesThen x fs r → 56 * length fs + length r ≤ length x
+many_bytes x r [] c = omega (arith, ap length c.parts)
+many_bytes x r (f ∷ fs) c =
+    let is = All-head IsFrame f fs c.each in
+    let behind : List ℕ = spelled fs ++ r in
+    let fewer = many_bytes behind r fs (record { each = All-tail IsFrame f fs c.each; parts = refl }) in
+    let front : x ≡ frame_bytes f ++ behind = c.parts ∙ append_assoc (frame_bytes f) (spelled fs) r in
+    omega (arith, ap length front, length-append (frame_bytes f) behind, length-frame f is)

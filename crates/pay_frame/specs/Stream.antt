@@ -1,6 +1,6 @@
 -- A whole stream of bytes: frames one after the other, and how it ends. Nothing here speaks of the pieces
 -- in which it comes, or of how far a reader is.
-use Rattle.std.specs.Prelude.{◌≡◌, ℕ, ◌<◌, List, [], ◌++◌, length, slice_index, Option, Some, None}
+use Rattle.std.specs.Prelude.{◌≡◌, ℕ, ◌<◌, List, [], ◌++◌, length, slice_index, Option, Some, None, Result, Ok, Err}
 use Rattle.std.specs.List.{All, flat_map}
 use Rattle.pay_frame.specs.declared.fault.FrameFault.{FrameFault}
 use Rattle.pay_frame.specs.declared.fault.FrameFault.TheVariants.{Truncated}
@@ -40,3 +40,24 @@ pub record GoesOn (rest : List ℕ) (first all : List FrameFields) (ending : Opt
   pub more : List FrameFields
   pub parts : all ≡ first ++ more
   pub is : IsStream rest more ending
+
+-- the end that a cutter's answer at the end of the input tells
+abbrev pub end_of : Result Unit FrameFault → Option FrameFault
+end_of (Ok _) = None
+end_of (Err fault) = Some fault
+
+-- ---- the laws that engines use, by name: `read` is what was read so far, `first` the frames that were
+-- handed out, `held` what is left of it, and `more` what wasn't read yet
+
+abbrev pub EveryStream : Type 0
+EveryStream = (bytes : List ℕ) → IsBytes bytes → HasStream bytes
+
+abbrev pub Joins : Type 0
+Joins =
+    (read held more : List ℕ) (first frames : List FrameFields) (ending : Option FrameFault)
+    → IsFramesThen read first held → IsStream (held ++ more) frames ending → IsStream (read ++ more) (first ++ frames) ending
+
+abbrev pub Parts : Type 0
+Parts =
+    (read held more : List ℕ) (first all : List FrameFields) (ending : Option FrameFault)
+    → IsFramesThen read first held → IsStream (read ++ more) all ending → GoesOn (held ++ more) first all ending

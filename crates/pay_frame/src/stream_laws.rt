@@ -1,12 +1,12 @@
 //! Laws of streams: how bytes are frames and an end, and how that grows as they come. Each body is empty:
 //! the contract is the law.
 
-ghost use Rattle.std.specs.Prelude.{◌≡◌, ℕ, ◌+◌, ◌<◌, ◌≤◌, List, [], ◌∷◌, ◌++◌, length, take, Option, Some, None, Result};
+ghost use Rattle.std.specs.Prelude.{◌≡◌, ℕ, ◌+◌, ◌*◌, ◌<◌, ◌≤◌, List, [], ◌∷◌, ◌++◌, length, take, Option, Some, None, Result};
 ghost use Rattle.pay_frame.specs.declared.fault.FrameFault.{FrameFault as Fault};
 ghost use Rattle.pay_frame.specs.Frame.{FrameFields, frame_bytes, IsFrame};
 ghost use Rattle.pay_frame.specs.Reading.{IsReading, IsProperBeginning, IsFault};
-ghost use Rattle.pay_frame.specs.Cutting.{Held, Feeds, HandsOut, frame_in};
-ghost use Rattle.pay_frame.specs.Stream.{IsBytes, IsFramesThen, IsStream, HasStream, GoesOn};
+ghost use Rattle.pay_frame.specs.Cutting.{Held, Feeds, HandsOut, EndsWith, frame_in};
+ghost use Rattle.pay_frame.specs.Stream.{IsBytes, IsFramesThen, IsStream, EveryStream, Joins, Parts, end_of};
 
 use crate::limits::{GREATEST_FRAME, LEAST_LENGTH};
 
@@ -18,7 +18,7 @@ pub fn every_reading()
 
 /// Any bytes are a stream: some frames, and an end.
 pub fn every_stream()
-    ensures law { (bytes : List ℕ) → IsBytes bytes → HasStream bytes }
+    ensures law { EveryStream }
 {}
 
 /// Bytes are one stream: its frames and its end depend on the bytes alone.
@@ -42,35 +42,43 @@ pub fn stream_grows()
         → IsFramesThen bytes (first ++ more) rest }
 {}
 
-/// Frames and then a stream are a stream, and behind the first frames of a stream is a stream.
+/// Behind the frames that were handed out of what was read goes on the stream: it is these frames and those
+/// of what is left and still comes, with the same end, and nothing else.
 pub fn stream_goes_on()
-    ensures joined { (bytes rest : List ℕ) (first more : List FrameFields) (ending : Option Fault)
-        → IsFramesThen bytes first rest → IsStream rest more ending → IsStream bytes (first ++ more) ending }
-    ensures parted { (bytes rest : List ℕ) (first all : List FrameFields) (ending : Option Fault)
-        → IsFramesThen bytes first rest → IsStream bytes all ending → GoesOn rest first all ending }
+    ensures joined { Joins }
+    ensures parted { Parts }
 {}
 
 /// A fault ends a stream, whatever comes behind it.
 pub fn fault_is_for_good()
-    ensures fault { (bytes more : List ℕ) (fault : Fault) → IsFault bytes fault → IsFault (bytes ++ more) fault }
-    ensures stream { (bytes more : List ℕ) (fault : Fault) → IsFault bytes fault
-        → IsStream (bytes ++ more) [] (Some fault) }
+    ensures fault { (bytes more : List ℕ) (fault : Fault)
+        → IsFault bytes fault → IsFault (bytes ++ more) fault }
+    ensures stream { (read held more : List ℕ) (frames : List FrameFields) (fault : Fault)
+        → IsFramesThen read frames held → IsFault held fault → IsStream (read ++ more) frames (Some fault) }
 {}
 
-/// What a cutter was fed is the frames that it handed out and then what it holds, after each call.
+/// After each call of a cutter, what it was fed is the frames that it handed out and then what it holds.
+/// Its first fault is one of what it holds, and what it answers at the end is the stream's end.
 pub fn cutter_follows_stream()
-    ensures feed { (old new : Held) (piece bytes : List ℕ) (taken : ℕ) (frames : List FrameFields)
-        → Feeds old new piece taken → IsFramesThen bytes frames old.bytes
-        → IsFramesThen (bytes ++ take taken piece) frames new.bytes }
-    ensures next { (old new : Held) (answer : Result (Option FrameFields) Fault) (bytes : List ℕ) (frames : List FrameFields)
-        → HandsOut old answer new → IsFramesThen bytes frames old.bytes
-        → IsFramesThen bytes (frames ++ frame_in answer) new.bytes }
+    ensures feed { (old new : Held) (piece read : List ℕ) (taken : ℕ) (frames : List FrameFields)
+        → Feeds old new piece taken → IsFramesThen read frames old.bytes
+        → IsFramesThen (read ++ take taken piece) frames new.bytes }
+    ensures next { (old new : Held) (answer : Result (Option FrameFields) Fault) (read : List ℕ)
+        (frames : List FrameFields) → HandsOut old answer new → IsFramesThen read frames old.bytes
+        → IsFramesThen read (frames ++ frame_in answer) new.bytes }
+    ensures fault { (old new : Held) (fault : Fault)
+        → old.met ≡ None → HandsOut old (Err fault) new → IsFault new.bytes fault }
+    ensures end { (held : Held) (answer : Result Unit Fault) (read : List ℕ) (frames : List FrameFields)
+        → held.met ≡ None → EndsWith held answer → IsFramesThen read frames held.bytes
+        → IsStream read frames (end_of answer) }
 {}
 
-/// How long a frame is, and that less than one is shorter than the longest.
+/// How long a frame is; that less than one is shorter than the longest; and how many there can be.
 pub fn frame_sizes()
     ensures frame { (f : FrameFields) → IsFrame f
         → length (frame_bytes f) ≡ 2 + LEAST_LENGTH + length f.body.value }
     ensures greatest { (f : FrameFields) → IsFrame f → length (frame_bytes f) ≤ GREATEST_FRAME }
     ensures beginning { (bytes : List ℕ) → IsProperBeginning bytes → length bytes < GREATEST_FRAME }
+    ensures count { (bytes rest : List ℕ) (frames : List FrameFields) → IsFramesThen bytes frames rest
+        → (2 + LEAST_LENGTH) * length frames + length rest ≤ length bytes }
 {}
