@@ -6,11 +6,11 @@ use crate::kind::Kind;
 use std::alloc::{AllocError, Global};
 use std::marker::Model;
 
-/// What a frame says, whoever sends it to whom: its kind, the broadcast that it speaks of (owner and
+/// A frame's message without its addresses: its kind, the broadcast that it belongs to (owner and
 /// sequence number) and a value.
 ///
-/// Its type keeps a frame's limits: a sequence number of at most 65,535, a value of at most 1,024
-/// bytes, and nothing but the kind in a WANT.
+/// The type keeps the format's limits: a sequence number below `SEQS`, a value of at most
+/// `GREATEST_VALUE` bytes, and nothing but the kind in a WANT.
 #[derive(Debug, Drop)]
 pub struct Body {
     kind: Kind,
@@ -68,7 +68,7 @@ impl Body {
         self.value.as_slice()
     }
 
-    /// An equal body.
+    /// A clone of the body.
     pub fn copy(&self, alloc: Global) -> Result<Body, AllocError>
         ensures value { IfOk result (λ copy. copy ≡ self.now) }
     {

@@ -3,7 +3,7 @@ ghost use Rattle.std.specs.Prelude.{◌≡◌, ◌↔◌, [], length, IfOk, IsTr
 use std::alloc::{AllocError, Global};
 use std::marker::Model;
 
-/// A list of bytes on the heap. A contract sees it as the list.
+/// Bytes on the heap. Contracts see them as a list of numbers.
 #[derive(Debug, Drop)]
 pub struct Bytes {
     bytes: Vec<u8>,
@@ -18,7 +18,7 @@ impl Model for Bytes {
 }
 
 impl Bytes {
-    /// The bytes of a vector, which isn't copied.
+    /// Takes over a vector, without copying it.
     pub fn new(bytes: Vec<u8>) -> Bytes
         ensures value { result ≡ bytes.items }
     {
@@ -50,7 +50,7 @@ impl Bytes {
         self.bytes.is_empty()
     }
 
-    /// An equal value, on the same heap.
+    /// A clone of the bytes.
     pub fn copy(&self, alloc: Global) -> Result<Bytes, AllocError>
         ensures value { IfOk result (λ copy. copy ≡ self.now) }
     {

@@ -8,15 +8,15 @@ use crate::reading::{frame_of, read, size_in_front};
 use std::alloc::{AllocError, Global};
 use std::marker::Model;
 
-/// Cuts a stream of bytes into frames, in whatever pieces it comes.
+/// Splits a stream of bytes into frames, however the stream is cut into pieces.
 ///
-/// It holds at most `CUTTER_ROOM` bytes, in room that `new` makes once: no later call takes memory.
+/// It buffers at most `CUTTER_ROOM` bytes. `new` allocates the buffer, and no later call allocates.
 #[derive(Debug, Drop)]
 pub struct Cutter {
     buffer: Vec<u8>,
-    /// Where the frame that was handed out last begins.
+    /// Where the frame that was returned last begins.
     given: usize,
-    /// Where the bytes that are held begin.
+    /// Where the buffered bytes begin.
     start: usize,
     met: Option<FrameFault>,
 }
@@ -47,7 +47,7 @@ impl Cutter {
     ghost use Rattle.pay_frame.specs.Lent.{fields_of, given_of};
     ghost use Rattle.pay_frame.specs.Passing.{Passes};
 
-    /// A cutter that holds nothing. It makes all its room at once.
+    /// An empty cutter. This is the only call that allocates.
     pub fn new(alloc: Global) -> Result<Cutter, AllocError>
         ensures empty { IfOk result (λ cutter. cutter ≡ nothing_held) }
     {
@@ -60,8 +60,8 @@ impl Cutter {
         })
     }
 
-    /// Holds as much of the piece as fits, and answers how many bytes that is. After a fault of
-    /// `next` it is none.
+    /// Buffers as much of the piece as fits, and returns how many bytes that is: none after `next`
+    /// returned a fault.
     pub fn feed(&mut self, piece: &[u8]) -> usize
         ensures feeds { Feeds self.old self.new piece.now result }
     {
@@ -76,7 +76,8 @@ impl Cutter {
         count
     }
 
-    /// The next frame of the stream, which is taken away, or none yet. A fault is for good.
+    /// Removes and returns the next frame of the stream, if it is complete. Once it has returned a
+    /// fault, every later call of `next` and `end` returns the same one.
     pub fn next(&mut self) -> Result<Option<FrameRef<'_>>, FrameFault>
         ensures* hands_out { sem 𝓛 (follows_so the_row the_row self.entry.ghost_name none (λ _ _. ⊤) (λ after. HandsOut self.old (given_of result) after)) }
     {
@@ -87,8 +88,8 @@ impl Cutter {
         }
     }
 
-    /// Whether the stream may end here, asked where no whole frame is in front: nothing is held, or
-    /// the fault in what is held, or that it is cut off.
+    /// Whether the stream may end here, with no complete frame in front: `Ok` if nothing is buffered,
+    /// else the fault of the buffered bytes, or `Truncated`.
     pub fn end(&self) -> Result<(), FrameFault>
         requires drained { IsDrained self.now.bytes }
         ensures ends { EndsWith self.now result }
@@ -110,7 +111,7 @@ impl Cutter {
         &self.buffer[self.start..]
     }
 
-    /// Passes the frame in front, if there is one.
+    /// Moves past the frame in front, if it is complete.
     fn pass(&mut self) -> Result<bool, FrameFault>
         ensures passed { IfOk result (Passes self.old self.new) }
         ensures fault { IfErr result (λ fault. HandsOut self.old (Err fault) self.new) }
@@ -132,7 +133,7 @@ impl Cutter {
         }
     }
 
-    /// The frame that was passed last.
+    /// The frame that `pass` moved past.
     fn handed_out(&self) -> FrameRef<'_>
         requires { IsWhole self.now.given }
         ensures { frame_bytes (fields_of result) ≡ self.now.given }
@@ -141,7 +142,7 @@ impl Cutter {
     }
 }
 
-/// Takes away the first bytes.
+/// Removes the first bytes.
 fn drop_front(buffer: &mut Vec<u8>, count: usize)
     requires { count ≤ vec_len buffer.old }
     ensures items { buffer.new.items ≡ drop count buffer.old.items }

@@ -1,4 +1,4 @@
-//! What engines read from and write to: one `read`, one `write`, and counts that callers can cite.
+//! What engines read from and write to, with counts of calls and failures that contracts can cite.
 
 ghost use Rattle.std.specs.Prelude.{◌≡◌, ◌+◌, ◌<◌, ℕ, List, Option, length, IfOk, OnOk, OnErr};
 ghost use Rattle.std.specs.Io.{ReadsAtMost, WritesAtMost};
@@ -12,42 +12,42 @@ use thiserror::Error;
 #[error("the device failed")]
 pub struct DeviceFailed;
 
-/// A source of bytes, which counts its calls and those that failed.
+/// A source of bytes that counts its calls and how many of them failed.
 pub trait Input {
-    // The bytes that reads will give from here on, where they are known.
+    // The bytes that are still to be read, where they are known.
     ghost remaining: { Self → Option (List ℕ) };
 
     ghost call_count: { Self → ℕ };
 
     ghost failure_count: { Self → ℕ };
 
-    /// Fills a beginning of the buffer, and answers how many bytes that is: none of a buffer with
-    /// room at the input's end alone.
+    /// Fills a prefix of the buffer and returns its length. Into a buffer with room it reads nothing
+    /// only at the end of the input.
     fn read(&mut self, buffer: &mut [u8]) -> Result<usize, DeviceFailed>
         ensures bound { ReadsAtMost result buffer.new }
         ensures bytes { ReadConsumes (remaining self.old) (remaining self.new) result buffer.new }
         ensures called { call_count self.new ≡ counted (call_count self.old) }
         ensures failed { failure_count self.new ≡ failures_after (failure_count self.old) result };
 
-    /// How often `read` was called. At the greatest value the count stays.
+    /// How often `read` was called. The count saturates.
     fn calls(&self) -> u64
         ensures value { result ≡ call_count self.now };
 
-    /// How many of these calls failed.
+    /// How many of these calls failed. The count saturates.
     fn failures(&self) -> u64
         ensures value { result ≡ failure_count self.now };
 }
 
-/// A sink of bytes, which counts its calls and those that failed.
+/// A sink of bytes that counts its calls and how many of them failed.
 pub trait Output {
-    // The bytes that were written, where they are known.
+    // The bytes written so far, where they are known.
     ghost contents: { Self → Option (List ℕ) };
 
     ghost call_count: { Self → ℕ };
 
     ghost failure_count: { Self → ℕ };
 
-    /// Writes a beginning of the bytes, and answers how many that is: never none of some, which is a
+    /// Writes a prefix of the bytes and returns its length. Writing nothing of a non-empty slice is a
     /// failure.
     fn write(&mut self, bytes: &[u8]) -> Result<usize, DeviceFailed>
         ensures bound { WritesAtMost result bytes.now }
@@ -56,16 +56,16 @@ pub trait Output {
         ensures called { call_count self.new ≡ counted (call_count self.old) }
         ensures failed { failure_count self.new ≡ failures_after (failure_count self.old) result };
 
-    /// How often `write` was called. At the greatest value the count stays.
+    /// How often `write` was called. The count saturates.
     fn calls(&self) -> u64
         ensures value { result ≡ call_count self.now };
 
-    /// How many of these calls failed.
+    /// How many of these calls failed. The count saturates.
     fn failures(&self) -> u64
         ensures value { result ≡ failure_count self.now };
 }
 
-/// Writes all the bytes. After a failure a beginning of them is written.
+/// Writes all the bytes. After a failure, a prefix of them has been written.
 pub fn write_all<W: Output>(writer: &mut W, bytes: &[u8]) -> Result<(), DeviceFailed>
     ensures ok { OnOk result (Appends (W.contents writer.old) (W.contents writer.new) bytes.now) }
     ensures none_failed { OnOk result (W.failure_count writer.new ≡ W.failure_count writer.old) }

@@ -5,19 +5,19 @@ use crate::fault::FrameFault;
 use std::alloc::{AllocError, AllocFailed};
 use thiserror::Error;
 
-/// Why an engine over an input and an output ended early.
+/// Why an engine that reads an `Input` and writes an `Output` ended early.
 #[derive(Clone, Copy, Debug, PartialEq, Eq, Error)]
 #[error("{} {}", self.number(), self.name())]
 pub enum EngineFault {
-    /// Memory ran out.
+    /// An allocation failed.
     Memory,
-    /// What was read is no frame.
+    /// The input is no stream of frames.
     Frame(FrameFault),
     /// A read failed.
     Read,
     /// A write failed.
     Write,
-    /// As many reads as an engine may make gave bytes.
+    /// `MOST_READS` reads did not reach the end of the input.
     Bound,
 }
 

@@ -3,9 +3,9 @@ ghost use Rattle.pay_frame.specs.Frame.{IsFrame, head_bytes};
 
 use crate::kind::Kind;
 
-/// A frame in a buffer, which lends its parts without copying.
+/// A frame that borrows the buffer it was read from.
 ///
-/// Its type keeps that the parts are a frame's and that the head is their spelling.
+/// The type keeps that its parts are within the format's limits and that the head encodes them.
 #[derive(Debug, Drop)]
 pub struct FrameRef<'a> {
     pub(crate) kind: Kind,
@@ -30,28 +30,28 @@ impl<'a> FrameRef<'a> {
         self.kind
     }
 
-    /// Who sent it.
+    /// The sender.
     pub fn from(&self) -> u16
         ensures value { result ≡ (fields_of self.now).from }
     {
         self.from
     }
 
-    /// Whom it was sent to.
+    /// The receiver.
     pub fn to(&self) -> u16
         ensures value { result ≡ (fields_of self.now).to }
     {
         self.to
     }
 
-    /// Its place among all that the sender sent.
+    /// Its index in the sender's list of sent bodies, or, in a WANT, the next index wanted.
     pub fn number(&self) -> u64
         ensures value { result ≡ (fields_of self.now).number }
     {
         self.number
     }
 
-    /// Whose broadcast it speaks of.
+    /// Whose broadcast it belongs to.
     pub fn owner(&self) -> u16
         ensures value { result ≡ (fields_of self.now).body.owner }
     {

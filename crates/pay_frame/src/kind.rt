@@ -5,7 +5,7 @@ ghost use Rattle.std.specs.Prelude.{◌≡◌};
 pub enum Kind {
     /// The owner broadcasts a value.
     Send = 1,
-    /// A member repeats the value that the owner sent.
+    /// A member echoes the value that the owner sent.
     Echo = 2,
     /// A member is ready to deliver the value.
     Ready = 3,

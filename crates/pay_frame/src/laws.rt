@@ -1,4 +1,5 @@
-//! Laws of the definitions alone, for proofs above. Each body is empty: the contract is the law.
+//! Laws of the definitions, which proofs of other crates cite. The bodies are empty: the contract is the
+//! law.
 
 ghost use Rattle.std.specs.Prelude.{◌≡◌, ℕ, ◌≤◌, List, [], ◌++◌, length, Option, Some, None, Result, Ok, Err, ◌↔◌};
 ghost use Rattle.pay_frame.specs.declared.fault.FrameFault.{FrameFault as Fault};
@@ -10,61 +11,61 @@ ghost use Rattle.pay_frame.specs.Stream.{IsBytes};
 ghost use Rattle.pay_frame.specs.Cutting.{Held, Call, Runs, stream_of, frames_of, nothing_held, IsDrained};
 ghost use Rattle.std.specs.List.{flat_map};
 
-/// Each frame has one spelling: equal bytes are of equal fields.
+/// Encoding is injective: equal bytes encode equal fields.
 pub fn one_spelling()
     ensures law { (f g : FrameFields) → IsFrame f → IsFrame g → frame_bytes f ≡ frame_bytes g → f ≡ g }
 {}
 
-/// No frame is a proper beginning of another.
+/// No frame is a proper prefix of another.
 pub fn none_begins_another()
     ensures law { (f g : FrameFields) (rest : List ℕ) → IsFrame f → IsFrame g →
         frame_bytes g ≡ frame_bytes f ++ rest → rest ≡ [] }
 {}
 
-/// Frames in front of the same bytes are the same, and so is what follows them.
+/// At most one frame is a prefix of any bytes, and it determines the rest.
 pub fn one_front()
     ensures law { (f g : FrameFields) (x y : List ℕ) → IsFrame f → IsFrame g →
         frame_bytes f ++ x ≡ frame_bytes g ++ y → (f ≡ g) × (x ≡ y) }
 {}
 
-/// Reading answers one thing: a frame, nothing yet, and each fault exclude one another.
+/// Bytes have at most one reading: a frame, a proper prefix and each fault exclude one another.
 pub fn one_reading()
     ensures law { (bytes : List ℕ) (one other : Result (Option (FrameFields × ℕ)) Fault) →
         IsReading bytes one → IsReading bytes other → one ≡ other }
 {}
 
-/// What was written is read again, whatever follows it.
+/// An encoded frame is read back, whatever follows it.
 pub fn read_again()
     ensures law { (f : FrameFields) (rest : List ℕ) (answer : Result (Option (FrameFields × ℕ)) Fault) → IsFrame f →
         IsReading (frame_bytes f ++ rest) answer → answer ≡ Ok (Some (f, length (frame_bytes f))) }
 {}
 
-/// After any calls of a cutter, in any order, with any pieces: the stream, which is all that was taken
-/// of the pieces, is the frames handed out and then the bytes that are still held.
+/// After any calls of a cutter, the bytes that it took from all pieces are the encodings of the frames
+/// that it returned, followed by the bytes that it still holds.
 pub fn stream_is_frames_and_rest()
     ensures law { (calls : List Call) (held : Held) → Runs nothing_held calls held →
         stream_of calls ≡ flat_map frame_bytes (frames_of calls) ++ held.bytes }
 {}
 
-/// However a stream is cut into pieces, and however often frames are asked for between them: once no
-/// whole frame is in front, the frames handed out are the same, and so is what is still held.
+/// Two cutters that took the same bytes, in whatever pieces and with whatever calls of `next` between
+/// them, have returned the same frames and hold the same bytes once neither has a complete frame.
 pub fn cuts_do_not_matter()
     ensures law { (one two : List Call) (a b : Held) → Runs nothing_held one a → Runs nothing_held two b →
         stream_of one ≡ stream_of two → IsDrained a.bytes → IsDrained b.bytes →
         (frames_of one ≡ frames_of two) × (a.bytes ≡ b.bytes) }
 {}
 
-/// Only the first six faults are faults of bytes: no reading finds them cut off.
+/// The fault of bytes is one of the first six, so never `Truncated` or `Trailing`.
 pub fn faults_of_bytes()
     ensures law { (bytes : List ℕ) (fault : Fault) → IsFault bytes fault → number_of fault ≤ 6 }
 {}
 
-/// No bytes at all are a proper beginning of a frame.
+/// The empty list is a proper prefix of a frame.
 pub fn nothing_is_a_beginning()
     ensures law { IsProperBeginning [] }
 {}
 
-/// Reading bytes as one frame answers one thing, and bytes have such an answer.
+/// Reading bytes as one frame has exactly one answer.
 pub fn one_answer()
     ensures unique { (bytes : List ℕ) (one other : Result FrameFields Fault) →
         IsOneReading bytes one → IsOneReading bytes other → one ≡ other }
@@ -72,7 +73,7 @@ pub fn one_answer()
         (answer : Result FrameFields Fault) × IsOneReading bytes answer }
 {}
 
-/// What `one_frame` computes is the frame that the bytes are, if they are one and nothing else.
+/// `one_frame` computes the frame that the bytes are, if they are one frame and nothing else.
 pub fn one_frame_is()
     ensures law { (bytes : List ℕ) (f : FrameFields) →
         (one_frame bytes ≡ Some f) ↔ IsOneFrame bytes f }
@@ -80,7 +81,7 @@ pub fn one_frame_is()
         IsOneReading bytes (Err fault) → one_frame bytes ≡ None }
 {}
 
-/// Where the bytes are a proper beginning of a frame, no whole frame is in front.
+/// A proper prefix of a frame has no complete frame in front.
 pub fn beginning_is_drained()
     ensures law { (bytes : List ℕ) → IsProperBeginning bytes → IsDrained bytes }
 {}

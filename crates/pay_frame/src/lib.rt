@@ -1,8 +1,8 @@
 //! Frames on the wire, and the byte streams that carry them.
 //!
-//! A frame is one message from one member to another, tagged for its receiver. Its definition is a
-//! function from fields to bytes (`specs/Frame.antt`); `read` and `write` are proved against it, and
-//! `Cutter` cuts a stream into frames however the stream comes in pieces.
+//! A frame is one message from one member to another, tagged for its receiver. It is defined by its
+//! encoding, a function from fields to bytes (`specs/Frame.antt`). `read` and `write` are proved
+//! against it, and `Cutter` splits a stream into frames.
 #![tactic(auto)]
 
 mod body;

@@ -1,31 +1,31 @@
-//! The sizes and limits that clauses and definitions cite. Each number stands here alone.
+//! Sizes and limits. Clauses and definitions cite them, so each number stands here alone.
 
-/// The bytes of a frame that stand before its value.
+/// The size in bytes of a frame's head, which is everything before its value.
 pub const HEAD_LEN: usize = 24;
 
-/// The bytes of a tag.
+/// The size of a tag in bytes.
 pub const TAG_LEN: usize = 32;
 
-/// The least that a length field says: the bytes that follow it where the value is empty.
+/// The least value of a length field: how many bytes follow it in a frame with an empty value.
 pub const LEAST_LENGTH: u16 = 54;
 
-/// The length of the longest value.
+/// The greatest length of a value in bytes.
 pub const GREATEST_VALUE: u16 = 1024;
 
-/// The size of the longest frame, with its length field.
+/// The size of the longest frame in bytes, its length field included.
 pub const GREATEST_FRAME: usize = 1080;
 
-/// How many bytes a `Cutter` holds.
+/// How many bytes a `Cutter` buffers at most.
 pub const CUTTER_ROOM: usize = 4096;
 
-/// The longest piece that an engine reads at once. Behind less than a frame it fits a `Cutter`.
+/// How many bytes an engine reads at once at most. They fit a `Cutter` that holds less than a frame.
 pub const GREATEST_PIECE: usize = CUTTER_ROOM - GREATEST_FRAME;
 
-/// How often an engine over an `Input` reads.
+/// How many reads an engine makes at most.
 pub const MOST_READS: u32 = 1_000_000;
 
-/// How many sequence numbers an owner has: they go from 0 to 65,535.
+/// How many sequence numbers an owner has, counted from 0.
 pub const SEQS: u32 = 65_536;
 
-/// How many members there can be.
+/// The greatest number of members.
 pub const MOST_MEMBERS: u16 = 64;

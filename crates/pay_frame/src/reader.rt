@@ -3,7 +3,7 @@ ghost use Rattle.std.specs.Prelude.{◌≡◌};
 use crate::device::{DeviceFailed, Input};
 use std::io::Read;
 
-/// A reader of `std` as an `Input`.
+/// An `Input` over a `std` reader.
 #[derive(Drop)]
 pub struct Reader<R> {
     inner: R,
@@ -12,7 +12,6 @@ pub struct Reader<R> {
 }
 
 impl<R: Read> Reader<R> {
-    /// No call was made yet.
     pub fn new(inner: R) -> Reader<R>
         ensures inner { result.inner ≡ inner }
         ensures calls { result.calls ≡ 0 }

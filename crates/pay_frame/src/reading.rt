@@ -10,7 +10,7 @@ use crate::frame_ref::FrameRef;
 use crate::kind::Kind;
 use crate::limits::{GREATEST_VALUE, HEAD_LEN, LEAST_LENGTH, TAG_LEN};
 
-/// The greatest that a length field says.
+/// The greatest value of the length field.
 const GREATEST_LENGTH: u16 = LEAST_LENGTH + GREATEST_VALUE;
 
 const WANT: u8 = 4;
@@ -29,7 +29,7 @@ fn is_want(bytes: &[u8]) -> bool
     bytes[3] == WANT
 }
 
-/// Whether the byte at a place may stand there, behind bytes that may stand before it.
+/// Whether the byte at an index is allowed there, after a prefix in which every byte is.
 fn may_stand(bytes: &[u8], place: usize) -> bool
     requires within { place < length bytes.now }
     requires before { PassBelow bytes.now place }
@@ -49,7 +49,7 @@ fn may_stand(bytes: &[u8], place: usize) -> bool
     }
 }
 
-/// The first place in the head, if any, whose byte may not stand there.
+/// The index of the first byte of the head, if any, that isn't allowed.
 fn first_wrong(bytes: &[u8]) -> Option<usize>
     ensures { MatchOption result (PassBelow bytes.now (min 24 (length bytes.now))) (IsFirstWrong bytes.now) }
 {
@@ -119,7 +119,7 @@ pub(crate) fn frame_of(bytes: &[u8]) -> FrameRef<'_>
     }
 }
 
-/// The size of the frame in front of the bytes, as `read` answers it.
+/// The size of the frame in front, if it is complete.
 pub(crate) fn size_in_front(bytes: &[u8]) -> Result<Option<usize>, FrameFault>
     ensures frame { IfOk result (λ found. IfSome found (IsSizeOf bytes.now)) }
     ensures beginning { IfOk result (λ found. IfNone found (IsProperBeginning bytes.now)) }
@@ -139,8 +139,9 @@ pub(crate) fn size_in_front(bytes: &[u8]) -> Result<Option<usize>, FrameFault>
     })
 }
 
-/// What stands in front of the bytes: a frame and its size, nothing yet where they are a proper
-/// beginning of some frame (as no bytes are), or the fault that the first wrong byte names.
+/// Decodes the frame in front of the bytes, and returns it with its size, or `None` where the bytes
+/// are a proper prefix of some frame, as no bytes at all are. Otherwise the first wrong byte names the
+/// fault, which is never `Truncated` or `Trailing`.
 pub fn read(bytes: &[u8]) -> Result<Option<(FrameRef<'_>, usize)>, FrameFault>
     ensures reading { IsReading bytes.now (sized_of result) }
 {
@@ -150,8 +151,8 @@ pub fn read(bytes: &[u8]) -> Result<Option<(FrameRef<'_>, usize)>, FrameFault>
     }
 }
 
-/// The one frame that the bytes are: `Truncated` where they end inside it, `Trailing` where bytes follow
-/// it, else `read`'s fault.
+/// Decodes bytes that are one frame and nothing else: `Truncated` where they end inside it, `Trailing`
+/// where more bytes follow it, else `read`'s fault.
 pub fn read_one(bytes: &[u8]) -> Result<FrameRef<'_>, FrameFault>
     ensures one { IsOneReading bytes.now (one_of result) }
 {

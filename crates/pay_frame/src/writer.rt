@@ -3,7 +3,7 @@ ghost use Rattle.std.specs.Prelude.{◌≡◌};
 use crate::device::{DeviceFailed, Output};
 use std::io::Write;
 
-/// A writer of `std` as an `Output`. Nothing is flushed.
+/// An `Output` over a `std` writer. It never flushes.
 #[derive(Drop)]
 pub struct Writer<W> {
     inner: W,
@@ -12,7 +12,6 @@ pub struct Writer<W> {
 }
 
 impl<W: Write> Writer<W> {
-    /// No call was made yet.
     pub fn new(inner: W) -> Writer<W>
         ensures inner { result.inner ≡ inner }
         ensures calls { result.calls ≡ 0 }

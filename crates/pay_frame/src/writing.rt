@@ -7,7 +7,7 @@ use std::alloc::{AllocError, Global};
 
 const VERSION: u8 = 1;
 
-/// Writes the 24 bytes that stand before the value.
+/// Encodes a frame's head, the bytes before its value.
 pub fn head_into(head: &mut [u8; 24], from: u16, to: u16, number: u64, body: &Body)
     ensures spelled { head.new ≡ head_bytes from to number body.now }
 {
@@ -47,7 +47,7 @@ pub fn head_into(head: &mut [u8; 24], from: u16, to: u16, number: u64, body: &Bo
     ];
 }
 
-/// The bytes of a frame.
+/// Encodes a frame.
 pub fn write(
     alloc: Global,
     from: u16,

@@ -1,4 +1,4 @@
-use Rattle.std.proofs.Common.{◌∙◌}
+use Rattle.std.proofs.Common.{arith}
 use Rattle.std.proofs.lemmas.Result.{err_from_is_err_and}
 use Rattle.pay_frame.specs.Lent.{fields_of}
 use Rattle.pay_frame.proofs.WholeFrame.{one_failed, more_than_it}
@@ -12,4 +12,5 @@ returns-in_err-size c =
 pub returns-in-Some-2 : goal.returns-in-Some-2
 returns-in-Some-2 c =
     let reading = rw c.in-Some.is at c.in_ok-size.ensures.reading in
-    record { one = more_than_it c.args.bytes.now (fields_of c.in-Some.frame) reading.0 (λ e. c.if-size-bytes.false (reading.1 ∙ e)) }
+    let size = reading.1 in
+    record { one = more_than_it c.args.bytes.now (fields_of c.in-Some.frame) reading.0 (λ e. omega arith) }
