@@ -1,280 +1,241 @@
-//! Streams of frames, cut into pieces.
+//! Streams of frames, cut into pieces: steps of a cutter, and what each is to give.
 
-ghost use Rattle.std.specs.Prelude.{◌≡◌, None, IfOk, IfNone, IfSome, OnOk};
+ghost use Rattle.std.specs.Prelude.{◌≡◌, None, IfOk, IfNone, OnOk, OnErr};
 ghost use Rattle.pay_frame.specs.Cutting.{IsDrained};
 
-use crate::samples::{READY_HEAD, SEND_HEAD, SEND_VALUE, WANT_HEAD, spelled, spelled_echo};
+use crate::samples::{ECHO_HEAD, READY_HEAD, SEND_HEAD, WANT_HEAD, spelled};
 use pay_frame::{Cutter, FrameFault, FrameRef, beginning_is_drained};
-use std::alloc::{AllocError, AllocFailed, Global};
+use std::alloc::Global;
 use std::process::Abort;
 use std::test::Fail;
 
-/// Why no more frames come.
-#[derive(Debug, Drop)]
-enum Stop {
-    Memory,
-    Fault(FrameFault),
-    Endless,
+/// A head in hexadecimal digits, and how many bytes come behind it.
+type Piece = (&'static str, usize);
+
+/// What is done to a cutter, and what it gives. The numbers are places of the whole stream.
+enum Step {
+    /// The bytes between two places are offered, and so many are taken.
+    Feed(usize, usize, usize),
+    /// The next frame is the bytes between two places.
+    Frame(usize, usize),
+    /// There is no further frame yet.
+    Wait,
 }
 
-impl From<AllocError> for Stop {
-    fn from(_error: AllocError) -> Stop {
-        Stop::Memory
-    }
+/// The steps of a new cutter, and how its stream ends.
+struct Run {
+    stream: &'static [Piece],
+    steps: &'static [Step],
+    end: Result<(), FrameFault>,
 }
 
-impl<T: Drop> From<AllocFailed<T>> for Stop {
-    fn from(_error: AllocFailed<T>) -> Stop {
-        Stop::Memory
-    }
+/// Frames of 56, 67, 56 and 1,080 bytes.
+const FOUR: &[Piece] = &[
+    (READY_HEAD, 32),
+    (SEND_HEAD, 43),
+    (WANT_HEAD, 32),
+    (ECHO_HEAD, 1056),
+];
+
+const RUNS: [Run; 14] = [
+    Run {
+        stream: &[],
+        steps: &[],
+        end: Ok(()),
+    },
+    Run {
+        stream: FOUR,
+        steps: &[
+            Step::Feed(0, 1259, 1259),
+            Step::Frame(0, 56),
+            Step::Frame(56, 123),
+            Step::Frame(123, 179),
+            Step::Frame(179, 1259),
+            Step::Wait,
+        ],
+        end: Ok(()),
+    },
+    Run {
+        stream: FOUR,
+        steps: &[
+            Step::Wait,
+            Step::Feed(0, 1, 1),
+            Step::Wait,
+            Step::Feed(1, 24, 23),
+            Step::Wait,
+            Step::Feed(24, 55, 31),
+            Step::Wait,
+            Step::Feed(55, 60, 5),
+            Step::Frame(0, 56),
+            Step::Wait,
+            Step::Feed(60, 123, 63),
+            Step::Feed(123, 300, 177),
+            Step::Frame(56, 123),
+            Step::Frame(123, 179),
+            Step::Wait,
+            Step::Feed(300, 1258, 958),
+            Step::Wait,
+            Step::Feed(1258, 1258, 0),
+            Step::Wait,
+            Step::Feed(1258, 1259, 1),
+            Step::Frame(179, 1259),
+        ],
+        end: Ok(()),
+    },
+    Run {
+        stream: FOUR,
+        steps: &[Step::Feed(0, 1, 1)],
+        end: Err(FrameFault::Truncated),
+    },
+    Run {
+        stream: FOUR,
+        steps: &[Step::Feed(0, 55, 55), Step::Wait],
+        end: Err(FrameFault::Truncated),
+    },
+    Run {
+        stream: FOUR,
+        steps: &[Step::Feed(0, 56, 56), Step::Frame(0, 56)],
+        end: Ok(()),
+    },
+    Run {
+        stream: FOUR,
+        steps: &[Step::Feed(0, 57, 57), Step::Frame(0, 56)],
+        end: Err(FrameFault::Truncated),
+    },
+    // Of frames of 1,080 bytes 4,096 bytes fit: three frames, and 4,096 - 3 * 1,080 = 856 bytes. So
+    // 3,240 more fit, behind which there are three frames and 856 bytes again.
+    Run {
+        stream: &[(ECHO_HEAD, 1056); 9],
+        steps: &[
+            Step::Feed(0, 9720, 4096),
+            Step::Feed(4096, 9720, 0),
+            Step::Frame(0, 1080),
+            Step::Frame(1080, 2160),
+            Step::Frame(2160, 3240),
+            Step::Wait,
+            Step::Feed(4096, 9096, 3240),
+            Step::Frame(3240, 4320),
+            Step::Frame(4320, 5400),
+            Step::Frame(5400, 6480),
+            Step::Wait,
+            Step::Feed(7336, 9720, 2384),
+            Step::Frame(6480, 7560),
+            Step::Frame(7560, 8640),
+            Step::Frame(8640, 9720),
+        ],
+        end: Ok(()),
+    },
+    Run {
+        stream: &[(READY_HEAD, 32), ("05", 0)],
+        steps: &[Step::Feed(0, 57, 57), Step::Frame(0, 56)],
+        end: Err(FrameFault::BadLength),
+    },
+    Run {
+        stream: &[(READY_HEAD, 32), ("003602", 1)],
+        steps: &[Step::Feed(0, 60, 60), Step::Frame(0, 56)],
+        end: Err(FrameFault::BadVersion),
+    },
+    Run {
+        stream: &[("00360105", 0)],
+        steps: &[Step::Feed(0, 3, 3), Step::Wait, Step::Feed(3, 4, 1)],
+        end: Err(FrameFault::BadKind),
+    },
+    Run {
+        stream: &[("00370104", 0)],
+        steps: &[Step::Feed(0, 4, 4)],
+        end: Err(FrameFault::BadWant),
+    },
+    Run {
+        stream: &[("003601010000000000000000000000000000000100000000", 32)],
+        steps: &[Step::Feed(0, 56, 56)],
+        end: Err(FrameFault::BadSeq),
+    },
+    Run {
+        stream: &[("003601010000000000000000000000000000000000000001", 32)],
+        steps: &[Step::Feed(0, 56, 56)],
+        end: Err(FrameFault::BadValueLength),
+    },
+];
+
+fn is_spelled(frame: &FrameRef<'_>, bytes: &[u8]) -> bool {
+    let (head, rest) = bytes.split_at(frame.head().len().min(bytes.len()));
+    let (value, tag) = rest.split_at(frame.value().len().min(rest.len()));
+    frame.head() == head && frame.value() == value && frame.tag() == tag
 }
 
-fn bytes_of(alloc: Global, frame: &FrameRef<'_>) -> Result<Vec<u8>, AllocError> {
-    let mut bytes = Vec::from_slice(alloc, frame.head())?;
-    bytes.extend_from_slice(frame.value())?;
-    bytes.extend_from_slice(frame.tag())?;
-    Ok(bytes)
-}
-
-/// The bytes of the next frame.
-fn next_bytes(alloc: Global, cutter: &mut Cutter) -> Result<Option<Vec<u8>>, Stop>
+/// Whether these bytes are the next frame; nothing, where there is none yet.
+fn is_next(cutter: &mut Cutter, bytes: &[u8]) -> Result<Option<bool>, FrameFault>
+    requires { cutter.old.met ≡ None }
+    ensures met { OnOk result (cutter.new.met ≡ None) }
     ensures drained { IfOk result (λ found. IfNone found (IsDrained cutter.new.bytes)) }
-    ensures no_fault { OnOk result (cutter.new.met ≡ None) }
+    ensures fault { OnErr result (IsDrained cutter.new.bytes) }
 {
     match cutter.next() {
-        Ok(Some(frame)) => Ok(Some(bytes_of(alloc, &frame)?)),
+        Ok(Some(frame)) => Ok(Some(is_spelled(&frame, bytes))),
         Ok(None) => {
             beginning_is_drained();
             Ok(None)
         }
-        Err(fault) => Err(Stop::Fault(fault)),
+        Err(fault) => Err(fault),
     }
 }
 
-/// The fault that the stream meets next.
-fn next_fault(cutter: &mut Cutter) -> Option<FrameFault>
-    requires { cutter.old.met ≡ None }
-    ensures { IfSome result (λ _. IsDrained cutter.new.bytes) }
-{
-    match cutter.next() {
-        Err(fault) => Some(fault),
-        Ok(_) => None,
-    }
+fn between(stream: &[u8], from: usize, to: usize) -> &[u8] {
+    stream.get(from..to).unwrap_or_default()
 }
 
-/// Takes every frame that is in front.
-fn take_frames(alloc: Global, cutter: &mut Cutter, frames: &mut Vec<Vec<u8>>) -> Result<(), Stop>
-    ensures drained { OnOk result (IsDrained cutter.new.bytes) }
-{
-    for _ in 0..100 {
-        match next_bytes(alloc, cutter)? {
-            Some(frame) => frames.push(frame)?,
-            None => return Ok(()),
+impl Step {
+    /// Takes the step, and says whether it gave what was expected.
+    fn is_met(&self, cutter: &mut Cutter, stream: &[u8]) -> Result<bool, FrameFault>
+        requires { cutter.old.met ≡ None }
+        ensures { OnOk result (cutter.new.met ≡ None) }
+    {
+        match self {
+            Step::Feed(from, to, taken) => Ok(cutter.feed(between(stream, *from, *to)) == *taken),
+            Step::Frame(from, to) => Ok(
+                is_next(cutter, between(stream, *from, *to))? == Some(true),
+            ),
+            Step::Wait => Ok(is_next(cutter, &[])?.is_none()),
         }
     }
-    Err(Stop::Endless)
 }
 
-/// A cutter takes so many bytes of a piece.
-fn try_feed(rt: &impl Abort, cutter: &mut Cutter, piece: &[u8], taken: usize) {
-    assert_eq!(rt; cutter.feed(piece), taken);
-}
-
-/// Feeds the pieces and then ends the stream: the frames, and what `end` answered.
-fn cut(
-    rt: &(impl Abort + AllocGlobal),
-    pieces: &[&[u8]],
-) -> Result<(Vec<Vec<u8>>, Result<(), FrameFault>), Stop> {
-    let alloc = rt.alloc();
-    let mut cutter = Cutter::new(alloc)?;
-    let mut frames = Vec::new(alloc);
-    for piece in pieces {
-        try_feed(rt, &mut cutter, piece, piece.len());
-        take_frames(alloc, &mut cutter, &mut frames)?;
+/// What `end` answers, where no whole frame is in front.
+fn end(cutter: &mut Cutter) -> Option<Result<(), FrameFault>>
+    requires { cutter.old.met ≡ None }
+{
+    match is_next(cutter, &[]) {
+        Ok(Some(_)) => None,
+        Ok(None) => Some(cutter.end()),
+        Err(_) => Some(cutter.end()),
     }
-    take_frames(alloc, &mut cutter, &mut frames)?;
-    Ok((frames, cutter.end()))
 }
 
-/// Frames of 56, 67, 56 and 1,080 bytes.
-fn four_frames(alloc: Global) -> Result<Vec<Vec<u8>>, Fail> {
-    let mut frames = Vec::new(alloc);
-    frames.push(spelled(alloc, READY_HEAD, &[])?)?;
-    frames.push(spelled(alloc, SEND_HEAD, SEND_VALUE)?)?;
-    frames.push(spelled(alloc, WANT_HEAD, &[])?)?;
-    frames.push(spelled_echo(alloc)?)?;
-    Ok(frames)
-}
-
-fn one_stream(alloc: Global, frames: &[Vec<u8>]) -> Result<Vec<u8>, AllocError> {
+fn joined(alloc: Global, pieces: &[Piece]) -> Result<Vec<u8>, Fail> {
     let mut stream = Vec::new(alloc);
-    for frame in frames {
-        stream.extend_from_slice(frame.as_slice())?;
+    for (head, behind) in pieces {
+        stream.append(&mut spelled(alloc, head, *behind)?)?;
     }
     Ok(stream)
 }
 
-/// The pieces give these frames, and the stream ends behind them.
-fn try_cut(
-    rt: &(impl Abort + AllocGlobal),
-    pieces: &[&[u8]],
-    frames: &[Vec<u8>],
-) -> Result<(), Fail> {
-    let (found, end) = cut(rt, pieces)?;
-    let count = pieces.len();
-    assert_eq!(rt; found.as_slice(), frames, "of {count} pieces");
-    assert_eq!(rt; end, Ok(()), "after {count} pieces");
-    Ok(())
-}
-
-#[test]
-fn every_cut_gives_the_same_frames(rt: HostRuntime) -> Result<(), Fail> {
-    let frames = four_frames(rt.alloc())?;
-    let stream = one_stream(rt.alloc(), frames.as_slice())?;
-    assert_eq!(rt; stream.len(), 1259);
-    for place in 0..=stream.len() {
-        let (front, back) = stream.split_at(place);
-        try_cut(&rt, &[front, back], frames.as_slice())?;
-    }
-    Ok(())
-}
-
-#[test]
-fn single_bytes_give_the_same_frames(rt: HostRuntime) -> Result<(), Fail> {
-    let frames = four_frames(rt.alloc())?;
-    let stream = one_stream(rt.alloc(), frames.as_slice())?;
-    try_cut(&rt, &[stream.as_slice()], frames.as_slice())?;
-    let mut single: Vec<&[u8]> = Vec::new(rt.alloc());
-    for piece in stream.chunks(1) {
-        single.push(piece)?;
-    }
-    try_cut(&rt, single.as_slice(), frames.as_slice())
-}
-
-/// How many frames there are in so many bytes of the stream, and whether it may end there.
-fn found_before(place: usize) -> (usize, Result<(), FrameFault>) {
-    let cut_off = Err(FrameFault::Truncated);
-    match place {
-        0 => (0, Ok(())),
-        1..56 => (0, cut_off),
-        56 => (1, Ok(())),
-        57..123 => (1, cut_off),
-        123 => (2, Ok(())),
-        124..179 => (2, cut_off),
-        179 => (3, Ok(())),
-        180..1259 => (3, cut_off),
-        _ => (4, Ok(())),
-    }
-}
-
-#[test]
-fn streams_end_between_frames_alone(rt: HostRuntime) -> Result<(), Fail> {
-    let frames = four_frames(rt.alloc())?;
-    let stream = one_stream(rt.alloc(), frames.as_slice())?;
-    for place in 0..=stream.len() {
-        let (front, _) = stream.split_at(place);
-        let (found, end) = cut(&rt, &[front])?;
-        assert_eq!(rt; (found.len(), end), found_before(place), "of {place} bytes");
-    }
-    Ok(())
-}
-
-/// Feeds a cutter a frame, and then bytes in hexadecimal.
-fn feed_both(
-    rt: &(impl Abort + AllocGlobal),
-    cutter: &mut Cutter,
-    frame: &[u8],
-    text: &str,
-) -> Result<(), Fail> {
-    try_feed(rt, cutter, frame, frame.len());
-    let bytes = hex::decode(rt.alloc(), text)?;
-    try_feed(rt, cutter, bytes.as_slice(), bytes.len());
-    Ok(())
-}
-
-/// A cutter that met a fault takes nothing, and has no other answer than the fault.
-fn try_stopped(rt: &impl Abort, cutter: &mut Cutter, frame: &[u8], fault: FrameFault)
-    requires { IsDrained cutter.old.bytes }
-{
-    assert_eq!(rt; cutter.end(), Err(fault));
-    try_feed(rt, cutter, frame, 0);
-    assert_eq!(rt; cutter.next().err(), Some(fault));
-    try_feed(rt, cutter, b"more", 0);
-}
-
-/// Behind a frame, bytes in hexadecimal are met with this fault, for good.
-fn try_fault(rt: &(impl Abort + AllocGlobal), text: &str, fault: FrameFault) -> Result<(), Fail> {
-    let ready = spelled(rt.alloc(), READY_HEAD, &[])?;
+fn play(rt: &(impl Abort + AllocGlobal), run: &Run, number: usize) -> Result<(), Fail> {
+    let stream = joined(rt.alloc(), run.stream)?;
     let mut cutter = Cutter::new(rt.alloc())?;
-    feed_both(rt, &mut cutter, ready.as_slice(), text)?;
-    let first = next_bytes(rt.alloc(), &mut cutter)?.ok_or("no frame")?;
-    assert_eq!(rt; first, ready);
-    let met = next_fault(&mut cutter).ok_or("no fault")?;
-    assert_eq!(rt; met, fault, "at {text}");
-    try_stopped(rt, &mut cutter, ready.as_slice(), fault);
-    Ok(())
-}
-
-#[test]
-fn faults_are_for_good(rt: HostRuntime) -> Result<(), Fail> {
-    for (text, fault) in [
-        ("05", FrameFault::BadLength),
-        ("003602", FrameFault::BadVersion),
-        ("00360105", FrameFault::BadKind),
-        ("00370104", FrameFault::BadWant),
-        (
-            "003601010000000000000000000000000000000100000000",
-            FrameFault::BadSeq,
-        ),
-        (
-            "003601010000000000000000000000000000000000000001",
-            FrameFault::BadValueLength,
-        ),
-    ] {
-        try_fault(&rt, text, fault)?;
+    for step in run.steps {
+        assert!(rt;
+            step.is_met(&mut cutter, stream.as_slice())?,
+            "of run {number}"
+        );
     }
+    assert_eq!(rt; end(&mut cutter), Some(run.end), "of run {number}");
     Ok(())
 }
 
-/// Five frames of 1,080 bytes.
-fn five_echoes(alloc: Global) -> Result<Vec<u8>, Fail> {
-    let echo = spelled_echo(alloc)?;
-    let mut stream = Vec::new(alloc);
-    for _ in 0..5 {
-        stream.extend_from_slice(echo.as_slice())?;
+#[test]
+fn streams_are_cut_into_frames(rt: HostRuntime) -> Result<(), Fail> {
+    for (number, run) in RUNS.iter().enumerate() {
+        play(&rt, run, number)?;
     }
-    Ok(stream)
-}
-
-/// How many frames are in front.
-fn count_frames(alloc: Global, cutter: &mut Cutter) -> Result<usize, Stop>
-    ensures drained { OnOk result (IsDrained cutter.new.bytes) }
-{
-    let mut frames = Vec::new(alloc);
-    take_frames(alloc, cutter, &mut frames)?;
-    Ok(frames.len())
-}
-
-#[test]
-fn cutters_take_what_fits(rt: HostRuntime) -> Result<(), Fail> {
-    let stream = five_echoes(rt.alloc())?;
-    assert_eq!(rt; stream.len(), 5400);
-    let mut cutter = Cutter::new(rt.alloc())?;
-    try_feed(&rt, &mut cutter, stream.as_slice(), 4096);
-    try_feed(&rt, &mut cutter, stream.as_slice(), 0);
-    assert_eq!(rt; count_frames(rt.alloc(), &mut cutter)?, 3);
-    // 4,096 - 3 * 1,080 = 856 bytes are held, and 3,240 more fit
-    let (_, rest) = stream.split_at(4096);
-    try_feed(&rt, &mut cutter, rest, 1304);
-    try_feed(&rt, &mut cutter, stream.as_slice(), 1936);
-    assert_eq!(rt; count_frames(rt.alloc(), &mut cutter)?, 3);
-    assert_eq!(rt; cutter.end(), Err(FrameFault::Truncated));
-    Ok(())
-}
-
-#[test]
-fn streams_of_nothing_end(rt: HostRuntime) -> Result<(), Fail> {
-    let cutter = Cutter::new(rt.alloc())?;
-    assert_eq!(rt; cutter.end(), Ok(()));
     Ok(())
 }

@@ -1,7 +1,6 @@
 //! Readers and writers of std as devices: what they count, and what goes out before a failure.
 
 use pay_frame::{DeviceFailed, Input, Output, Reader, Writer, write_all};
-use std::alloc::Global;
 use std::io;
 use std::io::{Read, Write};
 use std::process::Abort;
@@ -55,36 +54,34 @@ impl<T: Write> Write for Faltering<T> {
     }
 }
 
-/// Tries one read into as many dashes as bytes are expected to lie there after it.
-fn try_read(
+/// One read into as many dashes as bytes are to lie there after it: those bytes, the answer, and how
+/// many calls and failures there were then.
+type ReadRow = (&'static [u8], Result<usize, DeviceFailed>, (u64, u64));
+
+fn try_reads(
     rt: &(impl Abort + AllocGlobal),
     reader: &mut impl Input,
-    answer: Result<usize, DeviceFailed>,
-    left: &[u8],
+    rows: &[ReadRow],
 ) -> Result<(), Fail> {
-    let mut buffer = vec![in rt.alloc(); b'-'; left.len()]?;
-    assert_eq!(rt; reader.read(buffer.as_mut_slice()), answer);
-    assert_eq!(rt; buffer.as_slice(), left);
+    for (left, answer, counts) in rows {
+        let mut buffer = vec![in rt.alloc(); b'-'; left.len()]?;
+        assert_eq!(rt; reader.read(buffer.as_mut_slice()), *answer);
+        assert_eq!(rt; buffer.as_slice(), *left);
+        assert_eq!(rt; (reader.calls(), reader.failures()), *counts);
+    }
     Ok(())
-}
-
-fn try_read_counts(rt: &impl Abort, reader: &impl Input, calls: u64, failures: u64) {
-    assert_eq!(rt; (reader.calls(), reader.failures()), (calls, failures));
 }
 
 #[test]
 fn slices_are_read_to_their_end(rt: HostRuntime) -> Result<(), Fail> {
     let mut reader = Reader::new(TEXT.as_slice());
-    try_read_counts(&rt, &reader, 0, 0);
-    for (count, left, calls) in [
-        (4, b"hell", 1),
-        (4, b"o wo", 2),
-        (3, b"rld-", 3),
-        (0, b"----", 4),
-    ] {
-        try_read(&rt, &mut reader, Ok(count), left)?;
-        try_read_counts(&rt, &reader, calls, 0);
-    }
+    let rows: [ReadRow; 4] = [
+        (b"hell", Ok(4), (1, 0)),
+        (b"o wo", Ok(4), (2, 0)),
+        (b"rld-", Ok(3), (3, 0)),
+        (b"----", Ok(0), (4, 0)),
+    ];
+    try_reads(&rt, &mut reader, &rows)?;
     assert!(rt; reader.into_inner().is_empty());
     Ok(())
 }
@@ -92,88 +89,125 @@ fn slices_are_read_to_their_end(rt: HostRuntime) -> Result<(), Fail> {
 #[test]
 fn failed_reads_are_counted(rt: HostRuntime) -> Result<(), Fail> {
     let mut reader = Reader::new(Faltering::new(TEXT.as_slice(), 6, 2));
-    for (answer, left, calls, failures) in [
-        (Ok(6), b"hello -----", 1, 0),
-        (Err(DeviceFailed), b"-----------", 2, 1),
-        (Ok(5), b"world------", 3, 1),
-        (Ok(0), b"-----------", 4, 1),
-    ] {
-        try_read(&rt, &mut reader, answer, left)?;
-        try_read_counts(&rt, &reader, calls, failures);
+    let rows: [ReadRow; 5] = [
+        (b"hello -----", Ok(6), (1, 0)),
+        (b"-----------", Err(DeviceFailed), (2, 1)),
+        (b"world------", Ok(5), (3, 1)),
+        (b"-----------", Ok(0), (4, 1)),
+        (b"", Ok(0), (5, 1)),
+    ];
+    try_reads(&rt, &mut reader, &rows)
+}
+
+/// What is written, and the answer.
+#[derive(Drop)]
+enum WriteStep {
+    Once(&'static [u8], Result<usize, DeviceFailed>),
+    All(&'static [u8], Result<(), DeviceFailed>),
+}
+
+impl WriteStep {
+    fn is_met(&self, writer: &mut impl Output) -> bool {
+        match self {
+            WriteStep::Once(bytes, answer) => writer.write(bytes) == *answer,
+            WriteStep::All(bytes, answer) => write_all(writer, bytes) == *answer,
+        }
     }
-    try_read(&rt, &mut reader, Ok(0), &[])?;
-    try_read_counts(&rt, &reader, 5, 1);
-    assert_eq!(rt; reader.into_inner().calls, 5);
-    Ok(())
 }
 
-/// Tries one write, and how many calls and failures there were then.
-fn try_write(
-    rt: &impl Abort,
-    writer: &mut impl Output,
-    bytes: &[u8],
-    answer: Result<usize, DeviceFailed>,
-    counts: (u64, u64),
-) {
-    assert_eq!(rt; writer.write(bytes), answer);
-    assert_eq!(rt; (writer.calls(), writer.failures()), counts);
-}
+/// A step, and how many calls and failures there were then.
+type WriteRow = (WriteStep, (u64, u64));
 
-/// Tries to write all of some bytes, and how many calls and failures there were then.
-fn try_write_all(
-    rt: &impl Abort,
-    writer: &mut impl Output,
-    bytes: &[u8],
-    answer: Result<(), DeviceFailed>,
-    counts: (u64, u64),
-) {
-    assert_eq!(rt; write_all(writer, bytes), answer);
-    assert_eq!(rt; (writer.calls(), writer.failures()), counts);
+fn try_writes(rt: &impl Abort, writer: &mut impl Output, rows: &[WriteRow]) {
+    for (step, counts) in rows {
+        assert!(rt; step.is_met(writer));
+        assert_eq!(rt; (writer.calls(), writer.failures()), *counts);
+    }
 }
 
 #[test]
 fn vectors_are_written(rt: HostRuntime) {
     let mut writer = Writer::new(Vec::new(rt.alloc()));
-    assert_eq!(rt; (writer.calls(), writer.failures()), (0, 0));
-    try_write(&rt, &mut writer, b"hello", Ok(5), (1, 0));
-    try_write(&rt, &mut writer, b"", Ok(0), (2, 0));
-    try_write_all(&rt, &mut writer, b" world", Ok(()), (3, 0));
-    try_write_all(&rt, &mut writer, b"", Ok(()), (3, 0));
+    let rows = [
+        (WriteStep::Once(b"hello", Ok(5)), (1, 0)),
+        (WriteStep::Once(b"", Ok(0)), (2, 0)),
+        (WriteStep::All(b" world", Ok(())), (3, 0)),
+        (WriteStep::All(b"", Ok(())), (3, 0)),
+    ];
+    try_writes(&rt, &mut writer, &rows);
     assert_eq!(rt; writer.into_inner().as_slice(), TEXT.as_slice());
 }
 
-/// A writer into memory of at most so many bytes a call, of whose calls one fails.
-fn faltering_writer(alloc: Global, most: usize, failing: u64) -> Writer<Faltering<Vec<u8>>> {
-    Writer::new(Faltering::new(Vec::new(alloc), most, failing))
+/// A writer into memory of at most so many bytes a call, of whose calls one fails; what is written;
+/// and what went out in the end.
+struct WriteRun {
+    most: usize,
+    failing: u64,
+    rows: &'static [WriteRow],
+    out: &'static [u8],
+}
+
+const RUNS: [WriteRun; 6] = [
+    WriteRun {
+        most: 1,
+        failing: 1,
+        rows: &[(WriteStep::All(TEXT, Err(DeviceFailed)), (1, 1))],
+        out: b"",
+    },
+    WriteRun {
+        most: 1,
+        failing: 6,
+        rows: &[(WriteStep::All(TEXT, Err(DeviceFailed)), (6, 1))],
+        out: b"hello",
+    },
+    WriteRun {
+        most: 4,
+        failing: 3,
+        rows: &[(WriteStep::All(TEXT, Err(DeviceFailed)), (3, 1))],
+        out: b"hello wo",
+    },
+    WriteRun {
+        most: 1,
+        failing: 11,
+        rows: &[(WriteStep::All(TEXT, Err(DeviceFailed)), (11, 1))],
+        out: b"hello worl",
+    },
+    // writing goes on after a failure
+    WriteRun {
+        most: 1,
+        failing: 12,
+        rows: &[
+            (WriteStep::All(TEXT, Ok(())), (11, 0)),
+            (WriteStep::All(TEXT, Err(DeviceFailed)), (12, 1)),
+            (WriteStep::All(b"!", Ok(())), (13, 1)),
+        ],
+        out: b"hello world!",
+    },
+    // to write nothing of some bytes is a failure
+    WriteRun {
+        most: 0,
+        failing: 0,
+        rows: &[
+            (WriteStep::Once(b"x", Err(DeviceFailed)), (1, 1)),
+            (WriteStep::Once(b"", Ok(0)), (2, 1)),
+            (WriteStep::All(TEXT, Err(DeviceFailed)), (3, 2)),
+            (WriteStep::All(b"", Ok(())), (3, 2)),
+        ],
+        out: b"",
+    },
+];
+
+fn try_run(rt: &(impl Abort + AllocGlobal), run: &WriteRun) {
+    let vector = Vec::new(rt.alloc());
+    let mut writer = Writer::new(Faltering::new(vector, run.most, run.failing));
+    try_writes(rt, &mut writer, run.rows);
+    let Faltering { inner, .. } = writer.into_inner();
+    assert_eq!(rt; inner.as_slice(), run.out);
 }
 
 #[test]
-fn what_goes_out_is_a_beginning(rt: HostRuntime) {
-    for (failing, count) in [(1, 0), (2, 1), (3, 2), (6, 5), (10, 9), (11, 10)] {
-        let mut writer = faltering_writer(rt.alloc(), 1, failing);
-        try_write_all(&rt, &mut writer, TEXT, Err(DeviceFailed), (failing, 1));
-        let Faltering { inner, .. } = writer.into_inner();
-        assert_eq!(rt; Some(inner.as_slice()), TEXT.get(..count));
+fn what_goes_out_before_a_failure(rt: HostRuntime) {
+    for run in &RUNS {
+        try_run(&rt, run);
     }
-}
-
-#[test]
-fn writing_goes_on_after_a_failure(rt: HostRuntime) {
-    let mut writer = faltering_writer(rt.alloc(), 1, 12);
-    try_write_all(&rt, &mut writer, TEXT, Ok(()), (11, 0));
-    try_write_all(&rt, &mut writer, TEXT, Err(DeviceFailed), (12, 1));
-    try_write_all(&rt, &mut writer, b"!", Ok(()), (13, 1));
-    let Faltering { inner, .. } = writer.into_inner();
-    assert_eq!(rt; inner.as_slice(), b"hello world!".as_slice());
-}
-
-#[test]
-fn writing_none_of_some_bytes_fails(rt: HostRuntime) {
-    let mut writer = faltering_writer(rt.alloc(), 0, 0);
-    try_write(&rt, &mut writer, b"x", Err(DeviceFailed), (1, 1));
-    try_write(&rt, &mut writer, b"", Ok(0), (2, 1));
-    try_write_all(&rt, &mut writer, TEXT, Err(DeviceFailed), (3, 2));
-    try_write_all(&rt, &mut writer, b"", Ok(()), (3, 2));
-    let Faltering { inner, .. } = writer.into_inner();
-    assert!(rt; inner.is_empty());
 }

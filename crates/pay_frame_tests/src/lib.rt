@@ -2,11 +2,10 @@
 //!
 //! Its reader, writer and cutter are proved against the definition of a frame. These examples show
 //! that the definition is the format that was meant, that each public call can succeed, and what
-//! prints as text. Expected values are worked out by hand from the table of a frame's fields.
+//! prints as text. They are rows of data, and expected values are worked out by hand from the table
+//! of a frame's fields.
 #![tactic(auto)]
 
-#[cfg(test)]
-mod changes;
 #[cfg(test)]
 mod cuts;
 #[cfg(test)]
@@ -14,7 +13,7 @@ mod devices;
 #[cfg(test)]
 mod faults;
 #[cfg(test)]
-mod prefixes;
+mod readings;
 #[cfg(test)]
 mod round;
 #[cfg(test)]

@@ -1,18 +1,32 @@
 //! Frames that are written and read again, and what they are written of.
 
-use crate::samples::{
-    ECHO_HEAD, READY_HEAD, SEND_HEAD, SEND_VALUE, TAG, WANT_HEAD, echo_value, spelled,
-};
-use pay_frame::{Body, Bytes, FrameRef, Kind, head_into, read, write};
+use crate::samples::{ECHO_HEAD, READY_HEAD, SEND_HEAD, WANT_HEAD, filler, spelled};
+use pay_frame::{Body, Bytes, FrameRef, Kind, head_into, read_one, write};
+use std::alloc::{AllocError, Global};
 use std::process::Abort;
 use std::test::Fail;
 
-/// What is written is the frame that is spelled by hand.
-fn try_written(rt: &(impl Abort + AllocGlobal), body: &Body, head: &str) -> Result<Vec<u8>, Fail> {
-    let bytes = write(rt.alloc(), 0x0102, 0x0304, 0x0506_0708_090a_0b0c, body, TAG)?;
-    let by_hand = spelled(rt.alloc(), head, body.value())?;
-    assert_eq!(rt; bytes.as_slice(), by_hand.as_slice());
-    Ok(bytes)
+/// The tag of the samples.
+const TAG: [u8; 32] = [0x5a; 32];
+
+/// A kind, the length of a value, and the head that they are spelled by.
+const ROWS: [(Kind, usize, &str); 4] = [
+    (Kind::Send, 11, SEND_HEAD),
+    (Kind::Echo, 1024, ECHO_HEAD),
+    (Kind::Ready, 0, READY_HEAD),
+    (Kind::Want, 0, WANT_HEAD),
+];
+
+/// A body of a sample's owner and number, if such a value can be one's.
+fn sample_body(alloc: Global, kind: Kind, length: usize) -> Result<Option<Body>, AllocError> {
+    let value = Bytes::new(filler(alloc, length)?);
+    if kind == Kind::Want {
+        return Ok(Some(Body::new(Kind::Want, 0, 0, Bytes::new(Vec::new(alloc)))));
+    }
+    if value.len() > 1024 {
+        return Ok(None);
+    }
+    Ok(Some(Body::new(kind, 0x0d0e, 0x1112, value)))
 }
 
 /// Every field of a frame is what was written.
@@ -25,77 +39,51 @@ fn try_fields(rt: &impl Abort, frame: &FrameRef<'_>, body: &Body) {
         (frame.kind(), frame.owner(), frame.seq()),
         (body.kind(), body.owner(), body.seq())
     );
-    assert_eq!(rt; frame.value(), body.value());
-    assert_eq!(rt; frame.tag(), TAG.as_slice());
+    assert_eq!(rt;
+        (frame.value(), frame.tag()),
+        (body.value(), TAG.as_slice())
+    );
 }
 
-/// The head of a frame is the one that is written by itself, and the one that is spelled by hand.
-fn try_head(
-    rt: &(impl Abort + AllocGlobal),
-    found: &[u8],
-    body: &Body,
-    head: &str,
-) -> Result<(), Fail> {
-    let mut first = [0u8; 24];
-    head_into(&mut first, 0x0102, 0x0304, 0x0506_0708_090a_0b0c, body);
-    assert_eq!(rt; found, first.as_slice());
-    assert_eq!(rt; hex::encode(rt.alloc(), first)?.as_str(), head);
-    Ok(())
-}
-
-/// Writes a body, and reads every field of it back.
+/// What is written is the frame that is spelled by hand, and is read again.
 fn goes_round(rt: &(impl Abort + AllocGlobal), body: &Body, head: &str) -> Result<(), Fail> {
-    let bytes = try_written(rt, body, head)?;
-    let (frame, size) = read(bytes.as_slice())?.ok_or("no frame")?;
-    assert_eq!(rt; size, bytes.len());
+    let bytes = write(
+        rt.alloc(),
+        0x0102,
+        0x0304,
+        0x0506_0708_090a_0b0c,
+        body,
+        &TAG,
+    )?;
+    let by_hand = spelled(rt.alloc(), head, body.value().len().saturating_add(32))?;
+    assert_eq!(rt; bytes.as_slice(), by_hand.as_slice());
+    let frame = read_one(bytes.as_slice())?;
     try_fields(rt, &frame, body);
-    try_head(rt, frame.head(), body, head)
+    Ok(())
 }
 
-#[test]
-fn sends_go_round(rt: HostRuntime) -> Result<(), Fail> {
-    let value = Bytes::from_slice(rt.alloc(), SEND_VALUE)?;
-    let body = Body::new(Kind::Send, 0x0d0e, 0x1112, value);
-    goes_round(&rt, &body, SEND_HEAD)
-}
-
-#[test]
-fn echoes_go_round(rt: HostRuntime) -> Result<(), Fail> {
-    let value = Bytes::new(echo_value(rt.alloc())?);
-    assert_eq!(rt; value.len(), 1024);
-    let body = Body::new(Kind::Echo, 0x0d0e, 0x1112, value);
-    goes_round(&rt, &body, ECHO_HEAD)
-}
-
-#[test]
-fn readies_go_round(rt: HostRuntime) -> Result<(), Fail> {
-    let value = Bytes::new(Vec::new(rt.alloc()));
-    let body = Body::new(Kind::Ready, 0x0d0e, 0x1112, value);
-    goes_round(&rt, &body, READY_HEAD)
-}
-
-#[test]
-fn wants_go_round(rt: HostRuntime) -> Result<(), Fail> {
-    let value = Bytes::new(Vec::new(rt.alloc()));
-    let body = Body::new(Kind::Want, 0, 0, value);
-    goes_round(&rt, &body, WANT_HEAD)
-}
-
-#[test]
-fn bytes_are_copied(rt: HostRuntime) -> Result<(), Fail> {
-    let alloc = rt.alloc();
-    let none = Bytes::new(Vec::new(alloc));
-    assert!(rt; none.is_empty());
-    assert_eq!(rt; none.copy(alloc)?.len(), 0);
-    let value = Bytes::from_slice(alloc, SEND_VALUE)?;
-    assert_eq!(rt; (value.is_empty(), value.len()), (false, 11));
-    assert_eq!(rt; value.copy(alloc)?.as_slice(), b"hello world".as_slice());
+/// The head alone, written by itself.
+fn try_head(rt: &impl Abort, alloc: Global, body: &Body, head: &str) -> Result<(), Fail> {
+    let mut bytes = [0u8; 24];
+    head_into(&mut bytes, 0x0102, 0x0304, 0x0506_0708_090a_0b0c, body);
+    assert_eq!(rt; hex::encode(alloc, bytes)?.as_str(), head);
     Ok(())
 }
 
 #[test]
-fn bodies_are_copied(rt: HostRuntime) -> Result<(), Fail> {
-    let value = Bytes::from_slice(rt.alloc(), SEND_VALUE)?;
+fn bodies_go_round(rt: HostRuntime) -> Result<(), Fail> {
+    for (kind, length, head) in ROWS {
+        let body = sample_body(rt.alloc(), kind, length)?.ok_or("no body")?;
+        goes_round(&rt, &body, head)?;
+        try_head(&rt, rt.alloc(), &body, head)?;
+    }
+    Ok(())
+}
+
+#[test]
+fn bodies_and_bytes_are_copied(rt: HostRuntime) -> Result<(), Fail> {
+    let value = Bytes::from_slice(rt.alloc(), b"hello world")?.copy(rt.alloc())?;
+    assert_eq!(rt; (value.is_empty(), value.len()), (false, 11));
     let body = Body::new(Kind::Echo, 65_535, 65_535, value).copy(rt.alloc())?;
     assert_eq!(rt;
         (body.kind(), body.owner(), body.seq()),
@@ -103,16 +91,4 @@ fn bodies_are_copied(rt: HostRuntime) -> Result<(), Fail> {
     );
     assert_eq!(rt; body.value(), b"hello world".as_slice());
     Ok(())
-}
-
-#[test]
-fn kinds_have_codes(rt: HostRuntime) {
-    for (kind, code) in [
-        (Kind::Send, 1),
-        (Kind::Echo, 2),
-        (Kind::Ready, 3),
-        (Kind::Want, 4),
-    ] {
-        assert_eq!(rt; kind.code(), code, "of {kind:?}");
-    }
 }

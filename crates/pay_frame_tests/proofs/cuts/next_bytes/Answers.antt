@@ -1,7 +1,0 @@
-use Rattle.pay_frame_tests.proofs.Drained.{after_none}
-use Rattle.pay_frame_tests.proofs.cuts.next_bytes.Goals as goal
-
-pub returns-in-Ok-None-clause-drained : goal.returns-in-Ok-None-clause-drained
-returns-in-Ok-None-clause-drained c =
-    after_none c.args.cutter.now c.next.follows.lender-at-none c.beginning_is_drained.ensures.law
-    (rw c.in-Ok-None.field-0-is at (rw c.in-Ok-None.is at c.next.follows.holds-at-none))
