@@ -4,8 +4,8 @@ use Rattle.pay_echo.specs.Broadcast.{Group}
 use Rattle.pay_echo.specs.Meaning.{Meaning, meaning_of, became}
 use Rattle.pay_channel.specs.History.{Event, asks, owner_of, seq_of, votes, out, delivered_at, list_of}
 use Rattle.pay_channel.specs.State.{State, Follows, meaning_at, value_at, lists_of}
-use Rattle.pay_channel.specs.Applied.{IsToldOf, Takes, IsApplied, IsAsBefore}
-use Rattle.pay_channel.specs.Answer.{IsAnswerAt, IsAnswer}
+use Rattle.pay_channel.specs.Applied.{IsToldOf}
+use Rattle.pay_channel.specs.Answer.{IsAnswerAt}
 use Rattle.pay_channel.specs.FollowLaws.{ChannelFollows, UnchangedFollows, ValuesFollow, ListsFollow, AnswersFollow, FollowersAreAlike}
 use Rattle.pay_channel.specs.declared.applied.Applied.{Applied}
 use Rattle.pay_channel.proofs.Follow.{Follows-push, Follows-before, lists-Follows}

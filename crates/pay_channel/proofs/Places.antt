@@ -1,11 +1,9 @@
 -- Accounts' lists place by place, and what follows from that alone.
-use Rattle.std.proofs.Common.{◌≡◌, ◌≢◌, ℕ, zero, suc, ◌+◌, ◌<◌, ◌≤◌, Bool, true, false, cond, ltb, ◌⊎◌, List, [], length, slice_get, Option, None, Some, refl, sym, ap, ap₂, ◌∙◌, arith, zero-add, lt-ltb, ltb-true, le-ltb}
-use Rattle.std.proofs.lemmas.Bool.{cond-true, cond-false, cases_lt}
-use Rattle.pay_echo.specs.Broadcast.{Group, delivered}
-use Rattle.pay_channel.specs.Prefix.{IsPrefix}
-use Rattle.pay_channel.specs.History.{Event, seqs, known_from, listed, delivered_at, list_of}
+use Rattle.std.proofs.Common.{◌≡◌, ◌≢◌, ℕ, zero, suc, ◌+◌, ◌<◌, ◌≤◌, Bool, true, false, cond, ltb, List, [], length, slice_get, Option, None, Some, refl, sym, ap, ap₂, ◌∙◌, arith, zero-add, lt-ltb, ltb-true, le-ltb}
+use Rattle.std.proofs.lemmas.Bool.{cond-true, cond-false}
+use Rattle.pay_channel.specs.History.{seqs, known_from, listed, delivered_at, list_of}
 use Rattle.pay_channel.specs.ListLaws.{AreKnown, PlaceIsValue, PlaceIsDelivered, ListedIsDelivered, ListIsShort, ListReaches, ListEnds, EmptyOfNobody, ListIsValues, ListBeginsValues, ListsAlike, ListsCompare}
-use Rattle.pay_channel.proofs.Lists.{either, none_some, slice_get-inside, slice_get-some, prefix_by_place, same_by_place, compare_by_place}
+use Rattle.pay_channel.proofs.Lists.{none_some, slice_get-inside, slice_get-some, prefix_by_place, same_by_place, compare_by_place}
 use Rattle.pay_channel.proofs.Grown.{known_from-some, known_from-none}
 
 -- ---- what stands at a place of the values from s on

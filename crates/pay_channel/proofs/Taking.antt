@@ -1,14 +1,14 @@
 -- What was taken from one other member.
 use Rattle.std.proofs.Common.{◌≡◌, ℕ, zero, suc, ◌+◌, Bool, true, false, cond, eqb, List, [], ◌∷◌, ◌++◌, length, Option, None, Some, option_to_list, count_by, Contains, refl, sym, ap, ◌∙◌, subst, arith, eqb-true, eq-eqb, append-nil, length-append, zero-add}
 use Rattle.std.specs.List.{cons_option, filter_map}
-use Rattle.std.proofs.lemmas.Bool.{cond-true, cond-false, cases_Bool}
+use Rattle.std.proofs.lemmas.Bool.{cond-true, cond-false}
 use Rattle.std.proofs.lemmas.List.Sums.{sum_by-cons}
 use Rattle.std.proofs.lemmas.List.Elements.{filter_map-append}
 use Rattle.pay_frame.specs.Frame.{BodyFields}
 use Rattle.pay_channel.specs.History.{Event, Ask, From}
-use Rattle.pay_channel.specs.Taken.{is_from, body_from, taken, next}
+use Rattle.pay_channel.specs.Taken.{is_from, body_from, taken}
 use Rattle.pay_channel.specs.TakenLaws.{NothingTakenAtFirst, TakenByOneMore, TakenFromHere, TakenFromElsewhere, TakenGrows, TakenIsFrom, NextIsCount, NextByOneMore}
-use Rattle.pay_channel.proofs.Lists.{either, none_some, some_same, came_by_push, there_by_push}
+use Rattle.pay_channel.proofs.Lists.{none_some, some_same, came_by_push, there_by_push}
 
 pub nothing_taken_at_first : NothingTakenAtFirst
 unfolding taken
