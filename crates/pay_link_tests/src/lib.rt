@@ -1,12 +1,12 @@
-//! Tests of `pay_link`: the order of its faults, its limits at their edges, and frames made and tagged
-//! elsewhere.
+//! Tests of `pay_link`: rows of faults in their order and of frames that another program made, limits at
+//! their edges, and each call once where it succeeds.
 #![tactic(auto)]
 
 #[cfg(test)]
+mod faults;
+#[cfg(test)]
 mod frames;
 #[cfg(test)]
-mod limits;
-#[cfg(test)]
-mod printing;
+mod parts;
 #[cfg(test)]
 mod worlds;
