@@ -1,6 +1,4 @@
-pub mod OpenedFrames
 pub mod Texts
-pub mod Faults
-pub mod Endings
-pub mod OneText
+pub mod Counting
+pub mod Pushing
 pub mod Going

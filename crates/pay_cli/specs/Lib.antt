@@ -1,4 +1,3 @@
 pub mod Lines
 pub mod CheckText
-pub mod Continuing
 pub mod Engine

@@ -22,8 +22,9 @@ kind_word Want = codes "want"
 -- ` ok KIND from P number M owner A seq S value L`
 abbrev pub ok_words : FrameFields → List ℕ
 ok_words f =
-    codes " ok " ++ kind_word f.body.kind ++ codes " from " ++ decimal f.from ++ codes " number " ++ decimal f.number
-    ++ codes " owner " ++ decimal f.body.owner ++ codes " seq " ++ decimal f.body.seq ++ codes " value " ++ decimal (length f.body.value)
+    codes " ok " ++ kind_word f.body.kind ++ codes " from " ++ decimal f.from
+    ++ codes " number " ++ decimal f.number ++ codes " owner " ++ decimal f.body.owner
+    ++ codes " seq " ++ decimal f.body.seq ++ codes " value " ++ decimal (length f.body.value)
 
 -- ` want from P number M`
 abbrev pub want_words : FrameFields → List ℕ
@@ -40,47 +41,58 @@ next_words (Gap next) = codes " next " ++ decimal next
 
 -- ` refused C NAME`, and which number is next
 abbrev pub refused_words : LinkFault → List ℕ
-refused_words fault = codes " refused " ++ decimal (link_fault_number fault) ++ codes " " ++ link_fault_name fault ++ next_words fault
+refused_words fault =
+    codes " refused " ++ decimal (link_fault_number fault) ++ codes " " ++ link_fault_name fault
+    ++ next_words fault
 
--- what `check` says of a frame, behind the number of its line: opened or refused, and then a WANT, taken
--- or out of turn
-abbrev pub turn_words : FrameFields → Result ⊤ LinkFault → List ℕ
-turn_words f (Ok _) = ok_words f
-turn_words f (Err fault) = refused_words fault
+-- What becomes of a frame: it opened and is the next of its sender, it opened and is a WANT, or it is
+-- refused.
+pub data Outcome : Type 0 where
+  Taken : Outcome
+  Wanted : Outcome
+  Refused : LinkFault → Outcome
 
-abbrev pub opened_words : List ℕ → FrameFields → Kind → List ℕ
-opened_words fronts f Want = want_words f
-opened_words fronts f Send = turn_words f (turn (slice_index fronts f.from) f.number)
-opened_words fronts f Echo = turn_words f (turn (slice_index fronts f.from) f.number)
-opened_words fronts f Ready = turn_words f (turn (slice_index fronts f.from) f.number)
+abbrev pub turned : Result ⊤ LinkFault → Outcome
+turned (Ok _) = Taken
+turned (Err fault) = Refused fault
 
-abbrev pub judged_words : List ℕ → FrameFields → Result OpenedFields LinkFault → List ℕ
-judged_words fronts f (Ok opened) = opened_words fronts f f.body.kind
-judged_words fronts f (Err fault) = refused_words fault
+-- a frame that opened, where this is the next number of its sender
+abbrev pub opened_outcome : ℕ → FrameFields → Kind → Outcome
+opened_outcome next f Want = Wanted
+opened_outcome next f Send = turned (turn next f.number)
+opened_outcome next f Echo = turned (turn next f.number)
+opened_outcome next f Ready = turned (turn next f.number)
+
+abbrev pub judged_outcome : ℕ → FrameFields → Result OpenedFields LinkFault → Outcome
+judged_outcome next f (Ok opened) = opened_outcome next f f.body.kind
+judged_outcome next f (Err fault) = Refused fault
+
+-- what becomes of a frame, where these are the next numbers of all members
+abbrev pub outcome_of : KeyFields → List ℕ → FrameFields → Outcome
+outcome_of k fronts f = judged_outcome (slice_index fronts f.from) f (judgement k f)
+
+-- what `check` says of it, behind the number of its line
+abbrev pub outcome_words : FrameFields → Outcome → List ℕ
+outcome_words f Taken = ok_words f
+outcome_words f Wanted = want_words f
+outcome_words f (Refused fault) = refused_words fault
 
 -- the line of a frame
 unfoldable pub line_of : KeyFields → Progress → FrameFields → List ℕ
-line_of k p f = decimal p.line ++ judged_words p.fronts f (judgement k f) ++ codes "\n"
+line_of k p f = decimal p.line ++ outcome_words f (outcome_of k p.fronts f) ++ codes "\n"
 
--- what is known of the fronts afterwards: an `ok` frame moves its sender's by one, nothing else does
-abbrev pub turn_fronts : List ℕ → FrameFields → Result ⊤ LinkFault → List ℕ
-turn_fronts fronts f (Ok _) = slice_set fronts f.from (slice_index fronts f.from + 1)
-turn_fronts fronts f (Err fault) = fronts
-
-abbrev pub opened_fronts : List ℕ → FrameFields → Kind → List ℕ
-opened_fronts fronts f Want = fronts
-opened_fronts fronts f Send = turn_fronts fronts f (turn (slice_index fronts f.from) f.number)
-opened_fronts fronts f Echo = turn_fronts fronts f (turn (slice_index fronts f.from) f.number)
-opened_fronts fronts f Ready = turn_fronts fronts f (turn (slice_index fronts f.from) f.number)
-
-abbrev pub judged_fronts : List ℕ → FrameFields → Result OpenedFields LinkFault → List ℕ
-judged_fronts fronts f (Ok opened) = opened_fronts fronts f f.body.kind
-judged_fronts fronts f (Err fault) = fronts
+-- an `ok` frame moves its sender's next number by one, nothing else does
+abbrev pub fronts_after : List ℕ → FrameFields → Outcome → List ℕ
+fronts_after fronts f Taken = slice_set fronts f.from (slice_index fronts f.from + 1)
+fronts_after fronts f Wanted = fronts
+fronts_after fronts f (Refused fault) = fronts
 
 -- what is known after a frame's line
 unfoldable pub moved : KeyFields → Progress → FrameFields → Progress
-moved k p f = record { fronts = judged_fronts p.fronts f (judgement k f); line = p.line + 1 }
+moved k p f = record { fronts = fronts_after p.fronts f (outcome_of k p.fronts f); line = p.line + 1 }
 
 -- `k fault C NAME`
 abbrev pub fault_line : ℕ → FrameFault → List ℕ
-fault_line line fault = decimal line ++ codes " fault " ++ decimal (number_of fault) ++ codes " " ++ name_of fault ++ codes "\n"
+fault_line line fault =
+    decimal line ++ codes " fault " ++ decimal (number_of fault) ++ codes " " ++ name_of fault
+    ++ codes "\n"

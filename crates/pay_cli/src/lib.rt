@@ -7,5 +7,5 @@ mod lines;
 mod progress;
 
 pub use check::run_check;
-pub use laws::one_text;
+pub use laws::{every_text, next_is_ok_lines_before, one_text};
 pub use progress::Progress;

@@ -1,17 +1,16 @@
 ghost use Rattle.std.specs.Prelude.{◌≡◌, ℕ, ◌+◌, ◌++◌, ◌<◌, ◌^◌, IfOk, OnOk, length, replicate, slice_index};
 ghost use Rattle.pay_frame.specs.Lent.{fields_of};
-ghost use Rattle.pay_link.specs.Opening.{judgement};
-ghost use Rattle.pay_cli.specs.Lines.{line_of, moved, judged_words, judged_fronts, opened_words, opened_fronts};
-ghost use Rattle.pay_cli.specs.Continuing.{IsInLine};
+ghost use Rattle.pay_cli.specs.Lines.{line_of, moved, outcome_of, outcome_words, opened_outcome, fronts_after};
+ghost use Rattle.pay_cli.specs.Engine.{IsInLine};
 
 use crate::lines::{push_number, push_ok, push_refused, push_want, push_word};
 use pay_frame::{FrameRef, Kind};
 use pay_hmac::Tagger;
-use pay_link::{Fronts, Keys, open};
+use pay_link::{Fronts, Keys, laws, open};
 use std::alloc::{AllocError, Global};
 
-/// What `check` knows between two lines: the next number from each member, and the number of the next
-/// line.
+/// What `check` knows between two lines: the next number from each member, and the number of the
+/// next line.
 #[derive(Drop)]
 pub struct Progress {
     pub fronts: Fronts,
@@ -20,7 +19,8 @@ pub struct Progress {
 
 impl Progress {
     pub fn new(alloc: Global, members: u16) -> Result<Progress, AllocError>
-        ensures start { IfOk result (λ p. p ≡ record { fronts = replicate members 0; line = 1 }) }
+        ensures start { IfOk result (λ p.
+            p ≡ record { fronts = replicate members 0; line = 1 }) }
     {
         let fronts = Fronts::new(alloc, members)?;
         Ok(Progress { fronts, line: 1 })
@@ -38,8 +38,10 @@ pub fn push_line<T: Tagger>(
 ) -> Result<(), AllocError>
     requires in_line { IsInLine (length keys.now.keys) progress.old }
     requires room { progress.old.line + 1 < 2 ^ 64 }
-    ensures text { OnOk result (out.new.items ≡ out.old.items ++ line_of keys.now progress.old (fields_of frame.entry)) }
-    ensures moved { OnOk result (progress.new ≡ moved keys.now progress.old (fields_of frame.entry)) }
+    ensures text { OnOk result (out.new.items ≡ out.old.items
+        ++ line_of keys.now progress.old (fields_of frame.entry)) }
+    ensures moved { OnOk result (progress.new
+        ≡ moved keys.now progress.old (fields_of frame.entry)) }
 {
     push_number(out, progress.line)?;
     push_judged(out, t, keys, &mut progress.fronts, frame)?;
@@ -58,10 +60,13 @@ fn push_judged<T: Tagger>(
 ) -> Result<(), AllocError>
     requires members { length fronts.old ≡ length keys.now.keys }
     requires room { (member : ℕ) → slice_index fronts.old member + 1 < 2 ^ 64 }
-    ensures words { OnOk result (out.new.items ≡ out.old.items
-        ++ judged_words fronts.old (fields_of frame.entry) (judgement keys.now (fields_of frame.entry))) }
-    ensures fronts { OnOk result (fronts.new ≡ judged_fronts fronts.old (fields_of frame.entry) (judgement keys.now (fields_of frame.entry))) }
+    ensures words { let f = fields_of frame.entry in OnOk result (out.new.items
+        ≡ out.old.items ++ outcome_words f (outcome_of keys.now fronts.old f)) }
+    ensures fronts { let f = fields_of frame.entry in OnOk result (fronts.new
+        ≡ fronts_after fronts.old f (outcome_of keys.now fronts.old f)) }
 {
+    // a law that the proof stands on: the call does nothing
+    laws::opened();
     match open(t, keys, frame) {
         Ok(opened) => push_opened(out, fronts, opened.frame()),
         Err(fault) => push_refused(out, fault),
@@ -72,8 +77,12 @@ fn push_judged<T: Tagger>(
 fn push_opened(out: &mut Vec<u8>, fronts: &mut Fronts, frame: &FrameRef) -> Result<(), AllocError>
     requires known { (fields_of frame.now).from < length fronts.old }
     requires room { slice_index fronts.old (fields_of frame.now).from + 1 < 2 ^ 64 }
-    ensures words { OnOk result (out.new.items ≡ out.old.items ++ opened_words fronts.old (fields_of frame.now) (fields_of frame.now).body.kind) }
-    ensures fronts { OnOk result (fronts.new ≡ opened_fronts fronts.old (fields_of frame.now) (fields_of frame.now).body.kind) }
+    ensures words { let f = fields_of frame.now in
+        OnOk result (out.new.items ≡ out.old.items ++ outcome_words f
+        (opened_outcome (slice_index fronts.old f.from) f f.body.kind)) }
+    ensures fronts { let f = fields_of frame.now in
+        OnOk result (fronts.new ≡ fronts_after fronts.old f
+        (opened_outcome (slice_index fronts.old f.from) f f.body.kind)) }
 {
     if frame.kind() == Kind::Want {
         return push_want(out, frame);

@@ -1,5 +1,5 @@
-use pay_cli::run_check;
-use pay_frame::{Body, Bytes, EngineFault, FrameFault, Kind, Reader, Writer};
+use crate::judging::judged;
+use pay_frame::{Body, Bytes, EngineFault, FrameFault, Kind};
 use pay_hmac::HmacSha256;
 use pay_link::{Genesis, seal, test_keys};
 use std::alloc::Global;
@@ -22,26 +22,6 @@ impl Read for OneByte<'_> {
             _ => Ok(0),
         }
     }
-}
-
-/// What member 1 of four makes of the bytes, and how the engine ends.
-fn judged<R: Read + Drop>(
-    alloc: Global,
-    reader: R,
-) -> Result<(Vec<u8>, Result<(), EngineFault>), Fail> {
-    let genesis = Genesis::new(alloc, 4, 1, &[100, 0, 0, 50])?;
-    let keys = test_keys(alloc, &genesis, 1)?;
-    let mut reader = Reader::new(reader);
-    let mut writer = Writer::new(Vec::new(alloc));
-    let ended = run_check(
-        alloc,
-        &HmacSha256,
-        &genesis,
-        &keys,
-        &mut reader,
-        &mut writer,
-    );
-    Ok((writer.into_inner(), ended))
 }
 
 /// The first frame of member 0, a SEND of its own broadcast 0 with no value, sealed for member 1.

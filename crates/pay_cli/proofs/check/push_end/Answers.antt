@@ -1,12 +1,28 @@
-use Rattle.pay_frame.proofs.OneReading.{drained_from_beginning}
-use Rattle.pay_cli.proofs.Endings.{end_empty, end_cut_off}
+use Rattle.std.proofs.Common.{[], sym, Ok, Err}
+use Rattle.std.proofs.lemmas.List.{append-nil}
 use Rattle.pay_cli.proofs.check.push_end.Goals as goal
 
 pub end-requires : goal.end-requires
-end-requires c = record { drained = drained_from_beginning c.args.cutter.now.bytes c.requires.begins }
+end-requires c = record { drained = c.beginning_is_drained.ensures.law c.args.cutter.now.bytes c.requires.begins }
 
 pub returns-in-Ok : goal.returns-in-Ok
-returns-in-Ok c = record { ends = end_empty c.args.keys.now c.args.progress.now c.args.cutter.now.bytes c.args.out.now.items c.in-Ok.ensures.ends.1 }
+returns-in-Ok c =
+    let held = c.args.cutter.now in
+    record {
+      ends = record {
+        frames = [];
+        stream = c.cutter_follows_stream.ensures.end held (Ok tt) held.bytes [] c.requires.met c.in-Ok.ensures.ends (c.stream_grows.ensures.nothing held.bytes);
+        lines = sym (append-nil c.args.out.now.items);
+      };
+    }
 
 pub returns-in_ok-push_fault-in-Err : goal.returns-in_ok-push_fault-in-Err
-returns-in_ok-push_fault-in-Err c = record { ends = end_cut_off c.args.keys.now c.args.progress.now c.args.cutter.now c.args.out.now.items c.push_fault.new.out.items c.in-Err.fault c.requires.met c.in-Err.ensures.ends c.in_ok-push_fault-in-Err.ensures }
+returns-in_ok-push_fault-in-Err c =
+    let held = c.args.cutter.now in
+    record {
+      ends = record {
+        frames = [];
+        stream = c.cutter_follows_stream.ensures.end held (Err c.in-Err.fault) held.bytes [] c.requires.met c.in-Err.ensures.ends (c.stream_grows.ensures.nothing held.bytes);
+        lines = c.in_ok-push_fault-in-Err.ensures;
+      };
+    }

@@ -1,5 +1,5 @@
 use Rattle.std.proofs.Common.{◌≡◌, length, None}
-use Rattle.pay_cli.specs.Continuing.{Pushes}
+use Rattle.pay_cli.specs.Engine.{Pushes}
 use Rattle.pay_cli.proofs.check.push_held.Given as goal
 
 abbrev pub invariant-frames : goal.invariant-frames

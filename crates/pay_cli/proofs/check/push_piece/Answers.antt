@@ -1,15 +1,18 @@
-use Rattle.pay_cli.specs.Continuing.{PushesAll, PushesToFault}
-use Rattle.pay_cli.proofs.Endings.{fed_whole, all_pushed, ending_pushed}
+use Rattle.std.proofs.Common.{◌≡◌, ◌++◌, List, ℕ, subst, Some}
+use Rattle.pay_frame.specs.Reading.{IsFault}
+use Rattle.pay_frame.specs.Stream.{IsStream}
+use Rattle.pay_cli.specs.Engine.{Pushes}
+use Rattle.pay_cli.proofs.Pushing.{fed_whole, pushes_a_fault}
 use Rattle.pay_cli.proofs.check.push_piece.Goals as goal
 
-pub returns-in-None-clause-lines : goal.returns-in-None-clause-lines
-returns-in-None-clause-lines g c =
-    let whole = fed_whole c.args.cutter.now c.feed.new.self c.args.piece.now c.feed.result c.feed.ensures.feeds c.requires.met c.requires.begins c.requires.fits in
-    let pushed : PushesAll c.args.keys.now c.args.progress.now c.feed.new.self c.args.out.now.items c.push_held.new.progress c.push_held.new.cutter c.push_held.new.out.items = rw c.in-None.is at c.in_ok-push_held.ensures.lines in
-    all_pushed c.args.keys.now c.args.progress.now c.push_held.new.progress c.args.cutter.now c.feed.new.self c.push_held.new.cutter c.args.piece.now c.args.out.now.items c.push_held.new.out.items whole pushed
-
-pub returns-in_ok-push_fault-in-Some-clause-fault : goal.returns-in_ok-push_fault-in-Some-clause-fault
-returns-in_ok-push_fault-in-Some-clause-fault g c =
-    let whole = fed_whole c.args.cutter.now c.feed.new.self c.args.piece.now c.feed.result c.feed.ensures.feeds c.requires.met c.requires.begins c.requires.fits in
-    let pushed : PushesToFault c.args.keys.now c.args.progress.now c.feed.new.self c.args.out.now.items c.push_held.new.progress c.push_held.new.cutter c.push_held.new.out.items c.in-Some.fault = rw c.in-Some.is at c.in_ok-push_held.ensures.fault in
-    ending_pushed c.args.keys.now c.args.progress.now c.push_held.new.progress c.args.cutter.now c.feed.new.self c.push_held.new.cutter c.args.piece.now c.args.out.now.items c.push_held.new.out.items c.push_fault.new.out.items c.in-Some.fault whole pushed c.in_ok-push_fault-in-Some.ensures
+pub returns-in_ok-push_fault-clause-fault : goal.returns-in_ok-push_fault-clause-fault
+returns-in_ok-push_fault-clause-fault g c =
+    let old = c.args.cutter.now in
+    let fed = c.feed.new.self in
+    let new = c.push_held.new.cutter in
+    let same : fed.bytes ≡ old.bytes ++ c.args.piece.now = fed_whole old fed c.args.piece.now c.feed.result c.feed.ensures.feeds c.requires.met (c.frame_sizes.ensures.beginning old.bytes c.requires.begins) c.requires.fits in
+    let pushed : Pushes c.args.keys.now c.args.progress.now fed.bytes c.args.out.now.items c.push_held.new.progress new.bytes c.push_held.new.out.items = c.in_ok-fault.ensures.lines in
+    let wrong : IsFault new.bytes c.in-Some.fault = rw c.in-Some.is at c.in_ok-fault.ensures.fault in
+    λ more. pushes_a_fault _ _ _ _ _ _ _ _ _ c.in-Some.fault pushed
+    (subst (λ (xs : List ℕ). IsStream (xs ++ more) pushed.frames (Some c.in-Some.fault)) same (c.fault_is_for_good.ensures.stream fed.bytes new.bytes more pushed.frames c.in-Some.fault pushed.cut wrong))
+    c.in_ok-push_fault.ensures

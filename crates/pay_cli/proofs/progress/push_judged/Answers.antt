@@ -1,25 +1,30 @@
-use Rattle.std.proofs.Common.{◌≡◌, ◌∙◌, sym, subst, ◌<◌, ◌++◌, length}
+use Rattle.std.proofs.Common.{◌≡◌, ◌∙◌, sym, subst, ap, ◌<◌, ◌++◌, length, get_or, Ok}
 use Rattle.std.specs.Prelude.{OnOk}
 use Rattle.pay_frame.specs.Frame.{FrameFields}
 use Rattle.pay_frame.specs.Lent.{fields_of}
-use Rattle.pay_cli.specs.Lines.{opened_words, opened_fronts}
-use Rattle.pay_cli.proofs.OpenedFrames.{opened_is}
+use Rattle.pay_link.specs.Opening.{OpenedFields, judgement}
+use Rattle.pay_cli.specs.Lines.{outcome_words, opened_outcome, fronts_after}
 use Rattle.pay_cli.proofs.progress.push_judged.Goals as goal
 
 pub push_opened-requires-clause-known : goal.push_opened-requires-clause-known
 push_opened-requires-clause-known g c =
-    let is = opened_is c.args.keys.now (fields_of c.args.frame) c.in-Ok.opened (sym c.in-Ok.ensures) in
-    let same : fields_of c.frame.result.now ≡ fields_of c.args.frame = c.frame.ensures.value ∙ is.frame in
-    subst (λ (f : FrameFields). f.from < length c.args.fronts.now) (sym same) (rw c.requires.members is.sender)
+    let f = fields_of c.args.frame in
+    let told = (c.opened.ensures c.args.keys.now f c.in-Ok.opened).0 (sym c.in-Ok.ensures) in
+    let same : fields_of c.frame.result.now ≡ f = c.frame.ensures.value ∙ ap (λ (o : OpenedFields). o.frame) told.1 in
+    subst (λ (h : FrameFields). h.from < length c.args.fronts.now) (sym same) (rw c.requires.members told.0.sender.0)
 
 pub returns-in-Ok-clause-words : goal.returns-in-Ok-clause-words
 returns-in-Ok-clause-words g c =
-    let is = opened_is c.args.keys.now (fields_of c.args.frame) c.in-Ok.opened (sym c.in-Ok.ensures) in
-    let same : fields_of c.frame.result.now ≡ fields_of c.args.frame = c.frame.ensures.value ∙ is.frame in
-    rw is.judged (subst (λ (f : FrameFields). OnOk c.push_opened.result (c.push_opened.new.out.items ≡ c.args.out.now.items ++ opened_words c.args.fronts.now f f.body.kind)) same c.push_opened.ensures.words)
+    let f = fields_of c.args.frame in
+    let judged : judgement c.args.keys.now f ≡ Ok c.in-Ok.opened = sym c.in-Ok.ensures in
+    let told = (c.opened.ensures c.args.keys.now f c.in-Ok.opened).0 judged in
+    let same : fields_of c.frame.result.now ≡ f = c.frame.ensures.value ∙ ap (λ (o : OpenedFields). o.frame) told.1 in
+    rw judged (subst (λ (h : FrameFields). OnOk c.push_opened.result (c.push_opened.new.out.items ≡ c.args.out.now.items ++ outcome_words h (opened_outcome (get_or c.args.fronts.now h.from 0) h h.body.kind))) same c.push_opened.ensures.words)
 
 pub returns-in-Ok-clause-fronts : goal.returns-in-Ok-clause-fronts
 returns-in-Ok-clause-fronts g c =
-    let is = opened_is c.args.keys.now (fields_of c.args.frame) c.in-Ok.opened (sym c.in-Ok.ensures) in
-    let same : fields_of c.frame.result.now ≡ fields_of c.args.frame = c.frame.ensures.value ∙ is.frame in
-    rw is.judged (subst (λ (f : FrameFields). OnOk c.push_opened.result (c.push_opened.new.fronts ≡ opened_fronts c.args.fronts.now f f.body.kind)) same c.push_opened.ensures.fronts)
+    let f = fields_of c.args.frame in
+    let judged : judgement c.args.keys.now f ≡ Ok c.in-Ok.opened = sym c.in-Ok.ensures in
+    let told = (c.opened.ensures c.args.keys.now f c.in-Ok.opened).0 judged in
+    let same : fields_of c.frame.result.now ≡ f = c.frame.ensures.value ∙ ap (λ (o : OpenedFields). o.frame) told.1 in
+    rw judged (subst (λ (h : FrameFields). OnOk c.push_opened.result (c.push_opened.new.fronts ≡ fronts_after c.args.fronts.now h (opened_outcome (get_or c.args.fronts.now h.from 0) h h.body.kind))) same c.push_opened.ensures.fronts)

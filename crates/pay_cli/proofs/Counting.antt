@@ -1,0 +1,58 @@
+-- The next number of a member counts its `ok` lines.
+use Rattle.std.proofs.Common.{◌≡◌, ℕ, ◌+◌, ◌<◌, List, [], ◌∷◌, length, get_or, set, sym, ◌∙◌, ap, arith, eqb, cond, true, false, inl, inr, eq-eqb}
+use Rattle.std.specs.Prelude.{count_by, replicate}
+use Rattle.std.proofs.lemmas.Bool.{cases_eq}
+use Rattle.std.proofs.lemmas.Bool.Decides.{nat_tests}
+use Rattle.std.proofs.lemmas.List.Sums.{sum_by-cons}
+use Rattle.std.proofs.lemmas.List.{length-replicate, get_or-replicate, get_or-set_same, get_or-set_other}
+use Rattle.pay_frame.specs.Frame.{FrameFields}
+use Rattle.pay_link.specs.Keys.{KeyFields}
+use Rattle.pay_cli.specs.declared.progress.Progress.{Progress}
+use Rattle.pay_cli.specs.Lines.{Outcome, Taken, Wanted, Refused, moved, outcome_of, fronts_after}
+use Rattle.pay_cli.specs.CheckText.{at_start, known_after, outcomes, is_ok_from}
+use Rattle.pay_cli.proofs.Texts.{length-fronts_after}
+
+-- one frame's part
+abbrev one_of : ℕ → FrameFields × Outcome → ℕ
+one_of member x = cond (is_ok_from member x) 1 0
+
+abbrev one_more : ℕ → FrameFields → Outcome → ℕ
+one_more member f o = one_of member (f, o)
+
+one_front : (fronts : List ℕ) (f : FrameFields) (o : Outcome) (member : ℕ) → member < length fronts → get_or (fronts_after fronts f o) member 0 ≡ get_or fronts member 0 + one_more member f o
+one_front fronts f Wanted member lt = omega arith
+one_front fronts f (Refused fault) member lt = omega arith
+one_front fronts f Taken member lt =
+    elim (cases_eq member f.from) [
+      | inl same ↦
+          let there : f.from < length fronts = omega arith in
+          let moves = get_or-set_same fronts f.from (get_or fronts f.from 0 + 1) 0 there in
+          let test : eqb f.from member ≡ true = eq-eqb f.from member (sym same) in
+          rw test (ap (λ m. get_or (set fronts f.from (get_or fronts f.from 0 + 1)) m 0) same ∙ moves ∙ ap (λ m. get_or fronts m 0 + 1) (sym same))
+      | inr other ↦
+          let stays = get_or-set_other fronts f.from member (get_or fronts f.from 0 + 1) 0 other in
+          let test : eqb f.from member ≡ false = grind (arith, nat_tests) in
+          rw test (omega arith)
+    ]
+
+moved-front : (k : KeyFields) (p : Progress) (f : FrameFields) (member : ℕ) → member < length p.fronts → get_or (moved k p f).fronts member 0 ≡ get_or p.fronts member 0 + one_more member f (outcome_of k p.fronts f)
+unfolding moved
+moved-front k p f member lt = one_front p.fronts f (outcome_of k p.fronts f) member lt
+
+moved-length : (k : KeyFields) (p : Progress) (f : FrameFields) → length (moved k p f).fronts ≡ length p.fronts
+unfolding moved
+moved-length k p f = length-fronts_after p.fronts f (outcome_of k p.fronts f)
+
+counts_from : (k : KeyFields) (p : Progress) (fs : List FrameFields) (member : ℕ) → member < length p.fronts → get_or (known_after k p fs).fronts member 0 ≡ get_or p.fronts member 0 + count_by (is_ok_from member) (outcomes k p fs)
+counts_from k p [] member lt = omega arith
+counts_from k p (f ∷ fs) member lt =
+    let rest : ℕ = count_by (is_ok_from member) (outcomes k (moved k p f) fs) in
+    let front = moved-front k p f member lt in
+    let step : get_or (moved k p f).fronts member 0 + rest ≡ get_or p.fronts member 0 + (one_more member f (outcome_of k p.fronts f) + rest) = omega arith in
+    counts_from k (moved k p f) fs member (omega (arith, moved-length k p f)) ∙ step
+    ∙ ap (λ n. get_or p.fronts member 0 + n) (sym (sum_by-cons (one_of member) (f, outcome_of k p.fronts f) (outcomes k (moved k p f) fs)))
+
+pub counts : (k : KeyFields) (fs : List FrameFields) (member : ℕ) → member < length k.keys → get_or (known_after k (at_start k) fs).fronts member 0 ≡ count_by (is_ok_from member) (outcomes k (at_start k) fs)
+counts k fs member lt =
+    let zero-front : get_or (replicate (length k.keys) 0) member 0 ≡ 0 = get_or-replicate {A = ℕ} (length k.keys) member 0 0 lt in
+    omega (arith, counts_from k (at_start k) fs member (omega (arith, length-replicate {A = ℕ} (length k.keys) 0)))

@@ -1,0 +1,14 @@
+use Rattle.std.proofs.Common.{refl}
+use Rattle.pay_cli.specs.CheckText.{at_start, text_from}
+use Rattle.pay_cli.proofs.laws.every_text.Goals as goal
+
+pub returns : goal.returns
+returns c = record {
+  law = λ keys bytes is.
+      let stream = c.every_stream.ensures.law bytes is in
+      record {
+        text = text_from keys (at_start keys) stream.frames stream.ending;
+        ending = stream.ending;
+        is = record { frames = stream.frames; stream = stream.is; lines = refl };
+      };
+}
