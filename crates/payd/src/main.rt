@@ -3,6 +3,7 @@
 
 mod words;
 
+use clap::error::ErrorKind;
 use pay_cli::run_check;
 use pay_frame::{EngineFault, Reader, Writer};
 use pay_hmac::PreparedHmac;
@@ -10,7 +11,7 @@ use pay_link::{Genesis, GenesisFault, Keys, test_keys};
 use std::alloc::{AllocError, Global};
 use std::process::ExitCode;
 use std::{env, io};
-use words::{Job, job_of};
+use words::{Job, NOT_UTF8, job_of};
 
 /// Members, faults and opening amounts where no file names them.
 const MEMBERS: u64 = 4;
@@ -22,17 +23,20 @@ const OPENING: [u64; 4] = [100, 0, 0, 50];
 /// The member that judges, where no file names its keys.
 const OWN: u16 = 1;
 
-fn main(rt: HostRuntime) -> io::Result<ExitCode> {
+fn main(rt: HostRuntime) -> ExitCode {
+    let words = match env::args(&rt) {
+        Ok(words) => words,
+        Err(error) => return status_without_words(&rt, &error),
+    };
     let mut given = Vec::new(rt.alloc());
-    for word in env::args(&rt)? {
-        given.push(word)?;
+    for word in words {
+        if given.push(word).is_err() {
+            return status_of(&rt, Err(EngineFault::Memory));
+        }
     }
     match job_of(rt.alloc(), given.as_slice()) {
-        Ok(Job::Check) => Ok(status_of(&rt, check(rt.alloc(), &rt))),
-        Err(error) => {
-            error.print(&rt)?;
-            Ok(ExitCode::from(if error.use_stderr() { 2 } else { 0 }))
-        }
+        Ok(Job::Check) => status_of(&rt, check(rt.alloc(), &rt)),
+        Err(answer) => status_of_answer(&rt, &answer),
     }
 }
 
@@ -67,4 +71,25 @@ fn status_of(rt: &impl Eprint, ended: Result<(), EngineFault>) -> ExitCode {
             ExitCode::from(3)
         }
     }
+}
+
+/// No words can be had where one isn't UTF-8, and where memory ran out.
+fn status_without_words(rt: &impl Eprint, error: &io::Error) -> ExitCode {
+    if error.kind() == io::ErrorKind::InvalidData {
+        let _ = eprintln!(rt; "{NOT_UTF8}");
+        ExitCode::from(2)
+    } else {
+        status_of(rt, Err(EngineFault::Memory))
+    }
+}
+
+/// Prints what the reading of the words answers in place of a job: help, the version, or a mistake.
+fn status_of_answer(rt: &(impl Print + Eprint), answer: &clap::Error) -> ExitCode {
+    if answer.kind() == ErrorKind::OutOfMemory {
+        return status_of(rt, Err(EngineFault::Memory));
+    }
+    if answer.print(rt).is_err() {
+        return status_of(rt, Err(EngineFault::Write));
+    }
+    ExitCode::from(if answer.use_stderr() { 2 } else { 0 })
 }

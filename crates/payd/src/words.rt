@@ -8,6 +8,12 @@ pub(crate) enum Job {
     Check,
 }
 
+/// What is said where a word isn't UTF-8, which `clap` never sees.
+pub(crate) const NOT_UTF8: &str =
+    "error: a word is not UTF-8\n\nFor more information, try '--help'.";
+
+const VERSION: &str = "0.1.0";
+
 const ABOUT: &str = "A payment ledger without consensus";
 
 const CHECK_ABOUT: &str =
@@ -29,7 +35,8 @@ or a write fails, or after 1,000,000 reads.
 
 Example: payd check < examples/frames.bin";
 
-/// What the words ask for, the program's name the first of them; or help, or what is wrong with them.
+/// What the words ask for, the program's name the first of them; or help, the version, or what is
+/// wrong with them.
 /// With no further word it is `check`.
 pub(crate) fn job_of(alloc: Global, words: &[String]) -> Result<Job, Error> {
     let check = Command::new(alloc, "check")
@@ -37,6 +44,7 @@ pub(crate) fn job_of(alloc: Global, words: &[String]) -> Result<Job, Error> {
         .after_help(CHECK_HELP);
     let command = Command::new(alloc, "payd")
         .about(ABOUT)
+        .version(VERSION)
         .disable_help_subcommand(true)
         .subcommand(check)?;
     command.try_get_matches_from(words)?;
