@@ -55,7 +55,7 @@ known_from-grows old new s (suc n) keeps = go (old s) refl (known_from-grows old
 
 -- ---- states that nothing tells apart
 
-lists-same : (old new : State) → new.group ≡ old.group → ((a s : ℕ) → meaning_at new a s ≡ meaning_at old a s) → (a : ℕ) → lists_of new a ≡ lists_of old a
+pub lists-same : (old new : State) → new.group ≡ old.group → ((a s : ℕ) → meaning_at new a s ≡ meaning_at old a s) → (a : ℕ) → lists_of new a ≡ lists_of old a
 unfolding lists_of value_at
 lists-same old new group same a =
     let values : value_at new ≡ value_at old = λ i b s. (same b s i).delivered in

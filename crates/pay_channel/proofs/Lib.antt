@@ -17,3 +17,4 @@ pub mod VotesTaken
 pub mod Places
 pub mod Longer
 pub mod Asking
+pub mod ChannelLists

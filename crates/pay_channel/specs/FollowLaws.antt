@@ -1,6 +1,6 @@
 -- What holds of a channel that follows a history, as statements. Each is proved as a public law.
-use Rattle.std.specs.Prelude.{◌≡◌, ℕ, List, [], ◌∷◌, ◌++◌}
-use Rattle.pay_channel.specs.History.{Event, delivered_at, list_of}
+use Rattle.std.specs.Prelude.{◌≡◌, ℕ, ◌≤◌, List, [], ◌∷◌, ◌++◌, length}
+use Rattle.pay_channel.specs.History.{Event, seqs, delivered_at, list_of}
 use Rattle.pay_channel.specs.State.{State, Follows, value_at, lists_of}
 use Rattle.pay_channel.specs.Applied.{Takes, IsApplied, IsAsBefore}
 use Rattle.pay_channel.specs.Answer.{IsAnswer}
@@ -39,3 +39,13 @@ abbrev pub FollowersAreAlike : Type 0
 FollowersAreAlike =
     (one other : State) (history : List Event) → one.group ≡ other.group
     → Follows one history → Follows other history → IsAsBefore one other
+
+-- ---- of any state
+
+-- a list has at most one value for each number
+abbrev pub ListsOfAreShort : Type 0
+ListsOfAreShort = (c : State) (a : ℕ) → length (lists_of c a) ≤ seqs
+
+-- where nothing that can be seen changed, the lists are the same
+abbrev pub UnchangedLists : Type 0
+UnchangedLists = (old new : State) → IsAsBefore old new → (a : ℕ) → lists_of new a ≡ lists_of old a

@@ -5,7 +5,7 @@ ghost use Rattle.pay_channel.specs.VoteLaws.{NoVotesAtFirst, NoAsksAtFirst, Vote
 ghost use Rattle.pay_channel.specs.TakenLaws.{NothingTakenAtFirst, TakenByOneMore, TakenFromHere, TakenFromElsewhere, TakenGrows, TakenIsFrom, NextIsCount, NextByOneMore};
 ghost use Rattle.pay_channel.specs.SentLaws.{NothingSentAtFirst, OutByOneMore, OutGrows, EchoInOut, ReadyInOut, EchoIsSaid, ReadyIsSaid, SentMayCome, NothingAskedAtFirst, AskedByOneMore, AskedGrows, AsksAreCounted, SendsAreAsks, SendInOut, SentIsAsked, OwnEchoIsAsk};
 ghost use Rattle.pay_channel.specs.ListLaws.{DeliveredIs, NothingDeliveredAtFirst, DeliveryStays, PlaceIsValue, PlaceIsDelivered, ListedIsDelivered, ListIsShort, ListReaches, ListEnds, EmptyAtFirst, EmptyOfNobody, ListIsValues, ListBeginsValues, ListsAlike, ListsCompare, ListsGrow, OneListGrows};
-ghost use Rattle.pay_channel.specs.FollowLaws.{ChannelFollows, UnchangedFollows, ValuesFollow, ListsFollow, AnswersFollow, FollowersAreAlike};
+ghost use Rattle.pay_channel.specs.FollowLaws.{ChannelFollows, UnchangedFollows, ValuesFollow, ListsFollow, AnswersFollow, FollowersAreAlike, ListsOfAreShort, UnchangedLists};
 
 use pay_echo::laws::{known_stays, nothing_known_at_first, one_vote_more};
 
@@ -132,4 +132,11 @@ pub fn a_channel_follows()
     ensures lists { ListsFollow }
     ensures answers { AnswersFollow }
     ensures alike { FollowersAreAlike }
+{}
+
+/// Whatever a channel took, no list of it has more than one value for each number, and where nothing that can
+/// be seen changed its lists are the same.
+pub fn lists_of_a_channel()
+    ensures short { ListsOfAreShort }
+    ensures unchanged { UnchangedLists }
 {}
