@@ -1,0 +1,134 @@
+-- A channel and its book after an event.
+use Rattle.std.specs.Result.{OnErr}
+use Rattle.std.proofs.Common.{◌≡◌, ℕ, ◌<◌, ◌≤◌, Bool, Result, Ok, Err, List, [], ◌∷◌, ◌++◌, length, sum, refl, sym, ap, ◌∙◌, subst, arith}
+use Rattle.pay_frame.specs.declared.limits.TheConstants.{MOST_MEMBERS}
+use Rattle.pay_echo.specs.Broadcast.{Group}
+use Rattle.pay_channel.specs.Source.{GrowsOnly}
+use Rattle.pay_channel.specs.History as channel
+use Rattle.pay_channel.specs.History.{list_of}
+use Rattle.pay_channel.specs.State.{State, Follows, lists_of}
+use Rattle.pay_channel.specs.Applied.{IsAsBefore}
+use Rattle.pay_channel.specs.Answer.{IsAnswer}
+use Rattle.pay_channel.specs.ListLaws.{EmptyAtFirst}
+use Rattle.pay_channel.specs.FollowLaws.{ChannelFollows, UnchangedFollows, ListsFollow, AnswersFollow, ListsOfAreShort, UnchangedLists}
+use Rattle.pay_link.specs.Genesis.{GenesisFields, IsGenesis}
+use Rattle.pay_member.specs.Group.{group_in}
+use Rattle.pay_member.specs.Book.{book_after}
+use Rattle.pay_member.specs.Reply.{took_by}
+use Rattle.pay_member.specs.declared.took.Took.{Took}
+use Rattle.pay_book.specs.Settled.{settled_book}
+use Rattle.pay_book.specs.Book.{Standing, fresh, IsSettled, CanSettle}
+use Rattle.pay_book.specs.Laws.{FreshBookIsSettled, GrownListCanSettle, GroupListsAreCountable, SameListsStaySettled, SettledBookIsOne}
+use Rattle.pay_member.specs.Ledger.{LedgerFields, IsLedger, Tracks, Grows, IsSameLedger}
+
+-- a channel that took nothing, with a fresh book
+pub fresh_ledger :
+    EmptyAtFirst → ListsFollow → FreshBookIsSettled → (g : GenesisFields) (own : ℕ) (c : State)
+    → IsGenesis g → Follows c [] → c.group ≡ group_in g own
+    → Tracks g own [] (record { channel = c; book = fresh g.opening })
+fresh_ledger empty lists settled g own c limits follows group =
+    let members = ap (λ (x : Group). x.members) group in
+    record {
+      group = group;
+      follows = follows;
+      opening = refl;
+      sound = record {
+        few = subst (λ n. n ≤ MOST_MEMBERS) (sym members) limits.few;
+        accounts = limits.opening ∙ sym members;
+        settled = settled g.opening (lists_of c) (λ a _. ap length (lists c [] follows a ∙ empty c.group a));
+      };
+    }
+
+-- where nothing changed that can be seen
+pub same_ledger :
+    UnchangedLists → SameListsStaySettled → (old new : State) (book : Standing)
+    → IsAsBefore old new → IsLedger (record { channel = old; book = book }) → IsLedger (record { channel = new; book = book })
+same_ledger unchanged stays old new book same ledger =
+    record {
+      few = subst (λ (g : Group). g.members ≤ MOST_MEMBERS) (sym same.group) ledger.few;
+      accounts = ledger.accounts ∙ ap (λ (g : Group). g.members) (sym same.group);
+      settled = stays (lists_of old) (lists_of new) book (λ a _. sym (unchanged old new same a)) ledger.settled;
+    }
+
+-- one list grew: the book can settle
+pub grown_can_settle :
+    ListsOfAreShort → GroupListsAreCountable → GrownListCanSettle → (old new : State) (book : Standing) (owner : ℕ)
+    → IsLedger (record { channel = old; book = book }) → GrowsOnly (lists_of old) (lists_of new) owner → owner < old.group.members
+    → CanSettle (lists_of new) book owner
+grown_can_settle short countable can old new book owner ledger grows member =
+    can (lists_of old) (lists_of new) book owner ledger.settled grows (subst (λ n. owner < n) (sym ledger.accounts) member)
+    (countable (lists_of new) book (λ a _. short new a) (subst (λ n. n ≤ MOST_MEMBERS) (sym ledger.accounts) ledger.few))
+
+-- and after it settled
+pub settled_ledger :
+    (old new : State) (before after : Standing) → IsLedger (record { channel = old; book = before })
+    → new.group ≡ old.group → after.opening ≡ before.opening → IsSettled (lists_of new) after
+    → IsLedger (record { channel = new; book = after })
+settled_ledger old new before after ledger group opening settled =
+    record {
+      few = subst (λ (g : Group). g.members ≤ MOST_MEMBERS) (sym group) ledger.few;
+      accounts = ap length opening ∙ ledger.accounts ∙ ap (λ (g : Group). g.members) (sym group);
+      settled = settled;
+    }
+
+-- a fact that holds anyway holds behind an error
+pub on_err : {T E P : Type 0} (r : Result T E) → P → OnErr r P
+on_err (Ok x) p = tt
+on_err (Err e) p = p
+
+-- ---- what a ledger tracks
+
+pub tracks_more :
+    ChannelFollows → (g : GenesisFields) (own : ℕ) (events : List channel.Event) (old new : LedgerFields) (e : channel.Event) (took : Took)
+    → Tracks g own events old → Grows old new e took → Tracks g own (events ++ e ∷ []) new
+tracks_more more g own events old new e took tracks grows =
+    record {
+      group = grows.group ∙ tracks.group;
+      follows = more old.channel new.channel events e grows.takes tracks.follows;
+      opening = grows.opening ∙ tracks.opening;
+      sound = grows.sound;
+    }
+
+pub tracks_same :
+    UnchangedFollows → (g : GenesisFields) (own : ℕ) (events : List channel.Event) (old new : LedgerFields)
+    → Tracks g own events old → IsSameLedger old new → Tracks g own events new
+tracks_same unchanged g own events old new tracks same =
+    record {
+      group = same.channel.group ∙ tracks.group;
+      follows = unchanged old.channel new.channel events same.channel tracks.follows;
+      opening = ap (λ (b : Standing). b.opening) same.book ∙ tracks.opening;
+      sound = same.sound;
+    }
+
+pub lists_are :
+    ListsFollow → (g : GenesisFields) (own : ℕ) (events : List channel.Event) (l : LedgerFields) → Tracks g own events l
+    → (a : ℕ) → lists_of l.channel a ≡ list_of (group_in g own) events a
+lists_are follow g own events l tracks a = follow l.channel events tracks.follows a ∙ ap (λ (x : Group). list_of x events a) tracks.group
+
+pub book_is :
+    ListsFollow → SettledBookIsOne → (g : GenesisFields) (own : ℕ) (events : List channel.Event) (l : LedgerFields) → Tracks g own events l
+    → l.book ≡ book_after g own events
+unfolding book_after
+book_is follow one g own events l tracks =
+    one (lists_of l.channel) l.book tracks.sound.settled
+    ∙ ap (λ (o : List ℕ). settled_book o (lists_of l.channel)) tracks.opening
+    ∙ ap (λ (lists : ℕ → List (List ℕ)). settled_book g.opening lists) (λ t a. lists_are follow g own events l tracks a t)
+
+-- ---- what is told
+
+took-same : (t : Took) (e r d : Bool) (s : ℕ) → t.echo ≡ e → t.ready ≡ r → t.deliver ≡ d → t.settled ≡ s → t ≡ record { echo = e; ready = r; deliver = d; settled = s }
+took-same t e r d s p q u v = λ i. record { echo = p i; ready = q i; deliver = u i; settled = v i }
+
+pub took_is :
+    ChannelFollows → ListsFollow → AnswersFollow → SettledBookIsOne
+    → (g : GenesisFields) (own : ℕ) (events : List channel.Event) (old new : LedgerFields) (e : channel.Event) (took : Took)
+    → Tracks g own events old → Grows old new e took → took ≡ took_by g own events e
+unfolding took_by
+took_is more lists answers one g own events old new e took tracks grows =
+    let later = tracks_more more g own events old new e took tracks grows in
+    let Told : Group → Type 0 = λ x. IsAnswer x events e (record { echo = took.echo; ready = took.ready; deliver = took.deliver; grown = grows.grown }) in
+    let told = subst Told tracks.group (answers old.channel new.channel events e (record { echo = took.echo; ready = took.ready; deliver = took.deliver; grown = grows.grown }) tracks.follows grows.takes grows.applied) in
+    let was = ap (λ (b : Standing). sum b.front) (book_is lists one g own events old tracks) in
+    let now = ap (λ (b : Standing). sum b.front) (book_is lists one g own (events ++ e ∷ []) new later) in
+    let settled = grows.settled in
+    took-same took _ _ _ _ told.echo told.ready told.deliver (omega arith)

@@ -1,0 +1,55 @@
+use Rattle.std.proofs.Common.{◌≡◌, ◌<◌, refl, sym, subst}
+use Rattle.pay_channel.specs.Source.{GrowsOnly}
+use Rattle.pay_channel.specs.State.{lists_of}
+use Rattle.pay_channel.specs.History.{owner_of}
+use Rattle.pay_channel.specs.Applied.{event_of}
+use Rattle.pay_member.specs.Ledger.{LedgerFields, Grows, IsSameLedger}
+use Rattle.pay_member.proofs.Ledgers.{same_ledger, grown_can_settle, settled_ledger, on_err}
+use Rattle.pay_member.proofs.ledger.Ledger.apply.Goals as goal
+
+pub invariant_of-self : goal.invariant_of-self
+invariant_of-self g c =
+    same_ledger c.lists_of_a_channel.ensures.unchanged c.same_lists_stay_settled.ensures
+    c.self.inside.channel c.apply.new.self (g.B.Settle.shows c.self.inside.book) c.in_err-applied.ensures.err c.self.invariant
+
+pub settle-settled-requires : goal.settle-settled-requires
+settle-settled-requires g c =
+    let Member : LedgerFields → Type 0 = λ l. c.args.owner < l.channel.group.members in
+    let Owner : LedgerFields → Type 0 = λ l. c.args.owner ≡ owner_of l.channel.group.own (event_of c.args.event) in
+    let owner = subst Owner (sym c.self.view_is) c.requires.owner in
+    grown_can_settle c.lists_of_a_channel.ensures.short c.group_lists_are_countable.ensures c.grown_list_can_settle.ensures
+    c.self.inside.channel c.apply.new.self (g.B.Settle.shows c.self.inside.book) c.args.owner c.self.invariant
+    (subst (GrowsOnly (lists_of c.self.inside.channel) (lists_of c.apply.new.self)) (sym owner) c.in_ok-applied.ensures.grows)
+    (subst Member (sym c.self.view_is) c.requires.member)
+
+pub returns-clause-grows : goal.returns-clause-grows
+returns-clause-grows g c =
+    let At : LedgerFields → Type 0 = λ l. Grows l (record { channel = c.apply.new.self; book = g.B.Settle.shows c.settle-settled.new.self }) (event_of c.args.event) (record {
+      echo = c.in_ok-applied.applied.echo;
+      ready = c.in_ok-applied.applied.ready;
+      deliver = c.in_ok-applied.applied.deliver;
+      settled = c.settle-settled.result;
+    }) in
+    subst At c.self.view_is
+    (record {
+      group = c.in_ok-applied.ensures.takes.group;
+      opening = c.settle-settled.ensures.opening;
+      sound = settled_ledger c.self.inside.channel c.apply.new.self (g.B.Settle.shows c.self.inside.book) (g.B.Settle.shows c.settle-settled.new.self)
+          c.self.invariant c.in_ok-applied.ensures.takes.group c.settle-settled.ensures.opening c.settle-settled.ensures.settled;
+      takes = c.in_ok-applied.ensures.takes;
+      grown = c.in_ok-applied.applied.grown;
+      applied = c.in_ok-applied.ensures.applied;
+      settled = c.settle-settled.ensures.count;
+    })
+
+pub returns-in_err-applied-clause-err : goal.returns-in_err-applied-clause-err
+returns-in_err-applied-clause-err g c =
+    let At : LedgerFields → Type 0 = λ l. IsSameLedger l (record { channel = c.apply.new.self; book = g.B.Settle.shows c.self.inside.book }) in
+    on_err c.from_residual.result
+    (subst At c.self.view_is
+    (record {
+      channel = c.in_err-applied.ensures.err;
+      book = refl;
+      sound = same_ledger c.lists_of_a_channel.ensures.unchanged c.same_lists_stay_settled.ensures
+          c.self.inside.channel c.apply.new.self (g.B.Settle.shows c.self.inside.book) c.in_err-applied.ensures.err c.self.invariant;
+    }))

@@ -1,0 +1,13 @@
+use Rattle.std.proofs.Common.{List, replicate, sym, ap, ◌∙◌, subst}
+use Rattle.pay_member.specs.declared.entry.HistoryEntry.{HistoryEntry}
+use Rattle.pay_member.specs.Member.{IsMember}
+use Rattle.pay_member.proofs.Members.{member_fresh}
+use Rattle.pay_member.proofs.member.Member.new.Goals as goal
+
+pub invariant_of-result : goal.invariant_of-result
+invariant_of-result g c =
+    let At : List HistoryEntry → Type 0 = λ h. IsMember (record { genesis = c.args.genesis; keys = c.args.keys; history = h }) c.in_ok-ledger.ledger c.in_ok-fronts.fronts in
+    subst At (sym c.new-3.ensures.items)
+    (member_fresh c.nothing_at_first.ensures.taken c.args.genesis c.args.keys c.own.result c.in_ok-ledger.ledger c.in_ok-fronts.fronts
+    c.members.ensures.limits c.requires c.own.ensures.value c.in_ok-ledger.ensures
+    (c.in_ok-fronts.ensures ∙ ap (λ n. replicate n 0) c.members.ensures.value))

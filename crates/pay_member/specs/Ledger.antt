@@ -1,0 +1,43 @@
+-- A channel with the book of its lists.
+use Rattle.std.specs.Prelude.{◌≡◌, ℕ, ◌+◌, ◌≤◌, List, length, sum}
+use Rattle.pay_frame.specs.declared.limits.TheConstants.{MOST_MEMBERS}
+use Rattle.pay_channel.specs.History as channel
+use Rattle.pay_channel.specs.State.{State, Follows, lists_of}
+use Rattle.pay_channel.specs.Applied.{IsAsBefore, Takes, IsApplied}
+use Rattle.pay_link.specs.Genesis.{GenesisFields}
+use Rattle.pay_book.specs.Book.{Standing, IsSettled}
+use Rattle.pay_member.specs.declared.took.Took.{Took}
+use Rattle.pay_member.specs.Group.{group_in}
+
+pub record LedgerFields : Type 0 where
+  pub channel : State
+  pub book : Standing
+
+-- there is an account for each of the members, which aren't too many, and all is settled that the lists allow
+pub record IsLedger (l : LedgerFields) : Type 0 where
+  pub few : l.channel.group.members ≤ MOST_MEMBERS
+  pub accounts : length l.book.opening ≡ l.channel.group.members
+  pub settled : IsSettled (lists_of l.channel) l.book
+
+-- It is what these events make of the ledger of member `own` of this genesis.
+pub record Tracks (g : GenesisFields) (own : ℕ) (events : List channel.Event) (l : LedgerFields) : Type 0 where
+  pub group : l.channel.group ≡ group_in g own
+  pub follows : Follows l.channel events
+  pub opening : l.book.opening ≡ g.opening
+  pub sound : IsLedger l
+
+-- The channel took the event, and what is told is what it answered and how many entries settled.
+pub record Grows (old new : LedgerFields) (e : channel.Event) (took : Took) : Type 0 where
+  pub group : new.channel.group ≡ old.channel.group
+  pub opening : new.book.opening ≡ old.book.opening
+  pub sound : IsLedger new
+  pub takes : Takes old.channel new.channel e
+  pub grown : ℕ
+  pub applied : IsApplied old.channel new.channel e (record { echo = took.echo; ready = took.ready; deliver = took.deliver; grown = grown })
+  pub settled : sum old.book.front + took.settled ≡ sum new.book.front
+
+-- nothing that can be seen changed
+pub record IsSameLedger (old new : LedgerFields) : Type 0 where
+  pub channel : IsAsBefore old.channel new.channel
+  pub book : new.book ≡ old.book
+  pub sound : IsLedger new

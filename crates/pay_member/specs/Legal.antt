@@ -1,0 +1,18 @@
+-- Histories that a member can have.
+use Rattle.std.specs.Prelude.{◌≡◌, List, ◌∷◌, ◌++◌, None}
+use Rattle.pay_channel.specs.History as channel
+use Rattle.pay_link.specs.Genesis.{GenesisFields}
+use Rattle.pay_link.specs.Keys.{KeyFields}
+use Rattle.pay_member.specs.declared.entry.HistoryEntry.{HistoryEntry}
+use Rattle.pay_member.specs.Events.{events}
+use Rattle.pay_member.specs.Reply.{reply_to}
+use Rattle.pay_member.specs.Refusal.{refusal}
+
+-- behind these events nothing refuses the entry's event, and its reply is the one owed
+pub record IsOwed (g : GenesisFields) (k : KeyFields) (before : List channel.Event) (e : HistoryEntry) : Type 0 where
+  pub taken : refusal g k before e.event ≡ None
+  pub reply : e.reply ≡ reply_to g k.own before e.event
+
+-- each entry is one that may stand behind those before it
+pub record Legal (g : GenesisFields) (k : KeyFields) (history : List HistoryEntry) : Type 0 where
+  pub each : (before : List HistoryEntry) (e : HistoryEntry) (after : List HistoryEntry) → history ≡ before ++ e ∷ after → IsOwed g k (events before) e

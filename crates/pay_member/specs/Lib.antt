@@ -1,0 +1,10 @@
+pub mod Group
+pub mod Events
+pub mod Book
+pub mod Reply
+pub mod Refusal
+pub mod Faults
+pub mod Legal
+pub mod Ledger
+pub mod Member
+pub mod Reading

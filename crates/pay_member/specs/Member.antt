@@ -1,0 +1,27 @@
+-- What a member shows: a function of its genesis, its keys and its history.
+use Rattle.std.specs.Prelude.{◌≡◌, ℕ, ◌<◌, List, [], ◌∷◌, ◌++◌, length, slice_index}
+use Rattle.pay_channel.specs.Taken.{next}
+use Rattle.pay_link.specs.Genesis.{GenesisFields, IsGenesis}
+use Rattle.pay_link.specs.Keys.{KeyFields, IsKeysOf}
+use Rattle.pay_member.specs.declared.entry.HistoryEntry.{HistoryEntry}
+use Rattle.pay_member.specs.Events.{events}
+use Rattle.pay_member.specs.Ledger.{LedgerFields, Tracks}
+use Rattle.pay_member.specs.Legal.{Legal}
+
+pub record MemberFields : Type 0 where
+  pub genesis : GenesisFields
+  pub keys : KeyFields
+  pub history : List HistoryEntry
+
+-- the same member with one entry more
+abbrev pub with_entry : MemberFields → HistoryEntry → MemberFields
+with_entry m e = record m { history = m.history ++ e ∷ [] }
+
+-- What is true of every member: its history is one that it can have, and what it keeps beside it follows from it.
+pub record IsMember (m : MemberFields) (ledger : LedgerFields) (fronts : List ℕ) : Type 0 where
+  pub genesis : IsGenesis m.genesis
+  pub keys : IsKeysOf m.genesis m.keys
+  pub legal : Legal m.genesis m.keys m.history
+  pub tracks : Tracks m.genesis m.keys.own (events m.history) ledger
+  pub one_for_each : length fronts ≡ m.genesis.members
+  pub turns : (p : ℕ) → p < m.genesis.members → slice_index fronts p ≡ next p (events m.history)

@@ -1,0 +1,64 @@
+ghost use Rattle.std.specs.Prelude.{◌≡◌};
+ghost use Rattle.pay_member.specs.Faults.{member_fault_name, member_fault_number};
+
+use std::alloc::AllocError;
+use thiserror::Error;
+
+/// Why a member refuses an event.
+#[derive(Clone, Copy, Debug, PartialEq, Eq, Error)]
+#[error("{} {}", self.number(), self.name())]
+pub enum MemberFault {
+    /// Memory was refused; looked for last.
+    Memory,
+    /// All 65,536 numbers of its own are used.
+    Spent,
+    /// The value is longer than a frame's may be.
+    TooLong,
+    /// A number that was taken before; the next one is given.
+    Repeat(u64),
+    /// A number beyond the next one, which is given.
+    Gap(u64),
+    /// The frame isn't for this member, or its key isn't the one shared with its sender.
+    WrongKey,
+    /// There is no such account.
+    NoAccount,
+}
+
+impl MemberFault {
+    const fn entry(self) -> (u8, &'static str)
+        ensures number { result.0 ≡ member_fault_number self }
+        ensures name { result.1.now ≡ member_fault_name self }
+    {
+        match self {
+            MemberFault::Memory => (0, "Memory"),
+            MemberFault::Spent => (1, "Spent"),
+            MemberFault::TooLong => (2, "TooLong"),
+            MemberFault::Repeat(_) => (3, "Repeat"),
+            MemberFault::Gap(_) => (4, "Gap"),
+            MemberFault::WrongKey => (5, "WrongKey"),
+            MemberFault::NoAccount => (6, "NoAccount"),
+        }
+    }
+
+    pub fn number(self) -> u8
+        ensures value { result ≡ member_fault_number self }
+    {
+        self.entry().0
+    }
+
+    pub fn name(self) -> &'static str
+        ensures value { result.now ≡ member_fault_name self }
+    {
+        self.entry().1
+    }
+}
+
+impl From<AllocError> for MemberFault {
+    ghost use Rattle.pay_member.specs.declared.fault.MemberFault.TheVariants.{Memory};
+
+    ghost from_gives = { λ _ e. e ≡ Memory };
+
+    fn from(_error: AllocError) -> MemberFault {
+        MemberFault::Memory
+    }
+}

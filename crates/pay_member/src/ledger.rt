@@ -1,0 +1,134 @@
+ghost use Rattle.std.specs.Prelude.{true, ◌≡◌, ◌<◌, [], length, slice_get, slice_index, IfOk, OnErr};
+ghost use Rattle.std.specs.Option.{option_copied};
+ghost use Rattle.pay_channel.specs.History.{IsEvent, is_ask, owner_of, seqs};
+ghost use Rattle.pay_channel.specs.State.{lists_of};
+ghost use Rattle.pay_book.specs.Statement.{statement_of};
+ghost use Rattle.pay_channel.specs.Applied.{event_of};
+ghost use Rattle.pay_member.specs.Ledger.{Tracks, IsSameLedger, Grows};
+
+use crate::took::Took;
+use pay_book::laws::{
+    fresh_book_is_settled, group_lists_are_countable, grown_list_can_settle,
+    same_lists_stay_settled,
+};
+use pay_book::{Line, Settle, statement};
+use pay_channel::laws::{a_channel_follows, lists_of_a_channel, nothing_at_first};
+use pay_channel::{Channel, EventRef};
+use pay_echo::Instance;
+use pay_frame::Body;
+use pay_link::Genesis;
+use std::alloc::{AllocError, Global};
+use std::marker::Model;
+
+/// A member's channel, and the book of its lists, in which all is settled that they allow.
+#[derive(Drop)]
+pub struct Ledger<I: Instance + Drop, B: Settle + Drop> {
+    channel: Channel<I>,
+    book: B,
+}
+
+impl<I: Instance + Drop, B: Settle + Drop> Model for Ledger<I, B> {
+    ghost use Rattle.pay_member.specs.Ledger.{LedgerFields, IsLedger};
+
+    ghost Value = { LedgerFields };
+
+    ghost view = { λ l. record { channel = l.channel; book = B.shows l.book } };
+
+    ghost invariant = { λ l. IsLedger (record { channel = l.channel; book = B.shows l.book }) };
+}
+
+impl<I: Instance + Drop, B: Settle + Drop> Ledger<I, B> {
+    /// The ledger of a member that took nothing.
+    pub fn new(alloc: Global, genesis: &Genesis, own: u16) -> Result<Ledger<I, B>, AllocError>
+        requires own { own < genesis.now.members }
+        ensures { IfOk result (λ ledger. Tracks genesis.now own [] ledger) }
+    {
+        nothing_at_first();
+        a_channel_follows();
+        fresh_book_is_settled();
+        let channel = Channel::new(alloc, genesis.members(), genesis.faults(), own)?;
+        let book = B::new(alloc, genesis)?;
+        Ok(Ledger { channel, book })
+    }
+
+    /// How many values of its own the member broadcast.
+    pub fn asks(&self) -> u32
+        ensures { result ≡ self.now.channel.asks }
+    {
+        self.channel.asks()
+    }
+
+    /// Takes an event and settles what it lets settle. Memory is refused before the first change.
+    pub fn apply(&mut self, alloc: Global, event: EventRef, owner: u16) -> Result<Took, AllocError>
+        requires event { IsEvent self.old.channel.group (event_of event) }
+        requires number { is_ask (event_of event) ≡ true → self.old.channel.asks < seqs }
+        requires owner { owner ≡ owner_of self.old.channel.group.own (event_of event) }
+        requires member { owner < self.old.channel.group.members }
+        ensures grows { IfOk result (Grows self.old self.new (event_of event.entry)) }
+        ensures err { OnErr result (IsSameLedger self.old self.new) }
+    {
+        lists_of_a_channel();
+        group_lists_are_countable();
+        grown_list_can_settle();
+        same_lists_stay_settled();
+        let applied = self.channel.apply(alloc, event)?;
+        let settled = self.book.settle(&self.channel, owner);
+        Ok(Took {
+            echo: applied.echo,
+            ready: applied.ready,
+            deliver: applied.deliver,
+            settled,
+        })
+    }
+
+    /// How many bodies the member sent to all.
+    pub fn sent_len(&self) -> usize
+        ensures { result ≡ length self.now.channel.sent }
+    {
+        self.channel.sent_len()
+    }
+
+    /// The body at a place of the sent list.
+    pub fn sent(&self, place: usize) -> Option<&Body>
+        ensures { option_copied result ≡ slice_get self.now.channel.sent place }
+    {
+        self.channel.sent(place)
+    }
+
+    /// How many values an account's list has.
+    pub fn listed(&self, account: u16) -> u32
+        ensures { result ≡ length (lists_of self.now.channel account) }
+    {
+        self.channel.in_order(account)
+    }
+
+    /// How many of an account's entries are settled.
+    pub fn front(&self, account: u16) -> u32
+        requires { account < length self.now.book.opening }
+        ensures { result ≡ slice_index self.now.book.front account }
+    {
+        self.book.front(account)
+    }
+
+    pub fn balance(&self, account: u16) -> u64
+        requires { account < length self.now.book.opening }
+        ensures { result ≡ slice_index self.now.book.balances account }
+    {
+        self.book.balance(account)
+    }
+
+    /// The lines of an account's statement.
+    pub fn statement(
+        &self,
+        alloc: Global,
+        accounts: u16,
+        account: u16,
+    ) -> Result<Vec<Line>, AllocError>
+        requires accounts { accounts ≡ length self.now.book.opening }
+        requires account { account < accounts }
+        ensures { IfOk result (λ lines. lines.items
+            ≡ statement_of accounts (lists_of self.now.channel) (slice_index self.now.book.front) account) }
+    {
+        statement(alloc, &self.channel, &self.book, accounts, account)
+    }
+}

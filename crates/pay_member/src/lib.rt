@@ -1,0 +1,24 @@
+//! One member, from the bytes that reach it to its book.
+//!
+//! [`Member`] is the object that a node locks, a simulator drives and an auditor replays: all that it shows is a
+//! function of its genesis, its keys and its stored history.
+#![tactic(auto)]
+
+mod entry;
+mod event;
+mod fault;
+mod ledger;
+mod member;
+mod reply;
+mod standing;
+mod told;
+mod took;
+
+pub use entry::HistoryEntry;
+pub use event::Event;
+pub use fault::MemberFault;
+pub use member::Member;
+pub use reply::Reply;
+pub use standing::PaymentState;
+pub use told::Told;
+pub use took::Took;

@@ -1,0 +1,263 @@
+ghost use Rattle.std.specs.Prelude.{◌≡◌, ◌<◌, ◌&&◌, nat_lt, [], length, slice_index, MatchOption, IfOk, OnErr, IsOkUnless};
+ghost use Rattle.pay_link.specs.Keys.{IsKeysOf};
+ghost use Rattle.pay_book.specs.Statement.{statement_of};
+ghost use Rattle.pay_channel.specs.History.{From, asks, list_of};
+ghost use Rattle.pay_channel.specs.Taken.{next};
+ghost use Rattle.pay_member.specs.Group.{group_in};
+ghost use Rattle.pay_member.specs.Events.{events};
+ghost use Rattle.pay_member.specs.Book.{book_after};
+ghost use Rattle.pay_member.specs.Reply.{took_by, told_of};
+ghost use Rattle.pay_member.specs.Refusal.{refusal};
+ghost use Rattle.pay_member.specs.Reading.{state_of};
+ghost use Rattle.pay_member.specs.Member.{with_entry};
+
+use crate::entry::HistoryEntry;
+use crate::event::Event;
+use crate::fault::MemberFault;
+use crate::ledger::Ledger;
+use crate::reply::Reply;
+use crate::standing::PaymentState;
+use crate::told::Told;
+use crate::took::Took;
+use pay_book::laws::settled_book_is_one;
+use pay_book::{Line, Settle};
+use pay_channel::EventRef;
+use pay_channel::laws::{a_channel_follows, nothing_at_first, one_event_more, taken_in_order};
+use pay_echo::Instance;
+use pay_frame::{Bytes, GREATEST_VALUE, SEQS};
+use pay_link::{Checked, Fronts, Genesis, Keys};
+use std::alloc::{AllocError, Global};
+use std::marker::Model;
+
+/// One member: its group, its keys, what it took and replied, and its broadcasts and book as they follow from that.
+///
+/// Its type keeps that the history is one that a member can have, and that all that it shows follows from it.
+#[derive(Drop)]
+pub struct Member<I: Instance + Drop, B: Settle + Drop> {
+    genesis: Genesis,
+    keys: Keys,
+    fronts: Fronts,
+    ledger: Ledger<I, B>,
+    history: Vec<HistoryEntry>,
+}
+
+impl<I: Instance + Drop, B: Settle + Drop> Model for Member<I, B> {
+    ghost use Rattle.pay_member.specs.Member.{MemberFields, IsMember};
+
+    ghost Value = { MemberFields };
+
+    ghost view = { λ m. record { genesis = m.genesis; keys = m.keys; history = m.history.items } };
+
+    ghost invariant = { λ m. IsMember (record { genesis = m.genesis; keys = m.keys; history = m.history.items }) m.ledger m.fronts };
+}
+
+impl<I: Instance + Drop, B: Settle + Drop> Member<I, B> {
+    /// A member that took nothing. The keys are one member's of that genesis.
+    pub fn new(alloc: Global, genesis: Genesis, keys: Keys) -> Result<Member<I, B>, AllocError>
+        requires { IsKeysOf genesis keys }
+        ensures { IfOk result (λ member.
+            member ≡ record { genesis = genesis; keys = keys; history = [] }) }
+    {
+        nothing_at_first();
+        let fronts = Fronts::new(alloc, genesis.members())?;
+        let ledger = Ledger::new(alloc, &genesis, keys.own())?;
+        Ok(Member {
+            genesis,
+            keys,
+            fronts,
+            ledger,
+            history: Vec::new(alloc),
+        })
+    }
+
+    /// Broadcasts a value of the member's own, and returns the number that it got.
+    ///
+    /// Refuses a value of more than 1,024 bytes (`TooLong`) and one behind 65,536 others (`Spent`). A refused
+    /// value is dropped, and the member is unchanged.
+    pub fn ask(&mut self, alloc: Global, stamp: u16, value: Bytes) -> Result<u32, MemberFault>
+        ensures refused { MatchOption
+            (refusal self.old.genesis self.old.keys (events self.old.history) (Event.Ask value))
+            (IsOkUnless result MemberFault.Memory)
+            (λ fault. result ≡ Err fault) }
+        ensures asked { IfOk result (λ seq. seq ≡ asks (events self.old.history)) }
+        ensures entry { IfOk result (λ seq. self.new ≡ with_entry self.old
+            (record { stamp = stamp; event = Event.Ask value; reply = Reply.Asked seq })) }
+        ensures err { OnErr result (self.new ≡ self.old) }
+    {
+        one_event_more();
+        taken_in_order();
+        a_channel_follows();
+        settled_book_is_one();
+        if value.len() > usize::from(GREATEST_VALUE) {
+            return Err(MemberFault::TooLong);
+        }
+        let seq = self.ledger.asks();
+        if seq >= SEQS {
+            return Err(MemberFault::Spent);
+        }
+        self.history.reserve(1)?;
+        self.ledger
+            .apply(alloc, EventRef::Ask(value.as_slice()), self.keys.own())?;
+        self.history.push_reserved(HistoryEntry {
+            stamp,
+            event: Event::Ask(value),
+            reply: Reply::Asked(seq),
+        });
+        Ok(seq)
+    }
+
+    /// Takes a frame of another member, and returns what followed from it.
+    ///
+    /// Refuses one that isn't for this member or was opened under another key (`WrongKey`), and then one whose
+    /// number isn't the next from its sender (`Repeat`, `Gap`). A refused frame is dropped, and the member is
+    /// unchanged.
+    pub fn take(&mut self, alloc: Global, stamp: u16, checked: Checked) -> Result<Took, MemberFault>
+        ensures refused { MatchOption
+            (refusal self.old.genesis self.old.keys (events self.old.history) (Event.Taken checked))
+            (IsOkUnless result MemberFault.Memory)
+            (λ fault. result ≡ Err fault) }
+        ensures took { IfOk result (λ took. took
+            ≡ took_by self.old.genesis self.old.keys.own (events self.old.history)
+            (From checked.frame.from checked.frame.body)) }
+        ensures entry { IfOk result (λ took. self.new ≡ with_entry self.old
+            (record { stamp = stamp; event = Event.Taken checked; reply = Reply.Took took })) }
+        ensures err { OnErr result (self.new ≡ self.old) }
+    {
+        one_event_more();
+        taken_in_order();
+        a_channel_follows();
+        settled_book_is_one();
+        if !checked.is_for(&self.keys) {
+            return Err(MemberFault::WrongKey);
+        }
+        let from = checked.from();
+        let next = self.fronts.next(from);
+        if checked.number() < next {
+            return Err(MemberFault::Repeat(next));
+        }
+        if checked.number() > next {
+            return Err(MemberFault::Gap(next));
+        }
+        self.history.reserve(1)?;
+        let body = checked.body();
+        let took = self
+            .ledger
+            .apply(alloc, EventRef::From(from, body), body.owner())?;
+        self.history.push_reserved(HistoryEntry {
+            stamp,
+            event: Event::Taken(checked),
+            reply: Reply::Took(took),
+        });
+        // as many frames came from one member as there are entries at most, and these can be counted
+        let entries = self.history.len();
+        prove!(entries > 0);
+        self.fronts.advance(from);
+        Ok(took)
+    }
+
+    /// Tells the state of an account, and notes that it was asked for. Refuses an account that isn't there.
+    pub fn query(&mut self, stamp: u16, account: u16) -> Result<Told, MemberFault>
+        ensures refused { MatchOption
+            (refusal self.old.genesis self.old.keys (events self.old.history) (Event.Query account))
+            (IsOkUnless result MemberFault.Memory)
+            (λ fault. result ≡ Err fault) }
+        ensures told { IfOk result (λ told. told
+            ≡ told_of self.old.genesis self.old.keys.own (events self.old.history) account) }
+        ensures entry { IfOk result (λ told. self.new ≡ with_entry self.old
+            (record { stamp = stamp; event = Event.Query account; reply = Reply.Told told })) }
+        ensures err { OnErr result (self.new ≡ self.old) }
+    {
+        a_channel_follows();
+        settled_book_is_one();
+        if account >= self.genesis.members() {
+            return Err(MemberFault::NoAccount);
+        }
+        self.history.reserve(1)?;
+        let told = Told {
+            balance: self.ledger.balance(account),
+            front: self.ledger.front(account),
+            listed: self.ledger.listed(account),
+        };
+        self.history.push_reserved(HistoryEntry {
+            stamp,
+            event: Event::Query(account),
+            reply: Reply::Told(told),
+        });
+        Ok(told)
+    }
+
+    /// All that the member took and replied, oldest first.
+    pub fn history(&self) -> &[HistoryEntry]
+        ensures { result.now ≡ self.now.history }
+    {
+        self.history.as_slice()
+    }
+
+    /// The number that the next frame from a member has.
+    pub fn next(&self, peer: u16) -> u64
+        requires { peer < self.now.genesis.members }
+        ensures { result ≡ next peer (events self.now.history) }
+    {
+        self.fronts.next(peer)
+    }
+
+    /// How many of an account's entries are settled.
+    pub fn front(&self, account: u16) -> u32
+        requires { account < self.now.genesis.members }
+        ensures { result
+            ≡ slice_index (book_after self.now.genesis self.now.keys.own (events self.now.history)).front account }
+    {
+        a_channel_follows();
+        settled_book_is_one();
+        self.ledger.front(account)
+    }
+
+    pub fn balance(&self, account: u16) -> u64
+        requires { account < self.now.genesis.members }
+        ensures { result
+            ≡ slice_index (book_after self.now.genesis self.now.keys.own (events self.now.history)).balances account }
+    {
+        a_channel_follows();
+        settled_book_is_one();
+        self.ledger.balance(account)
+    }
+
+    /// How far the payment under a number of an account has come.
+    pub fn state(&self, owner: u16, seq: u32) -> PaymentState
+        requires { owner < self.now.genesis.members }
+        ensures { result ≡ state_of self.now.genesis self.now.keys.own (events self.now.history) owner seq }
+    {
+        a_channel_follows();
+        settled_book_is_one();
+        if seq < self.ledger.front(owner) {
+            PaymentState::Settled
+        } else if seq < self.ledger.listed(owner) {
+            PaymentState::Waiting
+        } else if is_used(owner == self.keys.own(), seq, self.ledger.asks()) {
+            PaymentState::Asked
+        } else {
+            PaymentState::Unknown
+        }
+    }
+
+    /// The lines of an account's statement.
+    pub fn statement(&self, alloc: Global, account: u16) -> Result<Vec<Line>, AllocError>
+        requires { account < self.now.genesis.members }
+        ensures { IfOk result (λ lines. lines.items
+            ≡ statement_of self.now.genesis.members
+            (list_of (group_in self.now.genesis self.now.keys.own) (events self.now.history))
+            (slice_index (book_after self.now.genesis self.now.keys.own (events self.now.history)).front) account) }
+    {
+        a_channel_follows();
+        settled_book_is_one();
+        self.ledger
+            .statement(alloc, self.genesis.members(), account)
+    }
+}
+
+// Whether a number of one's own was used.
+fn is_used(is_own: bool, seq: u32, asks: u32) -> bool
+    ensures { result ≡ (is_own && nat_lt seq asks) }
+{
+    is_own && seq < asks
+}
