@@ -1,4 +1,4 @@
-pub mod Judged
+mod Judged
 mod Lists
 mod Owned
-pub mod TestKeysLemmas
+mod TestKeysLemmas
