@@ -1,15 +1,15 @@
 -- What one vote more does to the lists, and that a channel stays sound.
 use Rattle.std.proofs.Common.{◌≡◌, ◌≢◌, ℕ, zero, suc, ◌+◌, ◌-◌, ◌<◌, ◌≤◌, true, false, cond, ◌&&◌, eqb, ltb, List, [], ◌∷◌, ◌++◌, length, get_or, set, Option, None, Some, refl, sym, ap, ap₂, ◌∙◌, subst, arith, eqb-true, ne_eqb, lt-ltb, append-nil, length-append, length-set, get_or-set_same, get_or-set_other, zero-add}
 use Rattle.std.proofs.lemmas.Bool.{cond-true, cases_Bool, cases_eq, and_left, and_parts}
-use Rattle.pay_echo.specs.declared.instance.TheConstants.{MOST_MEMBERS}
+use Rattle.pay_frame.specs.declared.limits.TheConstants.{MOST_MEMBERS}
 use Rattle.pay_echo.specs.Broadcast.{Group, Vote}
 use Rattle.pay_echo.specs.Meaning.{Meaning, meaning_of}
-use Rattle.pay_echo.proofs.Lists.{either}
-use Rattle.pay_echo.proofs.VoteLaws.{delivered_stays}
+use Rattle.pay_echo.specs.Laws.{DeliveredStays}
 use Rattle.pay_channel.specs.Source.{GrowsOnly}
 use Rattle.pay_channel.specs.History.{seqs, known_from, listed}
 use Rattle.pay_channel.specs.State.{State, IsSound, meaning_at, value_at, lists_of}
 use Rattle.pay_channel.specs.Applied.{SeesIfVote, IsAsBefore}
+use Rattle.pay_channel.proofs.Lists.{either}
 
 -- ---- values up to the first that is missing
 
@@ -75,7 +75,7 @@ IsSound-same old new lengths same sound =
 
 -- ---- one vote more about the broadcast s of account a
 
-module _ (old new : State) (lengths : List ℕ) (a s : ℕ) (vote : Option Vote) (sound : IsSound old lengths) (group : new.group ≡ old.group) (here : SeesIfVote (meaning_at old a s) (meaning_at new a s) vote) (others : (b t : ℕ) → (eqb a b && eqb s t) ≡ false → meaning_at new b t ≡ meaning_at old b t) where
+module _ (delivered_stays : DeliveredStays) (old new : State) (lengths : List ℕ) (a s : ℕ) (vote : Option Vote) (sound : IsSound old lengths) (group : new.group ≡ old.group) (here : SeesIfVote (meaning_at old a s) (meaning_at new a s) vote) (others : (b t : ℕ) → (eqb a b && eqb s t) ≡ false → meaning_at new b t ≡ meaning_at old b t) where
   -- votes that reach what is known now
   reached_here : (votes : List Vote) → meaning_at old a s ≡ meaning_of old.group votes → (o : Option Vote) → SeesIfVote (meaning_at old a s) (meaning_at new a s) o → (more : List Vote) × (meaning_at new a s ≡ meaning_of old.group (votes ++ more))
   reached_here votes e None same = ([], same ∙ e ∙ ap (meaning_of old.group) (sym (append-nil votes)))

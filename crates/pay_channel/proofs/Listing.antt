@@ -2,10 +2,10 @@
 use Rattle.std.proofs.Common.{◌≡◌, ℕ, zero, suc, ◌+◌, ◌<◌, ◌≤◌, Bool, true, false, cond, ltb, List, [], ◌∷◌, length, slice_get, replicate, Option, None, Some, refl, sym, ap, ◌∙◌, arith, le-ltb, zero-add}
 use Rattle.std.proofs.lemmas.Bool.{cond-true, cond-false}
 use Rattle.std.proofs.lemmas.List.{get_or-replicate, length-replicate}
-use Rattle.pay_echo.specs.declared.instance.TheConstants.{MOST_MEMBERS}
+use Rattle.pay_frame.specs.declared.limits.TheConstants.{MOST_MEMBERS}
 use Rattle.pay_echo.specs.Broadcast.{Group}
 use Rattle.pay_echo.specs.Meaning.{meaning_of}
-use Rattle.pay_echo.proofs.OneMore.{delivered-none}
+use Rattle.pay_echo.specs.Laws.{NotDeliveredAtFirst}
 use Rattle.pay_channel.specs.History.{seqs, known_from, listed, votes, asks, out}
 use Rattle.pay_channel.specs.State.{State, IsSound, Follows, meaning_at, value_at, lists_of}
 use Rattle.pay_channel.proofs.Grown.{known_from-some, known_from-none}
@@ -54,29 +54,29 @@ lists_nobody c a past = cond-false (ltb a c.group.members) (known_from (value_at
 abbrev pub blank : Group → State
 blank g = record { group = g; asks = 0; slots = []; sent = [] }
 
-value_at-blank : (g : Group) (a s : ℕ) → value_at (blank g) a s ≡ None
+value_at-blank : NotDeliveredAtFirst → (g : Group) (a s : ℕ) → value_at (blank g) a s ≡ None
 unfolding value_at meaning_at meaning_of
-value_at-blank g a s = delivered-none g
+value_at-blank delivered-none g a s = delivered-none g
 
-lists-blank : (g : Group) (a : ℕ) → lists_of (blank g) a ≡ []
+lists-blank : NotDeliveredAtFirst → (g : Group) (a : ℕ) → lists_of (blank g) a ≡ []
 unfolding lists_of listed
-lists-blank g a = go (ltb a g.members) where
+lists-blank delivered-none g a = go (ltb a g.members) where
   none : known_from (value_at (blank g) a) 0 (suc 65535) ≡ []
-  none = known_from-none (value_at (blank g) a) 0 65535 (value_at-blank g a 0)
+  none = known_from-none (value_at (blank g) a) 0 65535 (value_at-blank delivered-none g a 0)
 
   go : (b : Bool) → cond b (known_from (value_at (blank g) a) 0 seqs) [] ≡ []
   go true = none
   go false = refl
 
-pub IsSound-blank : (g : Group) → g.members ≤ MOST_MEMBERS → g.own < g.members → IsSound (blank g) (replicate g.members 0)
+pub IsSound-blank : NotDeliveredAtFirst → (g : Group) → g.members ≤ MOST_MEMBERS → g.own < g.members → IsSound (blank g) (replicate g.members 0)
 unfolding meaning_at
-IsSound-blank g few own =
+IsSound-blank delivered-none g few own =
     record {
       few = few;
       own = own;
       reached = λ a s. ([], refl);
       places = length-replicate g.members 0;
-      counted = λ a below. get_or-replicate g.members a 0 0 below ∙ sym (ap length (lists-blank g a));
+      counted = λ a below. get_or-replicate g.members a 0 0 below ∙ sym (ap length (lists-blank delivered-none g a));
     }
 
 pub Follows-blank : (g : Group) → Follows (blank g) []

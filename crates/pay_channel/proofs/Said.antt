@@ -1,15 +1,19 @@
 -- What is said by a vote has the vote's value.
-use Rattle.std.proofs.Common.{◌≡◌, ℕ, Bool, true, false, cond, List, [], ◌∷◌, ◌++◌, Option, None, Some, refl, sym, ap, ap₂, ◌∙◌, subst, inl, inr}
+use Rattle.std.proofs.Common.{◌≡◌, ◌⊎◌, ℕ, Bool, true, false, cond, List, [], ◌∷◌, ◌++◌, Option, None, Some, refl, sym, ap, ap₂, ◌∙◌, subst, inl, inr}
 use Rattle.std.specs.Option.{option_or}
 use Rattle.pay_frame.specs.declared.kind.Kind.{Kind}
 use Rattle.pay_frame.specs.declared.kind.Kind.TheVariants.{Echo, Ready}
 use Rattle.pay_frame.specs.Frame.{BodyFields}
 use Rattle.pay_echo.specs.Broadcast.{Group, Vote, value_of, sent, may_ready}
 use Rattle.pay_echo.specs.Meaning.{Meaning, meaning_of, Sees, became}
-use Rattle.pay_echo.proofs.Lists.{either}
-use Rattle.pay_echo.proofs.OneMore.{IsOf, sent-IsOf, echoed-push, readied-push}
+use Rattle.pay_echo.specs.Laws.{EchoedByOneMore, ReadiedByOneMore, SentIsItsValue}
 use Rattle.pay_channel.specs.History.{body_of, newly}
 use Rattle.pay_channel.specs.Applied.{said}
+use Rattle.pay_channel.proofs.Lists.{either}
+
+-- nothing, or this value
+abbrev IsOf : List ℕ → Option (List ℕ) → Type 0
+IsOf v o = (o ≡ None) ⊎ (o ≡ Some v)
 
 -- the body, where something became known
 abbrev pub told : Kind → ℕ → ℕ → List ℕ → Bool → List BodyFields
@@ -25,9 +29,9 @@ newly-of kind a s v None n p e of =
     let P : Option (List ℕ) → Type 0 = λ m. newly kind a s None m ≡ told kind a s v (became None m) in
     either of (λ z. subst P (sym (e ∙ z)) refl) (λ z. subst P (sym (e ∙ z)) refl)
 
-pub said-of_vote : (a s : ℕ) (g : Group) (votes : List Vote) (x : Vote) (old new : Meaning) → old ≡ meaning_of g votes → Sees old new x → said a s old new ≡ told Echo a s (value_of x) (became old.echoed new.echoed) ++ told Ready a s (value_of x) (became old.readied new.readied)
+pub said-of_vote : EchoedByOneMore → ReadiedByOneMore → SentIsItsValue → (a s : ℕ) (g : Group) (votes : List Vote) (x : Vote) (old new : Meaning) → old ≡ meaning_of g votes → Sees old new x → said a s old new ≡ told Echo a s (value_of x) (became old.echoed new.echoed) ++ told Ready a s (value_of x) (became old.readied new.readied)
 unfolding meaning_of
-said-of_vote a s g votes x old new e sees =
+said-of_vote echoed-push readied-push sent-IsOf a s g votes x old new e sees =
     let now = sees g votes e in
     let echo : new.echoed ≡ option_or old.echoed (sent x) = ap (λ (m : Meaning). m.echoed) now ∙ echoed-push votes x ∙ ap (λ (m : Meaning). option_or m.echoed (sent x)) (sym e) in
     let test = may_ready g (votes ++ x ∷ []) (value_of x) in

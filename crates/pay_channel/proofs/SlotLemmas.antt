@@ -5,10 +5,10 @@ use Rattle.std.specs.BTreeMap.{insert_entry}
 use Rattle.std.specs.Ordering.{is_eq, match_ordering, ordering_then, nat_cmp}
 use Rattle.std.proofs.lemmas.Bool.Decides.{nat_tests}
 use Rattle.std.proofs.lemmas.Bool.{cond-true, cond-false, cases_Bool, and_parts, and_from}
-use Rattle.pay_echo.specs.Broadcast.{Group}
+use Rattle.pay_echo.specs.Broadcast.{Group, Vote, IsForeign}
 use Rattle.pay_echo.specs.Meaning.{Meaning, meaning_of}
-use Rattle.pay_echo.proofs.Lists.{either}
 use Rattle.pay_channel.specs.State.{Slot, meaning_in}
+use Rattle.pay_channel.proofs.Lists.{either}
 
 abbrev pub Key : Type 0
 Key = ℕ × ℕ
@@ -110,10 +110,6 @@ is_eq-nat_cmp x y = grind (arith, nat_tests)
 pub key_cmp-is : (a s : ℕ) (k : Key) → is_eq (key_cmp (a, s) k) ≡ is_key a s k
 key_cmp-is a s k = is_eq-then (nat_cmp a k.0) (nat_cmp s k.1) ∙ ap₂ ◌&&◌ (is_eq-nat_cmp a k.0) (is_eq-nat_cmp s k.1)
 
--- a group kept by the meaning of an instance that was found
-pub group_kept : (P : Group → Type 0) (g : Group) (m n : Meaning) → m.group ≡ g → m ≡ n → P g → P n.group
-group_kept P g m n e f h = subst P (sym e ∙ ap (λ (x : Meaning). x.group) f) h
-
 -- at one place and at the others
 pub everywhere : (f h : ℕ → ℕ → Meaning) (a s : ℕ) → f a s ≡ h a s → ((b r : ℕ) → (eqb a b && eqb s r) ≡ false → f b r ≡ h b r) → (b r : ℕ) → f b r ≡ h b r
 everywhere f h a s here others b r =
@@ -122,3 +118,10 @@ everywhere f h a s here others b r =
     let P : ℕ → ℕ → Type 0 = λ m n. f m n ≡ h m n in
     subst (P b) (eqb-true s r same.1) (subst (λ m. P m s) (eqb-true a b same.0) here))
     (λ e. others b r e)
+
+-- a vote that is foreign to the group is to what is known in it
+pub foreign_at : (g : Group) (votes : List Vote) (m : Meaning) (x : Vote) → m ≡ meaning_of g votes → IsForeign g x → IsForeign m.group x
+unfolding meaning_of
+foreign_at g votes m x e foreign =
+    let same : m.group ≡ g = ap (λ (n : Meaning). n.group) e in
+    subst (λ h. IsForeign h x) (sym same) foreign

@@ -6,7 +6,7 @@ pub mod Taken
 pub mod State
 pub mod Applied
 pub mod Answer
-pub mod Group
+pub mod Hearing
 pub mod VoteLaws
 pub mod TakenLaws
 pub mod SentLaws

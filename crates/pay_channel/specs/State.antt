@@ -2,7 +2,7 @@
 use Rattle.std.specs.Prelude.{◌≡◌, ℕ, ◌<◌, ◌≤◌, slice_index, ◌&&◌, ◌==◌, if◌then◌else◌, List, [], ◌∷◌, length, Option}
 use Rattle.pay_frame.specs.Frame.{BodyFields}
 use Rattle.pay_echo.specs.Broadcast.{Group, Vote}
-use Rattle.pay_echo.specs.declared.instance.TheConstants.{MOST_MEMBERS}
+use Rattle.pay_frame.specs.declared.limits.TheConstants.{MOST_MEMBERS}
 use Rattle.pay_echo.specs.Meaning.{Meaning, meaning_of}
 use Rattle.pay_channel.specs.History.{Event, asks, votes, out, listed}
 

@@ -1,17 +1,20 @@
-ghost use Rattle.std.specs.Prelude.{true, ◌≡◌, ◌≢◌, ◌≤◌, ◌<◌, ◌+◌, ◌++◌, List, [], ◌∷◌, length, slice_get, replicate, vec_len, vec_capacity, IfOk, OnOk, OnErr};
-ghost use Rattle.std.specs.Option.{option_copied, option_to_list};
+ghost use Rattle.std.specs.Prelude.{true, ◌≡◌, ◌≢◌, ◌≤◌, ◌<◌, ◌+◌, ◌++◌, Some, List, [], ◌∷◌, length, slice_get, replicate, vec_len, vec_capacity, IfOk, IfSome, OnOk, OnErr};
+ghost use Rattle.std.specs.Option.{option_copied, option_map, option_to_list};
+ghost use Rattle.pay_echo.specs.Broadcast.{IsForeign, value_of};
+ghost use Rattle.pay_echo.specs.Votes.{vote_of};
 ghost use Rattle.pay_channel.specs.Source.{GrowsOnly};
-ghost use Rattle.pay_channel.specs.History.{Event, Ask, From, IsEvent, is_ask, owner_of, counts, vote_by, seqs};
+ghost use Rattle.pay_channel.specs.History.{Event, Ask, From, IsEvent, is_ask, owner_of, vote_of as event_vote, seqs};
 ghost use Rattle.pay_channel.specs.State.{State, Follows, value_at, lists_of};
 ghost use Rattle.pay_channel.specs.Applied.{TakesVote, IsToldOf, Takes, IsApplied, IsAsBefore, event_of};
 
 use crate::applied::Applied;
 use crate::event::EventRef;
-use crate::instances::Instances;
-use crate::members::Members;
+use crate::instances::{Instances, body_of};
+use crate::outgoing::Outgoing;
 use crate::source::Source;
-use pay_echo::{Instance, MOST_MEMBERS};
-use pay_frame::{Body, Bytes, GREATEST_VALUE, Kind};
+use pay_echo::laws::{known_stays, nothing_known_at_first, one_vote_more};
+use pay_echo::{Group, Instance, VoteRef};
+use pay_frame::{Body, GREATEST_VALUE, Kind, MOST_MEMBERS};
 use std::alloc::{AllocError, Global};
 use std::marker::Model;
 
@@ -19,7 +22,7 @@ use std::marker::Model;
 /// all that the member sent to all, and how many values stand in each owner's list.
 #[derive(Drop)]
 pub struct Channel<I: Instance + Drop> {
-    group: Members,
+    group: Group,
     asks: u32,
     instances: Instances<I>,
     sent: Vec<Body>,
@@ -27,14 +30,13 @@ pub struct Channel<I: Instance + Drop> {
 }
 
 impl<I: Instance + Drop> Model for Channel<I> {
-    ghost use Rattle.pay_channel.specs.Group.{group_of};
     ghost use Rattle.pay_channel.specs.State.{State, IsSound};
 
     ghost Value = { State };
 
-    ghost view = { λ c. record { group = group_of c.group; asks = c.asks; slots = c.instances; sent = c.sent.items } };
+    ghost view = { λ c. record { group = c.group; asks = c.asks; slots = c.instances; sent = c.sent.items } };
 
-    ghost invariant = { λ c. IsSound (record { group = group_of c.group; asks = c.asks; slots = c.instances; sent = c.sent.items }) c.listed.items };
+    ghost invariant = { λ c. IsSound (record { group = c.group; asks = c.asks; slots = c.instances; sent = c.sent.items }) c.listed.items };
 }
 
 impl<I: Instance + Drop> Channel<I> {
@@ -46,7 +48,8 @@ impl<I: Instance + Drop> Channel<I> {
         ensures group { IfOk result
             (λ made. made.group ≡ record { members = members; faults = faults; own = own }) }
     {
-        let group = Members {
+        nothing_known_at_first();
+        let group = Group {
             members,
             faults,
             own,
@@ -93,12 +96,12 @@ impl<I: Instance + Drop> Channel<I> {
         let own = self.group.own;
         let seq = self.asks;
         let send = body_of(alloc, Kind::Send, own, seq, value)?;
-        let applied = self.vote(alloc, own, seq, Kind::Send, own, value, Some(send))?;
+        let applied = self.vote(alloc, own, seq, VoteRef::Send(value), Some(send))?;
         self.asks = seq + 1;
         Ok(applied)
     }
 
-    // Takes a body that another member sent. A SEND of another than its owner is no vote.
+    // Takes a body that another member sent.
     fn take(&mut self, alloc: Global, process: u16, body: &Body) -> Result<Applied, AllocError>
         requires event { IsEvent self.old.group (From process body.now) }
         ensures takes { OnOk result (Takes self.old self.new (From process body.now)) }
@@ -106,18 +109,10 @@ impl<I: Instance + Drop> Channel<I> {
         ensures grows { OnOk result (GrowsOnly (lists_of self.old) (lists_of self.new) body.now.owner) }
         ensures err { OnErr result (IsAsBefore self.old self.new) }
     {
-        if !is_counted(process, body) {
-            return Ok(Applied::NONE);
+        match vote_in(process, body) {
+            Some(vote) => self.vote(alloc, body.owner(), body.seq(), vote, None),
+            None => Ok(Applied::NONE),
         }
-        self.vote(
-            alloc,
-            body.owner(),
-            body.seq(),
-            body.kind(),
-            process,
-            body.value(),
-            None,
-        )
     }
 
     // One vote in one broadcast, and all that follows from it: first the growths, then the changes.
@@ -126,31 +121,28 @@ impl<I: Instance + Drop> Channel<I> {
         alloc: Global,
         owner: u16,
         seq: u32,
-        kind: Kind,
-        process: u16,
-        value: &[u8],
+        vote: VoteRef,
         send: Option<Body>,
     ) -> Result<Applied, AllocError>
         requires owner { owner < self.old.group.members }
         requires seq { seq < seqs }
-        requires kind { kind ≢ Kind.Want }
-        requires process { process < self.old.group.members }
-        requires other { kind ≢ Kind.Send → process ≢ self.old.group.own }
-        requires value { length value.now ≤ GREATEST_VALUE }
-        ensures takes { OnOk result (TakesVote self.old self.new owner seq (vote_by kind process value.now) (option_to_list send)) }
+        requires foreign { IsForeign self.old.group (vote_of vote) }
+        requires value { length (value_of (vote_of vote)) ≤ GREATEST_VALUE }
+        ensures takes { OnOk result (TakesVote self.old self.new owner seq
+            (Some (vote_of vote.entry)) (option_to_list send)) }
         ensures applied { IfOk result (IsToldOf self.old self.new owner seq) }
         ensures grows { OnOk result (GrowsOnly (lists_of self.old) (lists_of self.new) owner) }
         ensures err { OnErr result (IsAsBefore self.old self.new) }
     {
-        let echo = body_of(alloc, Kind::Echo, owner, seq, value)?;
-        let ready = body_of(alloc, Kind::Ready, owner, seq, value)?;
+        // what was delivered stays, and what is sent has the vote's value
+        known_stays();
+        one_vote_more();
         self.sent.reserve(3)?;
-        let moves = self
-            .instances
-            .hear(alloc, self.group, owner, seq, kind, process, value)?;
+        let outgoing = self.instances.hear(alloc, self.group, owner, seq, vote)?;
+        let Outgoing { moves, echo, ready } = outgoing;
         say(&mut self.sent, send);
-        say(&mut self.sent, moves.echo.then_some(echo));
-        say(&mut self.sent, moves.ready.then_some(ready));
+        say(&mut self.sent, echo);
+        say(&mut self.sent, ready);
         let from = self.listed[usize::from(owner)];
         let grown = self.instances.count_following(owner, from);
         self.listed[usize::from(owner)] = from + grown;
@@ -229,32 +221,24 @@ fn zeros(alloc: Global, members: u16) -> Result<Vec<u32>, AllocError>
     Ok(made)
 }
 
-// Whether a body counts: a SEND does from its owner alone.
-fn is_counted(process: u16, body: &Body) -> bool
-    ensures { result ≡ counts process body.now }
+// The vote that a body is where it came from this process: a SEND is one from its owner alone.
+#[tactic(auto, unfolding(pay_echo::specs::Broadcast::value_of))]
+fn vote_in<'a>(process: u16, body: &'a Body) -> Option<VoteRef<'a>>
+    ensures vote { option_map vote_of result ≡ event_vote (From process body.now) }
+    ensures value { IfSome result (λ vote. length (value_of (vote_of vote)) ≤ GREATEST_VALUE) }
 {
     match body.kind() {
-        Kind::Send => process == body.owner(),
-        Kind::Echo | Kind::Ready => true,
-        Kind::Want => false,
+        Kind::Send => {
+            if process == body.owner() {
+                Some(VoteRef::Send(body.value()))
+            } else {
+                None
+            }
+        }
+        Kind::Echo => Some(VoteRef::Echo(process, body.value())),
+        Kind::Ready => Some(VoteRef::Ready(process, body.value())),
+        Kind::Want => None,
     }
-}
-
-// A body of a kind about a broadcast.
-fn body_of(
-    alloc: Global,
-    kind: Kind,
-    owner: u16,
-    seq: u32,
-    value: &[u8],
-) -> Result<Body, AllocError>
-    requires kind { kind ≢ Kind.Want }
-    requires seq { seq < seqs }
-    requires value { length value.now ≤ GREATEST_VALUE }
-    ensures { IfOk result (λ body. body ≡ record { kind = kind; owner = owner; seq = seq; value = value.now }) }
-{
-    let value = Bytes::from_slice(alloc, value)?;
-    Ok(Body::new(kind, owner, seq, value))
 }
 
 // Puts a body at the end, where there is one; room for it was made.

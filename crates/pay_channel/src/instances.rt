@@ -1,17 +1,17 @@
-ghost use Rattle.std.specs.Prelude.{◌≡◌, ◌≢◌, ◌≤◌, ◌<◌, ◌-◌, ℕ, length, Bool, false, ◌&&◌, ◌==◌, [], IfOk, OnOk, OnErr};
+ghost use Rattle.std.specs.Prelude.{◌≡◌, ◌≢◌, ◌≤◌, ◌<◌, ◌-◌, ℕ, List, length, [], IfOk, OnOk, OnErr};
+ghost use Rattle.std.specs.Bool.{then_some};
 ghost use Rattle.std.specs.Option.{option_copied};
-ghost use Rattle.pay_frame.specs.declared.kind.Kind.TheVariants.{Want};
-ghost use Rattle.pay_echo.specs.Broadcast.{Group};
-ghost use Rattle.pay_echo.specs.Meaning.{Meaning, meaning_of};
-ghost use Rattle.pay_echo.specs.Moves.{IsMoves};
-ghost use Rattle.pay_channel.specs.History.{vote_by, seqs, known_from};
-ghost use Rattle.pay_channel.specs.Group.{group_of};
-ghost use Rattle.pay_channel.specs.State.{Slot, meaning_in};
-ghost use Rattle.pay_channel.specs.Applied.{SeesIfVote};
+ghost use Rattle.pay_echo.specs.Broadcast.{Group, Vote, IsForeign, value_of};
+ghost use Rattle.pay_echo.specs.Meaning.{meaning_of, Sees};
+ghost use Rattle.pay_echo.specs.Votes.{vote_of};
+ghost use Rattle.pay_channel.specs.History.{seqs, known_from, body_of};
+ghost use Rattle.pay_channel.specs.State.{meaning_in};
+ghost use Rattle.pay_channel.specs.Hearing.{HearsVote, IsOutgoing};
 
-use crate::members::Members;
-use pay_echo::{Instance, MOST_MEMBERS, Moves};
-use pay_frame::{Kind, SEQS};
+use crate::outgoing::Outgoing;
+use pay_echo::laws::nothing_known_at_first;
+use pay_echo::{Group, Instance, VoteRef};
+use pay_frame::{Body, Bytes, GREATEST_VALUE, Kind, MOST_MEMBERS, SEQS};
 use std::alloc::{AllocError, Global};
 use std::collections::BTreeMap;
 use std::marker::Model;
@@ -44,6 +44,7 @@ impl<I: Instance + Drop> Instances<I> {
     pub fn delivered(&self, owner: u16, seq: u32) -> Option<&[u8]>
         ensures { (g : Group) → option_copied result ≡ (meaning_in g self.now owner seq).delivered }
     {
+        nothing_known_at_first();
         let key = (owner, seq);
         match self.by_broadcast.get(&key) {
             Some(instance) => instance.delivered(),
@@ -64,79 +65,99 @@ impl<I: Instance + Drop> Instances<I> {
         SEQS - from
     }
 
-    /// Tells a broadcast's instance one vote; where none is there yet, a fresh one.
+    /// Tells a broadcast's instance one vote; where none is there yet, a fresh one. The bodies that are due are
+    /// made before the instance changes.
     pub fn hear(
         &mut self,
         alloc: Global,
-        group: Members,
+        group: Group,
         owner: u16,
         seq: u32,
-        kind: Kind,
-        process: u16,
-        value: &[u8],
-    ) -> Result<Moves, AllocError>
+        vote: VoteRef,
+    ) -> Result<Outgoing, AllocError>
         requires few { group.members ≤ MOST_MEMBERS }
         requires own { group.own < group.members }
-        requires process { process < group.members }
-        requires other { kind ≢ Kind.Send → process ≢ group.own }
-        requires group { (meaning_in (group_of group) self.old owner seq).group ≡ group_of group }
-        ensures here { OnOk result (SeesIfVote (meaning_in (group_of group) self.old owner seq) (meaning_in (group_of group) self.new owner seq) (vote_by kind process value.now)) }
-        ensures moves { IfOk result (IsMoves (meaning_in (group_of group) self.old owner seq) (meaning_in (group_of group) self.new owner seq)) }
-        ensures others { (a s : ℕ) → (owner == a && seq == s) ≡ false → meaning_in (group_of group) self.new a s ≡ meaning_in (group_of group) self.old a s }
-        ensures err { OnErr result ((a s : ℕ) → meaning_in (group_of group) self.new a s ≡ meaning_in (group_of group) self.old a s) }
+        requires foreign { IsForeign group (vote_of vote) }
+        requires reached { (votes : List Vote)
+            × (meaning_in group self.old owner seq ≡ meaning_of group votes) }
+        requires seq { seq < seqs }
+        requires value { length (value_of (vote_of vote)) ≤ GREATEST_VALUE }
+        ensures hears { OnOk result
+            (HearsVote group self.old self.new owner seq (vote_of vote.entry)) }
+        ensures out { IfOk result (IsOutgoing owner seq (vote_of vote.entry)
+            (meaning_in group self.old owner seq) (meaning_in group self.new owner seq)) }
+        ensures err { OnErr result
+            ((a s : ℕ) → meaning_in group self.new a s ≡ meaning_in group self.old a s) }
     {
         if let Some(instance) = self.by_broadcast.get_mut(&(owner, seq)) {
-            return tell(instance, alloc, kind, process, value);
+            return tell(instance, alloc, owner, seq, vote);
         }
-        self.begin(alloc, group, owner, seq, kind, process, value)
-    }
-
-    // Tells a fresh instance a vote, and puts it in.
-    fn begin(
-        &mut self,
-        alloc: Global,
-        group: Members,
-        owner: u16,
-        seq: u32,
-        kind: Kind,
-        process: u16,
-        value: &[u8],
-    ) -> Result<Moves, AllocError>
-        requires few { group.members ≤ MOST_MEMBERS }
-        requires own { group.own < group.members }
-        requires process { process < group.members }
-        requires other { kind ≢ Kind.Send → process ≢ group.own }
-        ensures here { OnOk result (SeesIfVote (meaning_of (group_of group) []) (meaning_in (group_of group) self.new owner seq) (vote_by kind process value.now)) }
-        ensures moves { IfOk result (IsMoves (meaning_of (group_of group) []) (meaning_in (group_of group) self.new owner seq)) }
-        ensures others { (a s : ℕ) → (owner == a && seq == s) ≡ false → meaning_in (group_of group) self.new a s ≡ meaning_in (group_of group) self.old a s }
-        ensures err { OnErr result (self.new ≡ self.old) }
-    {
-        let mut instance = I::fresh(alloc, group.members, group.faults, group.own)?;
-        let moves = tell(&mut instance, alloc, kind, process, value)?;
+        let mut instance = I::fresh(alloc, group)?;
+        let outgoing = tell(&mut instance, alloc, owner, seq, vote)?;
         self.by_broadcast.insert((owner, seq), instance)?;
-        Ok(moves)
+        Ok(outgoing)
     }
 }
 
-// One vote of the kind, or none where it is a WANT.
+// Asks an instance what a vote makes known, makes the bodies that are due, and then tells it the vote.
 fn tell<I: Instance>(
     instance: &mut I,
     alloc: Global,
-    kind: Kind,
-    process: u16,
-    value: &[u8],
-) -> Result<Moves, AllocError>
-    requires member { process < (I.meaning instance.old).group.members }
-    requires other { kind ≢ Kind.Send → process ≢ (I.meaning instance.old).group.own }
-    ensures seen { OnOk result (SeesIfVote (I.meaning instance.old) (I.meaning instance.new) (vote_by kind process value.now)) }
-    ensures moves { IfOk result (IsMoves (I.meaning instance.old) (I.meaning instance.new)) }
-    ensures group { (I.meaning instance.new).group ≡ (I.meaning instance.old).group }
+    owner: u16,
+    seq: u32,
+    vote: VoteRef,
+) -> Result<Outgoing, AllocError>
+    requires foreign { IsForeign (I.meaning instance.old).group (vote_of vote) }
+    requires reached { (g : Group) × (votes : List Vote)
+        × (I.meaning instance.old ≡ meaning_of g votes) }
+    requires seq { seq < seqs }
+    requires value { length (value_of (vote_of vote)) ≤ GREATEST_VALUE }
+    ensures seen { OnOk result
+        (Sees (I.meaning instance.old) (I.meaning instance.new) (vote_of vote.entry)) }
+    ensures out { IfOk result (IsOutgoing owner seq (vote_of vote.entry)
+        (I.meaning instance.old) (I.meaning instance.new)) }
     ensures err { OnErr result (I.meaning instance.new ≡ I.meaning instance.old) }
 {
-    match kind {
-        Kind::Send => instance.send(alloc, value),
-        Kind::Echo => instance.echo(alloc, process, value),
-        Kind::Ready => instance.ready(alloc, process, value),
-        Kind::Want => Ok(Moves::NONE),
+    let moves = instance.moves(vote);
+    let echo = body_if(moves.echo, alloc, Kind::Echo, owner, seq, vote.value())?;
+    let ready = body_if(moves.ready, alloc, Kind::Ready, owner, seq, vote.value())?;
+    instance.take(alloc, vote)?;
+    Ok(Outgoing { moves, echo, ready })
+}
+
+// A body of a kind about a broadcast, if it is due.
+fn body_if(
+    due: bool,
+    alloc: Global,
+    kind: Kind,
+    owner: u16,
+    seq: u32,
+    value: &[u8],
+) -> Result<Option<Body>, AllocError>
+    requires kind { kind ≢ Kind.Want }
+    requires seq { seq < seqs }
+    requires value { length value.now ≤ GREATEST_VALUE }
+    ensures { IfOk result (λ body. body ≡ then_some due (body_of kind owner seq value.now)) }
+{
+    if !due {
+        return Ok(None);
     }
+    Ok(Some(body_of(alloc, kind, owner, seq, value)?))
+}
+
+/// A body of a kind about a broadcast.
+pub fn body_of(
+    alloc: Global,
+    kind: Kind,
+    owner: u16,
+    seq: u32,
+    value: &[u8],
+) -> Result<Body, AllocError>
+    requires kind { kind ≢ Kind.Want }
+    requires seq { seq < seqs }
+    requires value { length value.now ≤ GREATEST_VALUE }
+    ensures { IfOk result (λ body. body ≡ body_of kind owner seq value.now) }
+{
+    let value = Bytes::from_slice(alloc, value)?;
+    Ok(Body::new(kind, owner, seq, value))
 }

@@ -9,7 +9,7 @@ mod event;
 pub mod examples;
 mod instances;
 pub mod laws;
-mod members;
+mod outgoing;
 mod source;
 
 pub use applied::Applied;

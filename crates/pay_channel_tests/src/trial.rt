@@ -4,8 +4,8 @@ ghost use Rattle.std.specs.Prelude.{◌≡◌};
 
 use crate::step::{Group, Said, Step, Value};
 use pay_channel::{Applied, Channel, EventRef};
-use pay_echo::{Instance, MOST_MEMBERS};
-use pay_frame::{Body, Bytes, GREATEST_VALUE, Kind, SEQS};
+use pay_echo::Instance;
+use pay_frame::{Body, Bytes, GREATEST_VALUE, Kind, MOST_MEMBERS, SEQS};
 use std::alloc::{AllocError, Global};
 
 /// A channel, with what is to be known of it before an event may come.

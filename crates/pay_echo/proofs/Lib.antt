@@ -1,8 +1,11 @@
 pub mod Lists
 pub mod Known
 pub mod OneMore
+pub mod Settling
 pub mod StepLaw
 pub mod SecondVotes
+pub mod Stepping
+pub mod PlainLemmas
 pub mod Clauses
 pub mod Sets
 pub mod VoteLaws

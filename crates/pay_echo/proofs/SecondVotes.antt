@@ -1,11 +1,12 @@
--- A second vote of a place changes nothing, and so the step function gives the meaning of one vote more.
-use Rattle.std.proofs.Common.{◌≡◌, ◌≢◌, ℕ, ◌<◌, cond, eqb, List, [], ◌∷◌, ◌++◌, Option, None, Some, is_none, refl, sym, ap, ap₂, ◌∙◌, zero-add, subst}
+-- A second vote of a place changes nothing.
+use Rattle.std.proofs.Common.{◌≡◌, ◌≢◌, ℕ, ◌<◌, cond, eqb, List, [], ◌∷◌, ◌++◌, Option, None, Some, is_none, sym, ap, ap₂, ◌∙◌, zero-add, subst}
 use Rattle.std.specs.List.{range_with_len}
 use Rattle.std.proofs.lemmas.Bool.{cases_eq}
 use Rattle.std.proofs.lemmas.List.FromFn.{get_or-map-range_with_len}
-use Rattle.pay_echo.specs.Broadcast.{Group, Vote, Send, Echo, Ready, IsForeign, value_of, sent, echoed_by, readied_by, find_map, echoed, echo_of, readied, ready_of, delivered}
+use Rattle.pay_echo.specs.Broadcast.{Group, Vote, Send, Echo, Ready, value_of, sent, echoed_by, readied_by, find_map, echoed, echo_of, readied, ready_of, delivered}
 use Rattle.pay_echo.specs.Meaning.{Meaning, meaning_of}
-use Rattle.pay_echo.specs.Step.{settled, with_send, with_echo, with_ready, vote_at, after}
+use Rattle.pay_echo.specs.Step.{vote_at}
+use Rattle.pay_echo.proofs.Settling.{settled, with_send, with_echo, with_ready}
 use Rattle.pay_echo.proofs.Lists.{either, map-same}
 use Rattle.pay_echo.proofs.StepLaw.{stage, readys_with, stage-all, settles, settled-again, echo_of-other, readys_with-other, find_map-push-None, find_map-push-again, echoed_by-send, echoed_by-ready, echoed_by-other, readied_by-send, readied_by-echo, readied_by-other, sent-echo, sent-ready, first_send, first_echo, first_ready}
 
@@ -32,12 +33,12 @@ first_vote : (g : Group) (votes : List Vote) (x : Vote) (m : Meaning) → g.own 
 first_vote g votes x m member e = sym (ap (λ n. settled n (value_of x)) e ∙ settles g votes x member)
 
 -- the vote of another process, as the meaning has it
-echo_at : (g : Group) (votes : List Vote) (q : ℕ) → q < g.members → q ≢ g.own → vote_at (meaning_of g votes).echoes q ≡ find_map (echoed_by q) votes
+pub echo_at : (g : Group) (votes : List Vote) (q : ℕ) → q < g.members → q ≢ g.own → vote_at (meaning_of g votes).echoes q ≡ find_map (echoed_by q) votes
 unfolding meaning_of
 echo_at g votes q below foreign =
     get_or-map-range_with_len (echo_of g votes) 0 g.members q q None below (zero-add q) ∙ echo_of-other g votes q foreign
 
-ready_at : (g : Group) (votes : List Vote) (q : ℕ) → q < g.members → q ≢ g.own → vote_at (meaning_of g votes).readys q ≡ find_map (readied_by q) votes
+pub ready_at : (g : Group) (votes : List Vote) (q : ℕ) → q < g.members → q ≢ g.own → vote_at (meaning_of g votes).readys q ≡ find_map (readied_by q) votes
 unfolding meaning_of ready_of readys_with
 ready_at g votes q below foreign =
     get_or-map-range_with_len (ready_of g votes) 0 g.members q q None below (zero-add q) ∙ readys_with-other g votes (readied g votes) q foreign
@@ -81,9 +82,3 @@ module _ (g : Group) (votes : List Vote) (member : g.own < g.members) where
         echoes = λ p. find_map-push-None (echoed_by p) votes (Ready q v) (echoed_by-ready p q v);
         readys = again_by readied_by votes (Ready q v) q w e (λ p ne. readied_by-other p q v ne);
       }
-
--- the meaning over one vote more
-pub meaning-push : (g : Group) (votes : List Vote) (x : Vote) → g.own < g.members → IsForeign g x → meaning_of g (votes ++ x ∷ []) ≡ after (meaning_of g votes) x
-meaning-push g votes (Send v) member foreign = push_send g votes member v (meaning_of g votes).echoed (unfold meaning_of in refl)
-meaning-push g votes (Echo q v) member foreign = push_echo g votes member q v foreign.0 foreign.1 (vote_at (meaning_of g votes).echoes q) (sym (echo_at g votes q foreign.0 foreign.1))
-meaning-push g votes (Ready q v) member foreign = push_ready g votes member q v foreign.0 foreign.1 (vote_at (meaning_of g votes).readys q) (sym (ready_at g votes q foreign.0 foreign.1))

@@ -5,7 +5,7 @@ use Rattle.std.specs.List.{range_with_len}
 use Rattle.std.proofs.lemmas.Bool.{cond-true, cond-false, cases_Bool}
 use Rattle.pay_echo.specs.Broadcast.{Group, Vote, Send, Echo, Ready, value_of, sent, echoed_by, readied_by, find_map, is_for, size, echoed, echo_of, echo_set, other_ready_of, other_ready_set, may_ready, readied, ready_of, ready_set, may_deliver, delivered}
 use Rattle.pay_echo.specs.Meaning.{Meaning, meaning_of}
-use Rattle.pay_echo.specs.Step.{can_ready, can_deliver, now_ready, now_delivered, settled, with_send, with_echo, with_ready}
+use Rattle.pay_echo.proofs.Settling.{may_ready_at, may_deliver_at, now_ready, now_delivered, settled, with_send, with_echo, with_ready}
 use Rattle.pay_echo.proofs.Lists.{either, find_map-push, option_or-None, count_by-map, map-range-set, map-same}
 use Rattle.pay_echo.proofs.Known.{not_yet}
 use Rattle.pay_echo.proofs.OneMore.{echoed-push, may_ready-Steps, may_deliver-Steps, readied-push, delivered-push}
@@ -44,14 +44,14 @@ unfolding size
 count_by-votes f n v = count_by-map (is_for v) f (range_with_len 0 n)
 
 -- READY by the counts of the meaning, and by those of the votes
-can_ready-stage : (g : Group) (votes : List Vote) (d : Option (List ℕ)) (v : List ℕ) → can_ready (stage g votes None d) v ≡ may_ready g votes v
-unfolding stage can_ready may_ready echo_set other_ready_set other_ready_of readys_with
-can_ready-stage g votes d v =
+may_ready_at-stage : (g : Group) (votes : List Vote) (d : Option (List ℕ)) (v : List ℕ) → may_ready_at (stage g votes None d) v ≡ may_ready g votes v
+unfolding stage may_ready_at may_ready echo_set other_ready_set other_ready_of readys_with
+may_ready_at-stage g votes d v =
     ap₂ (λ (a b : ℕ). ltb (g.members + g.faults) (2 * a) || ltb g.faults b) (count_by-votes (echo_of g votes) g.members v) (count_by-votes (readys_with g votes None) g.members v)
 
-can_deliver-stage : (g : Group) (votes : List Vote) (v : List ℕ) → can_deliver (stage g votes (readied g votes) None) v ≡ may_deliver g votes v
-unfolding stage can_deliver may_deliver ready_set ready_of readys_with
-can_deliver-stage g votes v = ap (λ (a : ℕ). ltb (2 * g.faults) a) (count_by-votes (ready_of g votes) g.members v)
+may_deliver_at-stage : (g : Group) (votes : List Vote) (v : List ℕ) → may_deliver_at (stage g votes (readied g votes) None) v ≡ may_deliver g votes v
+unfolding stage may_deliver_at may_deliver ready_set ready_of readys_with
+may_deliver_at-stage g votes v = ap (λ (a : ℕ). ltb (2 * g.faults) a) (count_by-votes (ready_of g votes) g.members v)
 
 -- one's own READY is written at one's own place
 stage-readied : (g : Group) (votes : List Vote) (d : Option (List ℕ)) (v : List ℕ) → g.own < g.members → record (stage g votes None d) { readied = Some v; readys = set (map (readys_with g votes None) (range_with_len 0 g.members)) g.own (Some v) } ≡ stage g votes (Some v) d
@@ -63,50 +63,50 @@ stage-readied g votes d v member =
     (cond-true (eqb g.own g.own) (Some v) (find_map (readied_by g.own) votes) (eq-eqb g.own g.own refl))))
 
 -- what the two moves do, by their tests
-now_ready-yes : (m : Meaning) (v : List ℕ) → can_ready m v ≡ true → now_ready m v ≡ record m { readied = Some v; readys = set m.readys m.group.own (Some v) }
+pub now_ready-yes : (m : Meaning) (v : List ℕ) → may_ready_at m v ≡ true → now_ready m v ≡ record m { readied = Some v; readys = set m.readys m.group.own (Some v) }
 unfolding now_ready
-now_ready-yes m v t = cond-true (can_ready m v) (record m { readied = Some v; readys = set m.readys m.group.own (Some v) }) m t
+now_ready-yes m v t = cond-true (may_ready_at m v) (record m { readied = Some v; readys = set m.readys m.group.own (Some v) }) m t
 
-now_ready-not : (m : Meaning) (v : List ℕ) → can_ready m v ≡ false → now_ready m v ≡ m
+pub now_ready-not : (m : Meaning) (v : List ℕ) → may_ready_at m v ≡ false → now_ready m v ≡ m
 unfolding now_ready
-now_ready-not m v t = cond-false (can_ready m v) (record m { readied = Some v; readys = set m.readys m.group.own (Some v) }) m t
+now_ready-not m v t = cond-false (may_ready_at m v) (record m { readied = Some v; readys = set m.readys m.group.own (Some v) }) m t
 
-now_delivered-yes : (m : Meaning) (v : List ℕ) → can_deliver m v ≡ true → now_delivered m v ≡ record m { delivered = Some v }
+pub now_delivered-yes : (m : Meaning) (v : List ℕ) → may_deliver_at m v ≡ true → now_delivered m v ≡ record m { delivered = Some v }
 unfolding now_delivered
-now_delivered-yes m v t = cond-true (can_deliver m v) (record m { delivered = Some v }) m t
+now_delivered-yes m v t = cond-true (may_deliver_at m v) (record m { delivered = Some v }) m t
 
-now_delivered-not : (m : Meaning) (v : List ℕ) → can_deliver m v ≡ false → now_delivered m v ≡ m
+pub now_delivered-not : (m : Meaning) (v : List ℕ) → may_deliver_at m v ≡ false → now_delivered m v ≡ m
 unfolding now_delivered
-now_delivered-not m v t = cond-false (can_deliver m v) (record m { delivered = Some v }) m t
+now_delivered-not m v t = cond-false (may_deliver_at m v) (record m { delivered = Some v }) m t
 
-can_ready-once : (g : Group) (votes : List Vote) (w : List ℕ) (d : Option (List ℕ)) (v : List ℕ) → can_ready (stage g votes (Some w) d) v ≡ false
-unfolding can_ready stage
-can_ready-once g votes w d v = refl
+may_ready_at-once : (g : Group) (votes : List Vote) (w : List ℕ) (d : Option (List ℕ)) (v : List ℕ) → may_ready_at (stage g votes (Some w) d) v ≡ false
+unfolding may_ready_at stage
+may_ready_at-once g votes w d v = refl
 
-can_deliver-once : (g : Group) (votes : List Vote) (r : Option (List ℕ)) (w v : List ℕ) → can_deliver (stage g votes r (Some w)) v ≡ false
-unfolding can_deliver stage
-can_deliver-once g votes r w v = refl
+may_deliver_at-once : (g : Group) (votes : List Vote) (r : Option (List ℕ)) (w v : List ℕ) → may_deliver_at (stage g votes r (Some w)) v ≡ false
+unfolding may_deliver_at stage
+may_deliver_at-once g votes r w v = refl
 
 now_ready-stage-yes : (g : Group) (votes : List Vote) (d : Option (List ℕ)) (v : List ℕ) → g.own < g.members → may_ready g votes v ≡ true → now_ready (stage g votes None d) v ≡ stage g votes (Some v) d
 unfolding stage
 now_ready-stage-yes g votes d v member t =
-    now_ready-yes (stage g votes None d) v (can_ready-stage g votes d v ∙ t) ∙ stage-readied g votes d v member
+    now_ready-yes (stage g votes None d) v (may_ready_at-stage g votes d v ∙ t) ∙ stage-readied g votes d v member
 
 now_ready-stage-not : (g : Group) (votes : List Vote) (d : Option (List ℕ)) (v : List ℕ) → may_ready g votes v ≡ false → now_ready (stage g votes None d) v ≡ stage g votes None d
-now_ready-stage-not g votes d v t = now_ready-not (stage g votes None d) v (can_ready-stage g votes d v ∙ t)
+now_ready-stage-not g votes d v t = now_ready-not (stage g votes None d) v (may_ready_at-stage g votes d v ∙ t)
 
 now_delivered-stage-yes : (g : Group) (votes : List Vote) (v : List ℕ) → may_deliver g votes v ≡ true → now_delivered (stage g votes (readied g votes) None) v ≡ stage g votes (readied g votes) (Some v)
 unfolding stage
-now_delivered-stage-yes g votes v t = now_delivered-yes (stage g votes (readied g votes) None) v (can_deliver-stage g votes v ∙ t)
+now_delivered-stage-yes g votes v t = now_delivered-yes (stage g votes (readied g votes) None) v (may_deliver_at-stage g votes v ∙ t)
 
 now_delivered-stage-not : (g : Group) (votes : List Vote) (v : List ℕ) → may_deliver g votes v ≡ false → now_delivered (stage g votes (readied g votes) None) v ≡ stage g votes (readied g votes) None
-now_delivered-stage-not g votes v t = now_delivered-not (stage g votes (readied g votes) None) v (can_deliver-stage g votes v ∙ t)
+now_delivered-stage-not g votes v t = now_delivered-not (stage g votes (readied g votes) None) v (may_deliver_at-stage g votes v ∙ t)
 
 module _ (g : Group) (votes : List Vote) (x : Vote) (member : g.own < g.members) where
   now_ready-follows : (d r : Option (List ℕ)) → readied g votes ≡ r → now_ready (stage g (votes ++ x ∷ []) r d) (value_of x) ≡ stage g (votes ++ x ∷ []) (readied g (votes ++ x ∷ [])) d
   now_ready-follows d (Some w) e =
       let stays : readied g (votes ++ x ∷ []) ≡ Some w = readied-push g votes x ∙ ap (λ o. option_or o (cond (may_ready g (votes ++ x ∷ []) (value_of x)) (Some (value_of x)) None)) e in
-      now_ready-not (stage g (votes ++ x ∷ []) (Some w) d) (value_of x) (can_ready-once g (votes ++ x ∷ []) w d (value_of x))
+      now_ready-not (stage g (votes ++ x ∷ []) (Some w) d) (value_of x) (may_ready_at-once g (votes ++ x ∷ []) w d (value_of x))
       ∙ ap (λ r. stage g (votes ++ x ∷ []) r d) (sym stays)
   now_ready-follows d None e =
       let comes : readied g (votes ++ x ∷ []) ≡ cond (may_ready g (votes ++ x ∷ []) (value_of x)) (Some (value_of x)) None = readied-push g votes x ∙ ap (λ o. option_or o (cond (may_ready g (votes ++ x ∷ []) (value_of x)) (Some (value_of x)) None)) e in
@@ -119,7 +119,7 @@ module _ (g : Group) (votes : List Vote) (x : Vote) (member : g.own < g.members)
   now_delivered-follows : (d : Option (List ℕ)) → delivered g votes ≡ d → now_delivered (stage g (votes ++ x ∷ []) (readied g (votes ++ x ∷ [])) d) (value_of x) ≡ stage g (votes ++ x ∷ []) (readied g (votes ++ x ∷ [])) (delivered g (votes ++ x ∷ []))
   now_delivered-follows (Some w) e =
       let stays : delivered g (votes ++ x ∷ []) ≡ Some w = delivered-push g votes x ∙ ap (λ o. option_or o (cond (may_deliver g (votes ++ x ∷ []) (value_of x)) (Some (value_of x)) None)) e in
-      now_delivered-not (stage g (votes ++ x ∷ []) (readied g (votes ++ x ∷ [])) (Some w)) (value_of x) (can_deliver-once g (votes ++ x ∷ []) (readied g (votes ++ x ∷ [])) w (value_of x))
+      now_delivered-not (stage g (votes ++ x ∷ []) (readied g (votes ++ x ∷ [])) (Some w)) (value_of x) (may_deliver_at-once g (votes ++ x ∷ []) (readied g (votes ++ x ∷ [])) w (value_of x))
       ∙ ap (stage g (votes ++ x ∷ []) (readied g (votes ++ x ∷ []))) (sym stays)
   now_delivered-follows None e =
       let comes : delivered g (votes ++ x ∷ []) ≡ cond (may_deliver g (votes ++ x ∷ []) (value_of x)) (Some (value_of x)) None = delivered-push g votes x ∙ ap (λ o. option_or o (cond (may_deliver g (votes ++ x ∷ []) (value_of x)) (Some (value_of x)) None)) e in
@@ -146,15 +146,15 @@ settled-again g votes v =
     ∙ deliver (delivered g votes) refl
     ∙ sym (stage-all g votes) where
       ready : (r : Option (List ℕ)) → readied g votes ≡ r → now_ready (stage g votes (readied g votes) (delivered g votes)) v ≡ stage g votes (readied g votes) (delivered g votes)
-      ready (Some w) e = rw e (now_ready-not (stage g votes (Some w) (delivered g votes)) v (can_ready-once g votes w (delivered g votes) v))
+      ready (Some w) e = rw e (now_ready-not (stage g votes (Some w) (delivered g votes)) v (may_ready_at-once g votes w (delivered g votes) v))
       ready None e = rw e (now_ready-stage-not g votes (delivered g votes) v (ready_not_yet g votes e v))
 
       deliver : (d : Option (List ℕ)) → delivered g votes ≡ d → now_delivered (stage g votes (readied g votes) (delivered g votes)) v ≡ stage g votes (readied g votes) (delivered g votes)
-      deliver (Some w) e = rw e (now_delivered-not (stage g votes (readied g votes) (Some w)) v (can_deliver-once g votes (readied g votes) w v))
+      deliver (Some w) e = rw e (now_delivered-not (stage g votes (readied g votes) (Some w)) v (may_deliver_at-once g votes (readied g votes) w v))
       deliver None e = rw e (now_delivered-stage-not g votes v (deliver_not_yet g votes e v))
 
 -- one's own place, and another's
-echo_of-own : (g : Group) (votes : List Vote) → echo_of g votes g.own ≡ echoed votes
+pub echo_of-own : (g : Group) (votes : List Vote) → echo_of g votes g.own ≡ echoed votes
 unfolding echo_of
 echo_of-own g votes = cond-true (eqb g.own g.own) (echoed votes) (find_map (echoed_by g.own) votes) (eq-eqb g.own g.own refl)
 

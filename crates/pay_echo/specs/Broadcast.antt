@@ -6,12 +6,11 @@ use Rattle.std.specs.Prelude.{◌≢◌, ℕ, ◌+◌, ◌*◌, ◌<◌, Bool, f
 use Rattle.std.specs.Option.{option_or}
 use Rattle.std.specs.List.{find, count_by, range_with_len}
 use Rattle.std.specs.Str.{bytes_eq}
+use Rattle.pay_echo.specs.declared.group.Group.{Group as DeclaredGroup}
 
 -- N processes numbered from 0, of which f may be faulty, and the number of the one whose state this is
-pub record Group : Type 0 where
-  pub members : ℕ
-  pub faults : ℕ
-  pub own : ℕ
+abbrev pub Group : Type 0
+Group = DeclaredGroup
 
 -- A message of the instance as it is taken: the sender's value (its SEND, or what oneself broadcasts),
 -- or another process's ECHO or READY with its value.

@@ -1,7 +1,9 @@
 pub mod Broadcast
 pub mod Meaning
+pub mod Votes
 pub mod Moves
 pub mod Step
+pub mod Plain
 pub mod Examples
 pub mod Quorums
 pub mod Laws

@@ -1,45 +1,96 @@
--- The meaning after one vote more, worked out from the meaning before it. A tool of this crate: its
+-- What one vote does to what is known, worked out from that alone. A tool of this crate: its
 -- representations are proved against it, and a law ties it to `Meaning`.
-use Rattle.std.specs.Prelude.{ℕ, ◌+◌, ◌*◌, Bool, ◌&&◌, ◌||◌, nat_lt, if◌then◌else◌, List, slice_set, slice_index_or, Option, Some, None, is_none}
+use Rattle.std.specs.Prelude.{◌≡◌, ◌<◌, length, ℕ, ◌+◌, ◌*◌, Bool, false, true, ◌&&◌, ◌||◌, nat_lt, if◌then◌else◌, List, slice_set, slice_index_or, Option, Some, None, is_none}
 use Rattle.std.specs.List.{count_by}
-use Rattle.pay_echo.specs.Broadcast.{Vote, Send, Echo, Ready, is_for}
+use Rattle.pay_echo.specs.Broadcast.{Vote, Send, Echo, Ready, value_of, is_for}
 use Rattle.pay_echo.specs.Meaning.{Meaning}
-
-unfoldable pub can_ready : Meaning → List ℕ → Bool
-can_ready m v =
-    is_none m.readied
-    && (nat_lt (m.group.members + m.group.faults) (2 * count_by (is_for v) m.echoes)
-    || nat_lt m.group.faults (count_by (is_for v) m.readys))
-
-unfoldable pub can_deliver : Meaning → List ℕ → Bool
-can_deliver m v = is_none m.delivered && nat_lt (2 * m.group.faults) (count_by (is_for v) m.readys)
-
-unfoldable pub now_ready : Meaning → List ℕ → Meaning
-now_ready m v =
-    if can_ready m v then record m { readied = Some v; readys = slice_set m.readys m.group.own (Some v) } else m
-
-unfoldable pub now_delivered : Meaning → List ℕ → Meaning
-now_delivered m v = if can_deliver m v then record m { delivered = Some v } else m
-
--- all that follows where the counts of this value have grown
-unfoldable pub settled : Meaning → List ℕ → Meaning
-settled m v = now_delivered (now_ready m v) v
+use Rattle.pay_echo.specs.declared.moves.Moves.{Moves}
 
 -- what process p voted: nothing, where there is no such process
 abbrev pub vote_at : List (Option (List ℕ)) → ℕ → Option (List ℕ)
 vote_at votes p = slice_index_or votes p None
 
-abbrev pub with_send : Meaning → List ℕ → Meaning
-with_send m v = record m { echoed = Some v; echoes = slice_set m.echoes m.group.own (Some v) }
+-- what stands in this vote's place
+abbrev pub vote_before : Meaning → Vote → Option (List ℕ)
+vote_before m (Send v) = m.echoed
+vote_before m (Echo p v) = vote_at m.echoes p
+vote_before m (Ready p v) = vote_at m.readys p
 
-abbrev pub with_echo : Meaning → ℕ → List ℕ → Meaning
-with_echo m p v = record m { echoes = slice_set m.echoes p (Some v) }
+abbrev pub is_send : Vote → Bool
+is_send (Send v) = true
+is_send (Echo p v) = false
+is_send (Ready p v) = false
 
-abbrev pub with_ready : Meaning → ℕ → List ℕ → Meaning
-with_ready m p v = record m { readys = slice_set m.readys p (Some v) }
+abbrev pub is_ready : Vote → Bool
+is_ready (Send v) = false
+is_ready (Echo p v) = false
+is_ready (Ready p v) = true
 
--- A vote counts where none came before it in its place, and does nothing else.
+-- how many ECHOs and READYs there are for this vote's value, itself included; oneself echoes a SEND
+abbrev pub echo_count : Meaning → Vote → ℕ
+echo_count m x =
+    let before = count_by (is_for (value_of x)) m.echoes in
+    if is_ready x then before else before + 1
+
+abbrev pub ready_count : Meaning → Vote → ℕ
+ready_count m x =
+    let before = count_by (is_for (value_of x)) m.readys in
+    if is_ready x then before + 1 else before
+
+-- whether one may send READY, or deliver, for a value of which there are so many
+abbrev pub can_ready : Meaning → ℕ → ℕ → Bool
+can_ready m echoes readys =
+    is_none m.readied
+    && (nat_lt (m.group.members + m.group.faults) (2 * echoes) || nat_lt m.group.faults readys)
+
+abbrev pub can_deliver : Meaning → ℕ → Bool
+can_deliver m readys = is_none m.delivered && nat_lt (2 * m.group.faults) readys
+
+-- what a vote makes known where none stands in its place; one's own READY counts for the delivery
+unfoldable pub moves_by : Meaning → Vote → Moves
+moves_by m x =
+    let ready = can_ready m (echo_count m x) (ready_count m x) in
+    record {
+      echo = is_send x;
+      ready = ready;
+      deliver = can_deliver m (ready_count m x + (if ready then 1 else 0));
+    }
+
+-- the places of ECHOs and of READYs, with something written in a vote's place
+abbrev pub put_echo : {X : Type 0} → ℕ → Vote → X → List (Option X) → List (Option X)
+put_echo own (Send v) x echoes = slice_set echoes own (Some x)
+put_echo own (Echo p v) x echoes = slice_set echoes p (Some x)
+put_echo own (Ready p v) x echoes = echoes
+
+abbrev pub put_ready : {X : Type 0} → Vote → X → List (Option X) → List (Option X)
+put_ready (Send v) x readys = readys
+put_ready (Echo p v) x readys = readys
+put_ready (Ready p v) x readys = slice_set readys p (Some x)
+
+-- written at process p's place if it is due
+abbrev pub put_if : {X : Type 0} → Bool → ℕ → X → List (Option X) → List (Option X)
+put_if due p x votes = if due then slice_set votes p (Some x) else votes
+
+-- with this vote, where none stands in its place
+unfoldable pub with_vote : Meaning → Vote → Meaning
+with_vote m x =
+    let moves = moves_by m x in
+    record m {
+      echoed = if moves.echo then Some (value_of x) else m.echoed;
+      echoes = put_echo m.group.own x (value_of x) m.echoes;
+      readied = if moves.ready then Some (value_of x) else m.readied;
+      readys = put_if moves.ready m.group.own (value_of x) (put_ready x (value_of x) m.readys);
+      delivered = if moves.deliver then Some (value_of x) else m.delivered;
+    }
+
+-- Each member has its places, and what oneself echoed and readied stands at one's own.
+pub record IsPlaced (m : Meaning) : Type 0 where
+  pub own : m.group.own < m.group.members
+  pub echoes : length m.echoes ≡ m.group.members
+  pub readys : length m.readys ≡ m.group.members
+  pub echoed : m.echoed ≡ vote_at m.echoes m.group.own
+  pub readied : m.readied ≡ vote_at m.readys m.group.own
+
+-- A vote counts where none stands in its place, and does nothing else.
 abbrev pub after : Meaning → Vote → Meaning
-after m (Send v) = if is_none m.echoed then settled (with_send m v) v else m
-after m (Echo p v) = if is_none (vote_at m.echoes p) then settled (with_echo m p v) v else m
-after m (Ready p v) = if is_none (vote_at m.readys p) then settled (with_ready m p v) v else m
+after m x = if is_none (vote_before m x) then with_vote m x else m

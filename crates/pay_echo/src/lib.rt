@@ -6,11 +6,15 @@
 #![tactic(auto)]
 
 pub mod examples;
+mod group;
 mod instance;
 pub mod laws;
 mod moves;
 mod plain;
+mod vote;
 
-pub use instance::{Instance, MOST_MEMBERS};
+pub use group::Group;
+pub use instance::Instance;
 pub use moves::Moves;
 pub use plain::PlainInstance;
+pub use vote::VoteRef;

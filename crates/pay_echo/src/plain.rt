@@ -1,261 +1,265 @@
-ghost use Rattle.std.specs.Prelude.{◌≡◌, ◌≢◌, ◌≤◌, ◌<◌, ◌+◌, [], length, slice_set, replicate, IfOk, OnOk, OnErr};
+ghost use Rattle.std.specs.Prelude.{◌≡◌, ◌≤◌, ◌<◌, ◌+◌, ◌++◌, ℕ, List, Bool, Some, None, length, slice_get, slice_set, replicate, IfOk, IfSome, OnOk, OnErr, is_some, false};
 ghost use Rattle.std.specs.List.{count_by};
 ghost use Rattle.std.specs.Option.{option_copied};
-ghost use Rattle.pay_echo.specs.Broadcast.{Send, Echo, Ready, is_for};
-ghost use Rattle.pay_echo.specs.Meaning.{Meaning, meaning_of, became};
-ghost use Rattle.pay_echo.specs.Moves.{IsMoves};
-ghost use Rattle.pay_echo.specs.Step.{can_ready, can_deliver, now_ready, now_delivered, settled, vote_at, after};
+ghost use Rattle.pay_echo.specs.Broadcast.{IsForeign, is_for};
+ghost use Rattle.pay_echo.specs.Votes.{vote_of};
+ghost use Rattle.pay_echo.specs.Step.{vote_at, vote_before, echo_count, ready_count, moves_by, can_ready, can_deliver, put_echo, put_ready, put_if, with_vote, IsPlaced};
+ghost use Rattle.pay_echo.specs.Plain.{value_at, votes_at};
 
-use crate::instance::{Instance, MOST_MEMBERS};
+use crate::group::Group;
+use crate::instance::Instance;
 use crate::moves::Moves;
-use pay_frame::Bytes;
+use crate::vote::VoteRef;
+use pay_frame::{Bytes, MOST_MEMBERS};
 use std::alloc::{AllocError, Global};
 use std::marker::Model;
 
-/// An instance as plain lists: each process's first ECHO and first READY, by its number.
+/// An instance as plain lists: each process's first ECHO and first READY, by its number. A value is kept once,
+/// whoever votes for it.
 #[derive(Drop)]
 pub struct PlainInstance {
-    members: u16,
-    faults: u16,
-    own: u16,
-    // one's own: what oneself echoed and readied
-    echoes: Vec<Option<Bytes>>,
-    readys: Vec<Option<Bytes>>,
-    delivered: Option<Bytes>,
+    group: Group,
+    values: Vec<Bytes>,
+    // the places of the votes' values; one's own are what oneself echoed and readied
+    echoes: Vec<Option<usize>>,
+    readys: Vec<Option<usize>>,
+    delivered: Option<usize>,
 }
 
 impl Model for PlainInstance {
-    ghost use Rattle.std.specs.Prelude.{◌≡◌, ◌<◌, length};
     ghost use Rattle.pay_echo.specs.Meaning.{Meaning};
-    ghost use Rattle.pay_echo.specs.Step.{vote_at};
+    ghost use Rattle.pay_echo.specs.Plain.{meaning_by, ArePlaces};
 
     ghost Value = { Meaning };
 
-    ghost view = { λ i. record {
-      group = record { members = i.members; faults = i.faults; own = i.own };
-      echoed = vote_at i.echoes.items i.own;
-      echoes = i.echoes.items;
-      readied = vote_at i.readys.items i.own;
-      readys = i.readys.items;
-      delivered = i.delivered;
-    } };
+    ghost view = { λ i. meaning_by i.group i.values.items i.echoes.items i.readys.items i.delivered };
 
-    ghost invariant = { λ i. (i.own < i.members) × (length i.echoes.items ≡ i.members) × (length i.readys.items ≡ i.members) };
+    ghost invariant = { λ i. ArePlaces i.group i.values.items i.echoes.items i.readys.items i.delivered };
 }
 
 impl Instance for PlainInstance {
     ghost meaning = { λ i. i };
 
-    fn fresh(
-        alloc: Global,
-        members: u16,
-        faults: u16,
-        own: u16,
-    ) -> Result<PlainInstance, AllocError> {
-        let echoes = no_votes(alloc, members)?;
-        let readys = no_votes(alloc, members)?;
+    fn fresh(alloc: Global, group: Group) -> Result<PlainInstance, AllocError> {
+        let echoes = no_votes(alloc, group.members)?;
+        let readys = no_votes(alloc, group.members)?;
         Ok(PlainInstance {
-            members,
-            faults,
-            own,
+            group,
+            values: Vec::new(alloc),
             echoes,
             readys,
             delivered: None,
         })
     }
 
-    fn send(&mut self, alloc: Global, value: &[u8]) -> Result<Moves, AllocError> {
-        self.take_send(alloc, value)
+    fn moves(&self, vote: VoteRef) -> Moves {
+        if self.has_voted(vote) {
+            return Moves::NONE;
+        }
+        self.moves_by(vote)
     }
 
-    fn echo(&mut self, alloc: Global, process: u16, value: &[u8]) -> Result<Moves, AllocError> {
-        self.take_echo(alloc, process, value)
-    }
-
-    fn ready(&mut self, alloc: Global, process: u16, value: &[u8]) -> Result<Moves, AllocError> {
-        self.take_ready(alloc, process, value)
+    fn take(&mut self, alloc: Global, vote: VoteRef) -> Result<Moves, AllocError> {
+        if self.has_voted(vote) {
+            return Ok(Moves::NONE);
+        }
+        self.count(alloc, vote)
     }
 
     fn echoed(&self) -> Option<&[u8]> {
-        vote_at(&self.echoes, self.own)
+        vote_at(&self.values, &self.echoes, self.group.own)
     }
 
     fn readied(&self) -> Option<&[u8]> {
-        vote_at(&self.readys, self.own)
+        vote_at(&self.values, &self.readys, self.group.own)
     }
 
     fn delivered(&self) -> Option<&[u8]> {
-        match &self.delivered {
-            Some(bytes) => Some(bytes.as_slice()),
-            None => None,
-        }
+        value_at(&self.values, self.delivered)
     }
 }
 
 impl PlainInstance {
-    fn take_send(&mut self, alloc: Global, value: &[u8]) -> Result<Moves, AllocError>
-        ensures after { OnOk result (self.new ≡ after self.old (Send value.now)) }
-        ensures moves { IfOk result (IsMoves self.old self.new) }
-        ensures group { self.new.group ≡ self.old.group }
-        ensures member { self.old.group.own < self.old.group.members }
-        ensures err { OnErr result (self.new ≡ self.old) }
+    // Whether a vote of that process and kind came before.
+    fn has_voted(&self, vote: VoteRef) -> bool
+        requires { IsForeign self.now.group (vote_of vote) }
+        ensures voted { result ≡ is_some (vote_before self.now (vote_of vote.entry)) }
+        ensures placed { IsPlaced self.now }
     {
-        if vote_at(&self.echoes, self.own).is_some() {
-            return Ok(Moves::NONE);
+        match vote {
+            VoteRef::Send(_) => self.echoed().is_some(),
+            VoteRef::Echo(process, _) => vote_at(&self.values, &self.echoes, process).is_some(),
+            VoteRef::Ready(process, _) => vote_at(&self.values, &self.readys, process).is_some(),
         }
-        let vote = Bytes::from_slice(alloc, value)?;
-        let ready = Bytes::from_slice(alloc, value)?;
-        let deliver = Bytes::from_slice(alloc, value)?;
-        put(&mut self.echoes, self.own, vote);
-        Ok(self.settle(true, ready, deliver))
     }
 
-    fn take_echo(&mut self, alloc: Global, process: u16, value: &[u8]) -> Result<Moves, AllocError>
-        requires member { process < self.old.group.members }
-        requires other { process ≢ self.old.group.own }
-        ensures after { OnOk result (self.new ≡ after self.old (Echo process value.now)) }
-        ensures moves { IfOk result (IsMoves self.old self.new) }
-        ensures group { self.new.group ≡ self.old.group }
-        ensures member { self.old.group.own < self.old.group.members }
-        ensures err { OnErr result (self.new ≡ self.old) }
+    // How many ECHOs there are for this vote's value, itself included.
+    fn echo_count(&self, vote: VoteRef) -> usize
+        ensures count { result ≡ echo_count self.now (vote_of vote.entry) }
+        ensures few { result ≤ MOST_MEMBERS + 1 }
     {
-        if vote_at(&self.echoes, process).is_some() {
-            return Ok(Moves::NONE);
-        }
-        let vote = Bytes::from_slice(alloc, value)?;
-        let ready = Bytes::from_slice(alloc, value)?;
-        let deliver = Bytes::from_slice(alloc, value)?;
-        put(&mut self.echoes, process, vote);
-        Ok(self.settle(false, ready, deliver))
+        let before = count_for(&self.values, &self.echoes, vote.value());
+        if vote.is_ready() { before } else { before + 1 }
     }
 
-    fn take_ready(&mut self, alloc: Global, process: u16, value: &[u8]) -> Result<Moves, AllocError>
-        requires member { process < self.old.group.members }
-        requires other { process ≢ self.old.group.own }
-        ensures after { OnOk result (self.new ≡ after self.old (Ready process value.now)) }
-        ensures moves { IfOk result (IsMoves self.old self.new) }
-        ensures group { self.new.group ≡ self.old.group }
-        ensures member { self.old.group.own < self.old.group.members }
-        ensures err { OnErr result (self.new ≡ self.old) }
+    // How many READYs there are for this vote's value, itself included.
+    fn ready_count(&self, vote: VoteRef) -> usize
+        ensures count { result ≡ ready_count self.now (vote_of vote.entry) }
+        ensures few { result ≤ MOST_MEMBERS + 1 }
     {
-        if vote_at(&self.readys, process).is_some() {
-            return Ok(Moves::NONE);
-        }
-        let vote = Bytes::from_slice(alloc, value)?;
-        let ready = Bytes::from_slice(alloc, value)?;
-        let deliver = Bytes::from_slice(alloc, value)?;
-        put(&mut self.readys, process, vote);
-        Ok(self.settle(false, ready, deliver))
+        let before = count_for(&self.values, &self.readys, vote.value());
+        if vote.is_ready() { before + 1 } else { before }
     }
 
-    // Does all that follows where the counts of this value have grown.
-    #[tactic(auto, unfolding(crate::specs::Step::settled))]
-    fn settle(&mut self, echo: bool, ready: Bytes, deliver: Bytes) -> Moves
-        requires { deliver ≡ ready }
-        ensures after { self.new ≡ settled self.old ready }
-        ensures echoed { self.new.echoed ≡ self.old.echoed }
-        ensures group { self.new.group ≡ self.old.group }
-        ensures echo { result.echo ≡ echo }
-        ensures ready { result.ready ≡ became self.old.readied self.new.readied }
-        ensures deliver { result.deliver ≡ became self.old.delivered self.new.delivered }
+    // What this vote makes known where none came before it.
+    #[tactic(auto, unfolding(crate::specs::Step::moves_by))]
+    fn moves_by(&self, vote: VoteRef) -> Moves
+        ensures { result ≡ moves_by self.now (vote_of vote.entry) }
     {
-        let ready = self.make_ready(ready);
-        let deliver = self.make_delivered(deliver);
+        let readys = self.ready_count(vote);
+        let ready = self.can_ready(self.echo_count(vote), readys);
+        let deliver = self.can_deliver(readys + usize::from(ready));
         Moves {
-            echo,
+            echo: vote.is_send(),
             ready,
             deliver,
         }
     }
-    // Becomes READY with this value if it may, and says whether it did.
-    #[tactic(auto, unfolding(crate::specs::Step::can_ready, crate::specs::Step::now_ready))]
-    fn make_ready(&mut self, value: Bytes) -> bool
-        ensures after { self.new ≡ now_ready self.old value }
-        ensures told { result ≡ became self.old.readied self.new.readied }
-        ensures echoed { self.new.echoed ≡ self.old.echoed }
+
+    fn can_ready(&self, echoes: usize, readys: usize) -> bool
+        requires { echoes ≤ MOST_MEMBERS + 1 }
+        ensures { result ≡ can_ready self.now echoes readys }
+    {
+        let faults = usize::from(self.group.faults);
+        let all = usize::from(self.group.members) + faults;
+        self.readied().is_none() && (all < 2 * echoes || faults < readys)
+    }
+
+    fn can_deliver(&self, readys: usize) -> bool
+        ensures { result ≡ can_deliver self.now readys }
+    {
+        self.delivered().is_none() && 2 * usize::from(self.group.faults) < readys
+    }
+
+    // Writes a vote in its place, where none stands, and what it makes known.
+    fn count(&mut self, alloc: Global, vote: VoteRef) -> Result<Moves, AllocError>
+        requires foreign { IsForeign self.old.group (vote_of vote) }
+        requires first { is_some (vote_before self.old (vote_of vote)) ≡ false }
+        ensures after { OnOk result (self.new ≡ with_vote self.old (vote_of vote.entry)) }
+        ensures moves { IfOk result (λ moves. moves ≡ moves_by self.old (vote_of vote.entry)) }
         ensures group { self.new.group ≡ self.old.group }
-        ensures delivered { self.new.delivered ≡ self.old.delivered }
+        ensures err { OnErr result (self.new ≡ self.old) }
     {
-        if !self.can_ready(value.as_slice()) {
-            return false;
-        }
-        put(&mut self.readys, self.own, value);
-        true
-    }
-
-    #[tactic(auto, unfolding(crate::specs::Step::can_ready))]
-    fn can_ready(&self, value: &[u8]) -> bool
-        ensures { result ≡ can_ready self.now value.now }
-    {
-        let echoes = count_for(&self.echoes, value);
-        let readys = count_for(&self.readys, value);
-        let all = usize::from(self.members) + usize::from(self.faults);
-        vote_at(&self.readys, self.own).is_none()
-            && (all < 2 * echoes || usize::from(self.faults) < readys)
-    }
-
-    // Delivers this value if it may, and says whether it did.
-    #[tactic(auto, unfolding(crate::specs::Step::can_deliver, crate::specs::Step::now_delivered))]
-    fn make_delivered(&mut self, value: Bytes) -> bool
-        ensures after { self.new ≡ now_delivered self.old value }
-        ensures told { result ≡ became self.old.delivered self.new.delivered }
-        ensures echoed { self.new.echoed ≡ self.old.echoed }
-        ensures group { self.new.group ≡ self.old.group }
-        ensures readied { self.new.readied ≡ self.old.readied }
-    {
-        if !self.can_deliver(value.as_slice()) {
-            return false;
-        }
-        self.delivered = Some(value);
-        true
-    }
-
-    #[tactic(auto, unfolding(crate::specs::Step::can_deliver))]
-    fn can_deliver(&self, value: &[u8]) -> bool
-        ensures { result ≡ can_deliver self.now value.now }
-    {
-        self.delivered.is_none() && 2 * usize::from(self.faults) < count_for(&self.readys, value)
+        let moves = self.moves_by(vote);
+        let group = self.group;
+        let place = keep(&mut self.values, alloc, vote.value())?;
+        put(&mut self.echoes, &mut self.readys, group, vote, place);
+        put_if(moves.ready, &mut self.readys, group.own, place);
+        self.delivered = moves.deliver.then_some(place).or(self.delivered);
+        Ok(moves)
     }
 }
 
-// The vote of a process.
-fn vote_at(votes: &[Option<Bytes>], process: u16) -> Option<&[u8]>
-    requires { process < length votes.now }
-    ensures { option_copied result ≡ vote_at votes.now process }
+// The value at a place.
+fn value_at(values: &[Bytes], place: Option<usize>) -> Option<&[u8]>
+    ensures { option_copied result ≡ value_at values.now place }
 {
-    match &votes[usize::from(process)] {
-        Some(bytes) => Some(bytes.as_slice()),
+    match values.get(place?) {
+        Some(value) => Some(value.as_slice()),
         None => None,
     }
 }
 
-// Writes a process's vote.
-fn put(votes: &mut Vec<Option<Bytes>>, process: u16, value: Bytes)
-    requires { process < length votes.old.items }
-    ensures { votes.new.items ≡ slice_set votes.old.items process (Some value) }
+// The value that a process voted for.
+fn vote_at<'a>(values: &'a [Bytes], places: &[Option<usize>], process: u16) -> Option<&'a [u8]>
+    requires { process < length places.now }
+    ensures { option_copied result ≡ vote_at (votes_at values.now places.now) process }
 {
-    votes[usize::from(process)] = Some(value);
+    value_at(values, places[usize::from(process)])
 }
 
 #[tactic(auto, unfolding(crate::specs::Broadcast::is_for))]
-fn is_for(vote: &Option<Bytes>, value: &[u8]) -> bool
-    ensures { result ≡ is_for value.now vote.now }
+fn is_for(values: &[Bytes], place: Option<usize>, value: &[u8]) -> bool
+    ensures { result ≡ is_for value.now (value_at values.now place) }
 {
-    match vote {
-        Some(bytes) => bytes.as_slice() == value,
+    match value_at(values, place) {
+        Some(bytes) => bytes == value,
         None => false,
     }
 }
 
-fn count_for(votes: &[Option<Bytes>], value: &[u8]) -> usize
-    ensures count { result ≡ count_by (is_for value.now) votes.now }
-    ensures few { result ≤ length votes.now }
+// How many votes there are for a value.
+fn count_for(values: &[Bytes], places: &[Option<usize>], value: &[u8]) -> usize
+    ensures count { result ≡ count_by (is_for value.now) (votes_at values.now places.now) }
+    ensures few { result ≤ length places.now }
 {
-    votes.iter().filter(|vote| is_for(vote, value)).count()
+    places
+        .iter()
+        .filter(|place| is_for(values, **place, value))
+        .count()
+}
+
+// The place of a value, if it is there.
+fn place_of(values: &[Bytes], value: &[u8]) -> Option<usize>
+    ensures { IfSome result (λ place. slice_get values.now place ≡ Some value.now) }
+{
+    for (place, kept) in values.iter().enumerate() {
+        if kept.as_slice() == value {
+            return Some(place);
+        }
+    }
+    None
+}
+
+// The place of a value, which is put at the end where it isn't there yet.
+fn keep(values: &mut Vec<Bytes>, alloc: Global, value: &[u8]) -> Result<usize, AllocError>
+    ensures place { IfOk result (λ place. slice_get values.new.items place ≡ Some value.now) }
+    ensures grown { (more : List (List ℕ)) × (values.new.items ≡ values.old.items ++ more) }
+    ensures err { OnErr result (values.new.items ≡ values.old.items) }
+{
+    if let Some(place) = place_of(values, value) {
+        return Ok(place);
+    }
+    let kept = Bytes::from_slice(alloc, value)?;
+    values.push(kept)?;
+    Ok(values.len() - 1)
+}
+
+// Writes a vote's place.
+fn put(
+    echoes: &mut Vec<Option<usize>>,
+    readys: &mut Vec<Option<usize>>,
+    group: Group,
+    vote: VoteRef,
+    place: usize,
+)
+    requires own { group.own < group.members }
+    requires foreign { IsForeign group (vote_of vote) }
+    requires echoes { length echoes.old.items ≡ group.members }
+    requires readys { length readys.old.items ≡ group.members }
+    ensures echoes { echoes.new.items
+        ≡ put_echo group.own (vote_of vote.entry) place echoes.old.items }
+    ensures readys { readys.new.items ≡ put_ready (vote_of vote.entry) place readys.old.items }
+{
+    match vote {
+        VoteRef::Send(_) => echoes[usize::from(group.own)] = Some(place),
+        VoteRef::Echo(process, _) => echoes[usize::from(process)] = Some(place),
+        VoteRef::Ready(process, _) => readys[usize::from(process)] = Some(place),
+    }
+}
+
+// Writes a process's place if it is due.
+fn put_if(due: bool, places: &mut Vec<Option<usize>>, process: u16, place: usize)
+    requires { process < length places.old.items }
+    ensures { places.new.items ≡ put_if due process place places.old.items }
+{
+    if due {
+        places[usize::from(process)] = Some(place);
+    }
 }
 
 // Each process's vote before any came.
-fn no_votes(alloc: Global, members: u16) -> Result<Vec<Option<Bytes>>, AllocError>
+fn no_votes(alloc: Global, members: u16) -> Result<Vec<Option<usize>>, AllocError>
     ensures { IfOk result (λ votes. votes.items ≡ replicate members None) }
 {
     let mut votes = Vec::with_capacity(alloc, usize::from(members))?;

@@ -1,6 +1,8 @@
-ghost use Rattle.std.specs.Prelude.{◌≡◌};
+ghost use Rattle.std.specs.Prelude.{◌≤◌, ◌<◌};
 
-use pay_echo::{Instance, Moves, PlainInstance};
+use crate::telling::is_foreign;
+use pay_echo::{Group, Instance, Moves, PlainInstance, VoteRef};
+use pay_frame::MOST_MEMBERS;
 use std::alloc::Global;
 use std::process::Abort;
 use std::test::Fail;
@@ -9,81 +11,83 @@ const A: &[u8] = b"A";
 
 const B: &[u8] = b"B";
 
-const ECHO: Moves = Moves {
-    echo: true,
-    ready: false,
-    deliver: false,
+// Process 0 of four, of which one may be faulty.
+const FOUR: Group = Group {
+    members: 4,
+    faults: 1,
+    own: 0,
 };
 
-const READY: Moves = Moves {
-    echo: false,
-    ready: true,
-    deliver: false,
+const ALONE: Group = Group {
+    members: 1,
+    faults: 0,
+    own: 0,
 };
 
-const DELIVER: Moves = Moves {
-    echo: false,
-    ready: false,
-    deliver: true,
-};
+// What is echoed, readied and delivered in the end.
+type Known = [Option<&'static [u8]>; 3];
 
-fn echo_quorum_of_three<I: Instance + Drop>(rt: &impl Abort, alloc: Global) -> Result<(), Fail> {
-    let mut instance = I::fresh(alloc, 4, 1, 0)?;
-    assert_eq!(rt; instance.send(alloc, A)?, ECHO);
-    assert_eq!(rt; instance.echo(alloc, 1, A)?, Moves::NONE);
-    assert_eq!(rt; instance.echo(alloc, 2, B)?, Moves::NONE);
-    assert_eq!(rt; instance.echo(alloc, 2, A)?, Moves::NONE);
-    assert_eq!(rt; instance.echo(alloc, 3, A)?, READY);
-    assert_eq!(rt; instance.readied(), Some(A));
-    assert_eq!(rt; instance.delivered(), None);
-    three_readys(rt, alloc, instance)
+const fn moves(echo: bool, ready: bool, deliver: bool) -> Moves {
+    Moves {
+        echo,
+        ready,
+        deliver,
+    }
 }
 
-// The second half of the row: the READYs of three processes.
-fn three_readys<I: Instance + Drop>(
+// Tells a fresh instance these votes. Each makes known what stands beside it, as was foreseen, and this is known
+// in the end.
+fn run<I: Instance + Drop>(
     rt: &impl Abort,
     alloc: Global,
-    mut instance: I,
+    group: Group,
+    steps: &[(VoteRef<'static>, Moves)],
+    known: Known,
 ) -> Result<(), Fail>
-    requires members { (I.meaning instance).group.members ≡ 4 }
-    requires own { (I.meaning instance).group.own ≡ 0 }
+    requires few { group.members ≤ MOST_MEMBERS }
+    requires member { group.own < group.members }
 {
-    assert_eq!(rt; instance.ready(alloc, 1, A)?, Moves::NONE);
-    assert_eq!(rt; instance.ready(alloc, 1, A)?, Moves::NONE);
-    assert_eq!(rt; instance.ready(alloc, 2, A)?, DELIVER);
-    assert_eq!(rt; instance.ready(alloc, 3, B)?, Moves::NONE);
-    assert_eq!(rt; instance.delivered(), Some(A));
+    let mut instance = I::fresh(alloc, group)?;
+    for (vote, told) in steps {
+        assert!(rt; is_foreign(group, *vote));
+        assert_eq!(rt; instance.moves(*vote), *told);
+        assert_eq!(rt; instance.take(alloc, *vote)?, *told);
+    }
+    let [echoed, readied, delivered] = known;
+    assert_eq!(rt; instance.echoed(), echoed);
+    assert_eq!(rt; instance.readied(), readied);
+    assert_eq!(rt; instance.delivered(), delivered);
     Ok(())
+}
+
+fn echo_quorum_of_three<I: Instance + Drop>(rt: &impl Abort, alloc: Global) -> Result<(), Fail> {
+    let steps = [
+        (VoteRef::Send(A), moves(true, false, false)),
+        (VoteRef::Echo(1, A), Moves::NONE),
+        (VoteRef::Echo(2, B), Moves::NONE),
+        (VoteRef::Echo(2, A), Moves::NONE),
+        (VoteRef::Echo(3, A), moves(false, true, false)),
+        (VoteRef::Ready(1, A), Moves::NONE),
+        (VoteRef::Ready(1, A), Moves::NONE),
+        (VoteRef::Ready(2, A), moves(false, false, true)),
+        (VoteRef::Ready(3, B), Moves::NONE),
+    ];
+    run::<I>(rt, alloc, FOUR, &steps, [Some(A), Some(A), Some(A)])
 }
 
 fn amplified_first<I: Instance + Drop>(rt: &impl Abort, alloc: Global) -> Result<(), Fail> {
-    let both = Moves {
-        echo: false,
-        ready: true,
-        deliver: true,
-    };
-    let mut instance = I::fresh(alloc, 4, 1, 0)?;
-    assert_eq!(rt; instance.ready(alloc, 1, A)?, Moves::NONE);
-    assert_eq!(rt; instance.echoed(), None);
-    assert_eq!(rt; instance.ready(alloc, 2, A)?, both);
-    assert_eq!(rt; instance.send(alloc, B)?, ECHO);
-    assert_eq!(rt; instance.send(alloc, A)?, Moves::NONE);
-    assert_eq!(rt; instance.echoed(), Some(B));
-    assert_eq!(rt; instance.readied(), Some(A));
-    assert_eq!(rt; instance.delivered(), Some(A));
-    Ok(())
+    let steps = [
+        (VoteRef::Ready(1, A), Moves::NONE),
+        (VoteRef::Ready(2, A), moves(false, true, true)),
+        (VoteRef::Send(B), moves(true, false, false)),
+        (VoteRef::Send(A), Moves::NONE),
+    ];
+    run::<I>(rt, alloc, FOUR, &steps, [Some(B), Some(A), Some(A)])
 }
 
 fn one_process<I: Instance + Drop>(rt: &impl Abort, alloc: Global) -> Result<(), Fail> {
-    let all = Moves {
-        echo: true,
-        ready: true,
-        deliver: true,
-    };
-    let mut instance = I::fresh(alloc, 1, 0, 0)?;
-    assert_eq!(rt; instance.send(alloc, A)?, all);
-    assert_eq!(rt; instance.delivered(), Some(A));
-    Ok(())
+    let steps = [(VoteRef::Send(A), moves(true, true, true))];
+    run::<I>(rt, alloc, ALONE, &steps, [Some(A), Some(A), Some(A)])
 }
 
 #[test]

@@ -1,6 +1,7 @@
 ghost use Rattle.std.specs.Prelude.{◌≡◌, ◌≤◌, ◌<◌};
 
-use pay_echo::{Instance, MOST_MEMBERS, PlainInstance};
+use pay_echo::{Group, Instance, PlainInstance, VoteRef};
+use pay_frame::MOST_MEMBERS;
 use std::alloc::{AllocError, Global};
 use std::test::Fail;
 
@@ -15,12 +16,17 @@ fn echo_threshold<I: Instance + Drop>(
     requires few { members ≤ MOST_MEMBERS }
     requires some { 0 < members }
 {
-    let mut instance = I::fresh(alloc, members, faults, 0)?;
-    if instance.send(alloc, A)?.ready {
+    let group = Group {
+        members,
+        faults,
+        own: 0,
+    };
+    let mut instance = I::fresh(alloc, group)?;
+    if instance.take(alloc, VoteRef::Send(A))?.ready {
         return Ok(1);
     }
     for process in 1..members {
-        if instance.echo(alloc, process, A)?.ready {
+        if instance.take(alloc, VoteRef::Echo(process, A))?.ready {
             return Ok(process + 1);
         }
     }
@@ -36,10 +42,15 @@ fn ready_thresholds<I: Instance + Drop>(
     requires few { members ≤ MOST_MEMBERS }
     requires some { 0 < members }
 {
-    let mut instance = I::fresh(alloc, members, faults, 0)?;
+    let group = Group {
+        members,
+        faults,
+        own: 0,
+    };
+    let mut instance = I::fresh(alloc, group)?;
     let mut ready = 0;
     for process in 1..members {
-        let moves = instance.ready(alloc, process, A)?;
+        let moves = instance.take(alloc, VoteRef::Ready(process, A))?;
         if moves.ready {
             ready = process;
         }

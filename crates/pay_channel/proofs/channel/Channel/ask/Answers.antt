@@ -1,4 +1,5 @@
 use Rattle.std.proofs.Common.{◌+◌, ap, sym, subst}
+use Rattle.pay_echo.specs.Broadcast.{value_of}
 use Rattle.pay_channel.specs.Source.{GrowsOnly}
 use Rattle.pay_channel.specs.History.{Ask}
 use Rattle.pay_channel.specs.State.{State, lists_of}
@@ -26,3 +27,7 @@ returns-clause-grows g c =
     let At : State → Type 0 = λ x. GrowsOnly (lists_of c.args.self.now) (lists_of (with_asks x (c.self.inside.asks + 1))) c.args.self.now.group.own in
     subst At (sym c.self-2.view_is)
     (asked_grow c.args.self.now c.vote.new.self c.self.inside.group.own c.self.inside.asks (ap (λ (x : State). x.group.own) c.self.view_is) (ap (λ (x : State). x.asks) c.self.view_is) (c.self.inside.asks + 1) c.in_ok-applied.ensures.grows)
+
+pub vote-requires-clause-value : goal.vote-requires-clause-value
+unfolding value_of
+vote-requires-clause-value g c = c.requires.value

@@ -1,6 +1,5 @@
 use Rattle.std.proofs.Common.{ap, sym, ◌∙◌}
 use Rattle.pay_echo.specs.Meaning.{Meaning, meaning_of}
-use Rattle.pay_echo.proofs.OneMore.{delivered-none}
 use Rattle.pay_channel.specs.State.{meaning_in}
 use Rattle.pay_channel.proofs.SlotLemmas.{key_cmp-is, meaning_in-lookup, meaning_in-absent}
 use Rattle.pay_channel.proofs.instances.Instances.delivered.Goals as goal
@@ -14,4 +13,4 @@ pub returns-in-None : goal.returns-in-None
 unfolding meaning_of
 returns-in-None g c = λ h.
     let absent = meaning_in-absent g.I.Instance.meaning h c.args.owner c.args.seq _ (key_cmp-is c.args.owner c.args.seq) c.self.inside.by_broadcast.entries (sym c.in-None.ensures.value) in
-    sym (delivered-none h) ∙ ap (λ (m : Meaning). m.delivered) (sym absent) ∙ ap (λ l. (meaning_in h l c.args.owner c.args.seq).delivered) c.self.view_is
+    sym (c.nothing_known_at_first.ensures.delivered h) ∙ ap (λ (m : Meaning). m.delivered) (sym absent) ∙ ap (λ l. (meaning_in h l c.args.owner c.args.seq).delivered) c.self.view_is

@@ -1,0 +1,41 @@
+-- Votes as places in a list of values.
+use Rattle.std.specs.Prelude.{◌≡◌, ℕ, ◌<◌, ◌≤◌, List, length, map, slice_get, Option, Some, None, All}
+use Rattle.pay_frame.specs.declared.limits.TheConstants.{MOST_MEMBERS}
+use Rattle.pay_echo.specs.Broadcast.{Group}
+use Rattle.pay_echo.specs.Meaning.{Meaning}
+use Rattle.pay_echo.specs.Step.{vote_at}
+
+-- the value at a place, where there is one
+abbrev pub value_at : List (List ℕ) → Option ℕ → Option (List ℕ)
+value_at values None = None
+value_at values (Some k) = slice_get values k
+
+abbrev pub votes_at : List (List ℕ) → List (Option ℕ) → List (Option (List ℕ))
+votes_at values places = map (value_at values) places
+
+-- the place is one of so many
+abbrev pub IsPlace : ℕ → Option ℕ → Type 0
+IsPlace n None = Unit {0}
+IsPlace n (Some k) = k < n
+
+abbrev pub meaning_by : Group → List (List ℕ) → List (Option ℕ) → List (Option ℕ) → Option ℕ → Meaning
+meaning_by g values echoes readys delivered =
+    record {
+      group = g;
+      echoed = vote_at (votes_at values echoes) g.own;
+      echoes = votes_at values echoes;
+      readied = vote_at (votes_at values readys) g.own;
+      readys = votes_at values readys;
+      delivered = value_at values delivered;
+    }
+
+-- There are few members, one's own number is one of theirs, each has its places, and each place is one of the
+-- values.
+pub record ArePlaces (g : Group) (values : List (List ℕ)) (echoes readys : List (Option ℕ)) (delivered : Option ℕ) : Type 0 where
+  pub few : g.members ≤ MOST_MEMBERS
+  pub own : g.own < g.members
+  pub echoed : length echoes ≡ g.members
+  pub readied : length readys ≡ g.members
+  pub echo_places : All (IsPlace (length values)) echoes
+  pub ready_places : All (IsPlace (length values)) readys
+  pub delivered_place : IsPlace (length values) delivered

@@ -1,0 +1,10 @@
+-- Votes as they are told to an instance.
+use Rattle.pay_echo.specs.Broadcast.{Vote, Send, Echo, Ready}
+use Rattle.pay_echo.specs.declared.vote.VoteRef.{VoteRef}
+use Rattle.pay_echo.specs.declared.vote.VoteRef.TheVariants as given
+
+-- the vote that a `VoteRef` lends
+abbrev pub vote_of : VoteRef → Vote
+vote_of (given.Send value) = Send value.now
+vote_of (given.Echo process value) = Echo process value.now
+vote_of (given.Ready process value) = Ready process value.now
