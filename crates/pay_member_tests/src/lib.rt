@@ -1,0 +1,11 @@
+//! Tests of `pay_member`: worked rows by calls, and what is printed of each refusal.
+#![tactic(auto)]
+
+#[cfg(test)]
+mod plays;
+#[cfg(test)]
+mod rows;
+#[cfg(test)]
+mod step;
+#[cfg(test)]
+mod trial;

@@ -1,0 +1,121 @@
+//! A member that is given steps.
+
+ghost use Rattle.std.specs.Prelude.{◌≡◌, ◌<◌};
+
+use crate::step::{Fact, Row, Step, Unsealed};
+use pay_book::{Line, PlainBook};
+use pay_echo::PlainInstance;
+use pay_frame::{Body, Bytes, GREATEST_VALUE, Kind, SEQS, read_one};
+use pay_hmac::HmacSha256;
+use pay_link::{Checked, Genesis, Keys, open, seal, test_keys};
+use pay_member::Member;
+use std::alloc::Global;
+
+/// A member, and the genesis that it was made with.
+#[derive(Drop)]
+pub(crate) struct Trial {
+    genesis: Genesis,
+    member: Member<PlainInstance, PlainBook>,
+    ghost same: { member.genesis ≡ genesis },
+}
+
+impl Trial {
+    /// The row's member, which took no step, if there can be such a member and memory isn't refused.
+    pub(crate) fn new(alloc: Global, row: &Row) -> Option<Trial> {
+        let members = row.opening.len() as u64;
+        let genesis = Genesis::new(alloc, members, row.faults, row.opening).ok()?;
+        if row.own >= genesis.members() {
+            return None;
+        }
+        let keys = test_keys(alloc, &genesis, row.own).ok()?;
+        let member = Member::new(alloc, genesis.copy(alloc).ok()?, keys).ok()?;
+        Some(Trial { genesis, member })
+    }
+
+    pub(crate) fn entries(&self) -> usize {
+        self.member.history().len()
+    }
+
+    /// Takes a step, and says whether the reply is the one expected. It isn't where memory is refused.
+    pub(crate) fn meets(&mut self, alloc: Global, step: &Step) -> bool {
+        match *step {
+            Step::Ask(value, reply) => match Bytes::from_slice(alloc, value) {
+                Ok(value) => self.member.ask(alloc, 0, value) == reply,
+                Err(_) => false,
+            },
+            Step::Take(frame, reply) => match self.checked(alloc, frame) {
+                Some(checked) => self.member.take(alloc, 0, checked) == reply,
+                None => false,
+            },
+            Step::Query(account, reply) => self.member.query(0, account) == reply,
+            Step::Show(fact) => self.shows(alloc, fact),
+        }
+    }
+
+    fn shows(&self, alloc: Global, fact: Fact) -> bool {
+        let members = self.genesis.members();
+        match fact {
+            Fact::Entries(count) => self.entries() == count,
+            Fact::Next(peer, number) => peer < members && self.member.next(peer) == number,
+            Fact::Front(account, front) => account < members && self.member.front(account) == front,
+            Fact::Balance(account, balance) => {
+                account < members && self.member.balance(account) == balance
+            }
+            Fact::State(owner, seq, state) => {
+                owner < members && self.member.state(owner, seq) == state
+            }
+            Fact::Statement(account, lines) => {
+                account < members && self.states(alloc, account, lines)
+            }
+        }
+    }
+
+    fn states(&self, alloc: Global, account: u16, lines: &[Line]) -> bool
+        requires { account < self.now.member.genesis.members }
+    {
+        match self.member.statement(alloc, account) {
+            Ok(statement) => statement.as_slice() == lines,
+            Err(_) => false,
+        }
+    }
+
+    // The frame, sealed by its sender and opened by its receiver.
+    fn checked(&self, alloc: Global, frame: Unsealed) -> Option<Checked> {
+        let sender = keys_in(alloc, &self.genesis, frame.from)?;
+        if !sender.is_peer(frame.to) {
+            return None;
+        }
+        let body = body_of(alloc, frame)?;
+        let bytes = seal(alloc, &HmacSha256, &sender, frame.to, frame.number, &body).ok()?;
+        let receiver = keys_in(alloc, &self.genesis, frame.to)?;
+        let opened = open(&HmacSha256, &receiver, read_one(bytes.as_slice()).ok()?).ok()?;
+        if opened.frame().kind() == Kind::Want {
+            return None;
+        }
+        opened.own(alloc).ok()
+    }
+}
+
+// A member's test keys, if there is such a member.
+fn keys_in(alloc: Global, genesis: &Genesis, own: u16) -> Option<Keys> {
+    if own >= genesis.members() {
+        return None;
+    }
+    test_keys(alloc, genesis, own).ok()
+}
+
+// A body that says this, if it is no WANT and within a frame's limits.
+fn body_of(alloc: Global, frame: Unsealed) -> Option<Body> {
+    let Unsealed {
+        kind,
+        owner,
+        seq,
+        value,
+        ..
+    } = frame;
+    if kind == Kind::Want || seq >= SEQS || value.len() > usize::from(GREATEST_VALUE) {
+        return None;
+    }
+    let value = Bytes::from_slice(alloc, value).ok()?;
+    Some(Body::new(kind, owner, seq, value))
+}
