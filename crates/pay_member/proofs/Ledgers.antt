@@ -1,6 +1,9 @@
 -- A channel and its book after an event.
 use Rattle.std.specs.Result.{OnErr}
-use Rattle.std.proofs.Common.{◌≡◌, ℕ, ◌<◌, ◌≤◌, Bool, Result, Ok, Err, List, [], ◌∷◌, ◌++◌, length, sum, refl, sym, ap, ◌∙◌, subst, arith}
+use Rattle.std.proofs.lemmas.List.{take_more, get_or-drop}
+use Rattle.std.proofs.lemmas.Option.{slice_get_within, get_or_from_slice_get}
+use Rattle.pay_frame.specs.Frame.{BodyFields}
+use Rattle.std.proofs.Common.{drop, take, slice_get, Some, length-drop, ◌+◌, ◌≡◌, ℕ, ◌<◌, ◌≤◌, Bool, Result, Ok, Err, List, [], ◌∷◌, ◌++◌, length, sum, refl, sym, ap, ◌∙◌, subst, arith}
 use Rattle.pay_frame.specs.declared.limits.TheConstants.{MOST_MEMBERS}
 use Rattle.pay_echo.specs.Broadcast.{Group}
 use Rattle.pay_channel.specs.Source.{GrowsOnly}
@@ -132,3 +135,14 @@ took_is more lists answers one g own events old new e took tracks grows =
     let now = ap (λ (b : Standing). sum b.front) (book_is lists one g own (events ++ e ∷ []) new later) in
     let settled = grows.settled in
     took-same took _ _ _ _ told.echo told.ready told.deliver (omega arith)
+
+-- ---- the sent list in pieces
+
+-- one body more of a piece
+pub piece_more :
+    (sent : List BodyFields) (from k : ℕ) (x : BodyFields) → slice_get sent (from + k) ≡ Some x
+    → take (k + 1) (drop from sent) ≡ take k (drop from sent) ++ x ∷ []
+piece_more sent from k x is =
+    let inside = slice_get_within sent (from + k) x is in
+    take_more (drop from sent) k x (simp length-drop (omega arith))
+    ∙ ap (λ y. take k (drop from sent) ++ y ∷ []) (get_or-drop from sent k x ∙ get_or_from_slice_get sent (from + k) x x is)

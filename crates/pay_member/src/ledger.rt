@@ -1,5 +1,4 @@
-ghost use Rattle.std.specs.Prelude.{true, ◌≡◌, ◌<◌, [], length, slice_get, slice_index, IfOk, OnErr};
-ghost use Rattle.std.specs.Option.{option_copied};
+ghost use Rattle.std.specs.Prelude.{true, ◌≡◌, ◌<◌, [], drop, take, length, slice_index, IfOk, OnErr};
 ghost use Rattle.pay_channel.specs.History.{IsEvent, is_ask, owner_of, seqs};
 ghost use Rattle.pay_channel.specs.State.{lists_of};
 ghost use Rattle.pay_book.specs.Statement.{statement_of};
@@ -81,18 +80,20 @@ impl<I: Instance + Drop, B: Settle + Drop> Ledger<I, B> {
         })
     }
 
-    /// How many bodies the member sent to all.
-    pub fn sent_len(&self) -> usize
-        ensures { result ≡ length self.now.channel.sent }
+    /// Copies of the bodies that the member sent to all, from a place on: at most so many.
+    pub fn fetch(&self, alloc: Global, from: usize, most: usize) -> Result<Vec<Body>, AllocError>
+        ensures { IfOk result (λ bodies. bodies.items
+            ≡ take most (drop from self.now.channel.sent)) }
     {
-        self.channel.sent_len()
-    }
-
-    /// The body at a place of the sent list.
-    pub fn sent(&self, place: usize) -> Option<&Body>
-        ensures { option_copied result ≡ slice_get self.now.channel.sent place }
-    {
-        self.channel.sent(place)
+        let left = self.channel.sent_len().saturating_sub(from);
+        let mut bodies = Vec::new(alloc);
+        for k in 0..left.min(most) {
+            let Some(body) = self.channel.sent(from + k) else {
+                unreachable!()
+            };
+            bodies.push(body.copy(alloc)?)?;
+        }
+        Ok(bodies)
     }
 
     /// How many values an account's list has.

@@ -17,7 +17,7 @@ mod took;
 pub use entry::HistoryEntry;
 pub use event::Event;
 pub use fault::MemberFault;
-pub use member::Member;
+pub use member::{MOST_FETCHED, Member};
 pub use reply::Reply;
 pub use standing::PaymentState;
 pub use told::Told;

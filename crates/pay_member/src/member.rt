@@ -1,4 +1,4 @@
-ghost use Rattle.std.specs.Prelude.{◌≡◌, ◌<◌, ◌&&◌, nat_lt, [], length, slice_index, MatchOption, IfOk, OnErr, IsOkUnless};
+ghost use Rattle.std.specs.Prelude.{◌≡◌, ◌<◌, ◌&&◌, nat_lt, min, [], length, slice_index, MatchOption, IfOk, OnErr, IsOkUnless};
 ghost use Rattle.pay_link.specs.Keys.{IsKeysOf};
 ghost use Rattle.pay_book.specs.Statement.{statement_of};
 ghost use Rattle.pay_channel.specs.History.{From, asks, list_of};
@@ -8,7 +8,7 @@ ghost use Rattle.pay_member.specs.Events.{events};
 ghost use Rattle.pay_member.specs.Book.{book_after};
 ghost use Rattle.pay_member.specs.Reply.{took_by, told_of};
 ghost use Rattle.pay_member.specs.Refusal.{refusal};
-ghost use Rattle.pay_member.specs.Reading.{state_of};
+ghost use Rattle.pay_member.specs.Reading.{state_of, fetched};
 ghost use Rattle.pay_member.specs.Member.{with_entry};
 
 use crate::entry::HistoryEntry;
@@ -24,10 +24,13 @@ use pay_book::{Line, Settle};
 use pay_channel::EventRef;
 use pay_channel::laws::{a_channel_follows, nothing_at_first, one_event_more, taken_in_order};
 use pay_echo::Instance;
-use pay_frame::{Bytes, GREATEST_VALUE, SEQS};
+use pay_frame::{Body, Bytes, GREATEST_VALUE, SEQS};
 use pay_link::{Checked, Fronts, Genesis, Keys};
 use std::alloc::{AllocError, Global};
 use std::marker::Model;
+
+/// How many bodies one `fetch` gives at most.
+pub const MOST_FETCHED: usize = 16;
 
 /// One member: its group, its keys, what it took and replied, and its broadcasts and book as they follow from that.
 ///
@@ -156,7 +159,7 @@ impl<I: Instance + Drop, B: Settle + Drop> Member<I, B> {
     }
 
     /// Tells the state of an account, and notes that it was asked for. Refuses an account that isn't there.
-    pub fn query(&mut self, stamp: u16, account: u16) -> Result<Told, MemberFault>
+    pub fn query(&mut self, _alloc: Global, stamp: u16, account: u16) -> Result<Told, MemberFault>
         ensures refused { MatchOption
             (refusal self.old.genesis self.old.keys (events self.old.history) (Event.Query account))
             (IsOkUnless result MemberFault.Memory)
@@ -191,6 +194,15 @@ impl<I: Instance + Drop, B: Settle + Drop> Member<I, B> {
         ensures { result.now ≡ self.now.history }
     {
         self.history.as_slice()
+    }
+
+    /// Copies of the bodies that the member sent to all, from a place on: at most `max`, and at most 16.
+    pub fn fetch(&self, alloc: Global, from: usize, max: usize) -> Result<Vec<Body>, AllocError>
+        ensures { IfOk result (λ bodies. bodies.items
+            ≡ fetched self.now.genesis self.now.keys.own (events self.now.history)
+            from (min max MOST_FETCHED)) }
+    {
+        self.ledger.fetch(alloc, from, max.min(MOST_FETCHED))
     }
 
     /// The number that the next frame from a member has.

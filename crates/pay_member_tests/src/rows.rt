@@ -1,8 +1,8 @@
 //! The rows, and what is printed of each refusal.
 
-use crate::step::Fact::{Balance, Entries, Front, Next, State, Statement};
+use crate::step::Fact::{Balance, Entries, Fetched, Front, Next, State, Statement};
 use crate::step::Step::{Ask, Query, Show, Take};
-use crate::step::{Row, Unsealed};
+use crate::step::{Row, Said, Unsealed};
 use pay_book::Line;
 use pay_frame::Kind;
 use pay_member::MemberFault::{Gap, NoAccount, Repeat, TooLong, WrongKey};
@@ -15,6 +15,24 @@ const TEN_TO_2: &[u8] = &[1, 0, 2, 0, 0, 0, 0, 0, 0, 0, 10];
 const ONE_FIFTY_TO_1: &[u8] = &[1, 0, 1, 0, 0, 0, 0, 0, 0, 0, 150];
 
 const FIVE_TO_0: &[u8] = &[1, 0, 0, 0, 0, 0, 0, 0, 0, 0, 5];
+
+// What a member alone sends of that value, as account 0's first.
+const ALONE_SEND: Said = Said {
+    kind: Kind::Send,
+    owner: 0,
+    seq: 0,
+    value: FIVE_TO_0,
+};
+
+const ALONE_ECHO: Said = Said {
+    kind: Kind::Echo,
+    ..ALONE_SEND
+};
+
+const ALONE_READY: Said = Said {
+    kind: Kind::Ready,
+    ..ALONE_SEND
+};
 
 // A byte longer than a frame's value may be.
 const LONG: &[u8] = &[0; 1025];
@@ -269,6 +287,9 @@ pub(crate) const ROWS: [Row; 5] = [
             Show(Balance(0, 7)),
             Show(State(0, 0, PaymentState::Settled)),
             Show(Statement(0, &[Line::Void { seq: 0 }])),
+            Show(Fetched(0, 16, &[ALONE_SEND, ALONE_ECHO, ALONE_READY])),
+            Show(Fetched(1, 1, &[ALONE_ECHO])),
+            Show(Fetched(3, 16, &[])),
         ],
     },
 ];

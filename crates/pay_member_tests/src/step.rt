@@ -39,6 +39,17 @@ pub(crate) enum Fact {
     /// How far the payment under an owner's number has come.
     State(u16, u32, PaymentState),
     Statement(u16, &'static [Line]),
+    /// What was sent to all from a place on, at most so many bodies of it.
+    Fetched(usize, usize, &'static [Said]),
+}
+
+/// A body that a member sent to all.
+#[derive(Clone, Copy)]
+pub(crate) struct Said {
+    pub(crate) kind: Kind,
+    pub(crate) owner: u16,
+    pub(crate) seq: u32,
+    pub(crate) value: &'static [u8],
 }
 
 /// A member of a group, and what becomes of it.

@@ -2,7 +2,7 @@
 
 ghost use Rattle.std.specs.Prelude.{◌≡◌, ◌<◌};
 
-use crate::step::{Fact, Row, Step, Unsealed};
+use crate::step::{Fact, Row, Said, Step, Unsealed};
 use pay_book::{Line, PlainBook};
 use pay_echo::PlainInstance;
 use pay_frame::{Body, Bytes, GREATEST_VALUE, Kind, SEQS, read_one};
@@ -47,7 +47,7 @@ impl Trial {
                 Some(checked) => self.member.take(alloc, 0, checked) == reply,
                 None => false,
             },
-            Step::Query(account, reply) => self.member.query(0, account) == reply,
+            Step::Query(account, reply) => self.member.query(alloc, 0, account) == reply,
             Step::Show(fact) => self.shows(alloc, fact),
         }
     }
@@ -67,6 +67,7 @@ impl Trial {
             Fact::Statement(account, lines) => {
                 account < members && self.states(alloc, account, lines)
             }
+            Fact::Fetched(from, most, said) => self.fetches(alloc, from, most, said),
         }
     }
 
@@ -75,6 +76,19 @@ impl Trial {
     {
         match self.member.statement(alloc, account) {
             Ok(statement) => statement.as_slice() == lines,
+            Err(_) => false,
+        }
+    }
+
+    fn fetches(&self, alloc: Global, from: usize, most: usize, said: &[Said]) -> bool {
+        match self.member.fetch(alloc, from, most) {
+            Ok(bodies) => {
+                bodies.len() == said.len()
+                    && bodies
+                        .iter()
+                        .zip(said)
+                        .all(|(body, said)| is_said(body, said))
+            }
             Err(_) => false,
         }
     }
@@ -118,4 +132,11 @@ fn body_of(alloc: Global, frame: Unsealed) -> Option<Body> {
     }
     let value = Bytes::from_slice(alloc, value).ok()?;
     Some(Body::new(kind, owner, seq, value))
+}
+
+fn is_said(body: &Body, said: &Said) -> bool {
+    body.kind() == said.kind
+        && body.owner() == said.owner
+        && body.seq() == said.seq
+        && body.value() == said.value
 }
