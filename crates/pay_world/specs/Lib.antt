@@ -1,0 +1,5 @@
+pub mod Setting
+pub mod Deeds
+pub mod Genuine
+pub mod Stands
+pub mod Convergence
