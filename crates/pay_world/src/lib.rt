@@ -3,3 +3,10 @@
 #![tactic(auto)]
 
 pub mod laws;
+mod liar_fault;
+mod liar_laws;
+mod liars;
+
+pub use liar_fault::LiarFault;
+pub use liar_laws::liar_causes;
+pub use liars::Liars;

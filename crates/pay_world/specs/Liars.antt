@@ -1,0 +1,53 @@
+-- The members of a group that lie, and the first fault of what is said to be a list of them.
+use Rattle.std.specs.Prelude.{◌≡◌, ◌≢◌, ℕ, ◌<◌, ◌≤◌, ◌==◌, ◌||◌, nat_lt, Bool, false, List, [], ◌∷◌, All, AllPairs, length, Option, Some, None, if◌then◌else◌}
+use Rattle.std.specs.List.{list_all, list_any}
+use Rattle.pay_link.specs.Genesis.{GenesisFields}
+use Rattle.pay_world.specs.declared.liar_fault.LiarFault.{LiarFault}
+use Rattle.pay_world.specs.declared.liar_fault.LiarFault.TheVariants.{Unknown, Twice, TooMany}
+
+-- how many members there are, how many of them may lie, and which do
+pub record LiarFields : Type 0 where
+  pub members : ℕ
+  pub faults : ℕ
+  pub liars : List ℕ
+
+-- all of them are members
+abbrev pub AreMembers : LiarFields → Type 0
+AreMembers l = All (λ i. i < l.members) l.liars
+
+-- none of them is named twice
+abbrev pub AreDistinct : LiarFields → Type 0
+AreDistinct l = AllPairs (λ i j. i ≢ j) l.liars
+
+-- members, each named once, and no more than may lie
+pub record AreLiars (l : LiarFields) : Type 0 where
+  pub known : AreMembers l
+  pub once : AreDistinct l
+  pub few : length l.liars ≤ l.faults
+
+-- of the group of this genesis
+pub record AreLiarsOf (g : GenesisFields) (l : LiarFields) : Type 0 where
+  pub members : l.members ≡ g.members
+  pub faults : l.faults ≡ g.faults
+
+-- these of the group of this genesis
+abbrev pub liars_in : GenesisFields → List ℕ → LiarFields
+liars_in g liars = record { members = g.members; faults = g.faults; liars = liars }
+
+-- whether a member is among them
+abbrev pub is_listed : List ℕ → ℕ → Bool
+is_listed liars i = list_any (λ x. x == i) liars
+
+-- whether one of them stands again further on
+abbrev pub has_twice : List ℕ → Bool
+has_twice [] = false
+has_twice (x ∷ xs) = is_listed xs x || has_twice xs
+
+-- the first fault that holds of the whole list, if there is one
+abbrev pub liar_fault : LiarFields → Option LiarFault
+liar_fault l =
+    if list_all (λ i. nat_lt i l.members) l.liars
+    then (if has_twice l.liars then Some Twice
+    else if nat_lt l.faults (length l.liars) then Some TooMany
+    else None)
+    else Some Unknown

@@ -1,0 +1,43 @@
+ghost use Rattle.std.specs.Prelude.{◌≡◌};
+ghost use Rattle.pay_world.specs.Faults.{liar_fault_name, liar_fault_number};
+
+use thiserror::Error;
+
+/// Why a list isn't one of a group's liars, in the order in which it is tested; memory stands apart.
+#[derive(Clone, Copy, Debug, PartialEq, Eq, Error)]
+#[error("{} {}", self.number(), self.name())]
+pub enum LiarFault {
+    Memory,
+    /// One of them is no member.
+    Unknown,
+    /// One of them stands there twice.
+    Twice,
+    /// They are more than may lie.
+    TooMany,
+}
+
+impl LiarFault {
+    const fn entry(self) -> (u8, &'static str)
+        ensures number { result.0 ≡ liar_fault_number self }
+        ensures name { result.1.now ≡ liar_fault_name self }
+    {
+        match self {
+            LiarFault::Memory => (0, "Memory"),
+            LiarFault::Unknown => (1, "Unknown"),
+            LiarFault::Twice => (2, "Twice"),
+            LiarFault::TooMany => (3, "TooMany"),
+        }
+    }
+
+    pub fn number(self) -> u8
+        ensures value { result ≡ liar_fault_number self }
+    {
+        self.entry().0
+    }
+
+    pub fn name(self) -> &'static str
+        ensures value { result.now ≡ liar_fault_name self }
+    {
+        self.entry().1
+    }
+}
