@@ -1,2 +1,4 @@
+pub mod Bringings
 pub mod Ledgers
 pub mod Members
+pub mod Openings

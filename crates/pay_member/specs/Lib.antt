@@ -8,3 +8,4 @@ pub mod Legal
 pub mod Ledger
 pub mod Member
 pub mod Reading
+pub mod Bringing

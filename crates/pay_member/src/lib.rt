@@ -4,20 +4,25 @@
 //! function of its genesis, its keys and its stored history.
 #![tactic(auto)]
 
+mod bringing;
+mod brought;
 mod entry;
 mod event;
 mod fault;
 mod ledger;
 mod member;
+mod outcome;
 mod reply;
 mod standing;
 mod told;
 mod took;
 
+pub use brought::Brought;
 pub use entry::HistoryEntry;
 pub use event::Event;
 pub use fault::MemberFault;
 pub use member::{MOST_FETCHED, Member};
+pub use outcome::Outcome;
 pub use reply::Reply;
 pub use standing::PaymentState;
 pub use told::Told;

@@ -1,5 +1,8 @@
-ghost use Rattle.std.specs.Prelude.{◌≡◌, ◌<◌, ◌&&◌, nat_lt, min, [], length, slice_index, MatchOption, IfOk, OnErr, IsOkUnless};
+ghost use Rattle.std.specs.Prelude.{◌≡◌, ◌≢◌, ◌<◌, ◌&&◌, ◌++◌, nat_lt, min, [], length, slice_index, None, MatchOption, IfOk, OnErr, IsOkUnless};
+ghost use Rattle.std.specs.Option.{option_to_list};
 ghost use Rattle.pay_link.specs.Keys.{IsKeysOf};
+ghost use Rattle.pay_link.specs.Checked.{IsFor};
+ghost use Rattle.pay_link.specs.Genesis.{IsGenesis};
 ghost use Rattle.pay_book.specs.Statement.{statement_of};
 ghost use Rattle.pay_channel.specs.History.{From, asks, list_of};
 ghost use Rattle.pay_channel.specs.Taken.{next};
@@ -10,11 +13,15 @@ ghost use Rattle.pay_member.specs.Reply.{took_by, told_of};
 ghost use Rattle.pay_member.specs.Refusal.{refusal};
 ghost use Rattle.pay_member.specs.Reading.{state_of, fetched};
 ghost use Rattle.pay_member.specs.Member.{with_entry};
+ghost use Rattle.pay_member.specs.Bringing.{IsOutcome, answer_to, opened_in, event_in, want_after, with_taken, with_brought};
 
+use crate::bringing::open_bytes;
+use crate::brought::Brought;
 use crate::entry::HistoryEntry;
 use crate::event::Event;
 use crate::fault::MemberFault;
 use crate::ledger::Ledger;
+use crate::outcome::Outcome;
 use crate::reply::Reply;
 use crate::standing::PaymentState;
 use crate::told::Told;
@@ -24,8 +31,9 @@ use pay_book::{Line, Settle};
 use pay_channel::EventRef;
 use pay_channel::laws::{a_channel_follows, nothing_at_first, one_event_more, taken_in_order};
 use pay_echo::Instance;
-use pay_frame::{Body, Bytes, GREATEST_VALUE, SEQS};
-use pay_link::{Checked, Fronts, Genesis, Keys};
+use pay_frame::{Body, Bytes, GREATEST_VALUE, SEQS, one_frame_is};
+use pay_hmac::Tagger;
+use pay_link::{Checked, Fronts, Genesis, Keys, LinkFault, laws, want};
 use std::alloc::{AllocError, Global};
 use std::marker::Model;
 
@@ -158,6 +166,72 @@ impl<I: Instance + Drop, B: Settle + Drop> Member<I, B> {
         Ok(took)
     }
 
+    /// Reads and opens bytes, and takes the frame that they are.
+    ///
+    /// Where a frame opened that is no WANT, the answer has the WANT to its sender for what is next after the
+    /// call. Memory can be refused only there, and leaves the member unchanged.
+    pub fn bring<T: Tagger>(
+        &mut self,
+        alloc: Global,
+        stamp: u16,
+        tagger: &T,
+        bytes: &[u8],
+    ) -> Result<Brought, AllocError>
+        ensures outcome { IfOk result (λ brought. IsOutcome self.old.genesis self.old.keys
+            (events self.old.history) bytes.now brought.outcome) }
+        ensures own_key { IfOk result (λ brought. brought.outcome ≢ Outcome.WrongKey) }
+        ensures want { IfOk result (λ brought. brought.want
+            ≡ want_after self.old.keys (events self.new.history) bytes.now) }
+        ensures entry { IfOk result (λ brought. self.new
+            ≡ with_brought self.old stamp brought.outcome (opened_in self.old.keys bytes.now)) }
+        ensures events { IfOk result (λ _. events self.new.history ≡ events self.old.history
+            ++ option_to_list (event_in self.old.keys (events self.old.history) bytes.now)) }
+        ensures memory { OnErr result (opened_in self.old.keys bytes.now ≢ None) }
+        ensures err { OnErr result (self.new ≡ self.old) }
+    {
+        one_frame_is();
+        laws::opened();
+        laws::owned();
+        let opened = match open_bytes(tagger, self.keys(), bytes) {
+            Ok(opened) => opened,
+            Err(outcome) => {
+                return Ok(Brought {
+                    outcome,
+                    want: None,
+                });
+            }
+        };
+        let from = opened.frame().from();
+        let checked = opened.own(alloc)?;
+        let outcome = self.take_mine(alloc, stamp, checked)?;
+        Ok(Brought {
+            outcome,
+            want: Some(want(tagger, self.keys(), from, self.next(from))),
+        })
+    }
+
+    // Takes a frame that is for this member, and says what came of it.
+    fn take_mine(
+        &mut self,
+        alloc: Global,
+        stamp: u16,
+        checked: Checked,
+    ) -> Result<Outcome, AllocError>
+        requires { IsFor self.old.keys checked }
+        ensures outcome { IfOk result (λ outcome. outcome
+            ≡ answer_to self.old.genesis self.old.keys.own (events self.old.history) checked.frame) }
+        ensures entry { IfOk result (λ outcome. self.new ≡ with_taken self.old stamp checked outcome) }
+        ensures err { OnErr result (self.new ≡ self.old) }
+    {
+        match self.take(alloc, stamp, checked) {
+            Ok(took) => Ok(Outcome::Took(took)),
+            Err(MemberFault::Repeat(next)) => Ok(Outcome::Link(LinkFault::Repeat(next))),
+            Err(MemberFault::Gap(next)) => Ok(Outcome::Link(LinkFault::Gap(next))),
+            Err(MemberFault::Memory) => Err(AllocError),
+            Err(_) => unreachable!(),
+        }
+    }
+
     /// Tells the state of an account, and notes that it was asked for. Refuses an account that isn't there.
     pub fn query(&mut self, _alloc: Global, stamp: u16, account: u16) -> Result<Told, MemberFault>
         ensures refused { MatchOption
@@ -187,6 +261,21 @@ impl<I: Instance + Drop, B: Settle + Drop> Member<I, B> {
             reply: Reply::Told(told),
         });
         Ok(told)
+    }
+
+    /// What the ledger began with.
+    pub fn genesis(&self) -> &Genesis
+        ensures value { result.now ≡ self.now.genesis }
+        ensures limits { IsGenesis self.now.genesis }
+    {
+        &self.genesis
+    }
+
+    pub fn keys(&self) -> &Keys
+        ensures value { result.now ≡ self.now.keys }
+        ensures limits { IsKeysOf self.now.genesis self.now.keys }
+    {
+        &self.keys
     }
 
     /// All that the member took and replied, oldest first.

@@ -1,0 +1,196 @@
+-- What a member answers to a frame that opened, and what it is then.
+use Rattle.std.proofs.Common.{◌≡◌, ◌≢◌, ◌⊎◌, inl, inr, ℕ, ◌<◌, Bool, true, false, cond, eqb, ltb, List, ◌++◌, Option, Some, None, Result, Ok, Err, MatchOption, IsOkUnless, refl, sym, ap, ◌∙◌, subst, rules, append-nil}
+use Rattle.std.specs.Bool.{⊤}
+use Rattle.std.specs.Option.{option_and_then, option_map, option_to_list}
+use Rattle.std.proofs.lemmas.Bool.{cases_order}
+use Rattle.pay_frame.specs.Frame.{FrameFields}
+use Rattle.pay_channel.specs.History as channel
+use Rattle.pay_channel.specs.Taken.{next}
+use Rattle.pay_link.specs.Genesis.{GenesisFields}
+use Rattle.pay_link.specs.Keys.{KeyFields}
+use Rattle.pay_link.specs.Checked.{CheckedFields, IsFor}
+use Rattle.pay_link.specs.Fronts.{turn}
+use Rattle.pay_link.specs.declared.link_fault.LinkFault.{LinkFault}
+use Rattle.pay_link.specs.declared.link_fault.LinkFault.TheVariants as link
+use Rattle.pay_member.specs.declared.event.Event.TheVariants.{Taken}
+use Rattle.pay_member.specs.declared.fault.MemberFault.{MemberFault}
+use Rattle.pay_member.specs.declared.fault.MemberFault.TheVariants.{Memory, Repeat, Gap}
+use Rattle.pay_member.specs.declared.outcome.Outcome.{Outcome}
+use Rattle.pay_member.specs.declared.outcome.Outcome.TheVariants as outcome
+use Rattle.pay_member.specs.declared.reply.Reply.TheVariants as reply
+use Rattle.pay_member.specs.declared.took.Took.{Took}
+use Rattle.pay_member.specs.Events.{events}
+use Rattle.pay_member.specs.Refusal.{refusal, turn_refusal}
+use Rattle.pay_member.specs.Reply.{took_by}
+use Rattle.pay_member.specs.Member.{MemberFields}
+use Rattle.pay_member.specs.Bringing.{opened_in, event_of, event_in, answered, answer_to, want_for, want_after, with_taken}
+use Rattle.pay_member.proofs.Members.{events-push}
+
+-- ---- what taking a frame for this member answers
+
+abbrev pub Answers : Option MemberFault → Result Took MemberFault → Type 0
+Answers refused r = MatchOption refused (IsOkUnless r Memory) (λ fault. r ≡ Err fault)
+
+refusal_for :
+    (g : GenesisFields) (k : KeyFields) (before : List channel.Event) (c : CheckedFields) → IsFor k c
+    → refusal g k before (Taken c) ≡ turn_refusal (next c.frame.from before) c.frame.number
+refusal_for g k before c mine = search rules
+
+ok_err : {A E : Type 0} (x : A) (e : E) → ◌≡◌ {A = Result A E} (Ok x) (Err e) → ⊥
+ok_err x e same = cc
+
+err_is : {A E : Type 0} (d e : E) → ◌≡◌ {A = Result A E} (Err d) (Err e) → d ≡ e
+err_is d e same = cc
+
+equal_taken : (n number : ℕ) → number ≡ n → turn_refusal n number ≡ None
+equal_taken n number same = search rules
+
+below_repeats : (n number : ℕ) → number < n → turn_refusal n number ≡ Some (Repeat n)
+below_repeats n number below = search rules
+
+above_gaps : (n number : ℕ) → n < number → turn_refusal n number ≡ Some (Gap n)
+above_gaps n number above = search rules
+
+repeat_is : (told n : ℕ) → Repeat told ≡ Repeat n → n ≡ told
+repeat_is told n same = cc
+
+gap_is : (told n : ℕ) → Gap told ≡ Gap n → n ≡ told
+gap_is told n same = cc
+
+repeat_no_gap : (told n : ℕ) → Repeat told ≡ Gap n → ⊥
+repeat_no_gap told n same = cc
+
+repeat_no_memory : (told : ℕ) → Repeat told ≡ Memory → ⊥
+repeat_no_memory told same = cc
+
+gap_no_memory : (told : ℕ) → Gap told ≡ Memory → ⊥
+gap_no_memory told same = cc
+
+turned_ok : (n number : ℕ) (took : Took) → Answers (turn_refusal n number) (Ok took) → turn n number ≡ Ok tt
+turned_ok n number took answers = go (cases_order number n) where
+  go : (number ≡ n) ⊎ ((number < n) ⊎ (n < number)) → turn n number ≡ Ok tt
+  go (inl same) = search rules
+  go (inr (inl below)) = absurd (ok_err took (Repeat n) (subst (λ o. Answers o (Ok took)) (below_repeats n number below) answers))
+  go (inr (inr above)) = absurd (ok_err took (Gap n) (subst (λ o. Answers o (Ok took)) (above_gaps n number above) answers))
+
+turned_repeat : (n number told : ℕ) → Answers (turn_refusal n number) (Err (Repeat told)) → turn n number ≡ Err (link.Repeat told)
+turned_repeat n number told answers = go (cases_order number n) where
+  At : Option MemberFault → Type 0
+  At o = Answers o (Err (Repeat told))
+
+  here : number < n → turn n number ≡ Err (link.Repeat n)
+  here below = search rules
+
+  go : (number ≡ n) ⊎ ((number < n) ⊎ (n < number)) → turn n number ≡ Err (link.Repeat told)
+  go (inl same) = absurd (repeat_no_memory told (subst At (equal_taken n number same) answers))
+  go (inr (inl below)) =
+      let is = repeat_is told n (err_is {A = Took} (Repeat told) (Repeat n) (subst At (below_repeats n number below) answers)) in
+      here below ∙ ap (λ t. Err (link.Repeat t)) is
+  go (inr (inr above)) = absurd (repeat_no_gap told n (err_is {A = Took} (Repeat told) (Gap n) (subst At (above_gaps n number above) answers)))
+
+turned_gap : (n number told : ℕ) → Answers (turn_refusal n number) (Err (Gap told)) → turn n number ≡ Err (link.Gap told)
+turned_gap n number told answers = go (cases_order number n) where
+  At : Option MemberFault → Type 0
+  At o = Answers o (Err (Gap told))
+
+  here : n < number → turn n number ≡ Err (link.Gap n)
+  here above = search rules
+
+  go : (number ≡ n) ⊎ ((number < n) ⊎ (n < number)) → turn n number ≡ Err (link.Gap told)
+  go (inl same) = absurd (gap_no_memory told (subst At (equal_taken n number same) answers))
+  go (inr (inl below)) = absurd (repeat_no_gap n told (sym (err_is {A = Took} (Gap told) (Repeat n) (subst At (below_repeats n number below) answers))))
+  go (inr (inr above)) =
+      let is = gap_is told n (err_is {A = Took} (Gap told) (Gap n) (subst At (above_gaps n number above) answers)) in
+      here above ∙ ap (λ t. Err (link.Gap t)) is
+
+pub answers_took :
+    (g : GenesisFields) (k : KeyFields) (before : List channel.Event) (c : CheckedFields) (took : Took) → IsFor k c
+    → Answers (refusal g k before (Taken c)) (Ok took) → took ≡ took_by g k.own before (channel.From c.frame.from c.frame.body)
+    → outcome.Took took ≡ answer_to g k.own before c.frame
+unfolding answer_to
+answers_took g k before c took mine answers is =
+    let turned = turned_ok (next c.frame.from before) c.frame.number took (subst (λ o. Answers o (Ok took)) (refusal_for g k before c mine) answers) in
+    ap outcome.Took is ∙ sym (ap (answered g k.own before c.frame) turned)
+
+pub answers_repeat :
+    (g : GenesisFields) (k : KeyFields) (before : List channel.Event) (c : CheckedFields) (told : ℕ) → IsFor k c
+    → Answers (refusal g k before (Taken c)) (Err (Repeat told)) → outcome.Link (link.Repeat told) ≡ answer_to g k.own before c.frame
+unfolding answer_to
+answers_repeat g k before c told mine answers =
+    sym (ap (answered g k.own before c.frame)
+    (turned_repeat (next c.frame.from before) c.frame.number told (subst (λ o. Answers o (Err (Repeat told))) (refusal_for g k before c mine) answers)))
+
+pub answers_gap :
+    (g : GenesisFields) (k : KeyFields) (before : List channel.Event) (c : CheckedFields) (told : ℕ) → IsFor k c
+    → Answers (refusal g k before (Taken c)) (Err (Gap told)) → outcome.Link (link.Gap told) ≡ answer_to g k.own before c.frame
+unfolding answer_to
+answers_gap g k before c told mine answers =
+    sym (ap (answered g k.own before c.frame)
+    (turned_gap (next c.frame.from before) c.frame.number told (subst (λ o. Answers o (Err (Gap told))) (refusal_for g k before c mine) answers)))
+
+-- ---- what the member is then
+
+-- its keys are the same
+pub keys_kept : (m : MemberFields) (stamp : ℕ) (c : CheckedFields) (o : Outcome) → (with_taken m stamp c o).keys ≡ m.keys
+keys_kept m stamp c (outcome.Took took) = refl
+keys_kept m stamp c (outcome.Wanted from number) = refl
+keys_kept m stamp c (outcome.Frame fault) = refl
+keys_kept m stamp c (outcome.Link fault) = refl
+keys_kept m stamp c outcome.WrongKey = refl
+
+-- its events are longer by one exactly where the frame's number is the next
+pub events_taken :
+    (m : MemberFields) (stamp : ℕ) (c : CheckedFields)
+    → events (with_taken m stamp c (answer_to m.genesis m.keys.own (events m.history) c.frame)).history
+    ≡ events m.history ++ option_to_list (event_of (events m.history) c.frame)
+unfolding answer_to
+events_taken m stamp c = go (eqb c.frame.number n) (ltb c.frame.number n) where
+  n : ℕ
+  n = next c.frame.from (events m.history)
+
+  go : (same below : Bool)
+      → events (with_taken m stamp c (answered m.genesis m.keys.own (events m.history) c.frame (cond same (Ok tt) (cond below (Err (link.Repeat n)) (Err (link.Gap n)))))).history
+      ≡ events m.history ++ option_to_list (cond same (Some (channel.From c.frame.from c.frame.body)) None)
+  go true below =
+      events-push m.history
+      (record { stamp = stamp; event = Taken c; reply = reply.Took (took_by m.genesis m.keys.own (events m.history) (channel.From c.frame.from c.frame.body)) })
+      (channel.From c.frame.from c.frame.body) refl
+  go false true = sym (append-nil (events m.history))
+  go false false = sym (append-nil (events m.history))
+
+pub key_known : (g : GenesisFields) (own : ℕ) (before : List channel.Event) (f : FrameFields) → answer_to g own before f ≢ outcome.WrongKey
+unfolding answer_to
+key_known g own before f = go (turn (next f.from before) f.number) where
+  go : (r : Result ⊤ LinkFault) → answered g own before f r ≢ outcome.WrongKey
+  go (Ok x) = λ is. cc
+  go (Err fault) = λ is. cc
+
+-- ---- where no frame opened
+
+pub none_wanted : (k : KeyFields) (after : List channel.Event) (bytes : List ℕ) → opened_in k bytes ≡ None → want_after k after bytes ≡ None
+unfolding want_after
+none_wanted k after bytes none = ap (option_map (want_for k after)) none
+
+pub none_taken : (k : KeyFields) (before : List channel.Event) (bytes : List ℕ) → opened_in k bytes ≡ None → before ≡ before ++ option_to_list (event_in k before bytes)
+unfolding event_in
+none_taken k before bytes none =
+    sym (append-nil before) ∙ ap (λ (o : Option FrameFields). before ++ option_to_list (option_and_then (event_of before) o)) (sym none)
+
+-- ---- where one did
+
+pub some_wanted :
+    (k : KeyFields) (after : List channel.Event) (bytes : List ℕ) (f : FrameFields) (want : List ℕ) → opened_in k bytes ≡ Some f
+    → want ≡ want_for k after f → Some want ≡ want_after k after bytes
+unfolding want_after
+some_wanted k after bytes f want some is = ap Some is ∙ sym (ap (option_map (want_for k after)) some)
+
+pub some_taken :
+    (k : KeyFields) (before : List channel.Event) (bytes : List ℕ) (f : FrameFields) → opened_in k bytes ≡ Some f
+    → event_in k before bytes ≡ event_of before f
+unfolding event_in
+some_taken k before bytes f some = ap (option_and_then (event_of before)) some
+
+pub some_not_none : (k : KeyFields) (bytes : List ℕ) (f : FrameFields) → opened_in k bytes ≡ Some f → opened_in k bytes ≢ None
+some_not_none k bytes f some = λ none. no (sym some ∙ none) where
+  no : Some f ≡ None → ⊥
+  no same = cc

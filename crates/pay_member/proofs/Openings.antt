@@ -1,0 +1,152 @@
+-- What bytes are, before a member's history is looked at.
+use Rattle.std.proofs.Common.{◌≡◌, ◌≢◌, ◌⊎◌, ◌↔◌, inl, inr, ℕ, Bool, true, false, cond, List, Some, None, Result, Ok, Err, refl, sym, ap, ◌∙◌}
+use Rattle.std.specs.Option.{option_and_then}
+use Rattle.std.proofs.lemmas.Bool.{false≢true, cond-false}
+use Rattle.pay_frame.specs.declared.fault.FrameFault.{FrameFault}
+use Rattle.pay_frame.specs.declared.kind.Kind.{Kind}
+use Rattle.pay_frame.specs.declared.kind.Kind.TheVariants.{Send, Echo, Ready, Want}
+use Rattle.pay_frame.specs.Frame.{FrameFields, IsFrame}
+use Rattle.pay_frame.specs.OneFrame.{IsOneFrame, IsOneReading, one_frame}
+use Rattle.pay_link.specs.Keys.{KeyFields}
+use Rattle.pay_link.specs.Checked.{IsChecked, IsFor, checked_fields}
+use Rattle.pay_link.specs.Opening.{OpenedFields, Opens, judgement, opened_fields}
+use Rattle.pay_link.specs.declared.link_fault.LinkFault.{LinkFault}
+use Rattle.pay_member.specs.declared.outcome.Outcome.{Outcome}
+use Rattle.pay_member.specs.declared.outcome.Outcome.TheVariants.{Frame, Link, Wanted, WrongKey}
+use Rattle.pay_member.specs.Bringing.{is_want, judged, opening, IsOpening, unless_want, opened_in, checked_with}
+
+pub opens_as :
+    (k : KeyFields) (bytes : List ℕ) (reading : Result FrameFields FrameFault) (answer : Result OpenedFields Outcome)
+    → IsOneReading bytes reading → answer ≡ opening k reading → IsOpening k bytes answer
+opens_as k bytes reading answer reads is = record { reading = reading; reads = reads; is = is }
+
+pub no_frame : (k : KeyFields) (fault : FrameFault) → Err (Frame fault) ≡ opening k (Err fault)
+unfolding opening
+no_frame k fault = refl
+
+pub frame_refused : (k : KeyFields) (f : FrameFields) (fault : LinkFault) → Err fault ≡ judgement k f → Err (Link fault) ≡ opening k (Ok f)
+unfolding opening
+frame_refused k f fault is = ap judged is
+
+pub frame_wanted :
+    (k : KeyFields) (f : FrameFields) (o : OpenedFields) (of : Kind) (from number : ℕ)
+    → Ok o ≡ judgement k f → of ≡ o.frame.body.kind → of ≡ Want → from ≡ o.frame.from → number ≡ o.frame.number → Err (Wanted from number) ≡ opening k (Ok f)
+unfolding opening
+frame_wanted k f o of from number is kind want sender place =
+    let asks : is_want o.frame.body.kind ≡ true = ap is_want (sym kind ∙ want) in
+    let here : judged (Ok o) ≡ Err (Wanted o.frame.from o.frame.number) = (rw asks refl) in
+    (λ i. Err (Wanted (sender i) (place i))) ∙ sym here ∙ ap judged is
+
+pub frame_opened : (k : KeyFields) (f : FrameFields) (o : OpenedFields) → Ok o ≡ judgement k f → is_want o.frame.body.kind ≡ false → Ok o ≡ opening k (Ok f)
+unfolding opening
+frame_opened k f o is other =
+    let here : judged (Ok o) ≡ Ok o = (rw other refl) in
+    sym here ∙ ap judged is
+
+pub no_want : (of : Kind) → (of ≡ Send) ⊎ ((of ≡ Echo) ⊎ (of ≡ Ready)) → is_want of ≡ false
+no_want of (inl is) = ap is_want is
+no_want of (inr (inl is)) = ap is_want is
+no_want of (inr (inr is)) = ap is_want is
+
+-- ---- which frame opened, if any
+
+abbrev pub FrameIs : Type 0
+FrameIs = (bytes : List ℕ) (f : FrameFields) → (one_frame bytes ≡ Some f) ↔ IsOneFrame bytes f
+
+abbrev pub NoFrame : Type 0
+NoFrame = (bytes : List ℕ) (fault : FrameFault) → IsOneReading bytes (Err fault) → one_frame bytes ≡ None
+
+abbrev pub OpenedIs : Type 0
+OpenedIs = (k : KeyFields) (f : FrameFields) (o : OpenedFields) → (judgement k f ≡ Ok o) ↔ (Opens k f × (o ≡ opened_fields k f))
+
+abbrev pub OwnedIsFor : Type 0
+OwnedIsFor =
+    (k : KeyFields) (f : FrameFields) (o : OpenedFields) → IsFrame f → f.body.kind ≢ Want → judgement k f ≡ Ok o
+    → IsChecked (checked_fields o) × IsFor k (checked_fields o)
+
+err_ok : {A E : Type 0} (e : E) (x : A) → ◌≡◌ {A = Result A E} (Err e) (Ok x) → ⊥
+err_ok e x same = cc
+
+ok_is : {A E : Type 0} (x y : A) → ◌≡◌ {A = Result A E} (Ok x) (Ok y) → x ≡ y
+ok_is x y same = cc
+
+nothing_opens :
+    (asks : Bool) (o : OpenedFields) (outcome : Outcome)
+    → ◌≡◌ {A = Result OpenedFields Outcome} (Err outcome) (cond asks (Err (Wanted o.frame.from o.frame.number)) (Ok o)) → cond asks None (Some o.frame) ≡ None
+nothing_opens true o outcome same = refl
+nothing_opens false o outcome same = absurd (err_ok outcome o same)
+
+nothing_judged : (j : Result OpenedFields LinkFault) (outcome : Outcome) → Err outcome ≡ judged j → unless_want j ≡ None
+nothing_judged (Err fault) outcome same = refl
+nothing_judged (Ok o) outcome same = nothing_opens (is_want o.frame.body.kind) o outcome same
+
+pub none_opened : FrameIs → NoFrame → (k : KeyFields) (bytes : List ℕ) (outcome : Outcome) → IsOpening k bytes (Err outcome) → opened_in k bytes ≡ None
+unfolding opening opened_in
+none_opened frame none k bytes outcome is = go is.reading is.reads is.is where
+  go : (r : Result FrameFields FrameFault) → IsOneReading bytes r → Err outcome ≡ opening k r → option_and_then (λ f. unless_want (judgement k f)) (one_frame bytes) ≡ None
+  go (Err fault) reads same = ap (option_and_then (λ f. unless_want (judgement k f))) (none bytes fault reads)
+  go (Ok f) reads same =
+      ap (option_and_then (λ x. unless_want (judgement k x))) ((frame bytes f).1 reads) ∙ nothing_judged (judgement k f) outcome same
+
+-- a lone member's answer never names another's key
+pub key_unnamed : (k : KeyFields) (bytes : List ℕ) (outcome : Outcome) → IsOpening k bytes (Err outcome) → outcome ≢ WrongKey
+unfolding opening
+key_unnamed k bytes outcome is = go is.reading is.is where
+  of_want : (asks : Bool) (o : OpenedFields) → ◌≡◌ {A = Result OpenedFields Outcome} (Err outcome) (cond asks (Err (Wanted o.frame.from o.frame.number)) (Ok o)) → outcome ≢ WrongKey
+  of_want true o same = λ wrong. cc
+  of_want false o same = absurd (err_ok outcome o same)
+
+  of_judged : (j : Result OpenedFields LinkFault) → Err outcome ≡ judged j → outcome ≢ WrongKey
+  of_judged (Err fault) same = λ wrong. cc
+  of_judged (Ok o) same = of_want (is_want o.frame.body.kind) o same
+
+  go : (r : Result FrameFields FrameFault) → Err outcome ≡ opening k r → outcome ≢ WrongKey
+  go (Err fault) same = λ wrong. cc
+  go (Ok f) same = of_judged (judgement k f) same
+
+-- bytes that are a frame which opens and is no WANT
+pub record HasOpened (k : KeyFields) (bytes : List ℕ) (o : OpenedFields) : Type 0 where
+  pub frame : FrameFields
+  pub one : IsOneFrame bytes frame
+  pub opens : judgement k frame ≡ Ok o
+  pub other : is_want o.frame.body.kind ≡ false
+
+pub has_opened : (k : KeyFields) (bytes : List ℕ) (o : OpenedFields) → IsOpening k bytes (Ok o) → HasOpened k bytes o
+unfolding opening
+has_opened k bytes o is = go is.reading is.reads is.is where
+  here : (f : FrameFields) (p : OpenedFields) (asks : Bool) → IsOneFrame bytes f → judgement k f ≡ Ok p → is_want p.frame.body.kind ≡ asks
+      → ◌≡◌ {A = Result OpenedFields Outcome} (Ok o) (cond asks (Err (Wanted p.frame.from p.frame.number)) (Ok p)) → HasOpened k bytes o
+  here f p true one opens asks same = absurd (err_ok (Wanted p.frame.from p.frame.number) o (sym same))
+  here f p false one opens asks same =
+      let is = ok_is {E = Outcome} o p same in
+      record { frame = f; one = one; opens = opens ∙ ap Ok (sym is); other = ap (λ (x : OpenedFields). is_want x.frame.body.kind) is ∙ asks }
+
+  at : (f : FrameFields) (j : Result OpenedFields LinkFault) → IsOneFrame bytes f → judgement k f ≡ j → Ok o ≡ judged j → HasOpened k bytes o
+  at f (Err fault) one opens same = absurd (err_ok (Link fault) o (sym same))
+  at f (Ok p) one opens same = here f p (is_want p.frame.body.kind) one opens refl same
+
+  go : (r : Result FrameFields FrameFault) → IsOneReading bytes r → Ok o ≡ opening k r → HasOpened k bytes o
+  go (Err fault) reads same = absurd (err_ok (Frame fault) o (sym same))
+  go (Ok f) reads same = at f (judgement k f) reads refl same
+
+pub some_opened : FrameIs → (k : KeyFields) (bytes : List ℕ) (o : OpenedFields) → HasOpened k bytes o → opened_in k bytes ≡ Some o.frame
+unfolding opened_in
+some_opened frame k bytes o has =
+    ap (option_and_then (λ f. unless_want (judgement k f))) ((frame bytes has.frame).1 has.one)
+    ∙ ap unless_want has.opens ∙ cond-false _ _ _ has.other
+
+pub opened_frame : OpenedIs → (k : KeyFields) (bytes : List ℕ) (o : OpenedFields) (has : HasOpened k bytes o) → o ≡ opened_fields k has.frame
+opened_frame opened k bytes o has = ((opened k has.frame o).0 has.opens).1
+
+pub opened_checked : OpenedIs → (k : KeyFields) (bytes : List ℕ) (o : OpenedFields) → HasOpened k bytes o → checked_fields o ≡ checked_with k o.frame
+opened_checked opened k bytes o has =
+    let is = opened_frame opened k bytes o has in
+    ap checked_fields is ∙ sym (ap (λ (x : OpenedFields). checked_with k x.frame) is)
+
+pub no_want_opened : (k : KeyFields) (bytes : List ℕ) (o : OpenedFields) → HasOpened k bytes o → o.frame.body.kind ≢ Want
+no_want_opened k bytes o has is = false≢true (sym has.other ∙ ap is_want is)
+
+pub opened_is_for : OpenedIs → OwnedIsFor → (k : KeyFields) (bytes : List ℕ) (o : OpenedFields) → HasOpened k bytes o → IsFor k (checked_fields o)
+opened_is_for opened owned k bytes o has =
+    let frame = ap (λ (x : OpenedFields). x.frame.body.kind) (opened_frame opened k bytes o has) in
+    (owned k has.frame o has.one.is (λ is. no_want_opened k bytes o has (frame ∙ is)) has.opens).1

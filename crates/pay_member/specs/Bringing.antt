@@ -1,0 +1,111 @@
+-- What bytes that are brought to a member are to it, and what it answers to them.
+use Rattle.std.specs.Prelude.{◌≡◌, ℕ, ◌==◌, Bool, true, false, if◌then◌else◌, List, Option, Some, None, option_and_then, option_map, Result, Ok, Err, ⊤}
+use Rattle.pay_frame.specs.declared.fault.FrameFault.{FrameFault}
+use Rattle.pay_frame.specs.declared.kind.Kind.{Kind}
+use Rattle.pay_frame.specs.declared.kind.Kind.TheVariants as kind
+use Rattle.pay_frame.specs.Frame.{FrameFields, frame_bytes}
+use Rattle.pay_frame.specs.OneFrame.{IsOneReading, one_frame}
+use Rattle.pay_channel.specs.History as channel
+use Rattle.pay_channel.specs.Taken.{next}
+use Rattle.pay_link.specs.Genesis.{GenesisFields}
+use Rattle.pay_link.specs.Keys.{KeyFields, key_for}
+use Rattle.pay_link.specs.Checked.{CheckedFields}
+use Rattle.pay_link.specs.Fronts.{turn}
+use Rattle.pay_link.specs.Opening.{OpenedFields, judgement}
+use Rattle.pay_link.specs.Sealing.{wanted}
+use Rattle.pay_link.specs.declared.link_fault.LinkFault.{LinkFault}
+use Rattle.pay_member.specs.declared.event.Event.TheVariants.{Taken}
+use Rattle.pay_member.specs.declared.outcome.Outcome.{Outcome}
+use Rattle.pay_member.specs.declared.outcome.Outcome.TheVariants.{Took, Wanted, Frame, Link, WrongKey}
+use Rattle.pay_member.specs.declared.reply.Reply.TheVariants as reply
+use Rattle.pay_member.specs.Reply.{took_by}
+use Rattle.pay_member.specs.Member.{MemberFields, with_entry}
+
+abbrev pub is_want : Kind → Bool
+is_want kind.Send = false
+is_want kind.Echo = false
+is_want kind.Ready = false
+is_want kind.Want = true
+
+-- ---- before the history is looked at
+
+-- the opened frame, or what came of one that doesn't open or is a WANT
+abbrev pub judged : Result OpenedFields LinkFault → Result OpenedFields Outcome
+judged (Ok opened) =
+    if is_want opened.frame.body.kind then Err (Wanted opened.frame.from opened.frame.number) else Ok opened
+judged (Err fault) = Err (Link fault)
+
+-- the same of what bytes read as
+unfoldable pub opening : KeyFields → Result FrameFields FrameFault → Result OpenedFields Outcome
+opening k (Ok f) = judged (judgement k f)
+opening k (Err fault) = Err (Frame fault)
+
+-- what bytes are to the member with these keys, by the one reading that they have
+pub record IsOpening (k : KeyFields) (bytes : List ℕ) (answer : Result OpenedFields Outcome) : Type 0 where
+  pub reading : Result FrameFields FrameFault
+  pub reads : IsOneReading bytes reading
+  pub is : answer ≡ opening k reading
+
+-- ---- computed
+
+abbrev pub unless_want : Result OpenedFields LinkFault → Option FrameFields
+unless_want (Ok opened) = if is_want opened.frame.body.kind then None else Some opened.frame
+unless_want (Err fault) = None
+
+-- the frame that bytes are, where it opens with these keys and is no WANT
+unfoldable pub opened_in : KeyFields → List ℕ → Option FrameFields
+opened_in k bytes = option_and_then (λ f. unless_want (judgement k f)) (one_frame bytes)
+
+-- what a frame is to a channel, where its number is the next from its sender
+abbrev pub event_of : List channel.Event → FrameFields → Option channel.Event
+event_of before f = if f.number == next f.from before then Some (channel.From f.from f.body) else None
+
+-- what bytes are to the channel of the member with these keys, behind these events: nothing, or one event
+unfoldable pub event_in : KeyFields → List channel.Event → List ℕ → Option channel.Event
+event_in k before bytes = option_and_then (event_of before) (opened_in k bytes)
+
+-- ---- the answer
+
+-- to a frame that opened: it is taken where its number is the next one
+abbrev pub answered : GenesisFields → ℕ → List channel.Event → FrameFields → Result ⊤ LinkFault → Outcome
+answered g own before f (Ok _) = Took (took_by g own before (channel.From f.from f.body))
+answered g own before f (Err fault) = Link fault
+
+unfoldable pub answer_to : GenesisFields → ℕ → List channel.Event → FrameFields → Outcome
+answer_to g own before f = answered g own before f (turn (next f.from before) f.number)
+
+abbrev pub outcome_of : GenesisFields → ℕ → List channel.Event → Result OpenedFields Outcome → Outcome
+outcome_of g own before (Ok opened) = answer_to g own before opened.frame
+outcome_of g own before (Err outcome) = outcome
+
+-- to bytes, by the one reading that they have
+pub record IsOutcome (g : GenesisFields) (k : KeyFields) (before : List channel.Event) (bytes : List ℕ) (outcome : Outcome) : Type 0 where
+  pub reading : Result FrameFields FrameFault
+  pub reads : IsOneReading bytes reading
+  pub is : outcome ≡ outcome_of g k.own before (opening k reading)
+
+-- the WANT that goes with it, where a frame opened that is none: for what is next behind these events
+abbrev pub want_for : KeyFields → List channel.Event → FrameFields → List ℕ
+want_for k after f = frame_bytes (wanted k f.from (next f.from after))
+
+unfoldable pub want_after : KeyFields → List channel.Event → List ℕ → Option (List ℕ)
+want_after k after bytes = option_map (want_for k after) (opened_in k bytes)
+
+-- ---- what the member is then
+
+-- an opened frame with the key that it opened under
+abbrev pub checked_with : KeyFields → FrameFields → CheckedFields
+checked_with k f = record { frame = f; key = key_for k f.from }
+
+-- one entry more where it was taken, else as it was
+abbrev pub with_taken : MemberFields → ℕ → CheckedFields → Outcome → MemberFields
+with_taken m stamp c (Took took) = with_entry m (record { stamp = stamp; event = Taken c; reply = reply.Took took })
+with_taken m stamp c (Wanted from number) = m
+with_taken m stamp c (Frame fault) = m
+with_taken m stamp c (Link fault) = m
+with_taken m stamp c WrongKey = m
+
+-- the same by what bytes open as
+abbrev pub with_brought : MemberFields → ℕ → Outcome → Option FrameFields → MemberFields
+with_brought m stamp outcome (Some f) = with_taken m stamp (checked_with m.keys f) outcome
+with_brought m stamp outcome None = m
