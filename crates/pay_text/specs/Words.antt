@@ -1,0 +1,37 @@
+-- The words of a line.
+use Rattle.std.specs.Prelude.{ℕ, ◌==◌, Bool, List, [], ◌∷◌, ◌++◌, if◌then◌else◌, Option, Some, None, true, false}
+
+-- the code of a blank
+abbrev pub blank : ℕ
+blank = 32
+
+-- a byte in front of the first of some parts
+abbrev pub onto_first : ℕ → List (List ℕ) → List (List ℕ)
+onto_first b [] = (b ∷ []) ∷ []
+onto_first b (part ∷ parts) = (b ∷ part) ∷ parts
+
+-- What stands between the blanks of a line. Two blanks beside each other, and one at an end, have an empty
+-- word there; a line without a blank is one word.
+unfoldable pub words_of : List ℕ → List (List ℕ)
+words_of [] = [] ∷ []
+words_of (b ∷ bytes) = if b == blank then [] ∷ words_of bytes else onto_first b (words_of bytes)
+
+-- words with one blank between two of them
+unfoldable pub joined : List ℕ → List (List ℕ) → List ℕ
+joined word [] = word
+joined word (next ∷ words) = word ++ blank ∷ joined next words
+
+-- the words of what is left of a line; none where nothing is left, not even an empty word
+abbrev pub words_in : Option (List ℕ) → List (List ℕ)
+words_in None = []
+words_in (Some rest) = words_of rest
+
+-- the first word, if there is one
+abbrev pub first_word : List (List ℕ) → Option (List ℕ)
+first_word [] = None
+first_word (word ∷ words) = Some word
+
+-- no word
+abbrev pub is_none : List (List ℕ) → Bool
+is_none [] = true
+is_none (word ∷ words) = false
