@@ -1,4 +1,5 @@
 mod Judged
 mod Lists
 mod Owned
+mod Said
 mod TestKeysLemmas

@@ -35,12 +35,16 @@ is_peer k p = nat_lt p (length k.keys) && not (p == k.own)
 abbrev pub key_for : KeyFields → ℕ → List ℕ
 key_for k p = slice_index_or k.keys p no_key
 
+-- the first fault of so many keys of a member, in a genesis of so many members, if there is one
+abbrev pub place_fault : ℕ → ℕ → ℕ → Option KeysFault
+place_fault members own count =
+    if nat_le members own then Some BadOwn
+    else if count == members then None
+    else Some BadKeyCount
+
 -- the first fault that holds of keys for a genesis of so many members, if there is one
 abbrev pub keys_fault : ℕ → KeyFields → Option KeysFault
-keys_fault members k =
-    if nat_le members k.own then Some BadOwn
-    else if length k.keys == members then None
-    else Some BadKeyCount
+keys_fault members k = place_fault members k.own (length k.keys)
 
 -- the keys without the one at the own place
 abbrev pub kept_keys : KeyFields → KeyFields

@@ -1,5 +1,6 @@
 pub mod Checked
 pub mod Faults
+pub mod Files
 pub mod Fronts
 pub mod Genesis
 pub mod Keys

@@ -1,9 +1,11 @@
-ghost use Rattle.std.specs.Prelude.{◌≡◌, ◌<◌, ◌≤◌, ◌↔◌, IfOk, IsOkUnless, IsTrue, MatchOption, slice_index, sum};
+ghost use Rattle.std.specs.Prelude.{◌≡◌, ◌<◌, ◌≤◌, ◌↔◌, ◌⊎◌, IfOk, IsOkUnless, IsTrue, MatchOption, slice_index, sum};
+ghost use Rattle.pay_link.specs.Files.{genesis_in};
 ghost use Rattle.pay_link.specs.Genesis.{IsGenesis, genesis_fault};
 
 use crate::genesis_fault::GenesisFault;
 use crate::limits::GREATEST_TOTAL;
 use pay_frame::MOST_MEMBERS;
+use pay_json::{number_at, numbers_at, value_in};
 use std::alloc::{AllocError, Global};
 use std::marker::Model;
 
@@ -60,6 +62,28 @@ impl Genesis {
             faults: faults as u16,
             opening,
         })
+    }
+
+    /// The genesis that a file of JSON says.
+    pub fn read(alloc: Global, bytes: &[u8]) -> Result<Genesis, GenesisFault>
+        ensures value { (result ≡ genesis_in bytes.now) ⊎ (result ≡ Err GenesisFault.Memory) }
+        ensures limits { IfOk result IsGenesis }
+    {
+        let value = value_in(alloc, bytes).map_err(|_| GenesisFault::Memory)?;
+        let Some(value) = value else {
+            return Err(GenesisFault::BadJson);
+        };
+        let Some(members) = number_at(&value, "members") else {
+            return Err(GenesisFault::BadShape);
+        };
+        let Some(faults) = number_at(&value, "faults") else {
+            return Err(GenesisFault::BadShape);
+        };
+        let opening = numbers_at(alloc, &value, "opening").map_err(|_| GenesisFault::Memory)?;
+        let Some(opening) = opening else {
+            return Err(GenesisFault::BadShape);
+        };
+        Genesis::new(alloc, members, faults, opening.as_slice())
     }
 
     pub fn members(&self) -> u16

@@ -3,12 +3,15 @@ ghost use Rattle.pay_link.specs.Faults.{genesis_fault_name, genesis_fault_number
 
 use thiserror::Error;
 
-/// Why there is no genesis, in the order in which it is tested; memory stands apart. The numbers 1 and
-/// 2 are those of faults of a file.
+/// Why there is no genesis, in the order in which it is tested; memory stands apart.
 #[derive(Clone, Copy, Debug, PartialEq, Eq, Error)]
 #[error("{} {}", self.number(), self.name())]
 pub enum GenesisFault {
     Memory,
+    /// The file isn't JSON.
+    BadJson,
+    /// It lacks a member, or one isn't of the type that it should be.
+    BadShape,
     /// No member, or more than there can be.
     BadCount,
     /// The members aren't more than three times those that may lie.
@@ -26,6 +29,8 @@ impl GenesisFault {
     {
         match self {
             GenesisFault::Memory => (0, "Memory"),
+            GenesisFault::BadJson => (1, "BadJson"),
+            GenesisFault::BadShape => (2, "BadShape"),
             GenesisFault::BadCount => (3, "BadCount"),
             GenesisFault::BadFaults => (4, "BadFaults"),
             GenesisFault::BadOpening => (5, "BadOpening"),

@@ -1,9 +1,13 @@
-ghost use Rattle.std.specs.Prelude.{◌≡◌, ◌<◌, ◌↔◌, [], IfOk, IsOkUnless, IsTrue, MatchOption, length};
-ghost use Rattle.pay_link.specs.Keys.{IsKeys, IsKeysOf, IsPeer, kept_keys, key_for, keys_fault};
+ghost use Rattle.std.specs.Prelude.{◌≡◌, ◌<◌, ◌≤◌, ◌↔◌, ◌⊎◌, [], IfOk, IsOkUnless, IsTrue, MatchOption, length, map};
+ghost use Rattle.std.specs.Option.{option_map_or};
+ghost use Rattle.std.specs.Result.{result_map_both};
+ghost use Rattle.pay_link.specs.Files.{key_at, keys_from, keys_in};
+ghost use Rattle.pay_link.specs.Keys.{IsKeys, IsKeysOf, IsPeer, kept_keys, key_for, keys_fault, place_fault};
 
 use crate::genesis::Genesis;
 use crate::keys_fault::KeysFault;
-use pay_frame::Bytes;
+use pay_frame::{Bytes, MOST_MEMBERS};
+use pay_json::{key_in, number_at, texts_at, value_in};
 use std::alloc::{AllocError, Global};
 use std::marker::Model;
 
@@ -44,19 +48,31 @@ impl Keys {
         ensures value { IfOk result (λ kept. kept ≡ kept_keys (record { own = own; keys = keys.now })) }
         ensures genesis { IfOk result (IsKeysOf genesis.now) }
     {
-        let members = genesis.members();
-        if own >= u64::from(members) {
-            return Err(KeysFault::BadOwn);
-        }
-        if keys.len() != usize::from(members) {
-            return Err(KeysFault::BadKeyCount);
-        }
+        let own = place_in(genesis, own, keys.len())?;
         let mut keys = Vec::from_slice(alloc, keys).map_err(|_| KeysFault::Memory)?;
-        keys[own as usize] = NO_KEY;
-        Ok(Keys {
-            own: own as u16,
-            keys,
-        })
+        keys[usize::from(own)] = NO_KEY;
+        Ok(Keys { own, keys })
+    }
+
+    /// The keys that a file of JSON says for a member of this genesis.
+    pub fn read(alloc: Global, genesis: &Genesis, bytes: &[u8]) -> Result<Keys, KeysFault>
+        ensures value { (result ≡ keys_in genesis.now.members bytes.now) ⊎ (result ≡ Err KeysFault.Memory) }
+        ensures genesis { IfOk result (IsKeysOf genesis.now) }
+    {
+        let value = value_in(alloc, bytes).map_err(|_| KeysFault::Memory)?;
+        let Some(value) = value else {
+            return Err(KeysFault::BadJson);
+        };
+        let Some(own) = number_at(&value, "own") else {
+            return Err(KeysFault::BadShape);
+        };
+        let texts = texts_at(alloc, &value, "keys").map_err(|_| KeysFault::Memory)?;
+        let Some(texts) = texts else {
+            return Err(KeysFault::BadShape);
+        };
+        let own = place_in(genesis, own, texts.len())?;
+        let keys = keys_of_texts(alloc, own, texts.as_slice())?;
+        Ok(Keys { own, keys })
     }
 
     /// The keys of a member, its own place among them.
@@ -114,5 +130,51 @@ impl Keys {
             own: self.own,
             keys,
         })
+    }
+}
+
+/// The place of a member, where there is a key for each member of the genesis.
+fn place_in(genesis: &Genesis, own: u64, count: usize) -> Result<u16, KeysFault>
+    ensures value { result ≡ option_map_or Err (place_fault genesis.now.members own count) (Ok own) }
+    ensures limits { IfOk result (λ place. (place < count) × (count ≤ MOST_MEMBERS) × (count ≡ genesis.now.members)) }
+{
+    let members = genesis.members();
+    if own >= u64::from(members) {
+        return Err(KeysFault::BadOwn);
+    }
+    if count != usize::from(members) {
+        return Err(KeysFault::BadKeyCount);
+    }
+    Ok(own as u16)
+}
+
+/// The keys that texts say, and none at the own place.
+fn keys_of_texts(alloc: Global, own: u16, texts: &[&str]) -> Result<Vec<[u8; 32]>, KeysFault>
+    requires { length texts.now ≤ MOST_MEMBERS }
+    ensures count { IfOk result (λ keys. length keys.items ≡ length texts.now) }
+    ensures value { (result_map_both (λ keys. keys.items) (λ fault. fault) result
+        ≡ keys_from own 0 (map (λ text. text.now) texts.now))
+        ⊎ (result ≡ Err KeysFault.Memory) }
+{
+    let mut keys = Vec::new(alloc);
+    for (place, text) in texts.iter().enumerate() {
+        let Some(key) = key_at(own, place as u16, text) else {
+            return Err(KeysFault::BadKey(place as u16));
+        };
+        keys.push(key).map_err(|_| KeysFault::Memory)?;
+    }
+    Ok(keys)
+}
+
+/// The key that the text at a place says.
+fn key_at(own: u16, place: u16, text: &str) -> Option<[u8; 32]>
+    ensures { result ≡ key_at own place text.now }
+{
+    if place != own {
+        key_in(text)
+    } else if text.is_empty() {
+        Some(NO_KEY)
+    } else {
+        None
     }
 }

@@ -3,16 +3,21 @@ ghost use Rattle.pay_link.specs.Faults.{keys_fault_name, keys_fault_number};
 
 use thiserror::Error;
 
-/// Why there are no keys, in the order in which it is tested; memory stands apart. The numbers 1 and 2
-/// are those of faults of a file, and 5 is that of a key that can't be read.
+/// Why there are no keys, in the order in which it is tested; memory stands apart.
 #[derive(Clone, Copy, Debug, PartialEq, Eq, Error)]
 #[error("{} {}", self.number(), self.name())]
 pub enum KeysFault {
     Memory,
+    /// The file isn't JSON.
+    BadJson,
+    /// It lacks a member, or one isn't of the type that it should be.
+    BadShape,
     /// The keys are of no member of the genesis.
     BadOwn,
     /// Not one key for each member.
     BadKeyCount,
+    /// The first place whose text is no key, or at the own place isn't empty.
+    BadKey(u16),
 }
 
 impl KeysFault {
@@ -22,8 +27,11 @@ impl KeysFault {
     {
         match self {
             KeysFault::Memory => (0, "Memory"),
+            KeysFault::BadJson => (1, "BadJson"),
+            KeysFault::BadShape => (2, "BadShape"),
             KeysFault::BadOwn => (3, "BadOwn"),
             KeysFault::BadKeyCount => (4, "BadKeyCount"),
+            KeysFault::BadKey(_) => (5, "BadKey"),
         }
     }
 

@@ -1,12 +1,14 @@
 //! What holds of the definitions. The functions do nothing: their contracts are the laws.
 
-ghost use Rattle.std.specs.Prelude.{◌≡◌, ◌≢◌, ◌*◌, ◌<◌, ◌≤◌, ◌↔◌, ◌⊎◌, ℕ, length, sum};
+ghost use Rattle.std.specs.Prelude.{◌≡◌, ◌≢◌, ◌*◌, ◌<◌, ◌≤◌, ◌↔◌, ◌⊎◌, ℕ, List, length, sum};
 ghost use Rattle.pay_frame.specs.Frame.{BodyFields, FrameFields, IsFrame};
 ghost use Rattle.pay_frame.specs.OneFrame.{IsOneFrame};
+ghost use Rattle.pay_json.specs.File.{Data, value_in};
 ghost use Rattle.pay_link.specs.Checked.{CheckedFields, IsChecked, IsFor, bytes_of, checked_fields};
+ghost use Rattle.pay_link.specs.Files.{IsLeastBad, KeysSaid, SaysKeys, genesis_in, genesis_said, keys_in, keys_judged, keys_said};
 ghost use Rattle.pay_link.specs.Fronts.{turn};
 ghost use Rattle.pay_link.specs.Genesis.{GenesisFields, IsGenesis, genesis_fault};
-ghost use Rattle.pay_link.specs.Keys.{IsPeer, KeyFields, kept_keys, key_for, keys_fault, no_key};
+ghost use Rattle.pay_link.specs.Keys.{IsPeer, KeyFields, kept_keys, key_for, keys_fault, no_key, place_fault};
 ghost use Rattle.pay_link.specs.Opening.{IsTagged, OpenedFields, Opens, judgement, opened_fields};
 ghost use Rattle.pay_link.specs.Sealing.{sealed};
 ghost use Rattle.pay_link.specs.TestKeys.{test_keys_of};
@@ -35,6 +37,15 @@ pub fn genesis_causes()
         × (GREATEST_TOTAL < sum g.opening)) }
 {}
 
+/// A file of a genesis isn't JSON exactly where it has no value, and of a wrong shape exactly where its
+/// value says no genesis.
+pub fn genesis_file_faults()
+    ensures json { (bytes : List ℕ) → (genesis_in bytes ≡ Err GenesisFault.BadJson)
+        ↔ (value_in bytes ≡ None) }
+    ensures shape { (bytes : List ℕ) → (genesis_in bytes ≡ Err GenesisFault.BadShape)
+        ↔ ((d : Data) × ((value_in bytes ≡ Some d) × (genesis_said d ≡ None))) }
+{}
+
 /// Keys have no fault exactly where they are of a member and as many as the members; each fault comes
 /// exactly where its own cause holds and no earlier one.
 pub fn keys_causes()
@@ -44,6 +55,21 @@ pub fn keys_causes()
         ↔ (members ≤ k.own) }
     ensures count { (members : ℕ) (k : KeyFields) → (keys_fault members k ≡ Some KeysFault.BadKeyCount)
         ↔ ((k.own < members) × (length k.keys ≢ members)) }
+{}
+
+/// A file of keys isn't JSON exactly where it has no value, and of a wrong shape exactly where its value
+/// says no keys. Behind whose they are and how many, the least place without a key is named; where there
+/// is none, the keys are those that the texts say.
+pub fn keys_file_faults()
+    ensures json { (members : ℕ) (bytes : List ℕ) → (keys_in members bytes ≡ Err KeysFault.BadJson)
+        ↔ (value_in bytes ≡ None) }
+    ensures shape { (members : ℕ) (bytes : List ℕ) → (keys_in members bytes ≡ Err KeysFault.BadShape)
+        ↔ ((d : Data) × ((value_in bytes ≡ Some d) × (keys_said d ≡ None))) }
+    ensures key { (members : ℕ) (said : KeysSaid) (place : ℕ) →
+        (keys_judged members said ≡ Err (KeysFault.BadKey place))
+        ↔ ((place_fault members said.own (length said.texts) ≡ None) × IsLeastBad said place) }
+    ensures value { (members : ℕ) (said : KeysSaid) (k : KeyFields) → (keys_judged members said ≡ Ok k)
+        ↔ ((place_fault members said.own (length said.texts) ≡ None) × SaysKeys said k) }
 {}
 
 /// The keys that are kept of a member's are those for its peers, and none for itself.

@@ -133,15 +133,20 @@ enum Fault {
 }
 
 /// A fault is printed as its number and its name.
-const PRINTED: [(Fault, &str); 14] = [
+const PRINTED: [(Fault, &str); 19] = [
     (Fault::Genesis(GenesisFault::Memory), "0 Memory"),
+    (Fault::Genesis(GenesisFault::BadJson), "1 BadJson"),
+    (Fault::Genesis(GenesisFault::BadShape), "2 BadShape"),
     (Fault::Genesis(GenesisFault::BadCount), "3 BadCount"),
     (Fault::Genesis(GenesisFault::BadFaults), "4 BadFaults"),
     (Fault::Genesis(GenesisFault::BadOpening), "5 BadOpening"),
     (Fault::Genesis(GenesisFault::BadTotal), "6 BadTotal"),
     (Fault::Keys(KeysFault::Memory), "0 Memory"),
+    (Fault::Keys(KeysFault::BadJson), "1 BadJson"),
+    (Fault::Keys(KeysFault::BadShape), "2 BadShape"),
     (Fault::Keys(KeysFault::BadOwn), "3 BadOwn"),
     (Fault::Keys(KeysFault::BadKeyCount), "4 BadKeyCount"),
+    (Fault::Keys(KeysFault::BadKey(9)), "5 BadKey"),
     (Fault::Link(LinkFault::NotForMe), "1 NotForMe"),
     (Fault::Link(LinkFault::UnknownSender), "2 UnknownSender"),
     (Fault::Link(LinkFault::UnknownOwner), "3 UnknownOwner"),
