@@ -5,3 +5,6 @@ pub mod Stands
 pub mod Convergence
 pub mod Faults
 pub mod Liars
+pub mod Below
+pub mod DeedLaws
+pub mod StandLaws

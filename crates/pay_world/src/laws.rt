@@ -1,2 +1,106 @@
-//! Laws between members. Each function's contract is the law. Its body is empty, or only names the laws of the
-//! layers below that it stands on.
+//! Laws between members. Each function's contract is the law. Its body is empty, or only names the laws that it
+//! stands on.
+
+ghost use Rattle.pay_world.specs.Below.{Below};
+ghost use Rattle.pay_world.specs.DeedLaws.{NoHistoryAtFirst, HistoryByOneMore, HistoriesGrow, NoDeedIsGenuine, GenuineByOneMore, PrefixIsGenuine, GenuineByPlace, CorrectIsTold, ForgedIsTold};
+ghost use Rattle.pay_world.specs.StandLaws.{StandsAtFirst, StandsByOneMore, GenuineStands, Agreement, ListsCompare, Integrity, ListIsAsked, NothingIsTakenBack, Convergence, ListsConverge, AsksAreDelivered, ListIsAllAsked};
+
+use pay_channel::laws::{
+    delivered_for_good, grow_at_the_end, lists_compared, lists_grow, nothing_at_first,
+    one_event_more, sends_are_asks, taken_in_order, votes_are_taken, what_is_sent,
+};
+use pay_echo::laws::{
+    members_of_sets, nobody_leaves, nothing_known_at_first, quorums_can_form, quorums_share,
+    sizes_of_sets, votes_came, why_known,
+};
+
+// The laws of one broadcast and of one member's channel that those between members stand on.
+fn laws_below()
+    ensures { Below }
+{
+    nothing_known_at_first();
+    nobody_leaves();
+    members_of_sets();
+    votes_came();
+    why_known();
+    sizes_of_sets();
+    quorums_share();
+    quorums_can_form();
+    nothing_at_first();
+    one_event_more();
+    grow_at_the_end();
+    votes_are_taken();
+    taken_in_order();
+    what_is_sent();
+    sends_are_asks();
+    delivered_for_good();
+    lists_compared();
+    lists_grow();
+}
+
+/// Each member's history is what it took of the deeds, one after the other: it grows at its end, by one event
+/// or none a deed.
+pub fn histories_by_deeds()
+    ensures first { NoHistoryAtFirst }
+    ensures one_more { HistoryByOneMore }
+    ensures grow { HistoriesGrow }
+{}
+
+/// Deeds are genuine up to the first that isn't. It comes to the same to say it of each place in their list.
+pub fn genuine_deeds()
+    ensures first { NoDeedIsGenuine }
+    ensures one_more { GenuineByOneMore }
+    ensures prefix { PrefixIsGenuine }
+    ensures by_place { GenuineByPlace }
+{}
+
+/// The tests say which members are correct, and which deeds are genuine after those before them.
+pub fn forged_is_told()
+    ensures correct { CorrectIsTold }
+    ensures forged { ForgedIsTold }
+{}
+
+/// Authenticity and the rule of READY hold between correct members at first, after one event more, and so after
+/// any genuine deeds.
+pub fn correct_members_stand()
+    ensures first { StandsAtFirst }
+    ensures one_more { StandsByOneMore }
+    ensures genuine { GenuineStands }
+{
+    laws_below();
+}
+
+/// Two correct members, each at any moment, deliver no two values under one number of one account. So of their
+/// lists of an account one is a prefix of the other.
+pub fn correct_members_agree()
+    ensures values { Agreement }
+    ensures lists { ListsCompare }
+{
+    laws_below();
+}
+
+/// What a correct member delivers of a correct owner, this owner was asked to broadcast, under that number.
+pub fn nothing_is_invented()
+    ensures value { Integrity }
+    ensures list { ListIsAsked }
+{
+    laws_below();
+}
+
+/// A member's lists at an earlier moment are prefixes of its later ones.
+pub fn nothing_is_taken_back()
+    ensures { NothingIsTakenBack }
+{
+    laws_below();
+}
+
+/// Where each correct member took all that the other correct ones sent, all of them delivered the same, and all
+/// that correct owners were asked for.
+pub fn all_converge()
+    ensures deliveries { Convergence }
+    ensures lists { ListsConverge }
+    ensures asks { AsksAreDelivered }
+    ensures all { ListIsAllAsked }
+{
+    laws_below();
+}

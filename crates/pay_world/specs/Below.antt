@@ -1,0 +1,69 @@
+-- What the laws between members stand on: the laws of one broadcast and of one member's channel, gathered.
+use Rattle.pay_echo.specs.Laws.{NotReadyAtFirst, EchoSetGrows, InEchoSet, InReadySet, InOtherReadySet, OwnEcho, OwnReady, SendCame, EchoCame, ReadyCame, SendIsEchoed, EchoCounts, ReadyCounts, WhyReady, WhyDelivered, QuorumMakesReady, AmplificationMakesReady, ReadysDeliver}
+use Rattle.pay_echo.specs.Quorums.{SizeOfOthers, PartIsSmaller, QuorumsShare, LargerHasAnother, RestIsQuorum, QuorumIsMore, MoreRemain}
+use Rattle.pay_channel.specs.VoteLaws.{NoVotesAtFirst, AsksByOneMore, VotesGrow, EchoIsTaken, ReadyIsTaken, SendIsTaken}
+use Rattle.pay_channel.specs.TakenLaws.{NothingTakenAtFirst, TakenByOneMore, TakenIsFrom}
+use Rattle.pay_channel.specs.SentLaws.{OutGrows, EchoIsSaid, ReadyIsSaid, AskedGrows, AsksAreCounted, SentIsAsked, OwnEchoIsAsk}
+use Rattle.pay_channel.specs.ListLaws.{DeliveredIs, DeliveryStays, ListIsValues, ListBeginsValues, ListsAlike, ListsCompare, ListsGrow}
+
+-- who is in the sets of one broadcast, what came, and why one is READY and delivers
+pub record OfBroadcasts : Type 0 where
+  pub not_ready_at_first : NotReadyAtFirst
+  pub echo_set_grows : EchoSetGrows
+  pub in_echo_set : InEchoSet
+  pub in_ready_set : InReadySet
+  pub in_other_ready_set : InOtherReadySet
+  pub own_echo : OwnEcho
+  pub own_ready : OwnReady
+  pub send_came : SendCame
+  pub echo_came : EchoCame
+  pub ready_came : ReadyCame
+  pub send_is_echoed : SendIsEchoed
+  pub echo_counts : EchoCounts
+  pub ready_counts : ReadyCounts
+  pub why_ready : WhyReady
+  pub why_delivered : WhyDelivered
+  pub quorum_makes_ready : QuorumMakesReady
+  pub amplification_makes_ready : AmplificationMakesReady
+  pub readys_deliver : ReadysDeliver
+
+-- sizes of sets of processes
+pub record OfSets : Type 0 where
+  pub size_of_others : SizeOfOthers
+  pub part_is_smaller : PartIsSmaller
+  pub quorums_share : QuorumsShare
+  pub larger_has_another : LargerHasAnother
+  pub rest_is_quorum : RestIsQuorum
+  pub quorum_is_more : QuorumIsMore
+  pub more_remain : MoreRemain
+
+-- what was taken, what was sent, and the lists
+pub record OfChannels : Type 0 where
+  pub no_votes_at_first : NoVotesAtFirst
+  pub votes_grow : VotesGrow
+  pub echo_is_taken : EchoIsTaken
+  pub ready_is_taken : ReadyIsTaken
+  pub send_is_taken : SendIsTaken
+  pub nothing_taken_at_first : NothingTakenAtFirst
+  pub taken_by_one_more : TakenByOneMore
+  pub taken_is_from : TakenIsFrom
+  pub out_grows : OutGrows
+  pub echo_is_said : EchoIsSaid
+  pub ready_is_said : ReadyIsSaid
+  pub sent_is_asked : SentIsAsked
+  pub own_echo_is_ask : OwnEchoIsAsk
+  pub asks_by_one_more : AsksByOneMore
+  pub asks_are_counted : AsksAreCounted
+  pub asked_grows : AskedGrows
+  pub delivered_is : DeliveredIs
+  pub delivery_stays : DeliveryStays
+  pub list_is_values : ListIsValues
+  pub list_begins_values : ListBeginsValues
+  pub lists_alike : ListsAlike
+  pub lists_compare : ListsCompare
+  pub lists_grow : ListsGrow
+
+pub record Below : Type 0 where
+  pub one : OfBroadcasts
+  pub sets : OfSets
+  pub channel : OfChannels

@@ -1,0 +1,43 @@
+-- What holds of deeds and of the histories by them, as statements. Each is proved as a public law.
+use Rattle.std.specs.Prelude.{◌≡◌, ◌↔◌, ℕ, true, false, List, [], ◌∷◌, ◌++◌}
+use Rattle.pay_channel.specs.Prefix.{IsPrefix}
+use Rattle.pay_world.specs.Setting.{Setting, IsCorrect, is_correct}
+use Rattle.pay_world.specs.Deeds.{Deed, adds, history_by}
+use Rattle.pay_world.specs.Genuine.{IsGenuine, AreGenuine, AreGenuineByPlace, is_forged}
+use Rattle.pay_world.specs.Stands.{Grow}
+
+-- ---- histories
+
+abbrev pub NoHistoryAtFirst : Type 0
+NoHistoryAtFirst = (w : Setting) (i : ℕ) → history_by w [] i ≡ []
+
+abbrev pub HistoryByOneMore : Type 0
+HistoryByOneMore =
+    (w : Setting) (deeds : List Deed) (d : Deed) (i : ℕ)
+    → history_by w (deeds ++ d ∷ []) i ≡ history_by w deeds i ++ adds w i (history_by w deeds i) d
+
+abbrev pub HistoriesGrow : Type 0
+HistoriesGrow = (w : Setting) (deeds more : List Deed) → Grow (history_by w deeds) (history_by w (deeds ++ more))
+
+-- ---- genuine deeds
+
+abbrev pub NoDeedIsGenuine : Type 0
+NoDeedIsGenuine = (w : Setting) → AreGenuine w []
+
+abbrev pub GenuineByOneMore : Type 0
+GenuineByOneMore =
+    (w : Setting) (deeds : List Deed) (d : Deed) → AreGenuine w deeds → IsGenuine w deeds d → AreGenuine w (deeds ++ d ∷ [])
+
+abbrev pub PrefixIsGenuine : Type 0
+PrefixIsGenuine = (w : Setting) (one deeds : List Deed) → IsPrefix one deeds → AreGenuine w deeds → AreGenuine w one
+
+abbrev pub GenuineByPlace : Type 0
+GenuineByPlace = (w : Setting) (deeds : List Deed) → AreGenuine w deeds ↔ AreGenuineByPlace w deeds
+
+-- ---- the tests
+
+abbrev pub CorrectIsTold : Type 0
+CorrectIsTold = (w : Setting) (i : ℕ) → (is_correct w i ≡ true) ↔ IsCorrect w i
+
+abbrev pub ForgedIsTold : Type 0
+ForgedIsTold = (w : Setting) (before : List Deed) (d : Deed) → (is_forged w before d ≡ false) ↔ IsGenuine w before d
