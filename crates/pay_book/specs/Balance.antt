@@ -1,4 +1,5 @@
--- Balances at a front. A front gives each account a place in its list of entries: those before it are settled.
+-- Balances at a front. A front gives each account a place in its list of entries: those before it
+-- are settled.
 use Rattle.std.specs.Prelude.{◌≡◌, ℕ, zero, suc, ◌+◌, ◌<◌, ℤ, pos, ◌-ℤ◌, List, length, take, slice_index, sum_by, All, ◌==◌, if◌then◌else◌}
 use Rattle.pay_book.specs.declared.payment.Entry.{Entry}
 use Rattle.pay_book.specs.declared.payment.Entry.TheVariants.{Pay, Void}
@@ -27,15 +28,19 @@ paid_in accounts logs front account =
 abbrev pub paid_out : (ℕ → List Entry) → (ℕ → ℕ) → ℕ → ℕ
 paid_out logs front account = sum_by amount_of (take (front account) (logs account))
 
--- An account's balance: what it opened with and what came in, less what went out. Nothing here keeps it from being negative.
+-- An account's balance: what it opened with and what came in, less what went out. Nothing here
+-- keeps it from being negative.
 abbrev pub balance_at : List ℕ → (ℕ → List Entry) → (ℕ → ℕ) → ℕ → ℤ
 balance_at opening logs front account =
-    pos (slice_index opening account + paid_in (length opening) logs front account) -ℤ pos (paid_out logs front account)
+    pos (slice_index opening account + paid_in (length opening) logs front account)
+    -ℤ pos (paid_out logs front account)
 
 -- A list of numbers has each account's balance at its place.
-pub record AreBalances (opening : List ℕ) (logs : ℕ → List Entry) (front : ℕ → ℕ) (balances : List ℕ) : Type 0 where
+pub record AreBalances (opening : List ℕ) (logs : ℕ → List Entry) (front : ℕ → ℕ)
+    (balances : List ℕ) : Type 0 where
   pub one_for_each : length balances ≡ length opening
-  pub exact : (a : ℕ) → a < length opening → pos (slice_index balances a) ≡ balance_at opening logs front a
+  pub exact :
+      (a : ℕ) → a < length opening → pos (slice_index balances a) ≡ balance_at opening logs front a
 
 -- Every payment of these accounts' lists goes to one of them.
 abbrev pub PayWithin : ℕ → Entry → Type 0
@@ -45,7 +50,10 @@ PayWithin accounts Void = Unit {0}
 abbrev pub AllPayWithin : ℕ → (ℕ → List Entry) → Type 0
 AllPayWithin accounts logs = (owner : ℕ) → owner < accounts → All (PayWithin accounts) (logs owner)
 
--- Each account has what it had, less what this entry takes from its owner's account, and with what it brings.
+-- Each account has what it had, less what this entry takes from its owner's account, and with what
+-- it brings.
 abbrev pub Moves : Entry → ℕ → List ℕ → List ℕ → Type 0
 Moves entry owner old new =
-    (a : ℕ) → slice_index new a + (if a == owner then amount_of entry else 0) ≡ slice_index old a + amount_to a entry
+    (a : ℕ)
+    → slice_index new a + (if a == owner then amount_of entry else 0)
+    ≡ slice_index old a + amount_to a entry

@@ -5,13 +5,19 @@ use Rattle.pay_book.specs.Payment.{entries_of}
 use Rattle.pay_book.specs.Balance.{AreBalances}
 use Rattle.pay_book.specs.Front.{MayStep, Reach, entry_count, largest_front}
 
--- The opening balances that a book was made with, its front and its balances, each account's at its place.
+-- The opening balances that a book was made with, its front and its balances, each account's at its
+-- place.
 pub record Standing : Type 0 where
   pub opening : List ℕ
   pub front : List ℕ
   pub balances : List ℕ
 
--- Each account has its places, and no count of accounts or sum of balances is more than the book's numbers hold.
+abbrev pub standing_of_parts : List ℕ → List ℕ → List ℕ → Standing
+standing_of_parts opening front balances =
+    record { opening = opening; front = front; balances = balances }
+
+-- Each account has its places, and no count of accounts or sum of balances is more than the book's
+-- numbers hold.
 pub record IsSound (book : Standing) : Type 0 where
   pub front_for_each : length book.front ≡ length book.opening
   pub balance_for_each : length book.balances ≡ length book.opening
@@ -20,7 +26,8 @@ pub record IsSound (book : Standing) : Type 0 where
 
 -- a book in which nothing is settled
 abbrev pub fresh : List ℕ → Standing
-fresh opening = record { opening = opening; front = replicate (length opening) 0; balances = opening }
+fresh opening =
+    record { opening = opening; front = replicate (length opening) 0; balances = opening }
 
 -- the owners' lists as this book reads them
 abbrev pub entries_for : Standing → (ℕ → List (List ℕ)) → ℕ → List Entry
@@ -28,7 +35,8 @@ entries_for book lists = entries_of (length book.opening) lists
 
 -- The account's next entry may settle in this book.
 abbrev pub MaySettle : (ℕ → List (List ℕ)) → Standing → ℕ → Type 0
-MaySettle lists book account = MayStep book.opening (entries_for book lists) (slice_index book.front) account
+MaySettle lists book account =
+    MayStep book.opening (entries_for book lists) (slice_index book.front) account
 
 -- No account's may.
 abbrev pub IsStuck : (ℕ → List (List ℕ)) → Standing → Type 0
@@ -57,7 +65,8 @@ pub record CanSettle (lists : ℕ → List (List ℕ)) (book : Standing) (owner 
   pub only_owner : (a : ℕ) → a ≢ owner → MaySettle lists book a → ⊥
 
 -- One entry of this account settled.
-pub record IsStep (lists : ℕ → List (List ℕ)) (old : Standing) (account : ℕ) (entry : Entry) (new : Standing) : Type 0 where
+pub record IsStep (lists : ℕ → List (List ℕ)) (old : Standing) (account : ℕ) (entry : Entry)
+    (new : Standing) : Type 0 where
   pub same_opening : new.opening ≡ old.opening
   pub allowed : MaySettle lists old account
   pub next : slice_get (entries_for old lists account) (slice_index old.front account) ≡ Some entry

@@ -25,14 +25,16 @@ pub record IsOneFurther (front : ℕ → ℕ) (a : ℕ) (next : ℕ → ℕ) : T
 -- The fronts that allowed steps lead to, from the one where nothing is settled.
 pub data Reach (opening : List ℕ) (logs : ℕ → List Entry) : (ℕ → ℕ) → Type 0 where
   Start : {front : ℕ → ℕ} → ((a : ℕ) → front a ≡ 0) → Reach opening logs front
-  Step : {front next : ℕ → ℕ} → (a : ℕ) → Reach opening logs front → MayStep opening logs front a → IsOneFurther front a next → Reach opening logs next
+  Step : {front next : ℕ → ℕ} → (a : ℕ) → Reach opening logs front → MayStep opening logs front a
+      → IsOneFurther front a next → Reach opening logs next
 
 -- The reached front that is nowhere behind another reached front.
 pub record IsLargest (opening : List ℕ) (logs : ℕ → List Entry) (front : ℕ → ℕ) : Type 0 where
   pub reached : Reach opening logs front
   pub greatest : (other : ℕ → ℕ) → Reach opening logs other → (a : ℕ) → other a ≤ front a
 
--- The largest front, computed: as many turns as there are entries, each a step of the first account that has one.
+-- The largest front, computed: as many turns as there are entries, each a step of the first account
+-- that has one.
 
 -- the balance of an account with this income and these payments covers the next entry
 abbrev pub covers : ℕ → ℕ → Option Entry → Bool
@@ -42,7 +44,8 @@ covers income paid (Some (Pay payee amount)) = nat_le (paid + amount) income
 
 abbrev pub may_step : List ℕ → (ℕ → List Entry) → List ℕ → ℕ → Bool
 may_step opening logs front a =
-    covers (slice_index opening a + paid_in (length opening) logs (slice_index front) a) (paid_out logs (slice_index front) a) (slice_get (logs a) (slice_index front a))
+    covers (slice_index opening a + paid_in (length opening) logs (slice_index front) a)
+    (paid_out logs (slice_index front) a) (slice_get (logs a) (slice_index front a))
 
 abbrev pub front_after_step : List ℕ → Option ℕ → List ℕ
 front_after_step front None = front
@@ -51,14 +54,17 @@ front_after_step front (Some a) = slice_set front a (slice_index front a + 1)
 unfoldable pub front_after_turns : List ℕ → (ℕ → List Entry) → ℕ → List ℕ → List ℕ
 front_after_turns opening logs zero front = front
 front_after_turns opening logs (suc turns) front =
-    front_after_turns opening logs turns (front_after_step front (find (may_step opening logs front) (range_with_len 0 (length opening))))
+    front_after_turns opening logs turns (front_after_step front
+    (find (may_step opening logs front) (range_with_len 0 (length opening))))
 
 -- how many entries all lists have
 abbrev pub entry_count : ℕ → (ℕ → List Entry) → ℕ
 entry_count accounts logs = sum_below accounts (λ a. length (logs a))
 
 unfoldable pub largest_front : List ℕ → (ℕ → List Entry) → List ℕ
-largest_front opening logs = front_after_turns opening logs (entry_count (length opening) logs) (replicate (length opening) 0)
+largest_front opening logs =
+    front_after_turns opening logs (entry_count (length opening) logs)
+    (replicate (length opening) 0)
 
 -- Each of these accounts' new lists begins with its old one.
 abbrev pub AllGrow : {X : Type 0} → ℕ → (ℕ → List X) → (ℕ → List X) → Type 0

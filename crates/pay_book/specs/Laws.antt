@@ -19,7 +19,8 @@ ReachedFrontsJoin =
 abbrev pub StuckIsLargest : Type 0
 StuckIsLargest =
     (opening : List ℕ) (logs : ℕ → List Entry) (front : ℕ → ℕ) →
-    Reach opening logs front → ((a : ℕ) → MayStep opening logs front a → ⊥) → IsLargest opening logs front
+    Reach opening logs front → ((a : ℕ) → MayStep opening logs front a → ⊥)
+    → IsLargest opening logs front
 
 abbrev pub LargestIsStuck : Type 0
 LargestIsStuck =
@@ -34,7 +35,8 @@ LargestIsOne =
 abbrev pub LargestIsComputed : Type 0
 LargestIsComputed =
     (opening : List ℕ) (logs : ℕ → List Entry) →
-    (length (largest_front opening logs) ≡ length opening) × IsLargest opening logs (slice_index (largest_front opening logs))
+    (length (largest_front opening logs) ≡ length opening)
+    × IsLargest opening logs (slice_index (largest_front opening logs))
 
 abbrev pub ReachedIsWithinLists : Type 0
 ReachedIsWithinLists =
@@ -49,7 +51,8 @@ NoBalanceBelowZero =
 abbrev pub BalancesSumToOpening : Type 0
 BalancesSumToOpening =
     (opening : List ℕ) (lists : ℕ → List (List ℕ)) (front : ℕ → ℕ) (balances : List ℕ) →
-    AreBalances opening (entries_of (length opening) lists) front balances → sum balances ≡ sum opening
+    AreBalances opening (entries_of (length opening) lists) front balances
+    → sum balances ≡ sum opening
 
 abbrev pub ReachedStaysReached : Type 0
 ReachedStaysReached =
@@ -68,14 +71,16 @@ abbrev pub EqualListsEqualLargest : Type 0
 EqualListsEqualLargest =
     (opening : List ℕ) (one other : ℕ → List (List ℕ)) →
     ((a : ℕ) → a < length opening → one a ≡ other a) →
-    largest_front opening (entries_of (length opening) one) ≡ largest_front opening (entries_of (length opening) other)
+    largest_front opening (entries_of (length opening) one)
+    ≡ largest_front opening (entries_of (length opening) other)
 
 abbrev pub EqualListsEqualBalances : Type 0
 EqualListsEqualBalances =
     (opening : List ℕ) (one other : ℕ → List (List ℕ)) (front : ℕ → ℕ) →
     ((a : ℕ) → a < length opening → one a ≡ other a) →
     (a : ℕ) → a < length opening →
-    balance_at opening (entries_of (length opening) one) front a ≡ balance_at opening (entries_of (length opening) other) front a
+    balance_at opening (entries_of (length opening) one) front a
+    ≡ balance_at opening (entries_of (length opening) other) front a
 
 abbrev pub EqualListsEqualBooks : Type 0
 EqualListsEqualBooks =
@@ -91,7 +96,8 @@ FreshBookIsSettled =
 abbrev pub GrownListCanSettle : Type 0
 GrownListCanSettle =
     (old new : ℕ → List (List ℕ)) (book : Standing) (owner : ℕ) →
-    IsSettled old book → GrowsOnly old new owner → owner < length book.opening → AreCountable new book → CanSettle new book owner
+    IsSettled old book → GrowsOnly old new owner → owner < length book.opening
+    → AreCountable new book → CanSettle new book owner
 
 abbrev pub FewEntriesAreCountable : Type 0
 FewEntriesAreCountable =
@@ -123,11 +129,13 @@ SameListsStaySettled =
 -- ---- the book that has settled all it can
 
 abbrev pub SettledBookExists : Type 0
-SettledBookExists = (opening : List ℕ) (lists : ℕ → List (List ℕ)) → IsSettled lists (settled_book opening lists)
+SettledBookExists =
+    (opening : List ℕ) (lists : ℕ → List (List ℕ)) → IsSettled lists (settled_book opening lists)
 
 abbrev pub SettledBookIsOne : Type 0
 SettledBookIsOne =
-    (lists : ℕ → List (List ℕ)) (book : Standing) → IsSettled lists book → book ≡ settled_book book.opening lists
+    (lists : ℕ → List (List ℕ)) (book : Standing) → IsSettled lists book
+    → book ≡ settled_book book.opening lists
 
 abbrev pub SettledIsLargest : Type 0
 SettledIsLargest =
@@ -135,18 +143,22 @@ SettledIsLargest =
     IsLargest book.opening (entries_for book lists) (slice_index book.front)
 
 abbrev pub BookKeepsTotal : Type 0
-BookKeepsTotal = (lists : ℕ → List (List ℕ)) (book : Standing) → IsBook lists book → sum book.balances ≡ sum book.opening
+BookKeepsTotal =
+    (lists : ℕ → List (List ℕ)) (book : Standing) → IsBook lists book
+    → sum book.balances ≡ sum book.opening
 
 abbrev pub NobodyOwesOnceSettled : Type 0
 NobodyOwesOnceSettled =
     (opening : List ℕ) (lists : ℕ → List (List ℕ)) (a : ℕ) →
-    pos 0 ≤ℤ balance_at opening (entries_of (length opening) lists) (slice_index (settled_front opening lists)) a
+    pos 0 ≤ℤ balance_at opening (entries_of (length opening) lists)
+    (slice_index (settled_front opening lists)) a
 
 -- ---- lists that grow, and what is settled of them
 
 abbrev pub OneListGrows : Type 0
 OneListGrows =
-    (old new : ℕ → List (List ℕ)) (owner accounts : ℕ) → GrowsOnly old new owner → AllGrow accounts old new
+    (old new : ℕ → List (List ℕ)) (owner accounts : ℕ) → GrowsOnly old new owner
+    → AllGrow accounts old new
 
 abbrev pub BookStays : Type 0
 BookStays =
@@ -156,13 +168,15 @@ BookStays =
 abbrev pub SettledCountGrows : Type 0
 SettledCountGrows =
     (opening : List ℕ) (old new : ℕ → List (List ℕ)) →
-    AllGrow (length opening) old new → sum (settled_front opening old) ≤ sum (settled_front opening new)
+    AllGrow (length opening) old new
+    → sum (settled_front opening old) ≤ sum (settled_front opening new)
 
 abbrev pub SettledEntriesGrow : Type 0
 SettledEntriesGrow =
     (opening : List ℕ) (old new : ℕ → List (List ℕ)) →
     AllGrow (length opening) old new →
-    (a : ℕ) → a < length opening → IsPrefix (settled_entries opening old a) (settled_entries opening new a)
+    (a : ℕ) → a < length opening
+    → IsPrefix (settled_entries opening old a) (settled_entries opening new a)
 
 abbrev pub SettledEntriesCompare : Type 0
 SettledEntriesCompare =

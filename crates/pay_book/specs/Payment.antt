@@ -6,16 +6,20 @@ use Rattle.pay_book.specs.declared.payment.Entry.{Entry}
 use Rattle.pay_book.specs.declared.payment.TheConstants.{PAYMENT_LENGTH, PAYMENT_VERSION}
 use Rattle.pay_book.specs.declared.payment.Entry.TheVariants.{Pay, Void}
 
--- A payment to an account that is there, that isn't the owner's own, of more than nothing; else nothing moves.
+-- A payment to an account that is there, that isn't the owner's own, of more than nothing; else
+-- nothing moves.
 abbrev pub payment : ℕ → ℕ → ℕ → ℕ → Entry
 payment accounts owner payee amount =
-    if nat_lt payee accounts && not (payee == owner) && not (amount == 0) then Pay payee amount else Void
+    if nat_lt payee accounts && not (payee == owner) && not (amount == 0)
+    then Pay payee amount
+    else Void
 
 -- The version, the payee in two bytes and the amount in eight, the greatest byte first.
 unfoldable pub entry_of : ℕ → ℕ → List ℕ → Entry
 entry_of accounts owner value =
     if length value == PAYMENT_LENGTH && slice_index value 0 == PAYMENT_VERSION
-    then payment accounts owner (from_be_bytes w16 (slice_range value 1 3)) (from_be_bytes w64 (slice_range value 3 PAYMENT_LENGTH))
+    then payment accounts owner (from_be_bytes w16 (slice_range value 1 3))
+    (from_be_bytes w64 (slice_range value 3 PAYMENT_LENGTH))
     else Void
 
 -- how many entries a value has at most

@@ -5,7 +5,8 @@ use Rattle.pay_book.specs.Payment.{entries_of}
 use Rattle.pay_book.specs.Balance.{balance_at}
 use Rattle.pay_book.specs.Front.{largest_front}
 
--- values, byte by byte: to account 1 thirty, to 0, 1, 2, 3 and 4 five; then three that are no payments
+-- values, byte by byte: to account 1 thirty, to 0, 1, 2, 3 and 4 five; then three that are no
+-- payments
 abbrev pub thirty_to_1 : List ℕ
 thirty_to_1 = 1 ∷ 0 ∷ 1 ∷ 0 ∷ 0 ∷ 0 ∷ 0 ∷ 0 ∷ 0 ∷ 0 ∷ 30 ∷ []
 
@@ -60,10 +61,15 @@ abbrev pub four : ℕ → ℕ → ℕ → ℕ → List ℕ
 four a b c d = a ∷ b ∷ c ∷ d ∷ []
 
 -- the four owners' lists
-abbrev pub lists_of : List (List ℕ) → List (List ℕ) → List (List ℕ) → List (List ℕ) → ℕ → List (List ℕ)
+abbrev pub lists_of :
+    List (List ℕ) → List (List ℕ) → List (List ℕ) → List (List ℕ) → ℕ → List (List ℕ)
 lists_of a b c d owner = slice_index_or (a ∷ b ∷ c ∷ d ∷ []) owner []
 
 -- A book of these opening balances that has settled all it can shows this front and these balances.
-pub record EndsAt (opening : List ℕ) (lists : ℕ → List (List ℕ)) (front balances : List ℕ) : Type 0 where
+pub record EndsAt (opening : List ℕ) (lists : ℕ → List (List ℕ)) (front balances : List ℕ)
+    : Type 0 where
   pub at_front : largest_front opening (entries_of (length opening) lists) ≡ front
-  pub at_balances : map (balance_at opening (entries_of (length opening) lists) (slice_index front)) (range_with_len 0 (length opening)) ≡ map pos balances
+  pub at_balances :
+      map (balance_at opening (entries_of (length opening) lists) (slice_index front))
+      (range_with_len 0 (length opening))
+      ≡ map pos balances

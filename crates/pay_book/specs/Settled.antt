@@ -10,7 +10,8 @@ use Rattle.pay_book.specs.Book.{Standing}
 -- The balances at a front, each account's at its place, where none is below zero.
 unfoldable pub balances_of : List ℕ → (ℕ → List Entry) → (ℕ → ℕ) → List ℕ
 balances_of opening logs front =
-    map (λ a. (slice_index opening a + paid_in (length opening) logs front a) - paid_out logs front a) (range_with_len 0 (length opening))
+    map (λ a. (slice_index opening a + paid_in (length opening) logs front a) - paid_out logs front a)
+    (range_with_len 0 (length opening))
 
 -- The largest front of the accounts' lists.
 abbrev pub settled_front : List ℕ → (ℕ → List (List ℕ)) → List ℕ
@@ -18,13 +19,16 @@ settled_front opening lists = largest_front opening (entries_of (length opening)
 
 -- The book at that front.
 abbrev pub settled_book : List ℕ → (ℕ → List (List ℕ)) → Standing
-settled_book opening lists = record {
-  opening = opening;
-  front = settled_front opening lists;
-  balances = balances_of opening (entries_of (length opening) lists) (slice_index (settled_front opening lists));
-}
+settled_book opening lists =
+    let front = settled_front opening lists in
+    record {
+      opening = opening;
+      front = front;
+      balances = balances_of opening (entries_of (length opening) lists) (slice_index front);
+    }
 
 -- An account's settled entries: those of its list before that front.
 abbrev pub settled_entries : List ℕ → (ℕ → List (List ℕ)) → ℕ → List Entry
 settled_entries opening lists account =
-    take (slice_index (settled_front opening lists) account) (entries_of (length opening) lists account)
+    take (slice_index (settled_front opening lists) account)
+    (entries_of (length opening) lists account)

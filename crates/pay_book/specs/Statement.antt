@@ -10,7 +10,8 @@ use Rattle.pay_book.specs.Payment.{entries_in}
 -- the entries of an owner's list, each with the place of its value
 unfoldable pub numbered_entries_of : ℕ → (ℕ → List (List ℕ)) → ℕ → List (ℕ × Entry)
 numbered_entries_of accounts lists owner =
-    flat_map (λ v. map (λ e. (v.0, e)) (entries_in accounts owner v.1)) (enumerate_from 0 (lists owner))
+    flat_map (λ v. map (λ e. (v.0, e)) (entries_in accounts owner v.1))
+    (enumerate_from 0 (lists owner))
 
 -- an account's own entry
 abbrev pub own_line : ℕ → Entry → Line
@@ -29,9 +30,11 @@ own_lines accounts lists front account =
 
 abbrev pub incoming_lines : ℕ → (ℕ → List (List ℕ)) → (ℕ → ℕ) → ℕ → ℕ → List Line
 incoming_lines accounts lists front account owner =
-    filter_map (λ e. incoming_line account owner e.0 e.1) (take (front owner) (numbered_entries_of accounts lists owner))
+    filter_map (λ e. incoming_line account owner e.0 e.1)
+    (take (front owner) (numbered_entries_of accounts lists owner))
 
--- The account's own settled entries by place, voids too; then the settled payments to it, by owner and place.
+-- The account's own settled entries by place, voids too; then the settled payments to it, by owner
+-- and place.
 unfoldable pub statement_of : ℕ → (ℕ → List (List ℕ)) → (ℕ → ℕ) → ℕ → List Line
 statement_of accounts lists front account =
     own_lines accounts lists front account

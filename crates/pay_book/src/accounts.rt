@@ -20,15 +20,15 @@ pub struct Accounts {
 }
 
 impl Model for Accounts {
-    ghost use Rattle.pay_book.specs.Book.{Standing, IsSound};
+    ghost use Rattle.pay_book.specs.Book.{Standing, IsSound, standing_of_parts};
 
     ghost Value = { Standing };
 
     ghost view = { λ a.
-        record { opening = a.opening.items; front = a.front.items; balances = a.balances.items } };
+        standing_of_parts a.opening.items a.front.items a.balances.items };
 
     ghost invariant = { λ a. IsSound
-        (record { opening = a.opening.items; front = a.front.items; balances = a.balances.items }) };
+        (standing_of_parts a.opening.items a.front.items a.balances.items) };
 }
 
 impl Accounts {
@@ -83,7 +83,8 @@ impl Accounts {
     fn next_entry<S: Source>(&self, source: &S, account: u16) -> Option<Entry>
         requires { account < length self.now.opening }
         ensures entry { result
-            ≡ slice_get (entries_for self.now (S.lists source.now) account) (slice_index self.now.front account) }
+            ≡ slice_get (entries_for self.now (S.lists source.now) account)
+            (slice_index self.now.front account) }
         ensures place { OnSome result (slice_index self.now.front account + 1 < 2 ^ 32) }
     {
         let place = self.front(account);
@@ -94,14 +95,16 @@ impl Accounts {
         }
     }
 
-    /// Settles the next entry of an account where its balance covers it, and says which entry that was.
+    /// Settles the next entry of an account where its balance covers it, and says which entry that
+    /// was.
     pub fn try_step<S: Source>(&mut self, source: &S, account: u16) -> Option<Entry>
         requires book { IsBook (S.lists source.now) self.old }
         requires account { account < length self.old.opening }
         ensures book { IsBook (S.lists source.now) self.new }
         ensures unchanged { IfNone result (self.new ≡ self.old) }
         ensures not_allowed { IfNone result (MaySettle (S.lists source.now) self.old account → ⊥) }
-        ensures step { IfSome result (λ entry. IsStep (S.lists source.now) self.old account entry self.new) }
+        ensures step { IfSome result (λ entry.
+            IsStep (S.lists source.now) self.old account entry self.new) }
     {
         let entry = self.next_entry(source, account)?;
         if !is_covered(entry, self.balance(account)) {

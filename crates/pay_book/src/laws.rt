@@ -3,14 +3,14 @@
 
 ghost use Rattle.pay_book.specs.Laws.{ReachedFrontsJoin, StuckIsLargest, LargestIsStuck, LargestIsOne, LargestIsComputed, ReachedIsWithinLists, NoBalanceBelowZero, BalancesSumToOpening, ReachedStaysReached, LargestGrows, EqualListsEqualLargest, EqualListsEqualBalances, EqualListsEqualBooks, FreshBookIsSettled, GrownListCanSettle, SameListsStaySettled, FewEntriesAreCountable, ShortListsAreCountable, GroupListsAreCountable, ValuesHaveFewEntries, SettledBookExists, SettledBookIsOne, SettledIsLargest, BookKeepsTotal, NobodyOwesOnceSettled, OneListGrows, BookStays, SettledCountGrows, SettledEntriesGrow, SettledEntriesCompare, SettledEntriesWereAsked};
 
-/// Two fronts that steps reach have a common one: the front that is as far as either at each account
-/// is reached too.
+/// Two fronts that steps reach have a common one: the front that is as far as either at each
+/// account is reached too.
 pub fn reached_fronts_join()
     ensures { ReachedFrontsJoin }
 {}
 
-/// No order of settling matters: wherever steps have led to a front at which no account may step, it
-/// is the largest.
+/// No order of settling matters: wherever steps have led to a front at which no account may step,
+/// it is the largest.
 pub fn stuck_is_largest()
     ensures { StuckIsLargest }
 {}
@@ -96,7 +96,8 @@ pub fn short_lists_are_countable()
     ensures { ShortListsAreCountable }
 {}
 
-/// Every group's lists are countable: at most `MOST_MEMBERS` accounts have at most `SEQS` values each.
+/// Every group's lists are countable: at most `MOST_MEMBERS` accounts have at most `SEQS` values
+/// each.
 pub fn group_lists_are_countable()
     ensures { GroupListsAreCountable }
 {}
@@ -131,7 +132,8 @@ pub fn nobody_owes_once_settled()
     ensures { NobodyOwesOnceSettled }
 {}
 
-/// Where one owner's list grew at its end and no other changed, all accounts' lists grew at their ends.
+/// Where one owner's list grew at its end and no other changed, all accounts' lists grew at their
+/// ends.
 pub fn one_list_grows()
     ensures { OneListGrows }
 {}
@@ -151,8 +153,8 @@ pub fn settled_entries_grow()
     ensures { SettledEntriesGrow }
 {}
 
-/// Where of two lists of an account one is a prefix of the other, so it is with the entries that are
-/// settled of them, whatever the other accounts' lists are.
+/// Where of two lists of an account one is a prefix of the other, so it is with the entries that
+/// are settled of them, whatever the other accounts' lists are.
 pub fn settled_entries_compare()
     ensures { SettledEntriesCompare }
 {}

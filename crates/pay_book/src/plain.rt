@@ -22,7 +22,8 @@ impl PlainBook {
         requires { IsBook (S.lists source.now) self.old.accounts }
         ensures opening { self.new.accounts.opening ≡ self.old.accounts.opening }
         ensures book { IsBook (S.lists source.now) self.new.accounts }
-        ensures stepped { OnTrue result (sum self.new.accounts.front ≡ sum self.old.accounts.front + 1) }
+        ensures stepped { OnTrue result
+            (sum self.new.accounts.front ≡ sum self.old.accounts.front + 1) }
         ensures unchanged { OnFalse result (self.new.accounts ≡ self.old.accounts) }
         ensures stuck { OnFalse result (IsStuck (S.lists source.now) self.new.accounts) }
     {

@@ -61,7 +61,8 @@ pub fn greatest_amounts()
         (four 1 0 0 0) (four 0 (2 ^ 63 - 1) 0 0) }
 {}
 
-/// Once the circular debts are settled, account 0's statement has its own payment first, then those to it by owner.
+/// Once the circular debts are settled, account 0's statement has its own payment first, then those
+/// to it by owner.
 pub fn statement_after_circular_debts()
     ensures { statement_of 4 (lists_of (ten_to_1 ∷ []) (ten_to_0 ∷ []) [] (ten_to_0 ∷ []))
         (slice_index (four 1 1 0 1)) 0

@@ -22,7 +22,8 @@ pub trait Settle {
     fn new(alloc: Global, genesis: &Genesis) -> Result<Self, AllocError>
         ensures { IfOk result (λ book. shows book ≡ fresh genesis.now.opening) };
 
-    /// Settles all that can be settled after the list of `owner` grew, and says how many entries that was.
+    /// Settles all that can be settled after the list of `owner` grew, and says how many entries
+    /// that was.
     ///
     /// Money that reaches an account may let that account's next entries settle, and so on.
     fn settle<S: Source>(&mut self, source: &S, owner: u16) -> u32

@@ -24,7 +24,8 @@ pub fn statement<S: Source, B: Settle>(
     requires accounts { accounts ≡ length (B.shows book.now).opening }
     requires account { account < accounts }
     ensures { IfOk result (λ lines. lines.items
-        ≡ statement_of accounts (S.lists source.now) (slice_index (B.shows book.now).front) account) }
+        ≡ statement_of accounts (S.lists source.now)
+        (slice_index (B.shows book.now).front) account) }
 {
     let mut lines = Vec::new(alloc);
     push_own(&mut lines, source, accounts, account, book.front(account))?;

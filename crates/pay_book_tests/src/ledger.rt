@@ -43,8 +43,8 @@ impl<B: Settle + Drop> Ledger<B> {
         })
     }
 
-    /// Puts a value on an owner's list, and says how many entries settled; nothing where there is no such owner
-    /// or no room on its list.
+    /// Puts a value on an owner's list, and says how many entries settled; nothing where there is
+    /// no such owner or no room on its list.
     pub(crate) fn add(&mut self, owner: u16, value: Vec<u8>) -> Result<Option<u32>, AllocError> {
         if owner >= self.accounts || !self.lists.has_room(owner) {
             return Ok(None);

@@ -1,8 +1,8 @@
 -- The lists of any channel's state.
-use Rattle.std.proofs.Common.{◌≡◌, ℕ, ◌≤◌, zero, suc, List, length, slice_get, refl, sym, ap, ◌∙◌, arith}
+use Rattle.std.proofs.Common.{◌≡◌, ℕ, ◌≤◌, zero, suc, length, refl, arith}
 use Rattle.pay_channel.proofs.Lists.{slice_get-some}
-use Rattle.pay_channel.specs.History.{seqs, listed}
-use Rattle.pay_channel.specs.State.{State, value_at, lists_of}
+use Rattle.pay_channel.specs.History.{seqs}
+use Rattle.pay_channel.specs.State.{value_at, lists_of}
 use Rattle.pay_channel.specs.FollowLaws.{ListsOfAreShort, UnchangedLists}
 use Rattle.pay_channel.proofs.Grown.{lists-same}
 use Rattle.pay_channel.proofs.Places.{place_is_value}

@@ -2,7 +2,7 @@
 use Rattle.std.proofs.Common.{◌≡◌, ℕ, ◌+◌, List, [], ◌∷◌, ◌++◌, length, refl, sym, ap, ap₂, ◌∙◌, subst}
 use Rattle.pay_echo.specs.Broadcast.{Group}
 use Rattle.pay_echo.specs.Meaning.{Meaning, meaning_of, became}
-use Rattle.pay_channel.specs.History.{Event, asks, owner_of, seq_of, votes, out, delivered_at, list_of}
+use Rattle.pay_channel.specs.History.{Event, owner_of, seq_of, votes, out, delivered_at, list_of}
 use Rattle.pay_channel.specs.State.{State, Follows, meaning_at, value_at, lists_of}
 use Rattle.pay_channel.specs.Applied.{IsToldOf}
 use Rattle.pay_channel.specs.Answer.{IsAnswerAt}

@@ -1,6 +1,6 @@
 -- One vote told to its instance, what is said by it put at the end of the sent list, and the values that
 -- follow counted: the channel took the vote and is sound.
-use Rattle.std.proofs.Common.{◌≡◌, ℕ, ◌+◌, ◌-◌, ◌<◌, ◌≤◌, Bool, true, false, cond, ◌&&◌, eqb, ltb, List, [], ◌++◌, length, get_or, set, Option, Some, option_to_list, Result, Ok, Err, refl, sym, ap, ap₂, ◌∙◌, subst, arith, append_assoc, length-append}
+use Rattle.std.proofs.Common.{◌≡◌, ℕ, ◌+◌, ◌-◌, ◌<◌, ◌≤◌, Bool, true, false, cond, ltb, List, [], ◌++◌, length, get_or, set, Option, Some, option_to_list, Result, Ok, Err, refl, sym, ap, ap₂, ◌∙◌, subst, arith, append_assoc, length-append}
 use Rattle.std.specs.Bool.{then_some}
 use Rattle.std.specs.Result.{OnErr}
 use Rattle.std.proofs.lemmas.List.{get_or_default}
@@ -9,7 +9,7 @@ use Rattle.pay_frame.specs.declared.kind.Kind.TheVariants.{Echo, Ready}
 use Rattle.pay_frame.specs.Frame.{BodyFields}
 use Rattle.pay_echo.specs.Broadcast.{Group, Vote, value_of}
 use Rattle.pay_echo.specs.Laws.{DeliveredStays, EchoedByOneMore, ReadiedByOneMore, SentIsItsValue}
-use Rattle.pay_echo.specs.Meaning.{Meaning, meaning_of, became}
+use Rattle.pay_echo.specs.Meaning.{meaning_of}
 use Rattle.pay_echo.specs.Moves.{IsMoves}
 use Rattle.pay_echo.specs.declared.moves.Moves.{Moves}
 use Rattle.pay_channel.specs.Source.{GrowsOnly}

@@ -24,9 +24,10 @@ SeesIfVote old new (Some x) = Sees old new x
 abbrev pub said : ℕ → ℕ → Meaning → Meaning → List BodyFields
 said a s old new = newly Echo a s old.echoed new.echoed ++ newly Ready a s old.readied new.readied
 
--- one vote more in the broadcast s of account a: the others are as they were, and a SEND, where there is one, and
--- what became known are at the end of the sent list
-pub record TakesVote (old new : State) (a s : ℕ) (vote : Option Vote) (send : List BodyFields) : Type 0 where
+-- one vote more in the broadcast s of account a: the others are as they were, and a SEND, where
+-- there is one, and what became known are at the end of the sent list
+pub record TakesVote (old new : State) (a s : ℕ) (vote : Option Vote) (send : List BodyFields)
+    : Type 0 where
   pub group : new.group ≡ old.group
   pub asks : new.asks ≡ old.asks
   pub here : SeesIfVote (meaning_at old a s) (meaning_at new a s) vote
@@ -37,7 +38,8 @@ pub record TakesVote (old new : State) (a s : ℕ) (vote : Option Vote) (send : 
 pub record IsToldOf (old new : State) (a s : ℕ) (applied : Applied) : Type 0 where
   pub echo : applied.echo ≡ became (meaning_at old a s).echoed (meaning_at new a s).echoed
   pub ready : applied.ready ≡ became (meaning_at old a s).readied (meaning_at new a s).readied
-  pub deliver : applied.deliver ≡ became (meaning_at old a s).delivered (meaning_at new a s).delivered
+  pub deliver :
+      applied.deliver ≡ became (meaning_at old a s).delivered (meaning_at new a s).delivered
   pub grown : length (lists_of old a) + applied.grown ≡ length (lists_of new a)
 
 -- The state after an event: its broadcast has one vote more, the others are as they were, and what
@@ -45,8 +47,13 @@ pub record IsToldOf (old new : State) (a s : ℕ) (applied : Applied) : Type 0 w
 pub record Takes (old new : State) (e : Event) : Type 0 where
   pub group : new.group ≡ old.group
   pub asks : new.asks ≡ (if is_ask e then old.asks + 1 else old.asks)
-  pub here : SeesIfVote (meaning_at old (owner_of old.group.own e) (seq_of old.asks e)) (meaning_at new (owner_of old.group.own e) (seq_of old.asks e)) (vote_of e)
-  pub others : (a s : ℕ) → is_about old.group.own a s old.asks e ≡ false → meaning_at new a s ≡ meaning_at old a s
+  pub here :
+      let a = owner_of old.group.own e in
+      let s = seq_of old.asks e in
+      SeesIfVote (meaning_at old a s) (meaning_at new a s) (vote_of e)
+  pub others :
+      (a s : ℕ) → is_about old.group.own a s old.asks e ≡ false
+      → meaning_at new a s ≡ meaning_at old a s
   pub sent :
       new.sent
       ≡ old.sent
@@ -55,9 +62,11 @@ pub record Takes (old new : State) (e : Event) : Type 0 where
       (meaning_at old (owner_of old.group.own e) (seq_of old.asks e))
       (meaning_at new (owner_of old.group.own e) (seq_of old.asks e)))
 
--- what `apply` answers: what became known of the event's broadcast, and by how much its owner's list grew
+-- what `apply` answers: what became known of the event's broadcast, and by how much its owner's
+-- list grew
 abbrev pub IsApplied : State → State → Event → Applied → Type 0
-IsApplied old new e applied = IsToldOf old new (owner_of old.group.own e) (seq_of old.asks e) applied
+IsApplied old new e applied =
+    IsToldOf old new (owner_of old.group.own e) (seq_of old.asks e) applied
 
 -- nothing that can be seen changed
 pub record IsAsBefore (old new : State) : Type 0 where

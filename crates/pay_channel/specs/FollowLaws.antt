@@ -32,7 +32,8 @@ ListsFollow =
 abbrev pub AnswersFollow : Type 0
 AnswersFollow =
     (old new : State) (history : List Event) (e : Event) (applied : Applied)
-    → Follows old history → Takes old new e → IsApplied old new e applied → IsAnswer old.group history e applied
+    → Follows old history → Takes old new e → IsApplied old new e applied
+    → IsAnswer old.group history e applied
 
 -- nothing tells two channels apart that follow one history
 abbrev pub FollowersAreAlike : Type 0

@@ -1,6 +1,6 @@
--- One member's broadcast as functions of its history, the list of the events that it took, oldest first
--- (Cachin, Guerraoui, Rodrigues, chapter 3: a Byzantine channel made of one double-echo broadcast for
--- each owner and number).
+-- One member's broadcast as functions of its history, the list of the events that it took, oldest
+-- first (Cachin, Guerraoui, Rodrigues, chapter 3: a Byzantine channel made of one double-echo
+-- broadcast for each owner and number).
 use Rattle.std.specs.Prelude.{◌≢◌, ℕ, ◌+◌, ◌<◌, ◌≤◌, zero, suc, Bool, true, false, ◌&&◌, ◌==◌, nat_lt, if◌then◌else◌, List, [], ◌∷◌, ◌++◌, length, Option, Some, None}
 use Rattle.std.specs.Option.{option_to_list}
 use Rattle.std.specs.List.{count_by}
@@ -19,7 +19,8 @@ pub data Event : Type 0 where
 -- what may come: values within a frame's limits, and bodies of other members about members
 abbrev pub IsEvent : Group → Event → Type 0
 IsEvent g (Ask v) = length v ≤ GREATEST_VALUE
-IsEvent g (From p body) = (p < g.members) × (p ≢ g.own) × (body.owner < g.members) × (body.kind ≢ Want)
+IsEvent g (From p body) =
+    (p < g.members) × (p ≢ g.own) × (body.owner < g.members) × (body.kind ≢ Want)
 
 abbrev pub is_ask : Event → Bool
 is_ask (Ask v) = true
@@ -29,7 +30,8 @@ is_ask (From p body) = false
 unfoldable pub asks : List Event → ℕ
 asks history = count_by is_ask history
 
--- the broadcast that an event is about, where k asks came before it: the k-th of one's own, or the body's
+-- the broadcast that an event is about, where k asks came before it: the k-th of one's own, or the
+-- body's
 abbrev pub owner_of : ℕ → Event → ℕ
 owner_of own (Ask v) = own
 owner_of own (From p body) = body.owner
@@ -68,7 +70,8 @@ votes_in own a s k e = if is_about own a s k e then option_to_list (vote_of e) e
 -- the votes of a history, where k asks came before it
 abbrev pub votes_from : ℕ → ℕ → ℕ → ℕ → List Event → List Vote
 votes_from own a s k [] = []
-votes_from own a s k (e ∷ history) = votes_in own a s k e ++ votes_from own a s (if is_ask e then k + 1 else k) history
+votes_from own a s k (e ∷ history) =
+    votes_in own a s k e ++ votes_from own a s (if is_ask e then k + 1 else k) history
 
 -- All that a history says about the broadcast s of account a: the votes of one instance.
 unfoldable pub votes : ℕ → ℕ → ℕ → List Event → List Vote
@@ -87,15 +90,16 @@ abbrev pub send_of : ℕ → ℕ → Event → List BodyFields
 send_of own k (Ask v) = body_of Send own k v ∷ []
 send_of own k (From p body) = []
 
--- What is sent to all by an event that follows a history: SEND if it is an ask, then ECHO and READY if
--- they became known by it.
+-- What is sent to all by an event that follows a history: SEND if it is an ask, then ECHO and READY
+-- if they became known by it.
 unfoldable pub says : Group → List Event → Event → List BodyFields
 says g history e =
     let a = owner_of g.own e in
     let s = seq_of (asks history) e in
     let before = votes g.own a s history in
     let after = votes g.own a s (history ++ e ∷ []) in
-    send_of g.own (asks history) e ++ newly Echo a s (echoed before) (echoed after) ++ newly Ready a s (readied g before) (readied g after)
+    send_of g.own (asks history) e ++ newly Echo a s (echoed before) (echoed after)
+    ++ newly Ready a s (readied g before) (readied g after)
 
 abbrev pub out_after : Group → List Event → List Event → List BodyFields
 out_after g before [] = []
@@ -112,9 +116,11 @@ seqs = SEQS
 -- the values of numbers from s on, at most n of them, up to the first that is missing
 unfoldable pub known_from : (ℕ → Option (List ℕ)) → ℕ → ℕ → List (List ℕ)
 known_from value_at s zero = []
-known_from value_at s (suc n) = elim (value_at s) [ None ↦ [] | Some v ↦ v ∷ known_from value_at (s + 1) n ]
+known_from value_at s (suc n) =
+    elim (value_at s) [ None ↦ [] | Some v ↦ v ∷ known_from value_at (s + 1) n ]
 
--- an account's list: its values up to the first that is missing; nothing, where there is no such account
+-- an account's list: its values up to the first that is missing; nothing, where there is no such
+-- account
 unfoldable pub listed : Group → (ℕ → ℕ → Option (List ℕ)) → ℕ → List (List ℕ)
 listed g value_at a = if nat_lt a g.members then known_from (value_at a) 0 seqs else []
 

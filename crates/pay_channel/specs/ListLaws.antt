@@ -1,4 +1,5 @@
--- What holds of deliveries and of the accounts' lists, as statements. Each is proved as a public law.
+-- What holds of deliveries and of the accounts' lists, as statements. Each is proved as a public
+-- law.
 use Rattle.std.specs.Prelude.{◌≡◌, ◌≢◌, ℕ, ◌<◌, ◌≤◌, ◌↔◌, ◌⊎◌, List, [], ◌∷◌, ◌++◌, length, slice_get, Option, Some, None}
 use Rattle.pay_echo.specs.Broadcast.{Group, delivered}
 use Rattle.pay_channel.specs.Prefix.{IsPrefix}
@@ -8,7 +9,9 @@ use Rattle.pay_channel.specs.History.{Event, owner_of, votes, seqs, listed, deli
 -- ---- what is delivered
 
 abbrev pub DeliveredIs : Type 0
-DeliveredIs = (g : Group) (history : List Event) (a s : ℕ) → delivered_at g history a s ≡ delivered g (votes g.own a s history)
+DeliveredIs =
+    (g : Group) (history : List Event) (a s : ℕ)
+    → delivered_at g history a s ≡ delivered g (votes g.own a s history)
 
 abbrev pub NothingDeliveredAtFirst : Type 0
 NothingDeliveredAtFirst = (g : Group) (a s : ℕ) → delivered_at g [] a s ≡ None
@@ -24,7 +27,8 @@ DeliveryStays =
 abbrev pub AreKnown : (ℕ → Option (List ℕ)) → ℕ → Type 0
 AreKnown value_at n = (s : ℕ) → s < n → value_at s ≢ None
 
--- Whatever the values are: place k is there exactly if all numbers up to k have a value, and has that of number k.
+-- Whatever the values are: place k is there exactly if all numbers up to k have a value, and has
+-- that of number k.
 abbrev pub PlaceIsValue : Type 0
 PlaceIsValue =
     (g : Group) (value_at : ℕ → ℕ → Option (List ℕ)) (a k : ℕ) (v : List ℕ)
@@ -35,7 +39,8 @@ abbrev pub PlaceIsDelivered : Type 0
 PlaceIsDelivered =
     (g : Group) (history : List Event) (a k : ℕ) (v : List ℕ)
     → (slice_get (list_of g history a) k ≡ Some v)
-    ↔ ((a < g.members) × (k < seqs) × AreKnown (delivered_at g history a) k × (delivered_at g history a k ≡ Some v))
+    ↔ ((a < g.members) × (k < seqs) × AreKnown (delivered_at g history a) k
+    × (delivered_at g history a k ≡ Some v))
 
 abbrev pub ListedIsDelivered : Type 0
 ListedIsDelivered =
@@ -63,14 +68,16 @@ abbrev pub EmptyAtFirst : Type 0
 EmptyAtFirst = (g : Group) (a : ℕ) → list_of g [] a ≡ []
 
 abbrev pub EmptyOfNobody : Type 0
-EmptyOfNobody = (g : Group) (history : List Event) (a : ℕ) → g.members ≤ a → list_of g history a ≡ []
+EmptyOfNobody =
+    (g : Group) (history : List Event) (a : ℕ) → g.members ≤ a → list_of g history a ≡ []
 
 -- ---- a list and given values
 
 -- what is delivered are these values, each under its place: they are the list
 abbrev pub ListIsValues : Type 0
 ListIsValues =
-    (g : Group) (history : List Event) (a : ℕ) (values : List (List ℕ)) → a < g.members → length values ≤ seqs
+    (g : Group) (history : List Event) (a : ℕ) (values : List (List ℕ)) → a < g.members
+    → length values ≤ seqs
     → ((s : ℕ) → delivered_at g history a s ≡ slice_get values s) → list_of g history a ≡ values
 
 -- nothing else is delivered: the list is a prefix of them
@@ -85,7 +92,8 @@ ListBeginsValues =
 abbrev pub ListsAlike : Type 0
 ListsAlike =
     (g h : Group) (one other : List Event) (a : ℕ) → g.members ≡ h.members
-    → ((s : ℕ) → delivered_at g one a s ≡ delivered_at h other a s) → list_of g one a ≡ list_of h other a
+    → ((s : ℕ) → delivered_at g one a s ≡ delivered_at h other a s)
+    → list_of g one a ≡ list_of h other a
 
 -- where both deliver they agree: one is a prefix of the other
 abbrev pub ListsCompare : Type 0
@@ -93,7 +101,8 @@ ListsCompare =
     (g h : Group) (one other : List Event) (a : ℕ)
     → ((s : ℕ) (v u : List ℕ)
     → delivered_at g one a s ≡ Some v → delivered_at h other a s ≡ Some u → v ≡ u)
-    → IsPrefix (list_of g one a) (list_of h other a) ⊎ IsPrefix (list_of h other a) (list_of g one a)
+    → IsPrefix (list_of g one a) (list_of h other a)
+    ⊎ IsPrefix (list_of h other a) (list_of g one a)
 
 -- ---- a longer history
 

@@ -21,7 +21,8 @@ OutByOneMore =
 
 -- the sent list grows at its end alone
 abbrev pub OutGrows : Type 0
-OutGrows = (g : Group) (history more : List Event) → IsPrefix (out g history) (out g (history ++ more))
+OutGrows =
+    (g : Group) (history more : List Event) → IsPrefix (out g history) (out g (history ++ more))
 
 -- ---- what stands in the sent list about one broadcast
 
@@ -64,7 +65,8 @@ EchoIsSaid =
 abbrev pub ReadyIsSaid : Type 0
 ReadyIsSaid =
     (g : Group) (history : List Event) (a s : ℕ) (v : List ℕ)
-    → Contains (out g history) (body_of Ready a s v) ↔ (readied g (votes g.own a s history) ≡ Some v)
+    → Contains (out g history) (body_of Ready a s v)
+    ↔ (readied g (votes g.own a s history) ≡ Some v)
 
 -- what a member sends may come to any other member of its group: it is about a member, and no WANT
 abbrev pub SentMayCome : Type 0
@@ -89,20 +91,24 @@ abbrev pub AsksAreCounted : Type 0
 AsksAreCounted = (history : List Event) → asks history ≡ length (asked history)
 
 abbrev pub SendsAreAsks : Type 0
-SendsAreAsks = (g : Group) (history : List Event) → sends_in (out g history) ≡ sends_of g.own (asked history)
+SendsAreAsks =
+    (g : Group) (history : List Event) → sends_in (out g history) ≡ sends_of g.own (asked history)
 
--- one SEND about a number of one's own exactly where a value was asked for under it, with that value
+-- one SEND about a number of one's own exactly where a value was asked for under it, with that
+-- value
 abbrev pub SendInOut : Type 0
 SendInOut =
     (g : Group) (history : List Event) (s : ℕ)
     → filter (is_said is_send g.own s) (out g history)
     ≡ map (body_of Send g.own s) (option_to_list (slice_get (asked history) s))
 
--- a SEND stands there exactly if it is about one's own account, with the value asked for under its number
+-- a SEND stands there exactly if it is about one's own account, with the value asked for under its
+-- number
 abbrev pub SentIsAsked : Type 0
 SentIsAsked =
     (g : Group) (history : List Event) (a s : ℕ) (v : List ℕ)
-    → Contains (out g history) (body_of Send a s v) ↔ ((a ≡ g.own) × (slice_get (asked history) s ≡ Some v))
+    → Contains (out g history) (body_of Send a s v)
+    ↔ ((a ≡ g.own) × (slice_get (asked history) s ≡ Some v))
 
 -- in one's own broadcasts the values asked for are echoed, whatever the others send
 abbrev pub OwnEchoIsAsk : Type 0

@@ -39,8 +39,8 @@ pub record Follows (c : State) (history : List Event) : Type 0 where
   pub asks : c.asks ≡ asks history
   pub sent : c.sent ≡ out c.group history
 
--- What is true of every channel. Each broadcast's meaning is that of some votes, and the numbers kept
--- beside the state are the lengths of the members' lists.
+-- What is true of every channel. Each broadcast's meaning is that of some votes, and the numbers
+-- kept beside the state are the lengths of the members' lists.
 pub record IsSound (c : State) (lengths : List ℕ) : Type 0 where
   pub few : c.group.members ≤ MOST_MEMBERS
   pub own : c.group.own < c.group.members

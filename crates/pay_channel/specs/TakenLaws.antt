@@ -1,4 +1,5 @@
--- What holds of the bodies taken from one other member, as statements. Each is proved as a public law.
+-- What holds of the bodies taken from one other member, as statements. Each is proved as a public
+-- law.
 use Rattle.std.specs.Prelude.{◌≡◌, ℕ, ◌+◌, ◌↔◌, false, if◌then◌else◌, List, [], ◌∷◌, ◌++◌, Contains}
 use Rattle.std.specs.List.{count_by}
 use Rattle.std.specs.Option.{option_to_list}
@@ -27,7 +28,9 @@ TakenFromElsewhere =
 
 -- a longer history
 abbrev pub TakenGrows : Type 0
-TakenGrows = (p : ℕ) (history more : List Event) → taken p (history ++ more) ≡ taken p history ++ taken p more
+TakenGrows =
+    (p : ℕ) (history more : List Event)
+    → taken p (history ++ more) ≡ taken p history ++ taken p more
 
 abbrev pub TakenIsFrom : Type 0
 TakenIsFrom =

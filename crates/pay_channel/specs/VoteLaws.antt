@@ -1,4 +1,5 @@
--- What holds of the votes that a history has in one broadcast, as statements. Each is proved as a public law.
+-- What holds of the votes that a history has in one broadcast, as statements. Each is proved as a
+-- public law.
 use Rattle.std.specs.Prelude.{◌≡◌, ◌≢◌, ℕ, ◌+◌, ◌↔◌, false, if◌then◌else◌, List, [], ◌∷◌, ◌++◌, Contains}
 use Rattle.pay_frame.specs.declared.kind.Kind.TheVariants.{Send, Echo, Ready}
 use Rattle.pay_echo.specs.Broadcast as one
@@ -39,12 +40,14 @@ VotesGrow =
 abbrev pub EchoIsTaken : Type 0
 EchoIsTaken =
     (own a s : ℕ) (history : List Event) (p : ℕ) (v : List ℕ)
-    → Contains (votes own a s history) (one.Echo p v) ↔ Contains history (From p (body_of Echo a s v))
+    → Contains (votes own a s history) (one.Echo p v)
+    ↔ Contains history (From p (body_of Echo a s v))
 
 abbrev pub ReadyIsTaken : Type 0
 ReadyIsTaken =
     (own a s : ℕ) (history : List Event) (p : ℕ) (v : List ℕ)
-    → Contains (votes own a s history) (one.Ready p v) ↔ Contains history (From p (body_of Ready a s v))
+    → Contains (votes own a s history) (one.Ready p v)
+    ↔ Contains history (From p (body_of Ready a s v))
 
 -- another's SEND is among them exactly where it was taken from its owner
 abbrev pub SendIsTaken : Type 0

@@ -1,5 +1,5 @@
-/// What one event made known: that the member sends ECHO, sends READY, delivers, and by how many places
-/// the list of the event's owner grew.
+/// What one event made known: that the member sends ECHO, sends READY, delivers, and by how many
+/// places the list of the event's owner grew.
 #[derive(Clone, Copy, Debug, PartialEq, Eq)]
 pub struct Applied {
     pub echo: bool,

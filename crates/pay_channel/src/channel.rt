@@ -18,8 +18,8 @@ use pay_frame::{Body, GREATEST_VALUE, Kind, MOST_MEMBERS};
 use std::alloc::{AllocError, Global};
 use std::marker::Model;
 
-/// One member's broadcasts: an instance for each owner and number of which something is known, the list of
-/// all that the member sent to all, and how many values stand in each owner's list.
+/// One member's broadcasts: an instance for each owner and number of which something is known, the
+/// list of all that the member sent to all, and how many values stand in each owner's list.
 #[derive(Drop)]
 pub struct Channel<I: Instance + Drop> {
     group: Group,
@@ -34,9 +34,12 @@ impl<I: Instance + Drop> Model for Channel<I> {
 
     ghost Value = { State };
 
-    ghost view = { λ c. record { group = c.group; asks = c.asks; slots = c.instances; sent = c.sent.items } };
+    ghost view = { λ c.
+        record { group = c.group; asks = c.asks; slots = c.instances; sent = c.sent.items } };
 
-    ghost invariant = { λ c. IsSound (record { group = c.group; asks = c.asks; slots = c.instances; sent = c.sent.items }) c.listed.items };
+    ghost invariant = { λ c. IsSound
+        (record { group = c.group; asks = c.asks; slots = c.instances; sent = c.sent.items })
+        c.listed.items };
 }
 
 impl<I: Instance + Drop> Channel<I> {
@@ -66,16 +69,18 @@ impl<I: Instance + Drop> Channel<I> {
 
     /// Takes one event, and tells what became known by it.
     ///
-    /// A value of one's own has at most a frame's bytes, and fewer than 65,536 came before it. A body comes from
-    /// another member, about a member, and is no WANT. Fails only where memory is refused; the channel is then
-    /// as it was, since all room is made before the first change.
+    /// A value of one's own has at most a frame's bytes, and fewer than 65,536 came before it. A
+    /// body comes from another member, about a member, and is no WANT. Fails only where memory is
+    /// refused; the channel is then as it was, since all room is made before the first change.
     pub fn apply(&mut self, alloc: Global, event: EventRef) -> Result<Applied, AllocError>
         requires event { IsEvent self.old.group (event_of event) }
         requires number { is_ask (event_of event) ≡ true → self.old.asks < seqs }
         ensures takes { OnOk result (Takes self.old self.new (event_of event.entry)) }
         ensures applied { IfOk result (IsApplied self.old self.new (event_of event.entry)) }
-        ensures grows { OnOk result (GrowsOnly (lists_of self.old) (lists_of self.new) (owner_of self.old.group.own (event_of event.entry))) }
-        ensures follows { OnOk result ((history : List Event) → Follows self.old history → Follows self.new (history ++ event_of event.entry ∷ [])) }
+        ensures grows { OnOk result (GrowsOnly (lists_of self.old) (lists_of self.new)
+            (owner_of self.old.group.own (event_of event.entry))) }
+        ensures follows { OnOk result ((history : List Event) → Follows self.old history
+            → Follows self.new (history ++ event_of event.entry ∷ [])) }
         ensures err { OnErr result (IsAsBefore self.old self.new) }
     {
         match event {
@@ -90,7 +95,8 @@ impl<I: Instance + Drop> Channel<I> {
         requires number { self.old.asks < seqs }
         ensures takes { OnOk result (Takes self.old self.new (Ask value.now)) }
         ensures applied { IfOk result (IsApplied self.old self.new (Ask value.now)) }
-        ensures grows { OnOk result (GrowsOnly (lists_of self.old) (lists_of self.new) self.old.group.own) }
+        ensures grows { OnOk result
+            (GrowsOnly (lists_of self.old) (lists_of self.new) self.old.group.own) }
         ensures err { OnErr result (IsAsBefore self.old self.new) }
     {
         let own = self.group.own;
@@ -106,7 +112,8 @@ impl<I: Instance + Drop> Channel<I> {
         requires event { IsEvent self.old.group (From process body.now) }
         ensures takes { OnOk result (Takes self.old self.new (From process body.now)) }
         ensures applied { IfOk result (IsApplied self.old self.new (From process body.now)) }
-        ensures grows { OnOk result (GrowsOnly (lists_of self.old) (lists_of self.new) body.now.owner) }
+        ensures grows { OnOk result
+            (GrowsOnly (lists_of self.old) (lists_of self.new) body.now.owner) }
         ensures err { OnErr result (IsAsBefore self.old self.new) }
     {
         match vote_in(process, body) {

@@ -5,12 +5,13 @@ ghost use Rattle.pay_frame.specs.declared.kind.Kind.TheVariants.{Send, Echo, Rea
 ghost use Rattle.pay_echo.specs.Broadcast.{echoed};
 ghost use Rattle.pay_channel.specs.History.{IsEvent, Ask, From, body_of, votes, out, delivered_at, list_of};
 ghost use Rattle.pay_channel.specs.Asked.{asked, sends_in, sends_of};
-ghost use Rattle.pay_channel.specs.Examples.{four, late_first_number, A, X, Y};
+ghost use Rattle.pay_channel.specs.Examples.{four, forestalled, late_first_number, A, X, Y};
 
-/// What is sent to all: READY for each number, and SEND and ECHO of the ask; the SEND of account 3 by
-/// another member does nothing.
+/// What is sent to all: READY for each number, and SEND and ECHO of the ask; the SEND of account 3
+/// by another member does nothing.
 pub fn late_first_number_out()
-    ensures { out four late_first_number ≡ body_of Ready 3 1 X ∷ body_of Ready 3 0 Y ∷ body_of Send 0 0 A ∷ body_of Echo 0 0 A ∷ [] }
+    ensures { out four late_first_number
+        ≡ body_of Ready 3 1 X ∷ body_of Ready 3 0 Y ∷ body_of Send 0 0 A ∷ body_of Echo 0 0 A ∷ [] }
 {}
 
 /// Number 1 is delivered before number 0; the list has both, in their order.
@@ -20,14 +21,14 @@ pub fn late_first_number_list()
     ensures own { list_of four late_first_number 0 ≡ [] }
 {}
 
-/// One value was asked for: it has the only SEND, and is echoed. A second one gets number 1, and a SEND with
-/// which another member forestalls it does nothing.
+/// One value was asked for: it has the only SEND, and is echoed. A second one gets number 1, and a
+/// SEND with which another member forestalls it does nothing.
 pub fn late_first_number_asked()
     ensures events { All (IsEvent four) late_first_number }
     ensures asked { asked late_first_number ≡ A ∷ [] }
     ensures sends { sends_in (out four late_first_number) ≡ body_of Send 0 0 A ∷ [] }
     ensures echo { echoed (votes 0 0 0 late_first_number) ≡ Some A }
-    ensures again { asked (late_first_number ++ From 1 (body_of Send 0 1 Y) ∷ Ask X ∷ []) ≡ A ∷ X ∷ [] }
+    ensures again { asked forestalled ≡ A ∷ X ∷ [] }
     ensures numbered { sends_of 0 (A ∷ X ∷ []) ≡ body_of Send 0 0 A ∷ body_of Send 0 1 X ∷ [] }
-    ensures forged { echoed (votes 0 0 1 (late_first_number ++ From 1 (body_of Send 0 1 Y) ∷ Ask X ∷ [])) ≡ Some X }
+    ensures forged { echoed (votes 0 0 1 forestalled) ≡ Some X }
 {}

@@ -28,7 +28,9 @@ impl<I: Instance + Drop> Model for Instances<I> {
 
     ghost Value = { List Slot };
 
-    ghost view = { λ c. map (λ e. record { owner = e.0.0; seq = e.0.1; meaning = I.meaning e.1 }) c.by_broadcast.entries };
+    ghost view = { λ c.
+        map (λ e. record { owner = e.0.0; seq = e.0.1; meaning = I.meaning e.1 })
+        c.by_broadcast.entries };
 }
 
 impl<I: Instance + Drop> Instances<I> {
@@ -55,7 +57,8 @@ impl<I: Instance + Drop> Instances<I> {
     /// How many numbers from this one on have a delivered value, up to the first that has none.
     pub fn count_following(&self, owner: u16, from: u32) -> u32
         requires { from ≤ seqs }
-        ensures { (g : Group) → result ≡ length (known_from (λ s. (meaning_in g self.now owner s).delivered) from (seqs - from)) }
+        ensures { (g : Group) → result ≡ length
+            (known_from (λ s. (meaning_in g self.now owner s).delivered) from (seqs - from)) }
     {
         for seq in from..SEQS {
             if self.delivered(owner, seq).is_none() {
@@ -65,8 +68,8 @@ impl<I: Instance + Drop> Instances<I> {
         SEQS - from
     }
 
-    /// Tells a broadcast's instance one vote; where none is there yet, a fresh one. The bodies that are due are
-    /// made before the instance changes.
+    /// Tells a broadcast's instance one vote; where none is there yet, a fresh one. The bodies that
+    /// are due are made before the instance changes.
     pub fn hear(
         &mut self,
         alloc: Global,
@@ -99,7 +102,8 @@ impl<I: Instance + Drop> Instances<I> {
     }
 }
 
-// Asks an instance what a vote makes known, makes the bodies that are due, and then tells it the vote.
+// Asks an instance what a vote makes known, makes the bodies that are due, and then tells it the
+// vote.
 fn tell<I: Instance>(
     instance: &mut I,
     alloc: Global,

@@ -1,5 +1,5 @@
-//! Laws of a history's votes, sent list and lists. Each function's contract is the law. Its body is empty, or
-//! only names the laws of one broadcast that it stands on.
+//! Laws of a history's votes, sent list and lists. Each function's contract is the law. Its body is
+//! empty, or only names the laws of one broadcast that it stands on.
 
 ghost use Rattle.pay_channel.specs.VoteLaws.{NoVotesAtFirst, NoAsksAtFirst, VotesByOneMore, AsksByOneMore, OthersUntouched, VotesGrow, EchoIsTaken, ReadyIsTaken, SendIsTaken};
 ghost use Rattle.pay_channel.specs.TakenLaws.{NothingTakenAtFirst, TakenByOneMore, TakenFromHere, TakenFromElsewhere, TakenGrows, TakenIsFrom, NextIsCount, NextByOneMore};
@@ -22,7 +22,8 @@ pub fn nothing_at_first()
     nothing_known_at_first();
 }
 
-/// What a history's votes, asked values and sent list are with one event more; the event is a vote in one broadcast at most.
+/// What a history's votes, asked values and sent list are with one event more; the event is a vote
+/// in one broadcast at most.
 pub fn one_event_more()
     ensures votes { VotesByOneMore }
     ensures asks { AsksByOneMore }
@@ -37,16 +38,17 @@ pub fn grow_at_the_end()
     ensures out { OutGrows }
 {}
 
-/// Votes are what was taken, both ways: an ECHO or READY of a process is a vote exactly where that process's
-/// body is in the history, and a SEND of another's broadcast exactly where its owner's is.
+/// Votes are what was taken, both ways: an ECHO or READY of a process is a vote exactly where that
+/// process's body is in the history, and a SEND of another's broadcast exactly where its owner's
+/// is.
 pub fn votes_are_taken()
     ensures echo { EchoIsTaken }
     ensures ready { ReadyIsTaken }
     ensures send { SendIsTaken }
 {}
 
-/// What was taken from one member, in order, with one event more and over a longer history; the next number
-/// from it counts its events.
+/// What was taken from one member, in order, with one event more and over a longer history; the
+/// next number from it counts its events.
 pub fn taken_in_order()
     ensures more { TakenByOneMore }
     ensures here { TakenFromHere }
@@ -57,8 +59,8 @@ pub fn taken_in_order()
     ensures next { NextByOneMore }
 {}
 
-/// The sent list has one ECHO about a broadcast exactly where a value was echoed in it, with that value, and
-/// the same for READY. What it has may come to any other member of the group.
+/// The sent list has one ECHO about a broadcast exactly where a value was echoed in it, with that
+/// value, and the same for READY. What it has may come to any other member of the group.
 pub fn what_is_sent()
     ensures echo { EchoInOut }
     ensures ready { ReadyInOut }
@@ -70,8 +72,9 @@ pub fn what_is_sent()
     known_stays();
 }
 
-/// The SENDs of the sent list are the values that the member asked to broadcast, in their order and numbered
-/// from 0: there is one for each, and no other. The same values are echoed in its own broadcasts.
+/// The SENDs of the sent list are the values that the member asked to broadcast, in their order and
+/// numbered from 0: there is one for each, and no other. The same values are echoed in its own
+/// broadcasts.
 pub fn sends_are_asks()
     ensures counted { AsksAreCounted }
     ensures sends { SendsAreAsks }
@@ -90,8 +93,8 @@ pub fn delivered_for_good()
     known_stays();
 }
 
-/// An account's list in words of what is delivered: it has a place exactly where all numbers up to it are
-/// delivered, and there the value delivered; so it ends at the first number that has none.
+/// An account's list in words of what is delivered: it has a place exactly where all numbers up to
+/// it are delivered, and there the value delivered; so it ends at the first number that has none.
 pub fn lists_are_delivered()
     ensures values { PlaceIsValue }
     ensures place { PlaceIsDelivered }
@@ -102,9 +105,9 @@ pub fn lists_are_delivered()
     ensures nobody { EmptyOfNobody }
 {}
 
-/// A list next to given values, and next to another member's list of the same account: alike where the
-/// deliveries are, and a prefix where nothing else is delivered. Where two members' deliveries never differ,
-/// one list is a prefix of the other.
+/// A list next to given values, and next to another member's list of the same account: alike where
+/// the deliveries are, and a prefix where nothing else is delivered. Where two members' deliveries
+/// never differ, one list is a prefix of the other.
 pub fn lists_compared()
     ensures values { ListIsValues }
     ensures begins { ListBeginsValues }
@@ -112,8 +115,8 @@ pub fn lists_compared()
     ensures compare { ListsCompare }
 {}
 
-/// A shorter history's asked values and lists are prefixes of a longer one's, and one event can only make
-/// the list of the account that it is about longer.
+/// A shorter history's asked values and lists are prefixes of a longer one's, and one event can
+/// only make the list of the account that it is about longer.
 pub fn lists_grow()
     ensures asked { AskedGrows }
     ensures many { ListsGrow }
@@ -122,9 +125,9 @@ pub fn lists_grow()
     known_stays();
 }
 
-/// A channel that follows a history follows the longer one after one event, and the same one where nothing
-/// that can be seen changed. Its deliveries, lists and answers are those of the history, so that nothing tells
-/// apart two channels that follow the same one.
+/// A channel that follows a history follows the longer one after one event, and the same one where
+/// nothing that can be seen changed. Its deliveries, lists and answers are those of the history, so
+/// that nothing tells apart two channels that follow the same one.
 pub fn a_channel_follows()
     ensures event { ChannelFollows }
     ensures unchanged { UnchangedFollows }
@@ -134,8 +137,8 @@ pub fn a_channel_follows()
     ensures alike { FollowersAreAlike }
 {}
 
-/// Whatever a channel took, no list of it has more than one value for each number, and where nothing that can
-/// be seen changed its lists are the same.
+/// Whatever a channel took, no list of it has more than one value for each number, and where
+/// nothing that can be seen changed its lists are the same.
 pub fn lists_of_a_channel()
     ensures short { ListsOfAreShort }
     ensures unchanged { UnchangedLists }

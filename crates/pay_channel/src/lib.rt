@@ -1,6 +1,7 @@
 //! A member's side of the broadcast channel: what each owner broadcast, in its order.
 //!
-//! [`Source`] is all that a layer above has to know of a channel: one list of values for each owner.
+//! [`Source`] is all that a layer above has to know of a channel: one list of values for each
+//! owner.
 #![tactic(auto)]
 
 mod applied;

@@ -1,5 +1,5 @@
--- The text of `check` for a list of bytes: a line for each frame of the stream, and one for the fault that
--- it ends with.
+-- The text of `check` for a list of bytes: a line for each frame of the stream, and one for the
+-- fault that it ends with.
 use Rattle.std.specs.Prelude.{◌≡◌, ℕ, Bool, false, ◌==◌, List, [], ◌∷◌, ◌++◌, length, replicate, Option, Some, None}
 use Rattle.pay_frame.specs.declared.fault.FrameFault.{FrameFault}
 use Rattle.pay_frame.specs.Frame.{FrameFields}

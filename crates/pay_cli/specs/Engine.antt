@@ -15,7 +15,8 @@ use Rattle.pay_cli.specs.CheckText.{IsCheckText, at_start, known_after, lines_fr
 -- ---- what the engine does
 
 -- the text of all the input is written, and it ends so
-abbrev pub WritesText : KeyFields → Option (List ℕ) → Option (List ℕ) → Option (List ℕ) → Option FrameFault → Type 0
+abbrev pub WritesText :
+    KeyFields → Option (List ℕ) → Option (List ℕ) → Option (List ℕ) → Option FrameFault → Type 0
 WritesText k input before after ending =
     IfSome input (λ bytes. (text : List ℕ) × IsCheckText k bytes text ending × Appends before after text)
 
@@ -27,13 +28,16 @@ pub record BeginsText (k : KeyFields) (before after : Option (List ℕ)) (bytes 
   pub wrote : WroteBeginning before after text
 
 -- a beginning of the text of all the input is written
-abbrev pub WritesBeginning : KeyFields → Option (List ℕ) → Option (List ℕ) → Option (List ℕ) → Type 0
+abbrev pub WritesBeginning :
+    KeyFields → Option (List ℕ) → Option (List ℕ) → Option (List ℕ) → Type 0
 WritesBeginning k input before after =
     IfSome input (λ bytes. IsBytes bytes → BeginsText k before after bytes)
 
--- What is written, by how the engine ended: the whole text at the input's end, or up to the fault in
--- what was read; else a beginning of it.
-abbrev pub Writes : KeyFields → Option (List ℕ) → Option (List ℕ) → Option (List ℕ) → Option (List ℕ) → Result ⊤ EngineFault → Type 0
+-- What is written, by how the engine ended: the whole text at the input's end, or up to the fault
+-- in what was read; else a beginning of it.
+abbrev pub Writes :
+    KeyFields → Option (List ℕ) → Option (List ℕ) → Option (List ℕ) → Option (List ℕ)
+    → Result ⊤ EngineFault → Type 0
 Writes k input left before after (Ok _) = WritesText k input before after None × IsAtEnd left
 Writes k input left before after (Err (Frame fault)) = WritesText k input before after (Some fault)
 Writes k input left before after (Err Memory) = WritesBeginning k input before after
@@ -65,18 +69,20 @@ pub record PushesEnd (k : KeyFields) (p : Progress) (bytes out : List ℕ) (endi
   pub stream : IsStream bytes frames ending
   pub lines : text ≡ out ++ text_from k p frames ending
 
--- The lines are written, and the fault that they end with, if any, is answered; or a beginning of them,
--- where a write failed. Nothing else is answered.
-abbrev pub WritesLines : Option (List ℕ) → Option (List ℕ) → List ℕ → Option FrameFault → Result ⊤ EngineFault → Type 0
+-- The lines are written, and the fault that they end with, if any, is answered; or a beginning of
+-- them, where a write failed. Nothing else is answered.
+abbrev pub WritesLines :
+    Option (List ℕ) → Option (List ℕ) → List ℕ → Option FrameFault → Result ⊤ EngineFault → Type 0
 WritesLines before after out fault (Ok _) = Appends before after out × (fault ≡ None)
-WritesLines before after out fault (Err (Frame found)) = Appends before after out × (fault ≡ Some found)
+WritesLines before after out fault (Err (Frame found)) =
+    Appends before after out × (fault ≡ Some found)
 WritesLines before after out fault (Err Write) = WroteBeginning before after out
 WritesLines before after out fault (Err Memory) = ⊥
 WritesLines before after out fault (Err Read) = ⊥
 WritesLines before after out fault (Err Bound) = ⊥
 
--- Between two reads: what was read, in so many reads, is some frames and then what is held, and the lines
--- of these frames are written.
+-- Between two reads: what was read, in so many reads, is some frames and then what is held, and the
+-- lines of these frames are written.
 pub record IsGoing (k : KeyFields) (input left before after : Option (List ℕ)) (p : Progress) (held : List ℕ) (reads : ℕ) : Type 0 where
   pub read : List ℕ
   pub frames : List FrameFields
@@ -88,7 +94,11 @@ pub record IsGoing (k : KeyFields) (input left before after : Option (List ℕ))
   pub many : reads ≤ length read
 
 -- after one read more: it goes on, or it came to an end
-abbrev pub Goes : KeyFields → Option (List ℕ) → Option (List ℕ) → Option (List ℕ) → Option (List ℕ) → Progress → List ℕ → ℕ → Result Bool EngineFault → Type 0
-Goes k input left before after p held reads (Ok true) = IsGoing k input left before after p held (reads + 1)
+abbrev pub Goes :
+    KeyFields → Option (List ℕ) → Option (List ℕ) → Option (List ℕ) → Option (List ℕ) → Progress
+    → List ℕ → ℕ → Result Bool EngineFault → Type 0
+Goes k input left before after p held reads (Ok true) =
+    IsGoing k input left before after p held (reads + 1)
 Goes k input left before after p held reads (Ok false) = Writes k input left before after (Ok tt)
-Goes k input left before after p held reads (Err fault) = Writes k input left before after (Err fault)
+Goes k input left before after p held reads (Err fault) =
+    Writes k input left before after (Err fault)

@@ -45,8 +45,8 @@ refused_words fault =
     codes " refused " ++ decimal (link_fault_number fault) ++ codes " " ++ link_fault_name fault
     ++ next_words fault
 
--- What becomes of a frame: it opened and is the next of its sender, it opened and is a WANT, or it is
--- refused.
+-- What becomes of a frame: it opened and is the next of its sender, it opened and is a WANT, or it
+-- is refused.
 pub data Outcome : Type 0 where
   Taken : Outcome
   Wanted : Outcome
@@ -89,7 +89,8 @@ fronts_after fronts f (Refused fault) = fronts
 
 -- what is known after a frame's line
 unfoldable pub moved : KeyFields → Progress → FrameFields → Progress
-moved k p f = record { fronts = fronts_after p.fronts f (outcome_of k p.fronts f); line = p.line + 1 }
+moved k p f =
+    record { fronts = fronts_after p.fronts f (outcome_of k p.fronts f); line = p.line + 1 }
 
 -- `k fault C NAME`
 abbrev pub fault_line : ℕ → FrameFault → List ℕ

@@ -1,19 +1,20 @@
 -- Authenticated double-echo broadcast (Cachin, Guerraoui, Rodrigues, Introduction to Reliable and
 -- Secure Distributed Programming, second edition, chapter 3): what one process of a group has sent
--- and delivered in one instance. Each answer is a question asked of the whole list of the votes that
--- the process took, oldest first; nothing here is counted along the way.
+-- and delivered in one instance. Each answer is a question asked of the whole list of the votes
+-- that the process took, oldest first; nothing here is counted along the way.
 use Rattle.std.specs.Prelude.{◌≢◌, ℕ, ◌+◌, ◌*◌, ◌<◌, Bool, false, ◌||◌, ◌==◌, nat_lt, if◌then◌else◌, List, [], ◌∷◌, map, Option, Some, None}
 use Rattle.std.specs.Option.{option_or}
 use Rattle.std.specs.List.{find, count_by, range_with_len}
 use Rattle.std.specs.Str.{bytes_eq}
 use Rattle.pay_echo.specs.declared.group.Group.{Group as DeclaredGroup}
 
--- N processes numbered from 0, of which f may be faulty, and the number of the one whose state this is
+-- N processes numbered from 0, of which f may be faulty, and the number of the one whose state this
+-- is
 abbrev pub Group : Type 0
 Group = DeclaredGroup
 
--- A message of the instance as it is taken: the sender's value (its SEND, or what oneself broadcasts),
--- or another process's ECHO or READY with its value.
+-- A message of the instance as it is taken: the sender's value (its SEND, or what oneself
+-- broadcasts), or another process's ECHO or READY with its value.
 pub data Vote : Type 0 where
   Send : List ℕ → Vote
   Echo : ℕ → List ℕ → Vote
@@ -88,7 +89,8 @@ other_ready_of g votes p = if p == g.own then None else find_map (readied_by p) 
 unfoldable pub other_ready_set : Group → List Vote → List ℕ → ℕ → Bool
 other_ready_set g votes v p = is_for v (other_ready_of g votes p)
 
--- One may send READY v on more than (N + f) / 2 ECHOs of v, or (amplification) on more than f READYs of v.
+-- One may send READY v on more than (N + f) / 2 ECHOs of v, or (amplification) on more than f
+-- READYs of v.
 unfoldable pub may_ready : Group → List Vote → List ℕ → Bool
 may_ready g votes v =
     nat_lt (g.members + g.faults) (2 * size g.members (echo_set g votes v))

@@ -1,5 +1,5 @@
 -- What holds of the answers of `Broadcast`, as statements. Each is proved as a public law.
-use Rattle.std.specs.Prelude.{◌≡◌, ◌≢◌, ℕ, ◌+◌, ◌*◌, ◌<◌, ◌≤◌, ◌⊎◌, ◌↔◌, true, if◌then◌else◌, List, [], ◌∷◌, ◌++◌, Some, None, Contains}
+use Rattle.std.specs.Prelude.{◌≡◌, ◌≢◌, ℕ, ◌+◌, ◌*◌, ◌<◌, ◌≤◌, ◌⊎◌, ◌↔◌, Bool, true, if◌then◌else◌, List, [], ◌∷◌, ◌++◌, Option, Some, None, Contains}
 use Rattle.std.specs.Option.{option_or}
 use Rattle.pay_echo.specs.Broadcast.{Group, Vote, Send, Echo, Ready, value_of, sent, size, echoed, echo_of, echo_set, other_ready_of, other_ready_set, may_ready, readied, ready_of, ready_set, may_deliver, delivered}
 use Rattle.pay_echo.specs.Meaning.{meaning_of}
@@ -21,44 +21,66 @@ NotDeliveredAtFirst = (g : Group) → delivered g [] ≡ None
 abbrev pub SentIsItsValue : Type 0
 SentIsItsValue = (x : Vote) → (sent x ≡ None) ⊎ (sent x ≡ Some (value_of x))
 
+-- a vote's value, where something holds
+abbrev pub value_if : Bool → Vote → Option (List ℕ)
+value_if holds x = if holds then Some (value_of x) else None
+
 abbrev pub EchoedByOneMore : Type 0
-EchoedByOneMore = (votes : List Vote) (x : Vote) → echoed (votes ++ x ∷ []) ≡ option_or (echoed votes) (sent x)
+EchoedByOneMore =
+    (votes : List Vote) (x : Vote) → echoed (votes ++ x ∷ []) ≡ option_or (echoed votes) (sent x)
 
 abbrev pub ReadiedByOneMore : Type 0
 ReadiedByOneMore =
     (g : Group) (votes : List Vote) (x : Vote)
-    → readied g (votes ++ x ∷ []) ≡ option_or (readied g votes) (if may_ready g (votes ++ x ∷ []) (value_of x) then Some (value_of x) else None)
+    → readied g (votes ++ x ∷ [])
+    ≡ option_or (readied g votes) (value_if (may_ready g (votes ++ x ∷ []) (value_of x)) x)
 
 abbrev pub DeliveredByOneMore : Type 0
 DeliveredByOneMore =
     (g : Group) (votes : List Vote) (x : Vote)
-    → delivered g (votes ++ x ∷ []) ≡ option_or (delivered g votes) (if may_deliver g (votes ++ x ∷ []) (value_of x) then Some (value_of x) else None)
+    → delivered g (votes ++ x ∷ [])
+    ≡ option_or (delivered g votes) (value_if (may_deliver g (votes ++ x ∷ []) (value_of x)) x)
 
 -- ---- what was known stays, and nobody leaves a set
 
 abbrev pub EchoedStays : Type 0
-EchoedStays = (votes more : List Vote) (v : List ℕ) → echoed votes ≡ Some v → echoed (votes ++ more) ≡ Some v
+EchoedStays =
+    (votes more : List Vote) (v : List ℕ) → echoed votes ≡ Some v → echoed (votes ++ more) ≡ Some v
 
 abbrev pub ReadiedStays : Type 0
-ReadiedStays = (g : Group) (votes more : List Vote) (v : List ℕ) → readied g votes ≡ Some v → readied g (votes ++ more) ≡ Some v
+ReadiedStays =
+    (g : Group) (votes more : List Vote) (v : List ℕ) → readied g votes ≡ Some v
+    → readied g (votes ++ more) ≡ Some v
 
 abbrev pub DeliveredStays : Type 0
-DeliveredStays = (g : Group) (votes more : List Vote) (v : List ℕ) → delivered g votes ≡ Some v → delivered g (votes ++ more) ≡ Some v
+DeliveredStays =
+    (g : Group) (votes more : List Vote) (v : List ℕ) → delivered g votes ≡ Some v
+    → delivered g (votes ++ more) ≡ Some v
 
 abbrev pub EchoStays : Type 0
-EchoStays = (g : Group) (votes more : List Vote) (p : ℕ) (v : List ℕ) → echo_of g votes p ≡ Some v → echo_of g (votes ++ more) p ≡ Some v
+EchoStays =
+    (g : Group) (votes more : List Vote) (p : ℕ) (v : List ℕ) → echo_of g votes p ≡ Some v
+    → echo_of g (votes ++ more) p ≡ Some v
 
 abbrev pub ReadyStays : Type 0
-ReadyStays = (g : Group) (votes more : List Vote) (p : ℕ) (v : List ℕ) → ready_of g votes p ≡ Some v → ready_of g (votes ++ more) p ≡ Some v
+ReadyStays =
+    (g : Group) (votes more : List Vote) (p : ℕ) (v : List ℕ) → ready_of g votes p ≡ Some v
+    → ready_of g (votes ++ more) p ≡ Some v
 
 abbrev pub OtherReadyStays : Type 0
-OtherReadyStays = (g : Group) (votes more : List Vote) (p : ℕ) (v : List ℕ) → other_ready_of g votes p ≡ Some v → other_ready_of g (votes ++ more) p ≡ Some v
+OtherReadyStays =
+    (g : Group) (votes more : List Vote) (p : ℕ) (v : List ℕ) → other_ready_of g votes p ≡ Some v
+    → other_ready_of g (votes ++ more) p ≡ Some v
 
 abbrev pub EchoSetGrows : Type 0
-EchoSetGrows = (g : Group) (votes more : List Vote) (v : List ℕ) → size g.members (echo_set g votes v) ≤ size g.members (echo_set g (votes ++ more) v)
+EchoSetGrows =
+    (g : Group) (votes more : List Vote) (v : List ℕ)
+    → size g.members (echo_set g votes v) ≤ size g.members (echo_set g (votes ++ more) v)
 
 abbrev pub ReadySetGrows : Type 0
-ReadySetGrows = (g : Group) (votes more : List Vote) (v : List ℕ) → size g.members (ready_set g votes v) ≤ size g.members (ready_set g (votes ++ more) v)
+ReadySetGrows =
+    (g : Group) (votes more : List Vote) (v : List ℕ)
+    → size g.members (ready_set g votes v) ≤ size g.members (ready_set g (votes ++ more) v)
 
 abbrev pub OtherReadySetGrows : Type 0
 OtherReadySetGrows =
@@ -74,21 +96,27 @@ SecondSend =
 
 abbrev pub SecondEcho : Type 0
 SecondEcho =
-    (g : Group) (votes : List Vote) (p : ℕ) (v w : List ℕ) → g.own < g.members → p < g.members → p ≢ g.own → echo_of g votes p ≡ Some w
+    (g : Group) (votes : List Vote) (p : ℕ) (v w : List ℕ) → g.own < g.members → p < g.members
+    → p ≢ g.own → echo_of g votes p ≡ Some w
     → meaning_of g (votes ++ Echo p v ∷ []) ≡ meaning_of g votes
 
 abbrev pub SecondReady : Type 0
 SecondReady =
-    (g : Group) (votes : List Vote) (p : ℕ) (v w : List ℕ) → g.own < g.members → p < g.members → p ≢ g.own → ready_of g votes p ≡ Some w
+    (g : Group) (votes : List Vote) (p : ℕ) (v w : List ℕ) → g.own < g.members → p < g.members
+    → p ≢ g.own → ready_of g votes p ≡ Some w
     → meaning_of g (votes ++ Ready p v ∷ []) ≡ meaning_of g votes
 
 -- ---- who is in a set, and whose vote came
 
 abbrev pub InEchoSet : Type 0
-InEchoSet = (g : Group) (votes : List Vote) (v : List ℕ) (p : ℕ) → (echo_set g votes v p ≡ true) ↔ (echo_of g votes p ≡ Some v)
+InEchoSet =
+    (g : Group) (votes : List Vote) (v : List ℕ) (p : ℕ)
+    → (echo_set g votes v p ≡ true) ↔ (echo_of g votes p ≡ Some v)
 
 abbrev pub InReadySet : Type 0
-InReadySet = (g : Group) (votes : List Vote) (v : List ℕ) (p : ℕ) → (ready_set g votes v p ≡ true) ↔ (ready_of g votes p ≡ Some v)
+InReadySet =
+    (g : Group) (votes : List Vote) (v : List ℕ) (p : ℕ)
+    → (ready_set g votes v p ≡ true) ↔ (ready_of g votes p ≡ Some v)
 
 abbrev pub InOtherReadySet : Type 0
 InOtherReadySet =
@@ -105,44 +133,63 @@ abbrev pub SendCame : Type 0
 SendCame = (votes : List Vote) (v : List ℕ) → echoed votes ≡ Some v → Contains votes (Send v)
 
 abbrev pub EchoCame : Type 0
-EchoCame = (g : Group) (votes : List Vote) (p : ℕ) (v : List ℕ) → p ≢ g.own → echo_of g votes p ≡ Some v → Contains votes (Echo p v)
+EchoCame =
+    (g : Group) (votes : List Vote) (p : ℕ) (v : List ℕ) → p ≢ g.own → echo_of g votes p ≡ Some v
+    → Contains votes (Echo p v)
 
 abbrev pub ReadyCame : Type 0
-ReadyCame = (g : Group) (votes : List Vote) (p : ℕ) (v : List ℕ) → p ≢ g.own → ready_of g votes p ≡ Some v → Contains votes (Ready p v)
+ReadyCame =
+    (g : Group) (votes : List Vote) (p : ℕ) (v : List ℕ) → p ≢ g.own → ready_of g votes p ≡ Some v
+    → Contains votes (Ready p v)
 
 -- where one came, the first is known
 abbrev pub SendIsEchoed : Type 0
 SendIsEchoed = (votes : List Vote) (v : List ℕ) → Contains votes (Send v) → echoed votes ≢ None
 
 abbrev pub EchoCounts : Type 0
-EchoCounts = (g : Group) (votes : List Vote) (p : ℕ) (v : List ℕ) → p ≢ g.own → Contains votes (Echo p v) → echo_of g votes p ≢ None
+EchoCounts =
+    (g : Group) (votes : List Vote) (p : ℕ) (v : List ℕ) → p ≢ g.own → Contains votes (Echo p v)
+    → echo_of g votes p ≢ None
 
 abbrev pub ReadyCounts : Type 0
-ReadyCounts = (g : Group) (votes : List Vote) (p : ℕ) (v : List ℕ) → p ≢ g.own → Contains votes (Ready p v) → ready_of g votes p ≢ None
+ReadyCounts =
+    (g : Group) (votes : List Vote) (p : ℕ) (v : List ℕ) → p ≢ g.own → Contains votes (Ready p v)
+    → ready_of g votes p ≢ None
 
 -- ---- why one is READY, and why one delivers
+
+abbrev pub HasQuorum : Group → List Vote → List ℕ → Type 0
+HasQuorum g votes v = g.members + g.faults < 2 * size g.members (echo_set g votes v)
+
+abbrev pub IsAmplified : Group → List Vote → List ℕ → Type 0
+IsAmplified g votes v = g.faults < size g.members (other_ready_set g votes v)
+
+abbrev pub HasReadys : Group → List Vote → List ℕ → Type 0
+HasReadys g votes v = 2 * g.faults < size g.members (ready_set g votes v)
 
 abbrev pub WhyReady : Type 0
 WhyReady =
     (g : Group) (votes : List Vote) (v : List ℕ) → readied g votes ≡ Some v
-    → (g.members + g.faults < 2 * size g.members (echo_set g votes v)) ⊎ (g.faults < size g.members (other_ready_set g votes v))
+    → HasQuorum g votes v ⊎ IsAmplified g votes v
 
 abbrev pub WhyDelivered : Type 0
-WhyDelivered = (g : Group) (votes : List Vote) (v : List ℕ) → delivered g votes ≡ Some v → 2 * g.faults < size g.members (ready_set g votes v)
+WhyDelivered =
+    (g : Group) (votes : List Vote) (v : List ℕ) → delivered g votes ≡ Some v → HasReadys g votes v
 
 -- where one may, one does
 abbrev pub QuorumMakesReady : Type 0
-QuorumMakesReady = (g : Group) (votes : List Vote) (v : List ℕ) → g.members + g.faults < 2 * size g.members (echo_set g votes v) → readied g votes ≢ None
+QuorumMakesReady =
+    (g : Group) (votes : List Vote) (v : List ℕ) → HasQuorum g votes v → readied g votes ≢ None
 
 abbrev pub AmplificationMakesReady : Type 0
-AmplificationMakesReady = (g : Group) (votes : List Vote) (v : List ℕ) → g.faults < size g.members (other_ready_set g votes v) → readied g votes ≢ None
+AmplificationMakesReady =
+    (g : Group) (votes : List Vote) (v : List ℕ) → IsAmplified g votes v → readied g votes ≢ None
 
 abbrev pub ReadysDeliver : Type 0
-ReadysDeliver = (g : Group) (votes : List Vote) (v : List ℕ) → 2 * g.faults < size g.members (ready_set g votes v) → delivered g votes ≢ None
+ReadysDeliver =
+    (g : Group) (votes : List Vote) (v : List ℕ) → HasReadys g votes v → delivered g votes ≢ None
 
 -- two quorums of ECHOs that one process took are for one value
 abbrev pub OneValueByQuorum : Type 0
 OneValueByQuorum =
-    (g : Group) (votes : List Vote) (v w : List ℕ)
-    → g.members + g.faults < 2 * size g.members (echo_set g votes v)
-    → g.members + g.faults < 2 * size g.members (echo_set g votes w) → v ≡ w
+    (g : Group) (votes : List Vote) (v w : List ℕ) → HasQuorum g votes v → HasQuorum g votes w → v ≡ w

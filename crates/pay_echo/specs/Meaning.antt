@@ -26,7 +26,9 @@ meaning_of g votes =
 
 -- One vote more, whatever votes came before.
 abbrev pub Sees : Meaning → Meaning → Vote → Type 0
-Sees old new x = (g : Group) (votes : List Vote) → old ≡ meaning_of g votes → new ≡ meaning_of g (votes ++ x ∷ [])
+Sees old new x =
+    (g : Group) (votes : List Vote) → old ≡ meaning_of g votes
+    → new ≡ meaning_of g (votes ++ x ∷ [])
 
 -- what wasn't known and now is
 abbrev pub became : Option (List ℕ) → Option (List ℕ) → Bool

@@ -11,4 +11,6 @@ pub record IsMoves (old new : Meaning) (moves : Moves) : Type 0 where
 
 -- What this vote would make known, whatever votes came before.
 abbrev pub Foresees : Meaning → Vote → Moves → Type 0
-Foresees m x moves = (g : Group) (votes : List Vote) → m ≡ meaning_of g votes → IsMoves m (meaning_of g (votes ++ x ∷ [])) moves
+Foresees m x moves =
+    (g : Group) (votes : List Vote) → m ≡ meaning_of g votes
+    → IsMoves m (meaning_of g (votes ++ x ∷ [])) moves

@@ -18,7 +18,8 @@ abbrev pub IsPlace : ℕ → Option ℕ → Type 0
 IsPlace n None = Unit {0}
 IsPlace n (Some k) = k < n
 
-abbrev pub meaning_by : Group → List (List ℕ) → List (Option ℕ) → List (Option ℕ) → Option ℕ → Meaning
+abbrev pub meaning_by :
+    Group → List (List ℕ) → List (Option ℕ) → List (Option ℕ) → Option ℕ → Meaning
 meaning_by g values echoes readys delivered =
     record {
       group = g;
@@ -29,9 +30,10 @@ meaning_by g values echoes readys delivered =
       delivered = value_at values delivered;
     }
 
--- There are few members, one's own number is one of theirs, each has its places, and each place is one of the
--- values.
-pub record ArePlaces (g : Group) (values : List (List ℕ)) (echoes readys : List (Option ℕ)) (delivered : Option ℕ) : Type 0 where
+-- There are few members, one's own number is one of theirs, each has its places, and each place is
+-- one of the values.
+pub record ArePlaces (g : Group) (values : List (List ℕ)) (echoes readys : List (Option ℕ))
+    (delivered : Option ℕ) : Type 0 where
   pub few : g.members ≤ MOST_MEMBERS
   pub own : g.own < g.members
   pub echoed : length echoes ≡ g.members

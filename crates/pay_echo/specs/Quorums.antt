@@ -15,7 +15,9 @@ abbrev pub SizeOfOthers : Type 0
 SizeOfOthers = (n : ℕ) (set : ℕ → Bool) → size n set + size n (λ p. not (set p)) ≡ n
 
 abbrev pub PartIsSmaller : Type 0
-PartIsSmaller = (n : ℕ) (part set : ℕ → Bool) → ((p : ℕ) → p < n → part p ≡ true → set p ≡ true) → size n part ≤ size n set
+PartIsSmaller =
+    (n : ℕ) (part set : ℕ → Bool) → ((p : ℕ) → p < n → part p ≡ true → set p ≡ true)
+    → size n part ≤ size n set
 
 -- two sets of which each has a size c with 2c > N + f share more than f processes
 abbrev pub QuorumsShare : Type 0

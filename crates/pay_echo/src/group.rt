@@ -1,5 +1,5 @@
-/// The processes of a broadcast, numbered from 0: how many they are, how many of them may be faulty, and the
-/// number of the one whose side this is.
+/// The processes of a broadcast, numbered from 0: how many they are, how many of them may be
+/// faulty, and the number of the one whose side this is.
 #[derive(Clone, Copy, Debug, PartialEq, Eq)]
 pub struct Group {
     pub members: u16,

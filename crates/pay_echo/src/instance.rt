@@ -11,8 +11,8 @@ use crate::vote::VoteRef;
 use pay_frame::MOST_MEMBERS;
 use std::alloc::{AllocError, Global};
 
-/// One process's side of one broadcast: it is told the votes one by one, and what the process has echoed,
-/// readied and delivered by them can be read.
+/// One process's side of one broadcast: it is told the votes one by one, and what the process has
+/// echoed, readied and delivered by them can be read.
 ///
 /// A vote of a process that voted so before changes nothing.
 pub trait Instance: Sized {
@@ -31,7 +31,8 @@ pub trait Instance: Sized {
         requires foreign { IsForeign (meaning self.now).group (vote_of vote) }
         ensures { Foresees (meaning self.now) (vote_of vote.entry) result };
 
-    /// Takes a vote, and tells what became known by it. A vote that is kept costs one copy of its value at most.
+    /// Takes a vote, and tells what became known by it. A vote that is kept costs one copy of its
+    /// value at most.
     fn take(&mut self, alloc: Global, vote: VoteRef) -> Result<Moves, AllocError>
         requires foreign { IsForeign (meaning self.old).group (vote_of vote) }
         ensures seen { OnOk result

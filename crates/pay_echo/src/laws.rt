@@ -1,5 +1,5 @@
-//! Laws of authenticated double-echo broadcast over its definitions. Each function's contract is the law;
-//! its body is empty.
+//! Laws of authenticated double-echo broadcast over its definitions. Each function's contract is
+//! the law; its body is empty.
 
 ghost use Rattle.pay_echo.specs.Laws.{NotEchoedAtFirst, NotReadyAtFirst, NotDeliveredAtFirst, SentIsItsValue, EchoedByOneMore, ReadiedByOneMore, DeliveredByOneMore, EchoedStays, ReadiedStays, DeliveredStays, EchoStays, ReadyStays, OtherReadyStays, EchoSetGrows, ReadySetGrows, OtherReadySetGrows, SecondSend, SecondEcho, SecondReady, InEchoSet, InReadySet, InOtherReadySet, OwnEcho, OwnReady, SendCame, EchoCame, ReadyCame, SendIsEchoed, EchoCounts, ReadyCounts, WhyReady, WhyDelivered, QuorumMakesReady, AmplificationMakesReady, ReadysDeliver, OneValueByQuorum};
 ghost use Rattle.pay_echo.specs.Quorums.{SizeIsAtMost, SizeOfListed, SizeOfOthers, PartIsSmaller, QuorumsShare, LargerHasAnother, RestIsQuorum, QuorumIsMore, MoreRemain};
@@ -44,8 +44,8 @@ pub fn second_vote_changes_nothing()
     ensures ready { SecondReady }
 {}
 
-/// Who is in the sets: those whose ECHO, or READY, is this value. One's own are what oneself echoed and
-/// readied.
+/// Who is in the sets: those whose ECHO, or READY, is this value. One's own are what oneself echoed
+/// and readied.
 pub fn members_of_sets()
     ensures echo_set { InEchoSet }
     ensures ready_set { InReadySet }
@@ -54,7 +54,8 @@ pub fn members_of_sets()
     ensures own_ready { OwnReady }
 {}
 
-/// What counts as another process's vote came from it, and where a vote of a process came one counts.
+/// What counts as another process's vote came from it, and where a vote of a process came one
+/// counts.
 pub fn votes_came()
     ensures send { SendCame }
     ensures echo { EchoCame }
@@ -64,8 +65,8 @@ pub fn votes_came()
     ensures ready_counts { ReadyCounts }
 {}
 
-/// One is READY for a value only with a quorum of ECHOs or more than f READYs of others for it, and delivers
-/// only with more than 2f READYs for it; where one may, one is READY and delivers.
+/// One is READY for a value only with a quorum of ECHOs or more than f READYs of others for it, and
+/// delivers only with more than 2f READYs for it; where one may, one is READY and delivers.
 pub fn why_known()
     ensures ready { WhyReady }
     ensures delivered { WhyDelivered }
@@ -79,8 +80,8 @@ pub fn one_value_by_quorum()
     ensures { OneValueByQuorum }
 {}
 
-/// A set of processes has at most all, those of a list are at most its length, those outside a set are the
-/// rest, and a part of it is no larger.
+/// A set of processes has at most all, those of a list are at most its length, those outside a set
+/// are the rest, and a part of it is no larger.
 pub fn sizes_of_sets()
     ensures most { SizeIsAtMost }
     ensures listed { SizeOfListed }
@@ -88,8 +89,8 @@ pub fn sizes_of_sets()
     ensures part { PartIsSmaller }
 {}
 
-/// Two quorums share more than f processes, and so one that isn't faulty; of two sets the larger has a
-/// process that the other lacks.
+/// Two quorums share more than f processes, and so one that isn't faulty; of two sets the larger
+/// has a process that the other lacks.
 pub fn quorums_share()
     ensures share { QuorumsShare }
     ensures another { LargerHasAnother }

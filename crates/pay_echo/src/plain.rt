@@ -14,8 +14,8 @@ use pay_frame::{Bytes, MOST_MEMBERS};
 use std::alloc::{AllocError, Global};
 use std::marker::Model;
 
-/// An instance as plain lists: each process's first ECHO and first READY, by its number. A value is kept once,
-/// whoever votes for it.
+/// An instance as plain lists: each process's first ECHO and first READY, by its number. A value is
+/// kept once, whoever votes for it.
 #[derive(Drop)]
 pub struct PlainInstance {
     group: Group,
@@ -32,9 +32,11 @@ impl Model for PlainInstance {
 
     ghost Value = { Meaning };
 
-    ghost view = { λ i. meaning_by i.group i.values.items i.echoes.items i.readys.items i.delivered };
+    ghost view = { λ i.
+        meaning_by i.group i.values.items i.echoes.items i.readys.items i.delivered };
 
-    ghost invariant = { λ i. ArePlaces i.group i.values.items i.echoes.items i.readys.items i.delivered };
+    ghost invariant = { λ i.
+        ArePlaces i.group i.values.items i.echoes.items i.readys.items i.delivered };
 }
 
 impl Instance for PlainInstance {

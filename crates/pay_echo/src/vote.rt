@@ -1,6 +1,7 @@
 ghost use Rattle.std.specs.Prelude.{◌≡◌};
 
-/// A vote in one broadcast, as it is told to an [`Instance`](crate::Instance). Its value is borrowed.
+/// A vote in one broadcast, as it is told to an [`Instance`](crate::Instance). Its value is
+/// borrowed.
 #[derive(Clone, Copy)]
 pub enum VoteRef<'a> {
     /// The sender's value comes, or oneself broadcasts it.

@@ -46,9 +46,9 @@ beginning_from_short x is short pass =
     proper_from x (starts_short (24 - length x) (length x) (omega arith) x refl is (λ p lt. pass p (omega arith))) (omega arith)
 
 -- a head, and less than the frame
-pub beginning_from_long : (x : List ℕ) → IsBytes x → 24 ≤ length x → PassBelow x (min 24 (length x)) → length x < 2 + length_field x → IsProperBeginning x
+pub beginning_from_long : (x : List ℕ) → IsBytes x → 24 ≤ length x → PassBelow x 24 → length x < 2 + length_field x → IsProperBeginning x
 beginning_from_long x is long pass within =
-    let s = starts_long x is long (λ p lt. pass p (omega arith)) (omega arith) in
+    let s = starts_long x is long pass (omega arith) in
     record { starts = s.0; more = omega arith }
 
 -- a front that is a frame

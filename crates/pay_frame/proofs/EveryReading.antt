@@ -101,9 +101,11 @@ every_reading x is =
           at_fault x is first.place (omega arith) (omega arith) first.pass first.wrong
       | inl pass ↦ elim (cases_lt (length x) 24) [
         | inl short ↦ record { answer = Ok None; is = beginning_from_short x is short pass }
-        | inr long ↦ elim (cases_lt (length x) (2 + length_field x)) [
-          | inl within ↦ record { answer = Ok None; is = beginning_from_long x is long pass within }
-          | inr whole ↦ at_frame x is long (λ p lt. pass p (omega arith)) whole
-        ]
+        | inr long ↦
+            let all : PassBelow x 24 = λ p lt. pass p (omega arith) in
+            elim (cases_lt (length x) (2 + length_field x)) [
+              | inl within ↦ record { answer = Ok None; is = beginning_from_long x is long all within }
+              | inr whole ↦ at_frame x is long all whole
+            ]
       ]
     ]

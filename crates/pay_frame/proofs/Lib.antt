@@ -1,6 +1,7 @@
 pub mod Lists
 pub mod Heads
 pub mod Passing
+pub mod HeadFields
 pub mod Starting
 pub mod Answering
 pub mod OneReading

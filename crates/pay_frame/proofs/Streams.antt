@@ -7,7 +7,7 @@ use Rattle.std.proofs.lemmas.Grind.{flat_map-append}
 use Rattle.pay_frame.specs.declared.fault.FrameFault.{FrameFault}
 use Rattle.pay_frame.specs.declared.fault.FrameFault.TheVariants.{Truncated}
 use Rattle.pay_frame.specs.Frame.{FrameFields, frame_bytes, IsFrame}
-use Rattle.pay_frame.specs.Reading.{HasFrame, IsReading, IsProperBeginning, IsFault}
+use Rattle.pay_frame.specs.Reading.{IsReading, IsProperBeginning, IsFault}
 use Rattle.pay_frame.specs.Cutting.{Held, Feeds, HandsOut, EndsWith, IsDrained, frame_in}
 use Rattle.pay_frame.specs.Stream.{IsBytes, IsFramesThen, IsEnd, Nothing, CutOff, Faulty, IsStream, HasStream, GoesOn, end_of}
 use Rattle.pay_frame.proofs.Starting.{length-frame}

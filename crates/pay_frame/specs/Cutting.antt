@@ -1,5 +1,5 @@
--- A stream is cut into frames, in whatever pieces it comes. What a cutter holds is a list of bytes, and
--- its calls are said by that list.
+-- A stream is cut into frames, in whatever pieces it comes. What a cutter holds is a list of bytes,
+-- and its calls are said by that list.
 use Rattle.std.specs.Prelude.{◌≡◌, ℕ, ◌-◌, ◌<◌, ◌⊎◌, List, [], ◌∷◌, ◌++◌, length, min, take, is_some, if◌then◌else◌, Option, Some, None, Result, Ok, Err}
 use Rattle.pay_frame.specs.declared.limits.TheConstants.{CUTTER_ROOM}
 use Rattle.pay_frame.specs.declared.fault.FrameFault.{FrameFault}
@@ -7,7 +7,8 @@ use Rattle.pay_frame.specs.declared.fault.FrameFault.TheVariants.{Truncated}
 use Rattle.pay_frame.specs.Frame.{FrameFields, frame_bytes, IsFrame}
 use Rattle.pay_frame.specs.Reading.{HasFrame, IsProperBeginning, IsFault}
 
--- the bytes of the frame that was handed out last, those not yet handed out, and the fault met, if any
+-- the bytes of the frame that was handed out last, those not yet handed out, and the fault met, if
+-- any
 pub record Held : Type 0 where
   pub given : List ℕ
   pub bytes : List ℕ
@@ -15,21 +16,32 @@ pub record Held : Type 0 where
 
 -- A piece is offered: as much of it as fits is held behind what is held, and nothing after a fault.
 pub record Feeds (old new : Held) (piece : List ℕ) (taken : ℕ) : Type 0 where
-  pub count : taken ≡ (if is_some old.met then 0 else min (length piece) (CUTTER_ROOM - length old.bytes))
+  pub count :
+      taken ≡ (if is_some old.met then 0 else min (length piece) (CUTTER_ROOM - length old.bytes))
   pub appended : new.bytes ≡ old.bytes ++ take taken piece
   pub same_met : new.met ≡ old.met
 
--- The next frame is asked for: what reading the bytes held answers, and just the frame is taken away.
--- A fault is for good.
+-- The next frame is asked for: what reading the bytes held answers, and just the frame is taken
+-- away. A fault is for good.
 abbrev pub HandsOut : Held → Result (Option FrameFields) FrameFault → Held → Type 0
-HandsOut old (Ok (Some f)) new = (old.met ≡ None) × IsFrame f × (old.bytes ≡ frame_bytes f ++ new.bytes) × (new.met ≡ None)
-HandsOut old (Ok None) new = (old.met ≡ None) × IsProperBeginning old.bytes × (new.bytes ≡ old.bytes) × (new.met ≡ None)
-HandsOut old (Err fault) new = ((old.met ≡ Some fault) ⊎ ((old.met ≡ None) × IsFault old.bytes fault)) × (new.bytes ≡ old.bytes) × (new.met ≡ Some fault)
+HandsOut old (Ok (Some f)) new =
+    (old.met ≡ None) × IsFrame f × (old.bytes ≡ frame_bytes f ++ new.bytes) × (new.met ≡ None)
+HandsOut old (Ok None) new =
+    (old.met ≡ None) × IsProperBeginning old.bytes × (new.bytes ≡ old.bytes) × (new.met ≡ None)
+HandsOut old (Err fault) new =
+    ((old.met ≡ Some fault) ⊎ ((old.met ≡ None) × IsFault old.bytes fault))
+    × (new.bytes ≡ old.bytes) × (new.met ≡ Some fault)
+
+-- the bytes are at fault, or are cut off
+abbrev pub IsUnfinished : List ℕ → FrameFault → Type 0
+IsUnfinished bytes fault = IsFault bytes fault ⊎ (IsProperBeginning bytes × (fault ≡ Truncated))
 
 -- The stream ends: nothing may be held. What is held is at fault, or is cut off.
 abbrev pub EndsWith : Held → Result Unit FrameFault → Type 0
 EndsWith held (Ok _) = (held.met ≡ None) × (held.bytes ≡ [])
-EndsWith held (Err fault) = (held.met ≡ Some fault) ⊎ ((held.met ≡ None) × (0 < length held.bytes) × (IsFault held.bytes fault ⊎ (IsProperBeginning held.bytes × (fault ≡ Truncated))))
+EndsWith held (Err fault) =
+    (held.met ≡ Some fault)
+    ⊎ ((held.met ≡ None) × (0 < length held.bytes) × IsUnfinished held.bytes fault)
 
 -- ---- whole runs
 
@@ -41,8 +53,10 @@ pub data Call : Type 0 where
 -- the calls lead from one state to the other
 abbrev pub Runs : Held → List Call → Held → Type 0
 Runs old [] new = new ≡ old
-Runs old (Fed piece taken ∷ calls) new = (between : Held) × Feeds old between piece taken × Runs between calls new
-Runs old (Gave answer ∷ calls) new = (between : Held) × HandsOut old answer between × Runs between calls new
+Runs old (Fed piece taken ∷ calls) new =
+    (between : Held) × Feeds old between piece taken × Runs between calls new
+Runs old (Gave answer ∷ calls) new =
+    (between : Held) × HandsOut old answer between × Runs between calls new
 
 -- the stream: all that was taken of the pieces
 abbrev pub stream_of : List Call → List ℕ

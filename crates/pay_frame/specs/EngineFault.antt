@@ -3,16 +3,15 @@ use Rattle.std.specs.Prelude.{ℕ, List, codes}
 use Rattle.pay_frame.specs.declared.engine_fault.EngineFault.{EngineFault}
 use Rattle.pay_frame.specs.declared.engine_fault.EngineFault.TheVariants.{Memory, Frame, Read, Write, Bound}
 
+abbrev pub engine_entry : EngineFault → ℕ × List ℕ
+engine_entry Memory = (0, codes "Memory")
+engine_entry (Frame fault) = (1, codes "Frame")
+engine_entry Read = (2, codes "Read")
+engine_entry Write = (3, codes "Write")
+engine_entry Bound = (4, codes "Bound")
+
 abbrev pub engine_number : EngineFault → ℕ
-engine_number Memory = 0
-engine_number (Frame fault) = 1
-engine_number Read = 2
-engine_number Write = 3
-engine_number Bound = 4
+engine_number fault = (engine_entry fault).0
 
 abbrev pub engine_name : EngineFault → List ℕ
-engine_name Memory = codes "Memory"
-engine_name (Frame fault) = codes "Frame"
-engine_name Read = codes "Read"
-engine_name Write = codes "Write"
-engine_name Bound = codes "Bound"
+engine_name fault = (engine_entry fault).1

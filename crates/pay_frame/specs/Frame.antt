@@ -27,16 +27,28 @@ code_of Echo = 2
 code_of Ready = 3
 code_of Want = 4
 
--- the 24 bytes before the value: length, version 1, kind, from, to, number, owner, seq, value length
+-- a body and a frame, by their parts
+abbrev pub body_of_parts : Kind → ℕ → ℕ → List ℕ → BodyFields
+body_of_parts kind owner seq value = record { kind = kind; owner = owner; seq = seq; value = value }
+
+abbrev pub frame_of_parts : ℕ → ℕ → ℕ → BodyFields → List ℕ → FrameFields
+frame_of_parts from to number body tag =
+    record { from = from; to = to; number = number; body = body; tag = tag }
+
+-- the 24 bytes before the value: length, version 1, kind, from, to, number, owner, seq, value
+-- length
 abbrev pub head_bytes : ℕ → ℕ → ℕ → BodyFields → List ℕ
 head_bytes from to number body =
     to_be_bytes w16 (LEAST_LENGTH + length body.value) ++ (1 ∷ code_of body.kind ∷ [])
     ++ to_be_bytes w16 from ++ to_be_bytes w16 to ++ to_be_bytes w64 number
     ++ to_be_bytes w16 body.owner ++ to_be_bytes w32 body.seq ++ to_be_bytes w16 (length body.value)
 
+abbrev pub head_of : FrameFields → List ℕ
+head_of f = head_bytes f.from f.to f.number f.body
+
 -- head, value, tag
 abbrev pub frame_bytes : FrameFields → List ℕ
-frame_bytes f = head_bytes f.from f.to f.number f.body ++ f.body.value ++ f.tag
+frame_bytes f = head_of f ++ f.body.value ++ f.tag
 
 -- a WANT says nothing but its kind
 abbrev pub IsBare : BodyFields → Type 0

@@ -15,7 +15,8 @@ fields_of r = record {
 }
 
 -- an answer to a reader, by fields
-abbrev pub sized_of : Result (Option (FrameRef × ℕ)) FrameFault → Result (Option (FrameFields × ℕ)) FrameFault
+abbrev pub sized_of :
+    Result (Option (FrameRef × ℕ)) FrameFault → Result (Option (FrameFields × ℕ)) FrameFault
 sized_of (Ok (Some (r, size))) = Ok (Some (fields_of r, size))
 sized_of (Ok None) = Ok None
 sized_of (Err fault) = Err fault

@@ -1,12 +1,12 @@
--- Bytes that are one frame and nothing else: as a question about all frames, and computed. That both are
--- the same is the law `one_frame_is`.
+-- Bytes that are one frame and nothing else: as a question about all frames, and computed. That
+-- both are the same is the law `one_frame_is`.
 use Rattle.std.specs.Prelude.{◌≡◌, ℕ, ◌-◌, ◌^◌, ◌<◌, Bool, not, ◌&&◌, ◌||◌, ◌==◌, nat_lt, nat_le, if◌then◌else◌, List, length, drop, slice_index, slice_range, Option, Some, None, option_and_then, Result, Ok, Err, bytes_eq}
 use Rattle.pay_frame.specs.declared.limits.TheConstants.{HEAD_LEN, TAG_LEN, GREATEST_VALUE, SEQS}
 use Rattle.pay_frame.specs.declared.fault.FrameFault.{FrameFault}
 use Rattle.pay_frame.specs.declared.fault.FrameFault.TheVariants.{Truncated, Trailing}
 use Rattle.pay_frame.specs.declared.kind.Kind.{Kind}
 use Rattle.pay_frame.specs.declared.kind.Kind.TheVariants.{Send, Echo, Ready, Want}
-use Rattle.pay_frame.specs.Frame.{BodyFields, FrameFields, code_of, frame_bytes, IsFrame}
+use Rattle.pay_frame.specs.Frame.{BodyFields, FrameFields, body_of_parts, code_of, frame_bytes, IsFrame}
 use Rattle.pay_frame.specs.Places.{two_at, four_at, eight_at}
 use Rattle.pay_frame.specs.Reading.{HasFrame, IsProperBeginning, IsFault}
 
@@ -21,8 +21,8 @@ pub record IsFollowed (bytes : List ℕ) : Type 0 where
   pub has : HasFrame bytes frame
   pub more : 0 < length has.rest
 
--- what reading the bytes as one frame answers: the frame, that they end inside it, that they go on behind
--- it, or the fault that they have
+-- what reading the bytes as one frame answers: the frame, that they end inside it, that they go on
+-- behind it, or the fault that they have
 abbrev pub IsOneReading : List ℕ → Result FrameFields FrameFault → Type 0
 IsOneReading bytes (Ok f) = IsOneFrame bytes f
 IsOneReading bytes (Err Truncated) = IsProperBeginning bytes
@@ -47,7 +47,7 @@ fields_at bytes kind =
       from = two_at bytes 4;
       to = two_at bytes 6;
       number = eight_at bytes 8;
-      body = record { kind = kind; owner = two_at bytes 16; seq = four_at bytes 18; value = slice_range bytes HEAD_LEN end };
+      body = body_of_parts kind (two_at bytes 16) (four_at bytes 18) (slice_range bytes HEAD_LEN end);
       tag = drop end bytes;
     }
 
@@ -56,15 +56,21 @@ abbrev pub is_bare : BodyFields → Bool
 is_bare body = (body.owner == 0) && (body.seq == 0) && (length body.value == 0)
 
 abbrev pub is_body : BodyFields → Bool
-is_body body = nat_lt body.owner (2 ^ 16) && nat_lt body.seq SEQS && nat_le (length body.value) GREATEST_VALUE && (not (code_of body.kind == 4) || is_bare body)
+is_body body =
+    nat_lt body.owner (2 ^ 16) && nat_lt body.seq SEQS && nat_le (length body.value) GREATEST_VALUE
+    && (not (code_of body.kind == 4) || is_bare body)
 
 abbrev pub is_frame : FrameFields → Bool
-is_frame f = nat_lt f.from (2 ^ 16) && nat_lt f.to (2 ^ 16) && nat_lt f.number (2 ^ 64) && is_body f.body && (length f.tag == TAG_LEN)
+is_frame f =
+    nat_lt f.from (2 ^ 16) && nat_lt f.to (2 ^ 16) && nat_lt f.number (2 ^ 64) && is_body f.body
+    && (length f.tag == TAG_LEN)
 
 abbrev pub if_spelled : List ℕ → FrameFields → Option FrameFields
 if_spelled bytes f = if is_frame f && bytes_eq (frame_bytes f) bytes then Some f else None
 
--- the frame that the bytes are, if they are one: what stands at the places of its fields, where they are
--- within the limits and the bytes are their spelling
+-- the frame that the bytes are, if they are one: what stands at the places of its fields, where
+-- they are within the limits and the bytes are their spelling
 unfoldable pub one_frame : List ℕ → Option FrameFields
-one_frame bytes = option_and_then (λ kind. if_spelled bytes (fields_at bytes kind)) (kind_of (slice_index bytes 3))
+one_frame bytes =
+    option_and_then (λ kind. if_spelled bytes (fields_at bytes kind))
+    (kind_of (slice_index bytes 3))

@@ -1,5 +1,5 @@
--- How bytes read: a frame in front, a proper beginning of a frame, or a fault. Each is a question about
--- all frames, and none about how a reader goes over the bytes.
+-- How bytes read: a frame in front, a proper beginning of a frame, or a fault. Each is a question
+-- about all frames, and none about how a reader goes over the bytes.
 use Rattle.std.specs.Prelude.{◌≡◌, ℕ, ◌+◌, ◌<◌, ◌≤◌, Bool, ◌==◌, nat_lt, if◌then◌else◌, List, ◌++◌, length, take, slice_index, Option, Some, None, Result, Ok, Err}
 use Rattle.pay_frame.specs.declared.fault.FrameFault.{FrameFault}
 use Rattle.pay_frame.specs.declared.fault.FrameFault.TheVariants.{BadLength, BadVersion, BadKind, BadValueLength, BadSeq, BadWant}

@@ -1,5 +1,5 @@
--- A whole stream of bytes: frames one after the other, and how it ends. Nothing here speaks of the pieces
--- in which it comes, or of how far a reader is.
+-- A whole stream of bytes: frames one after the other, and how it ends. Nothing here speaks of the
+-- pieces in which it comes, or of how far a reader is.
 use Rattle.std.specs.Prelude.{◌≡◌, ℕ, ◌<◌, List, [], ◌++◌, length, slice_index, Option, Some, None, Result, Ok, Err}
 use Rattle.std.specs.List.{All, flat_map}
 use Rattle.pay_frame.specs.declared.fault.FrameFault.{FrameFault}
@@ -16,8 +16,8 @@ pub record IsFramesThen (bytes : List ℕ) (frames : List FrameFields) (rest : L
   pub each : All IsFrame frames
   pub parts : bytes ≡ flat_map frame_bytes frames ++ rest
 
--- What is behind the frames, and the fault that it ends the stream with, if any: nothing, a frame that is
--- cut off, or bytes that begin no frame.
+-- What is behind the frames, and the fault that it ends the stream with, if any: nothing, a frame
+-- that is cut off, or bytes that begin no frame.
 pub data IsEnd (rest : List ℕ) : Option FrameFault → Type 0 where
   Nothing : rest ≡ [] → IsEnd rest None
   CutOff : 0 < length rest → IsProperBeginning rest → IsEnd rest (Some Truncated)
@@ -46,7 +46,8 @@ abbrev pub end_of : Result Unit FrameFault → Option FrameFault
 end_of (Ok _) = None
 end_of (Err fault) = Some fault
 
--- ---- the laws that engines use, by name: `read` is what was read so far, `first` the frames that were
+-- ---- the laws that engines use, by name: `read` is what was read so far, `first` the frames that
+-- were
 -- handed out, `held` what is left of it, and `more` what wasn't read yet
 
 abbrev pub EveryStream : Type 0
@@ -55,9 +56,11 @@ EveryStream = (bytes : List ℕ) → IsBytes bytes → HasStream bytes
 abbrev pub Joins : Type 0
 Joins =
     (read held more : List ℕ) (first frames : List FrameFields) (ending : Option FrameFault)
-    → IsFramesThen read first held → IsStream (held ++ more) frames ending → IsStream (read ++ more) (first ++ frames) ending
+    → IsFramesThen read first held → IsStream (held ++ more) frames ending
+    → IsStream (read ++ more) (first ++ frames) ending
 
 abbrev pub Parts : Type 0
 Parts =
     (read held more : List ℕ) (first all : List FrameFields) (ending : Option FrameFault)
-    → IsFramesThen read first held → IsStream (read ++ more) all ending → GoesOn (held ++ more) first all ending
+    → IsFramesThen read first held → IsStream (read ++ more) all ending
+    → GoesOn (held ++ more) first all ending

@@ -6,7 +6,11 @@ use Rattle.pay_frame.specs.declared.cutter.Cutter.TheInside.{Inside}
 use Rattle.pay_frame.specs.Cutting.{Held}
 
 abbrev pub held_in : Inside → Held
-held_in c = record { given = take (c.start - c.given) (drop c.given c.buffer.items); bytes = drop c.start c.buffer.items; met = c.met }
+held_in c = record {
+  given = take (c.start - c.given) (drop c.given c.buffer.items);
+  bytes = drop c.start c.buffer.items;
+  met = c.met;
+}
 
 -- the places lie in the buffer, which has its room and no more bytes than that
 pub record IsWindow (c : Inside) : Type 0 where

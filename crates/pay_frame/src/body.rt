@@ -1,5 +1,5 @@
 ghost use Rattle.std.specs.Prelude.{◌≡◌, IfOk};
-ghost use Rattle.pay_frame.specs.Frame.{IsBody};
+ghost use Rattle.pay_frame.specs.Frame.{IsBody, body_of_parts};
 
 use crate::bytes::Bytes;
 use crate::kind::Kind;
@@ -20,19 +20,19 @@ pub struct Body {
 }
 
 impl Model for Body {
-    ghost use Rattle.pay_frame.specs.Frame.{BodyFields, IsBody};
+    ghost use Rattle.pay_frame.specs.Frame.{BodyFields, IsBody, body_of_parts};
 
     ghost Value = { BodyFields };
 
-    ghost view = { λ b. record { kind = b.kind; owner = b.owner; seq = b.seq; value = b.value } };
+    ghost view = { λ b. body_of_parts b.kind b.owner b.seq b.value };
 
-    ghost invariant = { λ b. IsBody (record { kind = b.kind; owner = b.owner; seq = b.seq; value = b.value }) };
+    ghost invariant = { λ b. IsBody (body_of_parts b.kind b.owner b.seq b.value) };
 }
 
 impl Body {
     pub fn new(kind: Kind, owner: u16, seq: u32, value: Bytes) -> Body
-        requires { IsBody (record { kind = kind; owner = owner; seq = seq; value = value }) }
-        ensures value { result ≡ record { kind = kind; owner = owner; seq = seq; value = value } }
+        requires { IsBody (body_of_parts kind owner seq value) }
+        ensures value { result ≡ body_of_parts kind owner seq value }
     {
         Body {
             kind,

@@ -79,7 +79,9 @@ impl Cutter {
     /// Removes and returns the next frame of the stream, if it is complete. Once it has returned a
     /// fault, every later call of `next` and `end` returns the same one.
     pub fn next(&mut self) -> Result<Option<FrameRef<'_>>, FrameFault>
-        ensures* hands_out { sem 𝓛 (follows_so the_row the_row self.entry.ghost_name none (λ _ _. ⊤) (λ after. HandsOut self.old (given_of result) after)) }
+        ensures* hands_out { sem 𝓛 (follows_so the_row the_row
+            self.entry.ghost_name none (λ _ _. ⊤)
+            (λ after. HandsOut self.old (given_of result) after)) }
     {
         match self.pass() {
             Ok(true) => Ok(Some(self.handed_out())),
@@ -88,8 +90,8 @@ impl Cutter {
         }
     }
 
-    /// Whether the stream may end here, with no complete frame in front: `Ok` if nothing is buffered,
-    /// else the fault of the buffered bytes, or `Truncated`.
+    /// Whether the stream may end here, with no complete frame in front: `Ok` if nothing is
+    /// buffered, else the fault of the buffered bytes, or `Truncated`.
     pub fn end(&self) -> Result<(), FrameFault>
         requires drained { IsDrained self.now.bytes }
         ensures ends { EndsWith self.now result }

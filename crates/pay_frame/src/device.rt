@@ -21,8 +21,8 @@ pub trait Input {
 
     ghost failure_count: { Self → ℕ };
 
-    /// Fills a prefix of the buffer and returns its length. Into a buffer with room it reads nothing
-    /// only at the end of the input.
+    /// Fills a prefix of the buffer and returns its length. Into a buffer with room it reads
+    /// nothing only at the end of the input.
     fn read(&mut self, buffer: &mut [u8]) -> Result<usize, DeviceFailed>
         ensures bound { ReadsAtMost result buffer.new }
         ensures bytes { ReadConsumes (remaining self.old) (remaining self.new) result buffer.new }
@@ -47,8 +47,8 @@ pub trait Output {
 
     ghost failure_count: { Self → ℕ };
 
-    /// Writes a prefix of the bytes and returns its length. Writing nothing of a non-empty slice is a
-    /// failure.
+    /// Writes a prefix of the bytes and returns its length. Writing nothing of a non-empty slice is
+    /// a failure.
     fn write(&mut self, bytes: &[u8]) -> Result<usize, DeviceFailed>
         ensures bound { WritesAtMost result bytes.now }
         ensures some { IfOk result (λ count. 0 < length bytes.now → 0 < count) }
@@ -69,8 +69,10 @@ pub trait Output {
 pub fn write_all<W: Output>(writer: &mut W, bytes: &[u8]) -> Result<(), DeviceFailed>
     ensures ok { OnOk result (Appends (W.contents writer.old) (W.contents writer.new) bytes.now) }
     ensures none_failed { OnOk result (W.failure_count writer.new ≡ W.failure_count writer.old) }
-    ensures beginning { OnErr result (WroteBeginning (W.contents writer.old) (W.contents writer.new) bytes.now) }
-    ensures failed { OnErr result (W.failure_count writer.new ≡ counted (W.failure_count writer.old)) }
+    ensures beginning { OnErr result
+        (WroteBeginning (W.contents writer.old) (W.contents writer.new) bytes.now) }
+    ensures failed { OnErr result
+        (W.failure_count writer.new ≡ counted (W.failure_count writer.old)) }
 {
     let mut written = 0;
     while written < bytes.len() {

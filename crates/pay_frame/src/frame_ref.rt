@@ -1,5 +1,5 @@
 ghost use Rattle.std.specs.Prelude.{◌≡◌};
-ghost use Rattle.pay_frame.specs.Frame.{IsFrame, head_bytes};
+ghost use Rattle.pay_frame.specs.Frame.{IsFrame, body_of_parts, frame_of_parts, head_bytes};
 
 use crate::kind::Kind;
 
@@ -17,11 +17,14 @@ pub struct FrameRef<'a> {
     pub(crate) head: &'a [u8],
     pub(crate) value: &'a [u8],
     pub(crate) tag: &'a [u8],
-    pub ghost is_frame: { IsFrame (record { from = from; to = to; number = number; body = record { kind = kind; owner = owner; seq = seq; value = value.now }; tag = tag.now }) },
-    pub ghost head_spelled: { head.now ≡ head_bytes from to number (record { kind = kind; owner = owner; seq = seq; value = value.now }) },
+    pub ghost is_frame: { IsFrame (frame_of_parts from to number
+        (body_of_parts kind owner seq value.now) tag.now) },
+    pub ghost head_spelled: { head.now ≡ head_bytes from to number
+        (body_of_parts kind owner seq value.now) },
 }
 
 impl<'a> FrameRef<'a> {
+    ghost use Rattle.pay_frame.specs.Frame.{head_of};
     ghost use Rattle.pay_frame.specs.Lent.{fields_of};
 
     pub fn kind(&self) -> Kind
@@ -73,7 +76,7 @@ impl<'a> FrameRef<'a> {
 
     /// The 24 bytes before the value.
     pub fn head(&self) -> &'a [u8]
-        ensures value { result.now ≡ head_bytes (fields_of self.now).from (fields_of self.now).to (fields_of self.now).number (fields_of self.now).body }
+        ensures value { result.now ≡ head_of (fields_of self.now) }
     {
         self.head
     }

@@ -1,5 +1,5 @@
-//! Laws of the definitions, which proofs of other crates cite. The bodies are empty: the contract is the
-//! law.
+//! Laws of the definitions, which proofs of other crates cite. The bodies are empty: the contract
+//! is the law.
 
 ghost use Rattle.std.specs.Prelude.{◌≡◌, ℕ, ◌≤◌, List, [], ◌++◌, length, Option, Some, None, Result, Ok, Err, ◌↔◌};
 ghost use Rattle.pay_frame.specs.declared.fault.FrameFault.{FrameFault as Fault};
@@ -13,7 +13,8 @@ ghost use Rattle.std.specs.List.{flat_map};
 
 /// Encoding is injective: equal bytes encode equal fields.
 pub fn one_spelling()
-    ensures law { (f g : FrameFields) → IsFrame f → IsFrame g → frame_bytes f ≡ frame_bytes g → f ≡ g }
+    ensures law { (f g : FrameFields) → IsFrame f → IsFrame g →
+        frame_bytes f ≡ frame_bytes g → f ≡ g }
 {}
 
 /// No frame is a proper prefix of another.
@@ -36,21 +37,24 @@ pub fn one_reading()
 
 /// An encoded frame is read back, whatever follows it.
 pub fn read_again()
-    ensures law { (f : FrameFields) (rest : List ℕ) (answer : Result (Option (FrameFields × ℕ)) Fault) → IsFrame f →
+    ensures law { (f : FrameFields) (rest : List ℕ)
+        (answer : Result (Option (FrameFields × ℕ)) Fault) → IsFrame f →
         IsReading (frame_bytes f ++ rest) answer → answer ≡ Ok (Some (f, length (frame_bytes f))) }
 {}
 
-/// After any calls of a cutter, the bytes that it took from all pieces are the encodings of the frames
-/// that it returned, followed by the bytes that it still holds.
+/// After any calls of a cutter, the bytes that it took from all pieces are the encodings of the
+/// frames that it returned, followed by the bytes that it still holds.
 pub fn stream_is_frames_and_rest()
     ensures law { (calls : List Call) (held : Held) → Runs nothing_held calls held →
         stream_of calls ≡ flat_map frame_bytes (frames_of calls) ++ held.bytes }
 {}
 
-/// Two cutters that took the same bytes, in whatever pieces and with whatever calls of `next` between
-/// them, have returned the same frames and hold the same bytes once neither has a complete frame.
+/// Two cutters that took the same bytes, in whatever pieces and with whatever calls of `next`
+/// between them, have returned the same frames and hold the same bytes once neither has a complete
+/// frame.
 pub fn cuts_do_not_matter()
-    ensures law { (one two : List Call) (a b : Held) → Runs nothing_held one a → Runs nothing_held two b →
+    ensures law { (one two : List Call) (a b : Held) →
+        Runs nothing_held one a → Runs nothing_held two b →
         stream_of one ≡ stream_of two → IsDrained a.bytes → IsDrained b.bytes →
         (frames_of one ≡ frames_of two) × (a.bytes ≡ b.bytes) }
 {}

@@ -7,6 +7,7 @@
 
 mod body;
 mod bytes;
+mod counted;
 mod cutter;
 mod device;
 mod engine_fault;
@@ -15,14 +16,13 @@ mod frame_ref;
 mod kind;
 mod laws;
 mod limits;
-mod reader;
 mod reading;
 mod stream_laws;
-mod writer;
 mod writing;
 
 pub use body::Body;
 pub use bytes::Bytes;
+pub use counted::{Counted, Reader, Writer};
 pub use cutter::Cutter;
 pub use device::{DeviceFailed, Input, Output, write_all};
 pub use engine_fault::EngineFault;
@@ -38,11 +38,9 @@ pub use limits::{
     CUTTER_ROOM, GREATEST_FRAME, GREATEST_PIECE, GREATEST_VALUE, HEAD_LEN, LEAST_LENGTH,
     MOST_MEMBERS, MOST_READS, SEQS, TAG_LEN,
 };
-pub use reader::Reader;
 pub use reading::{read, read_one};
 pub use stream_laws::{
     cutter_follows_stream, every_reading, every_stream, fault_is_for_good, frame_sizes, one_stream,
     stream_goes_on, stream_grows,
 };
-pub use writer::Writer;
 pub use writing::{head_into, write};

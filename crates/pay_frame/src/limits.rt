@@ -18,7 +18,8 @@ pub const GREATEST_FRAME: usize = 1080;
 /// How many bytes a `Cutter` buffers at most.
 pub const CUTTER_ROOM: usize = 4096;
 
-/// How many bytes an engine reads at once at most. They fit a `Cutter` that holds less than a frame.
+/// How many bytes an engine reads at once at most. They fit a `Cutter` that holds less than a
+/// frame.
 pub const GREATEST_PIECE: usize = CUTTER_ROOM - GREATEST_FRAME;
 
 /// How many reads an engine makes at most.

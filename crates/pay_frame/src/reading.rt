@@ -1,9 +1,9 @@
-ghost use Rattle.std.specs.Prelude.{◌≡◌, ℕ, ◌+◌, ◌<◌, ◌≤◌, true, false, Some, length, MatchOption, min, IfOk, IfErr, IfSome, IfNone};
+ghost use Rattle.std.specs.Prelude.{◌≡◌, ℕ, ◌+◌, ◌<◌, ◌≤◌, true, false, Some, length, min, IfOk, IfErr, IfSome, IfNone};
 ghost use Rattle.pay_frame.specs.Frame.{code_of, frame_bytes};
 ghost use Rattle.pay_frame.specs.Lent.{fields_of, sized_of, one_of};
 ghost use Rattle.pay_frame.specs.Reading.{IsReading, IsProperBeginning, IsFault, fault_at};
 ghost use Rattle.pay_frame.specs.OneFrame.{IsOneReading};
-ghost use Rattle.pay_frame.specs.Places.{length_field, is_want, may_stand, PassBelow, IsFirstWrong, IsWhole, IsSizeOf, eight_at};
+ghost use Rattle.pay_frame.specs.Places.{length_field, is_want, may_stand, PassBelow, IsFirstWrong, IsWhole, IsSizeOf, two_at, eight_at, are_lengths, is_bare_head, is_head};
 
 use crate::fault::FrameFault;
 use crate::frame_ref::FrameRef;
@@ -15,18 +15,91 @@ const GREATEST_LENGTH: u16 = LEAST_LENGTH + GREATEST_VALUE;
 
 const WANT: u8 = 4;
 
-fn length_field(bytes: &[u8]) -> u16
-    requires { 1 < length bytes.now }
-    ensures { result ≡ length_field bytes.now }
+/// Decodes the frame in front of the bytes, and returns it with its size, or `None` where the bytes
+/// are a proper prefix of some frame, as no bytes at all are. Otherwise the first wrong byte names
+/// the fault, which is never `Truncated` or `Trailing`.
+pub fn read(bytes: &[u8]) -> Result<Option<(FrameRef<'_>, usize)>, FrameFault>
+    ensures reading { IsReading bytes.now (sized_of result) }
 {
-    u16::from_be_bytes([bytes[0], bytes[1]])
+    match size_in_front(bytes)? {
+        Some(size) => Ok(Some((frame_of(&bytes[..size]), size))),
+        None => Ok(None),
+    }
 }
 
-fn is_want(bytes: &[u8]) -> bool
-    requires { 3 < length bytes.now }
-    ensures { result ≡ is_want bytes.now }
+/// Decodes bytes that are one frame and nothing else: `Truncated` where they end inside it,
+/// `Trailing` where more bytes follow it, else `read`'s fault.
+pub fn read_one(bytes: &[u8]) -> Result<FrameRef<'_>, FrameFault>
+    ensures one { IsOneReading bytes.now (one_of result) }
 {
-    bytes[3] == WANT
+    match read(bytes)? {
+        Some((frame, size)) if size == bytes.len() => Ok(frame),
+        Some(_) => Err(FrameFault::Trailing),
+        None => Err(FrameFault::Truncated),
+    }
+}
+
+/// The size of the frame in front, if it is complete.
+pub(crate) fn size_in_front(bytes: &[u8]) -> Result<Option<usize>, FrameFault>
+    ensures frame { IfOk result (λ found. IfSome found (IsSizeOf bytes.now)) }
+    ensures beginning { IfOk result (λ found. IfNone found (IsProperBeginning bytes.now)) }
+    ensures fault { IfErr result (IsFault bytes.now) }
+{
+    if bytes.len() < HEAD_LEN || !is_head(bytes) {
+        return match first_wrong(bytes) {
+            Some(place) => Err(fault_at(bytes, place)),
+            None => Ok(None),
+        };
+    }
+    let size = 2 + usize::from(length_field(bytes));
+    Ok(if size <= bytes.len() {
+        Some(size)
+    } else {
+        None
+    })
+}
+
+/// Whether all bytes of a complete head are allowed: what `first_wrong` asks place by place, asked
+/// of the fields.
+fn is_head(bytes: &[u8]) -> bool
+    requires { 24 ≤ length bytes.now }
+    ensures { result ≡ is_head bytes.now }
+{
+    are_lengths(bytes)
+        && bytes[2] == 1
+        && (1..=4).contains(&bytes[3])
+        && two_at(bytes, 18) == 0
+        && (!is_want(bytes) || is_bare(bytes))
+}
+
+/// Whether a head's two lengths are within the limits and belong together.
+fn are_lengths(bytes: &[u8]) -> bool
+    requires { 24 ≤ length bytes.now }
+    ensures { result ≡ are_lengths bytes.now }
+{
+    let length = length_field(bytes);
+    (LEAST_LENGTH..=GREATEST_LENGTH).contains(&length) && two_at(bytes, 22) == length - LEAST_LENGTH
+}
+
+/// Whether a head has owner 0, sequence number 0 and no value.
+fn is_bare(bytes: &[u8]) -> bool
+    requires { 24 ≤ length bytes.now }
+    ensures { result ≡ is_bare_head bytes.now }
+{
+    two_at(bytes, 16) == 0 && two_at(bytes, 20) == 0 && two_at(bytes, 22) == 0
+}
+
+/// The index of the first byte of the head, if any, that isn't allowed.
+fn first_wrong(bytes: &[u8]) -> Option<usize>
+    ensures none { IfNone result (PassBelow bytes.now (min 24 (length bytes.now))) }
+    ensures some { IfSome result (IsFirstWrong bytes.now) }
+{
+    for place in 0..HEAD_LEN.min(bytes.len()) {
+        if !may_stand(bytes, place) {
+            return Some(place);
+        }
+    }
+    None
 }
 
 /// Whether the byte at an index is allowed there, after a prefix in which every byte is.
@@ -49,18 +122,6 @@ fn may_stand(bytes: &[u8], place: usize) -> bool
     }
 }
 
-/// The index of the first byte of the head, if any, that isn't allowed.
-fn first_wrong(bytes: &[u8]) -> Option<usize>
-    ensures { MatchOption result (PassBelow bytes.now (min 24 (length bytes.now))) (IsFirstWrong bytes.now) }
-{
-    for place in 0..HEAD_LEN.min(bytes.len()) {
-        if !may_stand(bytes, place) {
-            return Some(place);
-        }
-    }
-    None
-}
-
 /// The fault that the first wrong byte names.
 fn fault_at(bytes: &[u8], place: usize) -> FrameFault
     requires { IsFirstWrong bytes.now place }
@@ -73,6 +134,27 @@ fn fault_at(bytes: &[u8], place: usize) -> FrameFault
         18..22 if !is_want(bytes) => FrameFault::BadSeq,
         3..22 => FrameFault::BadWant,
         _ => FrameFault::BadValueLength,
+    }
+}
+
+/// The frame that the bytes are.
+pub(crate) fn frame_of(bytes: &[u8]) -> FrameRef<'_>
+    requires { IsWhole bytes.now }
+    ensures { frame_bytes (fields_of result) ≡ bytes.now }
+{
+    let value_len = bytes.len() - HEAD_LEN - TAG_LEN;
+    let (head, rest) = bytes.split_at(HEAD_LEN);
+    let (value, tag) = rest.split_at(value_len);
+    FrameRef {
+        kind: kind_of(bytes[3]),
+        from: u16::from_be_bytes([bytes[4], bytes[5]]),
+        to: u16::from_be_bytes([bytes[6], bytes[7]]),
+        number: number_of(bytes),
+        owner: u16::from_be_bytes([bytes[16], bytes[17]]),
+        seq: u32::from_be_bytes([bytes[18], bytes[19], bytes[20], bytes[21]]),
+        head,
+        value,
+        tag,
     }
 }
 
@@ -98,67 +180,23 @@ fn number_of(bytes: &[u8]) -> u64
     ])
 }
 
-/// The frame that the bytes are.
-pub(crate) fn frame_of(bytes: &[u8]) -> FrameRef<'_>
-    requires { IsWhole bytes.now }
-    ensures { frame_bytes (fields_of result) ≡ bytes.now }
+fn length_field(bytes: &[u8]) -> u16
+    requires { 1 < length bytes.now }
+    ensures { result ≡ length_field bytes.now }
 {
-    let value_len = bytes.len() - HEAD_LEN - TAG_LEN;
-    let (head, rest) = bytes.split_at(HEAD_LEN);
-    let (value, tag) = rest.split_at(value_len);
-    FrameRef {
-        kind: kind_of(bytes[3]),
-        from: u16::from_be_bytes([bytes[4], bytes[5]]),
-        to: u16::from_be_bytes([bytes[6], bytes[7]]),
-        number: number_of(bytes),
-        owner: u16::from_be_bytes([bytes[16], bytes[17]]),
-        seq: u32::from_be_bytes([bytes[18], bytes[19], bytes[20], bytes[21]]),
-        head,
-        value,
-        tag,
-    }
+    u16::from_be_bytes([bytes[0], bytes[1]])
 }
 
-/// The size of the frame in front, if it is complete.
-pub(crate) fn size_in_front(bytes: &[u8]) -> Result<Option<usize>, FrameFault>
-    ensures frame { IfOk result (λ found. IfSome found (IsSizeOf bytes.now)) }
-    ensures beginning { IfOk result (λ found. IfNone found (IsProperBeginning bytes.now)) }
-    ensures fault { IfErr result (IsFault bytes.now) }
+fn is_want(bytes: &[u8]) -> bool
+    requires { 3 < length bytes.now }
+    ensures { result ≡ is_want bytes.now }
 {
-    if let Some(place) = first_wrong(bytes) {
-        return Err(fault_at(bytes, place));
-    }
-    if bytes.len() < HEAD_LEN {
-        return Ok(None);
-    }
-    let size = 2 + usize::from(length_field(bytes));
-    Ok(if size <= bytes.len() {
-        Some(size)
-    } else {
-        None
-    })
+    bytes[3] == WANT
 }
 
-/// Decodes the frame in front of the bytes, and returns it with its size, or `None` where the bytes
-/// are a proper prefix of some frame, as no bytes at all are. Otherwise the first wrong byte names the
-/// fault, which is never `Truncated` or `Trailing`.
-pub fn read(bytes: &[u8]) -> Result<Option<(FrameRef<'_>, usize)>, FrameFault>
-    ensures reading { IsReading bytes.now (sized_of result) }
+fn two_at(bytes: &[u8], place: usize) -> u16
+    requires { place + 1 < length bytes.now }
+    ensures { result ≡ two_at bytes.now place }
 {
-    match size_in_front(bytes)? {
-        Some(size) => Ok(Some((frame_of(&bytes[..size]), size))),
-        None => Ok(None),
-    }
-}
-
-/// Decodes bytes that are one frame and nothing else: `Truncated` where they end inside it, `Trailing`
-/// where more bytes follow it, else `read`'s fault.
-pub fn read_one(bytes: &[u8]) -> Result<FrameRef<'_>, FrameFault>
-    ensures one { IsOneReading bytes.now (one_of result) }
-{
-    match read(bytes)? {
-        Some((frame, size)) if size == bytes.len() => Ok(frame),
-        Some(_) => Err(FrameFault::Trailing),
-        None => Err(FrameFault::Truncated),
-    }
+    u16::from_be_bytes([bytes[place], bytes[place + 1]])
 }

@@ -1,5 +1,5 @@
-//! Laws of streams: how bytes are frames and an end, and how that grows as they come. Each body is empty:
-//! the contract is the law.
+//! Laws of streams: how bytes are frames and an end, and how that grows as they come. Each body is
+//! empty: the contract is the law.
 
 ghost use Rattle.std.specs.Prelude.{◌≡◌, ℕ, ◌+◌, ◌*◌, ◌<◌, ◌≤◌, List, [], ◌∷◌, ◌++◌, length, take, Option, Some, None, Result};
 ghost use Rattle.pay_frame.specs.declared.fault.FrameFault.{FrameFault as Fault};
@@ -29,7 +29,8 @@ pub fn one_stream()
         → IsStream bytes one a → IsStream bytes two b → a ≡ b }
 {}
 
-/// How a stream grows while it is read: what comes is behind what is left, and the next frame is one more.
+/// How a stream grows while it is read: what comes is behind what is left, and the next frame is
+/// one more.
 pub fn stream_grows()
     ensures nothing { (bytes : List ℕ) → IsFramesThen bytes [] bytes }
     ensures piece { (bytes rest more : List ℕ) (frames : List FrameFields)
@@ -42,8 +43,8 @@ pub fn stream_grows()
         → IsFramesThen bytes (first ++ more) rest }
 {}
 
-/// Behind the frames that were handed out of what was read goes on the stream: it is these frames and those
-/// of what is left and still comes, with the same end, and nothing else.
+/// Behind the frames that were handed out of what was read goes on the stream: it is these frames
+/// and those of what is left and still comes, with the same end, and nothing else.
 pub fn stream_goes_on()
     ensures joined { Joins }
     ensures parted { Parts }
@@ -54,11 +55,13 @@ pub fn fault_is_for_good()
     ensures fault { (bytes more : List ℕ) (fault : Fault)
         → IsFault bytes fault → IsFault (bytes ++ more) fault }
     ensures stream { (read held more : List ℕ) (frames : List FrameFields) (fault : Fault)
-        → IsFramesThen read frames held → IsFault held fault → IsStream (read ++ more) frames (Some fault) }
+        → IsFramesThen read frames held → IsFault held fault
+        → IsStream (read ++ more) frames (Some fault) }
 {}
 
-/// After each call of a cutter, what it was fed is the frames that it handed out and then what it holds.
-/// Its first fault is one of what it holds, and what it answers at the end is the stream's end.
+/// After each call of a cutter, what it was fed is the frames that it handed out and then what it
+/// holds. Its first fault is one of what it holds, and what it answers at the end is the stream's
+/// end.
 pub fn cutter_follows_stream()
     ensures feed { (old new : Held) (piece read : List ℕ) (taken : ℕ) (frames : List FrameFields)
         → Feeds old new piece taken → IsFramesThen read frames old.bytes
@@ -68,7 +71,8 @@ pub fn cutter_follows_stream()
         → IsFramesThen read (frames ++ frame_in answer) new.bytes }
     ensures fault { (old new : Held) (fault : Fault)
         → old.met ≡ None → HandsOut old (Err fault) new → IsFault new.bytes fault }
-    ensures end { (held : Held) (answer : Result Unit Fault) (read : List ℕ) (frames : List FrameFields)
+    ensures end { (held : Held) (answer : Result Unit Fault) (read : List ℕ)
+        (frames : List FrameFields)
         → held.met ≡ None → EndsWith held answer → IsFramesThen read frames held.bytes
         → IsStream read frames (end_of answer) }
 {}
@@ -79,6 +83,7 @@ pub fn frame_sizes()
         → length (frame_bytes f) ≡ 2 + LEAST_LENGTH + length f.body.value }
     ensures greatest { (f : FrameFields) → IsFrame f → length (frame_bytes f) ≤ GREATEST_FRAME }
     ensures beginning { (bytes : List ℕ) → IsProperBeginning bytes → length bytes < GREATEST_FRAME }
-    ensures count { (bytes rest : List ℕ) (frames : List FrameFields) → IsFramesThen bytes frames rest
+    ensures count { (bytes rest : List ℕ) (frames : List FrameFields)
+        → IsFramesThen bytes frames rest
         → (2 + LEAST_LENGTH) * length frames + length rest ≤ length bytes }
 {}

@@ -1,5 +1,5 @@
 ghost use Rattle.std.specs.Prelude.{◌≡◌, IfOk};
-ghost use Rattle.pay_frame.specs.Frame.{IsFrame, frame_bytes, head_bytes};
+ghost use Rattle.pay_frame.specs.Frame.{IsFrame, frame_bytes, frame_of_parts, head_bytes};
 
 use crate::body::Body;
 use crate::limits::LEAST_LENGTH;
@@ -56,8 +56,9 @@ pub fn write(
     body: &Body,
     tag: &[u8; 32],
 ) -> Result<Vec<u8>, AllocError>
-    ensures spelled { IfOk result (λ bytes. bytes.items ≡ frame_bytes (record { from = from; to = to; number = number; body = body.now; tag = tag.now })) }
-    ensures frame { IfOk result (λ _. IsFrame (record { from = from; to = to; number = number; body = body.now; tag = tag.now })) }
+    ensures spelled { IfOk result (λ bytes.
+        bytes.items ≡ frame_bytes (frame_of_parts from to number body.now tag.now)) }
+    ensures frame { IfOk result (λ _. IsFrame (frame_of_parts from to number body.now tag.now)) }
 {
     let mut head = [0u8; 24];
     head_into(&mut head, from, to, number, body);

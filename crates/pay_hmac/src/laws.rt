@@ -14,7 +14,8 @@ pub fn published_tags()
 
 /// A key longer than a block tags as its digest does.
 pub fn long_key()
-    ensures { (key text : List ℕ) → block_bytes < length key → mac key text ≡ mac (sha256 key) text }
+    ensures { (key text : List ℕ) → block_bytes < length key
+        → mac key text ≡ mac (sha256 key) text }
 {}
 
 /// Every tag has 32 bytes.

@@ -1,7 +1,7 @@
 //! Tags: HMAC (RFC 2104) with SHA-256.
 //!
-//! What a tag is stands in `specs/Mac.antt`. Callers that only tag and check frames are generic over
-//! `Tagger`, whose one clause says that the answer is that tag.
+//! What a tag is stands in `specs/Mac.antt`. Callers that only tag and check frames are generic
+//! over `Tagger`, whose one clause says that the answer is that tag.
 //!
 //! Nothing here compares tags, and no comparison in constant time is promised by what stands above.
 #![tactic(auto)]

@@ -8,8 +8,8 @@ use crate::tagger::Tagger;
 use std::alloc::{AllocError, Global};
 use std::marker::Model;
 
-/// Tags as `HmacSha256` does, and keeps the pads of some keys hashed. Memory is taken when it is made,
-/// and never again.
+/// Tags as `HmacSha256` does, and keeps the pads of some keys hashed. Memory is taken when it is
+/// made, and never again.
 #[derive(Drop)]
 pub struct PreparedHmac {
     keys: Vec<PreparedKey>,

@@ -24,8 +24,8 @@ checked_fields o = record { frame = o.frame; key = o.key }
 abbrev pub bytes_of : CheckedFields → List ℕ
 bytes_of c = frame_bytes c.frame
 
--- for the member with these keys: sent to it, from a peer, about a member's broadcast, and under the
--- very key that it shares with that peer
+-- for the member with these keys: sent to it, from a peer, about a member's broadcast, and under
+-- the very key that it shares with that peer
 pub record IsFor (k : KeyFields) (c : CheckedFields) : Type 0 where
   pub receiver : c.frame.to ≡ k.own
   pub sender : IsPeer k c.frame.from

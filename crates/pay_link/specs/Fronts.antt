@@ -6,4 +6,6 @@ use Rattle.pay_link.specs.declared.link_fault.LinkFault.TheVariants.{Gap, Repeat
 -- whether a number is the next one: a lower one was taken before, a higher one leaves a gap
 abbrev pub turn : ℕ → ℕ → Result ⊤ LinkFault
 turn next number =
-    if number == next then Ok tt else if nat_lt number next then Err (Repeat next) else Err (Gap next)
+    if number == next then Ok tt
+    else if nat_lt number next then Err (Repeat next)
+    else Err (Gap next)

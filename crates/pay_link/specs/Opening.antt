@@ -41,13 +41,18 @@ pub record Opens (k : KeyFields) (f : FrameFields) : Type 0 where
   pub owner : f.body.owner < length k.keys
   pub tagged : IsTagged (key_for k f.from) f
 
+-- opened where its tag is right
+abbrev pub if_tagged : KeyFields → FrameFields → Result OpenedFields LinkFault
+if_tagged k f =
+    if bytes_eq f.tag (right_tag (key_for k f.from) f) then Ok (opened_fields k f) else Err BadTag
+
 -- the first cause of refusal that holds, or the opened frame
 unfoldable pub judgement : KeyFields → FrameFields → Result OpenedFields LinkFault
 judgement k f =
     if f.to == k.own
     then (if is_peer k f.from
     then (if nat_lt f.body.owner (length k.keys)
-    then (if bytes_eq f.tag (right_tag (key_for k f.from) f) then Ok (opened_fields k f) else Err BadTag)
+    then if_tagged k f
     else Err UnknownOwner)
     else Err UnknownSender)
     else Err NotForMe

@@ -8,9 +8,9 @@ use std::marker::Model;
 
 /// A frame by itself that was opened, with the key that it was opened under.
 ///
-/// Its type keeps that the frame is within its limits, that its tag is right under that key, and that
-/// it is no WANT. `Opened::own` and `copy` alone make one. Like `Keys` it has no `Debug`, so that no
-/// line of a log shows the key.
+/// Its type keeps that the frame is within its limits, that its tag is right under that key, and
+/// that it is no WANT. `Opened::own` and `copy` alone make one. Like `Keys` it has no `Debug`, so
+/// that no line of a log shows the key.
 #[derive(Drop)]
 pub struct Checked {
     pub(crate) from: u16,
@@ -22,13 +22,16 @@ pub struct Checked {
 }
 
 impl Model for Checked {
+    ghost use Rattle.pay_frame.specs.Frame.{frame_of_parts};
     ghost use Rattle.pay_link.specs.Checked.{CheckedFields, IsChecked};
 
     ghost Value = { CheckedFields };
 
-    ghost view = { λ c. record { frame = record { from = c.from; to = c.to; number = c.number; body = c.body; tag = c.tag }; key = c.key } };
+    ghost view = { λ c.
+        record { frame = frame_of_parts c.from c.to c.number c.body c.tag; key = c.key } };
 
-    ghost invariant = { λ c. IsChecked (record { frame = record { from = c.from; to = c.to; number = c.number; body = c.body; tag = c.tag }; key = c.key }) };
+    ghost invariant = { λ c. IsChecked
+        (record { frame = frame_of_parts c.from c.to c.number c.body c.tag; key = c.key }) };
 }
 
 impl Checked {

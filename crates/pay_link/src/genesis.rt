@@ -23,9 +23,11 @@ impl Model for Genesis {
 
     ghost Value = { GenesisFields };
 
-    ghost view = { λ g. record { members = g.members; faults = g.faults; opening = g.opening.items } };
+    ghost view = { λ g.
+        record { members = g.members; faults = g.faults; opening = g.opening.items } };
 
-    ghost invariant = { λ g. IsGenesis (record { members = g.members; faults = g.faults; opening = g.opening.items }) };
+    ghost invariant = { λ g. IsGenesis
+        (record { members = g.members; faults = g.faults; opening = g.opening.items }) };
 }
 
 impl Genesis {

@@ -33,8 +33,8 @@ impl Model for Keys {
 }
 
 impl Keys {
-    /// The keys of a member of this genesis. What stands at the own place isn't kept. Memory is looked
-    /// for last.
+    /// The keys of a member of this genesis. What stands at the own place isn't kept. Memory is
+    /// looked for last.
     pub fn new(
         alloc: Global,
         genesis: &Genesis,
@@ -45,7 +45,8 @@ impl Keys {
             (keys_fault genesis.now.members (record { own = own; keys = keys.now }))
             (IsOkUnless result KeysFault.Memory)
             (λ fault. result ≡ Err fault) }
-        ensures value { IfOk result (λ kept. kept ≡ kept_keys (record { own = own; keys = keys.now })) }
+        ensures value { IfOk result (λ kept.
+            kept ≡ kept_keys (record { own = own; keys = keys.now })) }
         ensures genesis { IfOk result (IsKeysOf genesis.now) }
     {
         let own = place_in(genesis, own, keys.len())?;

@@ -31,14 +31,15 @@ pub fn genesis_causes()
     ensures faults { (g : GenesisFields) → (genesis_fault g ≡ Some GenesisFault.BadFaults)
         ↔ ((1 ≤ g.members) × (g.members ≤ MOST_MEMBERS) × (g.members ≤ 3 * g.faults)) }
     ensures opening { (g : GenesisFields) → (genesis_fault g ≡ Some GenesisFault.BadOpening)
-        ↔ ((g.members ≤ MOST_MEMBERS) × (3 * g.faults < g.members) × (length g.opening ≢ g.members)) }
+        ↔ ((g.members ≤ MOST_MEMBERS) × (3 * g.faults < g.members)
+        × (length g.opening ≢ g.members)) }
     ensures total { (g : GenesisFields) → (genesis_fault g ≡ Some GenesisFault.BadTotal)
         ↔ ((g.members ≤ MOST_MEMBERS) × (3 * g.faults < g.members) × (length g.opening ≡ g.members)
         × (GREATEST_TOTAL < sum g.opening)) }
 {}
 
-/// A file of a genesis isn't JSON exactly where it has no value, and of a wrong shape exactly where its
-/// value says no genesis.
+/// A file of a genesis isn't JSON exactly where it has no value, and of a wrong shape exactly where
+/// its value says no genesis.
 pub fn genesis_file_faults()
     ensures json { (bytes : List ℕ) → (genesis_in bytes ≡ Err GenesisFault.BadJson)
         ↔ (value_in bytes ≡ None) }
@@ -46,14 +47,15 @@ pub fn genesis_file_faults()
         ↔ ((d : Data) × ((value_in bytes ≡ Some d) × (genesis_said d ≡ None))) }
 {}
 
-/// Keys have no fault exactly where they are of a member and as many as the members; each fault comes
-/// exactly where its own cause holds and no earlier one.
+/// Keys have no fault exactly where they are of a member and as many as the members; each fault
+/// comes exactly where its own cause holds and no earlier one.
 pub fn keys_causes()
     ensures none { (members : ℕ) (k : KeyFields) → (keys_fault members k ≡ None)
         ↔ ((k.own < members) × (length k.keys ≡ members)) }
     ensures own { (members : ℕ) (k : KeyFields) → (keys_fault members k ≡ Some KeysFault.BadOwn)
         ↔ (members ≤ k.own) }
-    ensures count { (members : ℕ) (k : KeyFields) → (keys_fault members k ≡ Some KeysFault.BadKeyCount)
+    ensures count { (members : ℕ) (k : KeyFields)
+        → (keys_fault members k ≡ Some KeysFault.BadKeyCount)
         ↔ ((k.own < members) × (length k.keys ≢ members)) }
 {}
 
@@ -116,8 +118,8 @@ pub fn refused()
         judgement k f ≢ Err (LinkFault.Gap next) }
 {}
 
-/// What opens at a member, once it is owned, is for that member; and what is for a member opens there
-/// again, and is then what was owned. Its bytes are that frame and nothing else.
+/// What opens at a member, once it is owned, is for that member; and what is for a member opens
+/// there again, and is then what was owned. Its bytes are that frame and nothing else.
 pub fn owned()
     ensures kept { (k : KeyFields) (f : FrameFields) (o : OpenedFields) → IsFrame f
         → f.body.kind ≢ Kind.Want → judgement k f ≡ Ok o
@@ -132,7 +134,7 @@ pub fn owned()
 pub fn sealed_opens()
     ensures { (a b : KeyFields) (number : ℕ) (body : BodyFields) → IsPeer b a.own
         → key_for a b.own ≡ key_for b a.own → body.owner < length b.keys
-        → judgement b (sealed a b.own number body) ≡ Ok (opened_fields b (sealed a b.own number body)) }
+        → let f = sealed a b.own number body in judgement b f ≡ Ok (opened_fields b f) }
 {}
 
 /// Two members' test keys for each other are the same.

@@ -3,8 +3,8 @@ ghost use Rattle.pay_link.specs.Faults.{link_fault_name, link_fault_number};
 
 use thiserror::Error;
 
-/// Why a frame is refused, in the order in which it is tested: the first four where it is opened, the
-/// last two where it is taken.
+/// Why a frame is refused, in the order in which it is tested: the first four where it is opened,
+/// the last two where it is taken.
 #[derive(Clone, Copy, Debug, PartialEq, Eq, Error)]
 #[error("{} {}", self.number(), self.name())]
 pub enum LinkFault {

@@ -14,10 +14,10 @@ use std::marker::Model;
 
 /// A frame that was opened, in the buffer that lends it, with the key that it was opened under.
 ///
-/// Its type keeps that the tag is right under that key, that sender and owner are among the members,
-/// and that the sender isn't the receiver. That the receiver is the member who opened it, and the key
-/// the one that this member shares with the sender, is what `open` says of its answer. `open` alone
-/// makes one.
+/// Its type keeps that the tag is right under that key, that sender and owner are among the
+/// members, and that the sender isn't the receiver. That the receiver is the member who opened it,
+/// and the key the one that this member shares with the sender, is what `open` says of its answer.
+/// `open` alone makes one.
 #[derive(Drop)]
 pub struct Opened<'a> {
     frame: FrameRef<'a>,
@@ -34,7 +34,8 @@ impl<'a> Model for Opened<'a> {
 
     ghost view = { λ o. record { frame = fields_of o.frame; key = o.key; members = o.members } };
 
-    ghost invariant = { λ o. IsOpened (record { frame = fields_of o.frame; key = o.key; members = o.members }) };
+    ghost invariant = { λ o. IsOpened
+        (record { frame = fields_of o.frame; key = o.key; members = o.members }) };
 }
 
 impl<'a> Opened<'a> {
@@ -67,8 +68,8 @@ impl<'a> Opened<'a> {
     }
 }
 
-/// Opens a frame that was sent to the member with these keys, or names the first cause of refusal. It
-/// takes no memory and waits for nobody.
+/// Opens a frame that was sent to the member with these keys, or names the first cause of refusal.
+/// It takes no memory and waits for nobody.
 #[tactic(auto, using(crate::proofs::Judged::judged))]
 pub fn open<'a, T: Tagger>(t: &T, keys: &Keys, frame: FrameRef<'a>) -> Result<Opened<'a>, LinkFault>
     ensures { result ≡ judgement keys.now (fields_of frame.entry) }
@@ -97,7 +98,7 @@ pub fn open<'a, T: Tagger>(t: &T, keys: &Keys, frame: FrameRef<'a>) -> Result<Op
 // The tag is over all bytes before it, which the frame lends in two parts.
 #[tactic(auto, using(crate::proofs::Judged::bytes_eq_read), unfolding(crate::specs::Sealing::tagged_bytes))]
 fn is_tagged<T: Tagger>(t: &T, key: &[u8; 32], frame: &FrameRef<'_>) -> bool
-    ensures { result ≡ bytes_eq (fields_of frame.now).tag (right_tag key.now (fields_of frame.now)) }
+    ensures { let f = fields_of frame.now in result ≡ bytes_eq f.tag (right_tag key.now f) }
 {
     let tag = t.tag(key, frame.head(), frame.value());
     frame.tag() == tag.as_slice()

@@ -28,8 +28,8 @@ pub fn seal<T: Tagger>(
     write(alloc, keys.own(), to, number, body, &tag)
 }
 
-/// The bytes of a WANT to a peer, with its right tag: it asks for the frames from a number on. It takes
-/// no memory.
+/// The bytes of a WANT to a peer, with its right tag: it asks for the frames from a number on. It
+/// takes no memory.
 pub fn want<T: Tagger>(t: &T, keys: &Keys, to: u16, number: u64) -> [u8; WANT_LEN]
     requires { IsPeer keys.now to }
     ensures bytes { result ≡ frame_bytes (wanted keys.now to number) }

@@ -3,7 +3,6 @@ use Rattle.std.specs.Bool.{then_some}
 use Rattle.pay_frame.specs.declared.kind.Kind.TheVariants.{Echo, Ready}
 use Rattle.pay_echo.specs.Meaning.{Meaning}
 use Rattle.pay_echo.specs.Moves.{IsMoves}
-use Rattle.pay_echo.specs.Votes.{vote_of}
 use Rattle.pay_channel.specs.History.{body_of}
 use Rattle.pay_channel.proofs.instances.tell.Goals as goal
 

@@ -1,4 +1,4 @@
-use Rattle.std.proofs.Common.{◌≡◌, ℕ, ◌+◌, ◌<◌, ◌≤◌, ◌++◌, set, option_to_list, Some, ap, sym, ◌∙◌, subst, arith}
+use Rattle.std.proofs.Common.{◌≡◌, ℕ, ◌+◌, ◌<◌, ◌≤◌, ◌++◌, set, option_to_list, Some, sym, subst, arith}
 use Rattle.pay_channel.specs.History.{seqs}
 use Rattle.pay_echo.specs.Votes.{vote_of}
 use Rattle.pay_channel.specs.State.{State, IsSound, lists_of}

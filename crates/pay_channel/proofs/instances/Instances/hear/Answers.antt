@@ -1,7 +1,6 @@
-use Rattle.std.proofs.Common.{◌≡◌, ap, sym, ◌∙◌, subst, subst₂, []}
+use Rattle.std.proofs.Common.{ap, sym, ◌∙◌, subst₂, []}
 use Rattle.std.proofs.lemmas.Result.{on_ok_weaker, on_err_weaker, IfOk-weaker}
-use Rattle.pay_echo.specs.Broadcast.{Group, IsForeign}
-use Rattle.pay_echo.specs.Meaning.{Meaning, meaning_of, Sees}
+use Rattle.pay_echo.specs.Meaning.{Meaning, Sees}
 use Rattle.pay_echo.specs.Votes.{vote_of}
 use Rattle.pay_channel.specs.State.{meaning_in}
 use Rattle.pay_channel.specs.Hearing.{IsOutgoing}
