@@ -1,6 +1,7 @@
 -- A member's history with one entry more, and what a member shows of its ledger.
 use Rattle.std.proofs.Common.{◌≡◌, ◌≢◌, ℕ, ◌+◌, ◌<◌, ◌≤◌, ◌⊎◌, inl, inr, Bool, true, false, cond, eqb, ltb, ◌&&◌, Option, Some, None, List, [], ◌∷◌, ◌++◌, length, replicate, set, slice_index, refl, sym, ap, ◌∙◌, subst, arith, rules, append-nil}
 use Rattle.std.specs.List.{filter_map}
+use Rattle.std.specs.Option.{option_to_list}
 use Rattle.std.proofs.lemmas.List.Elements.{filter_map-append}
 use Rattle.std.proofs.lemmas.List.Sums.{count_by-le-length}
 use Rattle.std.proofs.lemmas.List.{get_or-set_same, get_or-set_other, get_or-replicate, length-replicate}
@@ -54,6 +55,16 @@ events-unchanged history x is =
     ∙ append-nil (filter_map (λ (y : HistoryEntry). channel_event y.event) history) where
       last : filter_map (λ (z : HistoryEntry). channel_event z.event) (x ∷ []) ≡ []
       last = rw is refl
+
+pub no_events : events [] ≡ []
+unfolding events
+no_events = refl
+
+pub events-more : (history : List HistoryEntry) (x : HistoryEntry) → events (history ++ x ∷ []) ≡ events history ++ option_to_list (channel_event x.event)
+events-more history x = go (channel_event x.event) refl where
+  go : (o : Option channel.Event) → channel_event x.event ≡ o → events (history ++ x ∷ []) ≡ events history ++ option_to_list (channel_event x.event)
+  go (Some e) is = events-push history x e is ∙ sym (ap (λ (o : Option channel.Event). events history ++ option_to_list o) is)
+  go None is = events-unchanged history x is ∙ sym (append-nil (events history)) ∙ sym (ap (λ (o : Option channel.Event). events history ++ option_to_list o) is)
 
 pub length-events : (history : List HistoryEntry) → length (events history) ≤ length history
 unfolding events

@@ -1,6 +1,7 @@
 -- What bytes are, before a member's history is looked at.
-use Rattle.std.proofs.Common.{◌≡◌, ◌≢◌, ◌⊎◌, ◌↔◌, inl, inr, ℕ, Bool, true, false, cond, List, Some, None, Result, Ok, Err, refl, sym, ap, ◌∙◌}
-use Rattle.std.specs.Option.{option_and_then}
+use Rattle.std.proofs.Common.{◌≡◌, ◌≢◌, ◌⊎◌, ◌↔◌, inl, inr, ℕ, Bool, true, false, cond, List, Option, Some, None, Result, Ok, Err, refl, sym, ap, ◌∙◌, subst}
+use Rattle.std.specs.Option.{option_and_then, option_map}
+use Rattle.std.specs.Result.{result_ok}
 use Rattle.std.proofs.lemmas.Bool.{false≢true, cond-false}
 use Rattle.pay_frame.specs.declared.fault.FrameFault.{FrameFault}
 use Rattle.pay_frame.specs.declared.kind.Kind.{Kind}
@@ -14,6 +15,7 @@ use Rattle.pay_link.specs.declared.link_fault.LinkFault.{LinkFault}
 use Rattle.pay_member.specs.declared.outcome.Outcome.{Outcome}
 use Rattle.pay_member.specs.declared.outcome.Outcome.TheVariants.{Frame, Link, Wanted, WrongKey}
 use Rattle.pay_member.specs.Bringing.{is_want, judged, opening, IsOpening, unless_want, opened_in, checked_with}
+use Rattle.pay_member.specs.OpeningLaws.{OpensFrom}
 
 pub opens_as :
     (k : KeyFields) (bytes : List ℕ) (reading : Result FrameFields FrameFault) (answer : Result OpenedFields Outcome)
@@ -47,6 +49,18 @@ pub no_want : (of : Kind) → (of ≡ Send) ⊎ ((of ≡ Echo) ⊎ (of ≡ Ready
 no_want of (inl is) = ap is_want is
 no_want of (inr (inl is)) = ap is_want is
 no_want of (inr (inr is)) = ap is_want is
+
+none_is : {X : Type 0} (x : X) → None ≡ Some x → ⊥
+none_is x same = cc
+
+some_is : {X : Type 0} (x y : X) → Some x ≡ Some y → x ≡ y
+some_is x y same = cc
+
+wants_not : (of : Kind) → is_want of ≡ false → of ≢ Want
+wants_not Send other same = cc
+wants_not Echo other same = cc
+wants_not Ready other same = cc
+wants_not Want other same = cc
 
 -- ---- which frame opened, if any
 
@@ -150,3 +164,36 @@ pub opened_is_for : OpenedIs → OwnedIsFor → (k : KeyFields) (bytes : List �
 opened_is_for opened owned k bytes o has =
     let frame = ap (λ (x : OpenedFields). x.frame.body.kind) (opened_frame opened k bytes o has) in
     (owned k has.frame o has.one.is (λ is. no_want_opened k bytes o has (frame ∙ is)) has.opens).1
+
+-- what opens is the bytes, opens by the definition, and is no WANT
+pub opened_are :
+    FrameIs → OpenedIs → (k : KeyFields) (bytes : List ℕ) (f : FrameFields) → opened_in k bytes ≡ Some f
+    → OpensFrom k bytes f
+unfolding opened_in
+opened_are frame opened k bytes f is = at (one_frame bytes) refl is where
+  here : (x : FrameFields) (p : OpenedFields) (asks : Bool) → IsOneFrame bytes x → judgement k x ≡ Ok p → is_want p.frame.body.kind ≡ asks → cond asks None (Some p.frame) ≡ Some f → OpensFrom k bytes f
+  here x p true one opens asks same = absurd (none_is f same)
+  here x p false one opens asks same =
+      let known = (opened k x p).0 opens in
+      let fields : p.frame ≡ x = ap (λ (o : OpenedFields). o.frame) known.1 in
+      let are : x ≡ f = sym fields ∙ some_is p.frame f same in
+      record {
+        one = subst (IsOneFrame bytes) are one;
+        opens = subst (Opens k) are known.0;
+        other = wants_not f.body.kind (sym (ap (λ (y : FrameFields). is_want y.body.kind) (some_is p.frame f same)) ∙ asks);
+      }
+
+  judged_as : (x : FrameFields) (j : Result OpenedFields LinkFault) → IsOneFrame bytes x → judgement k x ≡ j → unless_want j ≡ Some f → OpensFrom k bytes f
+  judged_as x (Err fault) one opens same = absurd (none_is f same)
+  judged_as x (Ok p) one opens same = here x p (is_want p.frame.body.kind) one opens refl same
+
+  at : (o : Option FrameFields) → one_frame bytes ≡ o → option_and_then (λ x. unless_want (judgement k x)) o ≡ Some f → OpensFrom k bytes f
+  at None reads same = absurd (none_is f same)
+  at (Some x) reads same = judged_as x (judgement k x) ((frame bytes x).0 reads) refl same
+
+-- the answer of `opens`
+pub opened_as :
+    FrameIs → NoFrame → (k : KeyFields) (bytes : List ℕ) (r : Result OpenedFields Outcome) → IsOpening k bytes r
+    → option_map (λ (o : OpenedFields). o.frame) (result_ok r) ≡ opened_in k bytes
+opened_as frame none k bytes (Err outcome) is = sym (none_opened frame none k bytes outcome is)
+opened_as frame none k bytes (Ok o) is = sym (some_opened frame k bytes o (has_opened k bytes o is))

@@ -9,3 +9,5 @@ pub mod Ledger
 pub mod Member
 pub mod Reading
 pub mod Bringing
+pub mod OpeningLaws
+pub mod EventLaws

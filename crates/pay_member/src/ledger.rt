@@ -1,4 +1,5 @@
-ghost use Rattle.std.specs.Prelude.{true, ◌≡◌, ◌<◌, [], drop, take, length, slice_index, IfOk, OnErr};
+ghost use Rattle.std.specs.Prelude.{true, ◌≡◌, ◌<◌, [], drop, take, length, slice_get, slice_index, IfOk, OnErr};
+ghost use Rattle.std.specs.Option.{option_copied};
 ghost use Rattle.pay_channel.specs.History.{IsEvent, is_ask, owner_of, seqs};
 ghost use Rattle.pay_channel.specs.State.{lists_of};
 ghost use Rattle.pay_book.specs.Statement.{statement_of};
@@ -78,6 +79,13 @@ impl<I: Instance + Drop, B: Settle + Drop> Ledger<I, B> {
             deliver: applied.deliver,
             settled,
         })
+    }
+
+    /// The body at a place of all that the member sent to all.
+    pub fn sent(&self, place: usize) -> Option<&Body>
+        ensures { option_copied result ≡ slice_get self.now.channel.sent place }
+    {
+        self.channel.sent(place)
     }
 
     /// Copies of the bodies that the member sent to all, from a place on: at most so many.

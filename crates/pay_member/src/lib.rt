@@ -9,6 +9,7 @@ mod brought;
 mod entry;
 mod event;
 mod fault;
+pub mod laws;
 mod ledger;
 mod member;
 mod outcome;

@@ -1,10 +1,10 @@
-ghost use Rattle.std.specs.Prelude.{◌≡◌, ◌≢◌, ◌<◌, ◌&&◌, ◌++◌, nat_lt, min, [], length, slice_index, None, MatchOption, IfOk, OnErr, IsOkUnless};
-ghost use Rattle.std.specs.Option.{option_to_list};
+ghost use Rattle.std.specs.Prelude.{◌≡◌, ◌≢◌, ◌<◌, ◌&&◌, ◌++◌, nat_lt, min, [], length, slice_get, slice_index, None, MatchOption, IfOk, OnErr, IsOkUnless};
+ghost use Rattle.std.specs.Option.{option_copied, option_map, option_to_list};
 ghost use Rattle.pay_link.specs.Keys.{IsKeysOf};
 ghost use Rattle.pay_link.specs.Checked.{IsFor};
 ghost use Rattle.pay_link.specs.Genesis.{IsGenesis};
 ghost use Rattle.pay_book.specs.Statement.{statement_of};
-ghost use Rattle.pay_channel.specs.History.{From, asks, list_of};
+ghost use Rattle.pay_channel.specs.History.{From, asks, list_of, out};
 ghost use Rattle.pay_channel.specs.Taken.{next};
 ghost use Rattle.pay_member.specs.Group.{group_in};
 ghost use Rattle.pay_member.specs.Events.{events};
@@ -33,7 +33,7 @@ use pay_channel::laws::{a_channel_follows, nothing_at_first, one_event_more, tak
 use pay_echo::Instance;
 use pay_frame::{Body, Bytes, GREATEST_VALUE, SEQS, one_frame_is};
 use pay_hmac::Tagger;
-use pay_link::{Checked, Fronts, Genesis, Keys, LinkFault, laws, want};
+use pay_link::{Checked, Fronts, Genesis, Keys, LinkFault, Opened, laws, want};
 use std::alloc::{AllocError, Global};
 use std::marker::Model;
 
@@ -278,11 +278,27 @@ impl<I: Instance + Drop, B: Settle + Drop> Member<I, B> {
         &self.keys
     }
 
+    /// The frame that bytes are, where it opens at this member and is no WANT.
+    pub fn opens<'a, T: Tagger>(&self, tagger: &T, bytes: &'a [u8]) -> Option<Opened<'a>>
+        ensures { option_map (λ opened. opened.frame) result ≡ opened_in self.now.keys bytes.now }
+    {
+        one_frame_is();
+        open_bytes(tagger, self.keys(), bytes).ok()
+    }
+
     /// All that the member took and replied, oldest first.
     pub fn history(&self) -> &[HistoryEntry]
         ensures { result.now ≡ self.now.history }
     {
         self.history.as_slice()
+    }
+
+    /// The body at a place of all that the member sent to all.
+    pub fn sent(&self, place: u64) -> Option<&Body>
+        ensures { option_copied result
+            ≡ slice_get (out (group_in self.now.genesis self.now.keys.own) (events self.now.history)) place }
+    {
+        self.ledger.sent(place as usize)
     }
 
     /// Copies of the bodies that the member sent to all, from a place on: at most `max`, and at most 16.
