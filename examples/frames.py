@@ -26,3 +26,45 @@ def frame(kind, sender, receiver, number, owner=0, seq=0, value=b""):
 def payment(payee, amount):
     """A payment value of one payment."""
     return struct.pack(">BHQ", 1, payee, amount)
+
+
+def fault_at(place, byte, head):
+    """Why no frame has this byte at this place behind these bytes, if none has."""
+    length = int.from_bytes(head[:2], "big")
+    is_want = head[3:4] == bytes([WANT])
+    if place == 0:
+        return None if byte <= 4 else "1 BadLength"
+    if place == 1:
+        return None if 54 <= 256 * head[0] + byte <= 1078 else "1 BadLength"
+    if place == 2:
+        return None if byte == 1 else "2 BadVersion"
+    if place == 3:
+        if not SEND <= byte <= WANT:
+            return "3 BadKind"
+        return "6 BadWant" if byte == WANT and length != 54 else None
+    if 16 <= place <= 21 and is_want:
+        return None if byte == 0 else "6 BadWant"
+    if place in (18, 19):
+        return None if byte == 0 else "5 BadSeq"
+    if place in (22, 23):
+        return None if byte == (length - 54).to_bytes(2, "big")[place - 22] else "4 BadValueLength"
+    return None
+
+
+def read_frame(stream):
+    """Number and name of the fault of bytes that should be one frame; else kind, sender, receiver, number, the body
+    (kind, owner, seq, value), and whether the tag is right under the test key."""
+    for place, byte in enumerate(stream[: HEAD.size]):
+        fault = fault_at(place, byte, stream[:place])
+        if fault:
+            return fault
+    size = 2 + int.from_bytes(stream[:2], "big")
+    if len(stream) < HEAD.size or len(stream) < size:
+        return "7 Truncated"
+    if len(stream) > size:
+        return "8 Trailing"
+    _, _, kind, sender, receiver, number, owner, seq, _ = HEAD.unpack_from(stream)
+    value = stream[HEAD.size : size - 32]
+    known = max(sender, receiver) < 256
+    is_right = known and frame(kind, sender, receiver, number, owner, seq, value) == stream
+    return kind, sender, receiver, number, (kind, owner, seq, value), is_right
