@@ -1,0 +1,297 @@
+"""Scripts of `payd sim`: worked examples with the text that each must print, and random ones for the model."""
+
+import json
+import random
+
+from frames import payment
+
+FOUR_ONE_LIAR = '{"faults":1,"liars":[3],"members":4,"opening":[100,0,0,50]}'
+SEVEN_TWO_LIARS = '{"faults":2,"liars":[5,6],"members":7,"opening":[7,0,0,0,0,9,0]}'
+ALONE = '{"faults":0,"liars":[],"members":1,"opening":[7]}'
+
+A = payment(payee=1, amount=5).hex()
+B = payment(payee=2, amount=5).hex()
+
+
+def four_honest(*opening):
+    return json.dumps({"faults": 1, "liars": [], "members": 4, "opening": opening})
+
+
+def shown(members, front, balances):
+    return [f"member {it} fronts {front} balances {balances}" for it in range(members)]
+
+
+# A name, the world's line, the commands, the lines that are printed, and the status.
+WORKED = [
+    (
+        "plain payment",
+        FOUR_ONE_LIAR,
+        ["ask 0 1 30", "all", "show"],
+        ["asked 0 seq 0", "brought 14", *shown(3, "1 0 0 0", "70 30 0 50")],
+        0,
+    ),
+    (
+        "split vote stalls",
+        FOUR_ONE_LIAR,
+        [f"lie 3 0 next send 3 0 {A}", f"lie 3 1 next send 3 0 {B}", "all", "show"],
+        ["took echo", "took echo", "brought 4", *shown(3, "0 0 0 0", "100 0 0 50")],
+        0,
+    ),
+    (
+        "split vote settles",
+        FOUR_ONE_LIAR,
+        [
+            f"lie 3 0 next send 3 0 {A}",
+            f"lie 3 1 next send 3 0 {A}",
+            f"lie 3 2 next send 3 0 {B}",
+            f"lie 3 0 next echo 3 0 {A}",
+            f"lie 3 1 next ready 3 0 {A}",
+            "all",
+            "show",
+        ],
+        [*["took echo"] * 3, *["took"] * 2, "brought 12", *shown(3, "0 0 0 1", "100 5 0 45")],
+        0,
+    ),
+    (
+        "circular debts",
+        four_honest(0, 0, 0, 50),
+        ["ask 0 1 10", "ask 1 0 10", "all", "show", "ask 3 0 10", "all", "show"],
+        [
+            "asked 0 seq 0",
+            "asked 1 seq 0",
+            "brought 54",
+            *shown(4, "0 0 0 0", "0 0 0 50"),
+            "asked 3 seq 0",
+            "brought 27",
+            *shown(4, "1 1 0 1", "10 0 0 40"),
+        ],
+        0,
+    ),
+    (
+        "uncovered payment waits",
+        four_honest(100, 0, 0, 50),
+        ["ask 0 1 150", "ask 0 1 10", "all", "show", "ask 3 0 50", "all", "show"],
+        [
+            "asked 0 seq 0",
+            "asked 0 seq 1",
+            "brought 54",
+            *shown(4, "0 0 0 0", "100 0 0 50"),
+            "asked 3 seq 0",
+            "brought 27",
+            *shown(4, "1 0 0 1", "0 150 0 0"),
+        ],
+        0,
+    ),
+    (
+        "gaps, repeats, absences",
+        FOUR_ONE_LIAR,
+        ["ask 0 1 30", "ask 0 2 10", "bring 0 1 0", "bring 0 1 0", "bring 0 1 2", "bring 0 1 1", "bring 0 1 4"],
+        [
+            "asked 0 seq 0",
+            "asked 0 seq 1",
+            "took echo",
+            "refused link 5 Repeat next 1",
+            "refused link 6 Gap next 1",
+            "took",
+            "absent",
+        ],
+        0,
+    ),
+    (
+        "a forged frame",
+        FOUR_ONE_LIAR,
+        [f"raw 1 0036010100000001{'00' * 48}", "lie 0 0 0 send 0 0 -", "lie 0 1 next send 0 0 -"],
+        ["refused link 4 BadTag", "refused link 2 UnknownSender", "forged 2"],
+        1,
+    ),
+    (
+        "what a correct member said isn't forged",
+        FOUR_ONE_LIAR,
+        ["ask 0 1 30", "lie 0 1 next send 0 0 010001000000000000001e"],
+        ["asked 0 seq 0", "took echo"],
+        0,
+    ),
+    *(
+        (
+            f"a void entry of {size} bytes passes",
+            FOUR_ONE_LIAR,
+            [
+                *(f"lie 3 {it} next send 3 0 {'ff' * size}" for it in range(3)),
+                *(f"lie 3 {it} next send 3 1 {A}" for it in range(3)),
+                "all",
+                "show",
+            ],
+            [*["took echo"] * 6, "brought 24", *shown(3, "0 0 0 2", "100 5 0 45")],
+            0,
+        )
+        for size in (1, 1024)
+    ),
+    (
+        "one member alone",
+        ALONE,
+        ["ask 0 0 5", "show", "all"],
+        ["asked 0 seq 0", "member 0 fronts 1 balances 7", "brought 0"],
+        0,
+    ),
+    (
+        "more than anyone has",
+        FOUR_ONE_LIAR,
+        ["ask 0 1 18446744073709551615", "ask 0 1 1", "all", "show"],
+        ["asked 0 seq 0", "asked 0 seq 1", "brought 28", *shown(3, "0 0 0 0", "100 0 0 50")],
+        0,
+    ),
+    (
+        "all that there is",
+        four_honest(9223372036854775807, 0, 0, 0),
+        ["ask 0 1 9223372036854775807", "all", "show"],
+        ["asked 0 seq 0", "brought 27", *shown(4, "1 0 0 0", "0 9223372036854775807 0 0")],
+        0,
+    ),
+    (
+        "hostile frames",
+        FOUR_ONE_LIAR,
+        [
+            f"lie 3 0 18446744073709551615 send 3 0 {A}",
+            "raw 0 -",
+            "raw 0 05",
+            "raw 9 -",
+            "lie 3 0 0 want 0 0 -",
+            f"lie 3 0 next send 1 0 {A}",
+            f"lie 3 0 next ready 3 65535 {A}",
+        ],
+        [
+            "refused link 6 Gap next 0",
+            "refused frame 7 Truncated",
+            "refused frame 1 BadLength",
+            "ignored",
+            "wanted 3 0",
+            "took",
+            "took",
+        ],
+        0,
+    ),
+    (
+        "READYs of liars alone",
+        SEVEN_TWO_LIARS,
+        [*(f"lie {liar} {it} next ready 5 0 {A}" for it in range(5) for liar in (5, 6)), "all", "show"],
+        [*["took"] * 10, "brought 0", *shown(5, "0 0 0 0 0 0 0", "7 0 0 0 0 9 0")],
+        0,
+    ),
+    (
+        "one READY makes the next",
+        SEVEN_TWO_LIARS,
+        [
+            *(f"lie 5 {it} next send 5 0 {A}" for it in range(3)),
+            *(f"lie 5 {it} next send 5 0 {B}" for it in (3, 4)),
+            *(f"lie {liar} 0 next echo 5 0 {A}" for liar in (5, 6)),
+            *(f"lie {liar} 1 next ready 5 0 {A}" for liar in (5, 6)),
+            f"lie 5 2 next ready 5 0 {A}",
+            "all",
+            "show",
+        ],
+        [*["took echo"] * 5, *["took"] * 5, "brought 40", *shown(5, "0 0 0 0 0 1 0", "7 5 0 0 0 4 0")],
+        0,
+    ),
+    ("no such command", FOUR_ONE_LIAR, ["fly"], ["bad line 2"], 2),
+    ("an empty line", FOUR_ONE_LIAR, ["", "show"], shown(3, "0 0 0 0", "100 0 0 50"), 0),
+    ("no script", "", [], ["bad line 1"], 2),
+    *(
+        (f"no world: {world}", world, ["show"], ["bad line 1"], 2)
+        for world in (
+            "{",
+            "[]",
+            '{"faults":1,"members":4,"opening":[1,2,3,4]}',
+            '{"faults":1,"liars":[4],"members":4,"opening":[1,2,3,4]}',
+            '{"faults":2,"liars":[1,1],"members":7,"opening":[1,2,3,4,5,6,7]}',
+            '{"faults":1,"liars":[1,2],"members":4,"opening":[1,2,3,4]}',
+            '{"faults":2,"liars":[],"members":6,"opening":[1,2,3,4,5,6]}',
+            '{"faults":1,"liars":[],"members":4,"opening":[1,2,3]}',
+            '{"faults":1,"liars":[],"members":4.0,"opening":[1,2,3,4]}',
+            '{"faults":0,"liars":[],"members":65,"opening":[' + ",".join(["0"] * 65) + "]}",
+            '{"faults":0,"liars":[],"members":2,"opening":[9223372036854775807,1]}',
+        )
+    ),
+    *(
+        (f"bad command: {command}", FOUR_ONE_LIAR, ["ask 0 1 30", command], ["asked 0 seq 0", "bad line 3"], 2)
+        for command in (
+            "ask 0 1",
+            "ask 0 1 30 ",
+            " ask 0 1 30",
+            "ask  0 1 30",
+            "ask 0 1 030",
+            "ask 0 1 +3",
+            "ask 128 1 30",
+            "ask 0 65536 30",
+            "ask 0 1 18446744073709551616",
+            "ASK 0 1 30",
+            "bring 0 1",
+            "bring 0 1 next",
+            "raw 0",
+            "raw 0 ",
+            "raw 0 0",
+            "raw 0 0g",
+            "lie 3 0 next send 3 65536 -",
+            "lie 3 0 next sent 3 0 -",
+            "lie 3 0 next want 0 0 00",
+            "lie 3 0 next want 1 0 -",
+            f"lie 3 0 next send 3 0 {'00' * 1025}",
+            "all 1",
+            "show\r",
+            "\r",
+            "show" + " " * 4093,
+        )
+    ),
+]
+
+
+def script_of(world, commands):
+    return "".join(f"{line}\n" for line in [world, *commands]).encode() if world or commands else b""
+
+
+class RandomScripts:
+    """Scripts of small groups, in which some members lie in every way that a script can."""
+
+    def __init__(self, seed):
+        self.random = random.Random(seed)
+
+    def world(self):
+        faults = self.random.choice([0, 1, 1, 1, 2])
+        members = self.random.randint(3 * faults + 1, 3 * faults + 3)
+        liars = self.random.sample(range(members), self.random.randint(0, faults))
+        opening = [self.random.choice([0, 0, 7, 20, 100]) for _ in range(members)]
+        self.members, self.liars = members, liars
+        return json.dumps({"opening": opening, "members": members, "liars": liars, "faults": faults})
+
+    def member(self):
+        return self.random.randrange(self.members + (self.random.random() < 0.05))
+
+    def value(self):
+        if self.random.random() < 0.15:
+            return self.random.choice(["-", "ff", "0100", "02" * 12])
+        return payment(self.random.randrange(3), self.random.choice([1, 5, 9, 30])).hex()
+
+    def lie(self):
+        sender = self.random.choice(self.liars) if self.liars and self.random.random() < 0.97 else self.member()
+        number = "next" if self.random.random() < 0.9 else self.random.randrange(4)
+        kind = self.random.choice(["send", "send", "echo", "echo", "ready", "ready", "want"])
+        if kind == "want":
+            return f"lie {sender} {self.member()} {number} want 0 0 -"
+        owner = sender if kind == "send" and self.random.random() < 0.8 else self.member()
+        return f"lie {sender} {self.member()} {number} {kind} {owner} {self.random.randrange(2)} {self.value()}"
+
+    def command(self):
+        chance = self.random.random()
+        if chance < 0.25:
+            return f"ask {self.member()} {self.member()} {self.random.choice([0, 1, 5, 20, 60, 200])}"
+        if chance < 0.55:
+            return f"bring {self.member()} {self.member()} {self.random.randrange(6)}"
+        if chance < 0.9 and self.liars:
+            return self.lie()
+        if chance < 0.94:
+            return f"raw {self.member()} {self.random.choice(['-', '05', '0036', '00'])}"
+        return self.random.choice(["show", "all", ""])
+
+    def script(self):
+        world = self.world()
+        commands = [self.command() for _ in range(self.random.randint(1, 25))]
+        return script_of(world, [*commands, "all", "show"])
