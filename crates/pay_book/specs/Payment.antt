@@ -1,7 +1,7 @@
 -- What broadcast values mean to the book: this project's own format, stated in docs/DEFINITIONS.md.
-use Rattle.std.specs.Prelude.{ℕ, List, [], ◌∷◌, length, slice_index, slice_range, nat_lt, ◌==◌, ◌&&◌, not, if◌then◌else◌}
+use Rattle.std.specs.Prelude.{ℕ, List, [], ◌∷◌, ◌++◌, length, slice_index, slice_range, nat_lt, ◌==◌, ◌&&◌, not, if◌then◌else◌}
 use Rattle.std.specs.List.{flat_map}
-use Rattle.std.specs.Int.{from_be_bytes, w16, w64}
+use Rattle.std.specs.Int.{from_be_bytes, to_be_bytes, w16, w64}
 use Rattle.pay_book.specs.declared.payment.Entry.{Entry}
 use Rattle.pay_book.specs.declared.payment.TheConstants.{PAYMENT_LENGTH, PAYMENT_VERSION}
 use Rattle.pay_book.specs.declared.payment.Entry.TheVariants.{Pay, Void}
@@ -21,6 +21,10 @@ entry_of accounts owner value =
     then payment accounts owner (from_be_bytes w16 (slice_range value 1 3))
     (from_be_bytes w64 (slice_range value 3 PAYMENT_LENGTH))
     else Void
+
+-- The value that says so.
+unfoldable pub payment_value : ℕ → ℕ → List ℕ
+payment_value payee amount = PAYMENT_VERSION ∷ to_be_bytes w16 payee ++ to_be_bytes w64 amount
 
 -- how many entries a value has at most
 abbrev pub most_entries : ℕ

@@ -7,6 +7,7 @@
 
 mod accounts;
 mod decode;
+mod encode;
 mod line;
 mod payment;
 mod plain;
@@ -15,6 +16,7 @@ mod statements;
 
 pub use accounts::Accounts;
 pub use decode::decode_payment;
+pub use encode::{payment_value, what_was_encoded};
 pub use line::Line;
 pub use payment::{Entry, PAYMENT_LENGTH, PAYMENT_VERSION};
 pub use plain::PlainBook;
