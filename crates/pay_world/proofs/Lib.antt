@@ -6,3 +6,4 @@ pub mod Agreeing
 pub mod Converging
 pub mod Happening
 pub mod Telling
+pub mod Booking

@@ -1,10 +1,11 @@
--- What the laws between members stand on: the laws of one broadcast and of one member's channel, gathered.
+-- What the laws between members stand on: laws of one broadcast, of one member's channel and of one book, gathered.
 use Rattle.pay_echo.specs.Laws.{NotReadyAtFirst, EchoSetGrows, InEchoSet, InReadySet, InOtherReadySet, OwnEcho, OwnReady, SendCame, EchoCame, ReadyCame, SendIsEchoed, EchoCounts, ReadyCounts, WhyReady, WhyDelivered, QuorumMakesReady, AmplificationMakesReady, ReadysDeliver}
 use Rattle.pay_echo.specs.Quorums.{SizeOfOthers, PartIsSmaller, QuorumsShare, LargerHasAnother, RestIsQuorum, QuorumIsMore, MoreRemain}
-use Rattle.pay_channel.specs.VoteLaws.{NoVotesAtFirst, AsksByOneMore, VotesGrow, EchoIsTaken, ReadyIsTaken, SendIsTaken}
+use Rattle.pay_channel.specs.VoteLaws.{NoVotesAtFirst, NoAsksAtFirst, AsksByOneMore, VotesGrow, EchoIsTaken, ReadyIsTaken, SendIsTaken}
 use Rattle.pay_channel.specs.TakenLaws.{NothingTakenAtFirst, TakenByOneMore, TakenIsFrom}
-use Rattle.pay_channel.specs.SentLaws.{OutGrows, EchoIsSaid, ReadyIsSaid, AskedGrows, AsksAreCounted, SentIsAsked, OwnEchoIsAsk}
+use Rattle.pay_channel.specs.SentLaws.{OutGrows, EchoIsSaid, ReadyIsSaid, AsksAreCounted, SentIsAsked, OwnEchoIsAsk}
 use Rattle.pay_channel.specs.ListLaws.{DeliveredIs, DeliveryStays, ListIsValues, ListBeginsValues, ListsAlike, ListsCompare, ListsGrow}
+use Rattle.pay_book.specs.Laws.{SettledBookExists, SettledIsLargest, NobodyOwesOnceSettled, BookKeepsTotal, EqualListsEqualBooks, SettledEntriesGrow, SettledEntriesCompare, SettledEntriesWereAsked}
 
 -- who is in the sets of one broadcast, what came, and why one is READY and delivers
 pub record OfBroadcasts : Type 0 where
@@ -52,9 +53,9 @@ pub record OfChannels : Type 0 where
   pub ready_is_said : ReadyIsSaid
   pub sent_is_asked : SentIsAsked
   pub own_echo_is_ask : OwnEchoIsAsk
+  pub no_asks_at_first : NoAsksAtFirst
   pub asks_by_one_more : AsksByOneMore
   pub asks_are_counted : AsksAreCounted
-  pub asked_grows : AskedGrows
   pub delivered_is : DeliveredIs
   pub delivery_stays : DeliveryStays
   pub list_is_values : ListIsValues
@@ -67,3 +68,14 @@ pub record Below : Type 0 where
   pub one : OfBroadcasts
   pub sets : OfSets
   pub channel : OfChannels
+
+-- books and what is settled of lists
+pub record OfBooks : Type 0 where
+  pub settled_book_exists : SettledBookExists
+  pub settled_is_largest : SettledIsLargest
+  pub nobody_owes : NobodyOwesOnceSettled
+  pub keeps_total : BookKeepsTotal
+  pub equal_books : EqualListsEqualBooks
+  pub entries_grow : SettledEntriesGrow
+  pub entries_compare : SettledEntriesCompare
+  pub entries_were_asked : SettledEntriesWereAsked

@@ -8,3 +8,5 @@ pub mod Liars
 pub mod Below
 pub mod DeedLaws
 pub mod StandLaws
+pub mod Headline
+pub mod HeadlineLaws

@@ -1,10 +1,15 @@
 //! Laws between members. Each function's contract is the law. Its body is empty, or only names the laws that it
 //! stands on.
 
-ghost use Rattle.pay_world.specs.Below.{Below};
+ghost use Rattle.pay_world.specs.Below.{Below, OfBooks};
 ghost use Rattle.pay_world.specs.DeedLaws.{NoHistoryAtFirst, HistoryByOneMore, HistoriesGrow, NoDeedIsGenuine, GenuineByOneMore, PrefixIsGenuine, GenuineByPlace, CorrectIsTold, ForgedIsTold};
 ghost use Rattle.pay_world.specs.StandLaws.{StandsAtFirst, StandsByOneMore, GenuineStands, Agreement, ListsCompare, Integrity, ListIsAsked, NothingIsTakenBack, Convergence, ListsConverge, AsksAreDelivered, ListIsAllAsked};
+ghost use Rattle.pay_world.specs.HeadlineLaws.{HeadlineHolds, BooksConverge, NoListForks, ListWasAsked, ListStays, ListsAreEqual, ListIsComplete};
 
+use pay_book::laws::{
+    book_keeps_total, equal_lists_equal_books, nobody_owes_once_settled, settled_book_exists,
+    settled_entries_compare, settled_entries_grow, settled_entries_were_asked, settled_is_largest,
+};
 use pay_channel::laws::{
     delivered_for_good, grow_at_the_end, lists_compared, lists_grow, nothing_at_first,
     one_event_more, sends_are_asks, taken_in_order, votes_are_taken, what_is_sent,
@@ -36,6 +41,20 @@ fn laws_below()
     delivered_for_good();
     lists_compared();
     lists_grow();
+}
+
+// The laws of settling that those between members stand on.
+fn laws_of_books()
+    ensures { OfBooks }
+{
+    settled_book_exists();
+    settled_is_largest();
+    nobody_owes_once_settled();
+    book_keeps_total();
+    equal_lists_equal_books();
+    settled_entries_grow();
+    settled_entries_compare();
+    settled_entries_were_asked();
 }
 
 /// Each member's history is what it took of the deeds, one after the other: it grows at its end, by one event
@@ -101,6 +120,37 @@ pub fn all_converge()
     ensures lists { ListsConverge }
     ensures asks { AsksAreDelivered }
     ensures all { ListIsAllAsked }
+{
+    laws_below();
+}
+
+/// The headline: take any deeds of which none is a forged frame, in a group with few faulty members. Then correct
+/// members never settle different payments of one account; what one settled stays settled, and of a correct owner
+/// it is what the owner was asked for. Each book is the largest front of its member's lists, where nobody owes and
+/// no money was made or lost, and equal lists give equal books.
+pub fn headline()
+    ensures { HeadlineHolds }
+{
+    laws_below();
+    laws_of_books();
+}
+
+/// Where each correct member took all that the other correct ones sent, all their books are equal.
+pub fn books_converge()
+    ensures { BooksConverge }
+{
+    laws_below();
+    laws_of_books();
+}
+
+/// The same of whole lists: no two correct members' lists of an account fork, nothing in them is invented or taken
+/// back, and where all was taken they are equal, and have all that correct owners were asked for.
+pub fn lists_by_deeds()
+    ensures no_fork { NoListForks }
+    ensures asked { ListWasAsked }
+    ensures stays { ListStays }
+    ensures equal { ListsAreEqual }
+    ensures complete { ListIsComplete }
 {
     laws_below();
 }
