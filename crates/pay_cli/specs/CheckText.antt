@@ -32,7 +32,8 @@ text_from k p frames ending =
     lines_from k p frames ++ last_line (known_after k p frames).line ending
 
 -- the text of these bytes, and the fault that it ends with
-pub record IsCheckText (k : KeyFields) (bytes text : List ℕ) (ending : Option FrameFault) : Type 0 where
+pub record IsCheckText (k : KeyFields) (bytes text : List ℕ) (ending : Option FrameFault)
+    : Type 0 where
   pub frames : List FrameFields
   pub stream : IsStream bytes frames ending
   pub lines : text ≡ text_from k (at_start k) frames ending

@@ -18,10 +18,12 @@ use Rattle.pay_cli.specs.CheckText.{IsCheckText, at_start, known_after, lines_fr
 abbrev pub WritesText :
     KeyFields → Option (List ℕ) → Option (List ℕ) → Option (List ℕ) → Option FrameFault → Type 0
 WritesText k input before after ending =
-    IfSome input (λ bytes. (text : List ℕ) × IsCheckText k bytes text ending × Appends before after text)
+    IfSome input (λ bytes.
+    (text : List ℕ) × IsCheckText k bytes text ending × Appends before after text)
 
 -- these bytes have a text, and a beginning of it is written
-pub record BeginsText (k : KeyFields) (before after : Option (List ℕ)) (bytes : List ℕ) : Type 0 where
+pub record BeginsText (k : KeyFields) (before after : Option (List ℕ)) (bytes : List ℕ)
+    : Type 0 where
   pub text : List ℕ
   pub ending : Option FrameFault
   pub is : IsCheckText k bytes text ending
@@ -57,14 +59,16 @@ pub record IsInLine (members : ℕ) (p : Progress) : Type 0 where
   pub below : (member : ℕ) → slice_index p.fronts member < p.line
 
 -- Frames in front of some bytes are passed, and their lines written behind what stood there.
-pub record Pushes (k : KeyFields) (old : Progress) (bytes out : List ℕ) (new : Progress) (rest text : List ℕ) : Type 0 where
+pub record Pushes (k : KeyFields) (old : Progress) (bytes out : List ℕ) (new : Progress)
+    (rest text : List ℕ) : Type 0 where
   pub frames : List FrameFields
   pub cut : IsFramesThen bytes frames rest
   pub known : new ≡ known_after k old frames
   pub lines : text ≡ out ++ lines_from k old frames
 
 -- The lines of all frames of some bytes are written, and of the fault that they end with, if any.
-pub record PushesEnd (k : KeyFields) (p : Progress) (bytes out : List ℕ) (ending : Option FrameFault) (text : List ℕ) : Type 0 where
+pub record PushesEnd (k : KeyFields) (p : Progress) (bytes out : List ℕ)
+    (ending : Option FrameFault) (text : List ℕ) : Type 0 where
   pub frames : List FrameFields
   pub stream : IsStream bytes frames ending
   pub lines : text ≡ out ++ text_from k p frames ending
@@ -83,7 +87,8 @@ WritesLines before after out fault (Err Bound) = ⊥
 
 -- Between two reads: what was read, in so many reads, is some frames and then what is held, and the
 -- lines of these frames are written.
-pub record IsGoing (k : KeyFields) (input left before after : Option (List ℕ)) (p : Progress) (held : List ℕ) (reads : ℕ) : Type 0 where
+pub record IsGoing (k : KeyFields) (input left before after : Option (List ℕ)) (p : Progress)
+    (held : List ℕ) (reads : ℕ) : Type 0 where
   pub read : List ℕ
   pub frames : List FrameFields
   pub consumed : Consumes input left read

@@ -4,41 +4,15 @@ ghost use Rattle.std.specs.Prelude.{◌≡◌, ◌++◌, OnOk, decimal, codes};
 ghost use Rattle.pay_frame.specs.Lent.{fields_of};
 ghost use Rattle.pay_cli.specs.Lines.{kind_word, ok_words, want_words, refused_words, next_words, fault_line};
 
-use itoa::Buffer;
 use pay_frame::{FrameFault, FrameRef, Kind};
 use pay_link::LinkFault;
+use pay_text::{push_number, push_word};
 use std::alloc::AllocError;
-
-pub fn push_number(out: &mut Vec<u8>, number: u64) -> Result<(), AllocError>
-    ensures { OnOk result (out.new.items ≡ out.old.items ++ decimal number) }
-{
-    let mut buffer = Buffer::new();
-    out.extend_from_slice(buffer.format(number).as_bytes())
-}
-
-pub fn push_word(out: &mut Vec<u8>, word: &str) -> Result<(), AllocError>
-    ensures { OnOk result (out.new.items ≡ out.old.items ++ word.now) }
-{
-    out.extend_from_slice(word.as_bytes())
-}
-
-fn word_of(kind: Kind) -> &'static str
-    ensures { result.now ≡ kind_word kind }
-{
-    match kind {
-        Kind::Send => "send",
-        Kind::Echo => "echo",
-        Kind::Ready => "ready",
-        Kind::Want => "want",
-    }
-}
 
 pub fn push_ok(out: &mut Vec<u8>, frame: &FrameRef) -> Result<(), AllocError>
     ensures { OnOk result (out.new.items ≡ out.old.items ++ ok_words (fields_of frame.now)) }
 {
-    push_word(out, " ok ")?;
-    push_word(out, word_of(frame.kind()))?;
-    push_word(out, " from ")?;
+    push_word(out, ok_from(frame.kind()))?;
     push_number(out, u64::from(frame.from()))?;
     push_word(out, " number ")?;
     push_number(out, frame.number())?;
@@ -72,13 +46,6 @@ pub fn push_refused(out: &mut Vec<u8>, fault: LinkFault) -> Result<(), AllocErro
     }
 }
 
-fn push_next(out: &mut Vec<u8>, next: u64) -> Result<(), AllocError>
-    ensures { OnOk result (out.new.items ≡ out.old.items ++ codes " next " ++ decimal next) }
-{
-    push_word(out, " next ")?;
-    push_number(out, next)
-}
-
 pub fn push_fault(out: &mut Vec<u8>, line: u64, fault: FrameFault) -> Result<(), AllocError>
     ensures { OnOk result (out.new.items ≡ out.old.items ++ fault_line line fault) }
 {
@@ -88,4 +55,23 @@ pub fn push_fault(out: &mut Vec<u8>, line: u64, fault: FrameFault) -> Result<(),
     push_word(out, " ")?;
     push_word(out, fault.name())?;
     push_word(out, "\n")
+}
+
+/// The words of an `ok` line up to its sender.
+fn ok_from(kind: Kind) -> &'static str
+    ensures { result.now ≡ codes " ok " ++ kind_word kind ++ codes " from " }
+{
+    match kind {
+        Kind::Send => " ok send from ",
+        Kind::Echo => " ok echo from ",
+        Kind::Ready => " ok ready from ",
+        Kind::Want => " ok want from ",
+    }
+}
+
+fn push_next(out: &mut Vec<u8>, next: u64) -> Result<(), AllocError>
+    ensures { OnOk result (out.new.items ≡ out.old.items ++ codes " next " ++ decimal next) }
+{
+    push_word(out, " next ")?;
+    push_number(out, next)
 }

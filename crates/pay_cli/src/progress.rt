@@ -3,10 +3,11 @@ ghost use Rattle.pay_frame.specs.Lent.{fields_of};
 ghost use Rattle.pay_cli.specs.Lines.{line_of, moved, outcome_of, outcome_words, opened_outcome, fronts_after};
 ghost use Rattle.pay_cli.specs.Engine.{IsInLine};
 
-use crate::lines::{push_number, push_ok, push_refused, push_want, push_word};
+use crate::lines::{push_ok, push_refused, push_want};
 use pay_frame::{FrameRef, Kind};
 use pay_hmac::Tagger;
 use pay_link::{Fronts, Keys, laws, open};
+use pay_text::{push_number, push_word};
 use std::alloc::{AllocError, Global};
 
 /// What `check` knows between two lines: the next number from each member, and the number of the
