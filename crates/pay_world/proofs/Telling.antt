@@ -1,5 +1,5 @@
 -- The test for a forged frame tells exactly those that aren't genuine.
-use Rattle.std.proofs.Common.{◌≡◌, ⊎_elim, ◌↔◌, ℕ, Bool, true, false, not, eqb, ltb, ◌&&◌, List, slice_get, Option, None, Some, bytes_eq, refl, ap, ◌∙◌, arith, lt-ltb, ltb-true, eq-eqb, eqb-true}
+use Rattle.std.proofs.Common.{◌≡◌, ⊎_elim, ◌↔◌, ℕ, Bool, true, false, not, eqb, ltb, ◌&&◌, List, slice_get, Option, None, Some, bytes_eq, refl, sym, ap, ◌∙◌, arith, lt-ltb, ltb-true, eq-eqb, eqb-true, [], ◌∷◌, ◌++◌, subst, append_assoc, append-nil}
 use Rattle.std.proofs.lemmas.Bool.{cases_Bool, and_parts, and_cases, and_left, and_right, and_from, both_ways, not-true, not-false, false≢true}
 use Rattle.std.proofs.lemmas.Slice.Eq.{bytes_eq-Decides}
 use Rattle.pay_frame.specs.declared.kind.Kind.{Kind}
@@ -8,7 +8,8 @@ use Rattle.pay_frame.specs.Frame.{BodyFields, code_of}
 use Rattle.pay_channel.specs.History.{out}
 use Rattle.pay_world.specs.Setting.{Setting, group_at, IsCorrect, is_correct}
 use Rattle.pay_world.specs.Deeds.{Deed, Asks, Brings, history_by}
-use Rattle.pay_world.specs.Genuine.{IsGenuine, is_body, is_forged}
+use Rattle.pay_world.specs.Genuine.{IsGenuine, AreGenuine, is_body, is_forged, none_forged}
+use Rattle.pay_world.proofs.Happening.{genuine_by_one_more, no_deed_is_genuine}
 
 pub correct_is_told : (w : Setting) (i : ℕ) → (is_correct w i ≡ true) ↔ IsCorrect w i
 correct_is_told w i = (there, back) where
@@ -84,3 +85,26 @@ forged_is_told w before (Brings k from number body) = (there, back) where
       and_right correct (not (is_body body place)) (ap (λ o. not (is_body body o)) is ∙ ap not (its_body body)))
       (λ wrong. and_left correct (not (is_body body place)) wrong)
       (cases_Bool correct)
+
+-- ---- all of a list
+
+genuine_so_far :
+    (w : Setting) (before deeds : List Deed)
+    → AreGenuine w before → none_forged w before deeds ≡ true → AreGenuine w (before ++ deeds)
+genuine_so_far w before [] are none = subst (AreGenuine w) (sym (append-nil before)) are
+genuine_so_far w before (d ∷ deeds) are none =
+    let both = and_parts (not (is_forged w before d)) (none_forged w (before ++ d ∷ []) deeds) none in
+    let genuine = (forged_is_told w before d).0 (not-true (is_forged w before d) both.0) in
+    subst (AreGenuine w) (append_assoc before (d ∷ []) deeds)
+    (genuine_so_far w (before ++ d ∷ []) deeds (genuine_by_one_more w before d are genuine) both.1)
+
+none_from_here :
+    (w : Setting) (before deeds : List Deed) → AreGenuine w (before ++ deeds) → none_forged w before deeds ≡ true
+none_from_here w before [] are = refl
+none_from_here w before (d ∷ deeds) are =
+    and_from (not (is_forged w before d)) (none_forged w (before ++ d ∷ []) deeds)
+    (ap not ((forged_is_told w before d).1 (are.each before d deeds refl)))
+    (none_from_here w (before ++ d ∷ []) deeds (subst (AreGenuine w) (sym (append_assoc before (d ∷ []) deeds)) are))
+
+pub none_forged_is_told : (w : Setting) (deeds : List Deed) → (none_forged w [] deeds ≡ true) ↔ AreGenuine w deeds
+none_forged_is_told w deeds = (genuine_so_far w [] deeds (no_deed_is_genuine w), none_from_here w [] deeds)

@@ -3,7 +3,7 @@ use Rattle.std.specs.Prelude.{◌≡◌, ◌↔◌, ℕ, true, false, List, [], 
 use Rattle.pay_channel.specs.Prefix.{IsPrefix}
 use Rattle.pay_world.specs.Setting.{Setting, IsCorrect, is_correct}
 use Rattle.pay_world.specs.Deeds.{Deed, adds, history_by}
-use Rattle.pay_world.specs.Genuine.{IsGenuine, AreGenuine, AreGenuineByPlace, is_forged}
+use Rattle.pay_world.specs.Genuine.{IsGenuine, AreGenuine, AreGenuineByPlace, is_forged, none_forged}
 use Rattle.pay_world.specs.Stands.{Grow}
 
 -- ---- histories
@@ -41,3 +41,6 @@ CorrectIsTold = (w : Setting) (i : ℕ) → (is_correct w i ≡ true) ↔ IsCorr
 
 abbrev pub ForgedIsTold : Type 0
 ForgedIsTold = (w : Setting) (before : List Deed) (d : Deed) → (is_forged w before d ≡ false) ↔ IsGenuine w before d
+
+abbrev pub NoneForgedIsTold : Type 0
+NoneForgedIsTold = (w : Setting) (deeds : List Deed) → (none_forged w [] deeds ≡ true) ↔ AreGenuine w deeds

@@ -1,5 +1,5 @@
 -- Deeds in which no frame is forged: what a correct member takes as another's, that one sent.
-use Rattle.std.specs.Prelude.{◌≡◌, ℕ, Bool, false, not, ◌&&◌, ◌==◌, List, ◌∷◌, ◌++◌, slice_get, take, Option, Some, None}
+use Rattle.std.specs.Prelude.{◌≡◌, ℕ, Bool, true, false, not, ◌&&◌, ◌==◌, List, [], ◌∷◌, ◌++◌, slice_get, take, Option, Some, None}
 use Rattle.std.specs.Str.{bytes_eq}
 use Rattle.pay_frame.specs.Frame.{BodyFields, code_of}
 use Rattle.pay_channel.specs.History.{out}
@@ -34,3 +34,8 @@ is_forged w before (Asks k v) = false
 is_forged w before (Brings k from number body) =
     is_correct w k && is_correct w from
     && not (is_body body (slice_get (out (group_at w from) (history_by w before from)) number))
+
+-- None of these deeds is, each after those before it.
+abbrev pub none_forged : Setting → List Deed → List Deed → Bool
+none_forged w before [] = true
+none_forged w before (d ∷ deeds) = not (is_forged w before d) && none_forged w (before ++ d ∷ []) deeds

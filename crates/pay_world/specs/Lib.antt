@@ -10,3 +10,4 @@ pub mod DeedLaws
 pub mod StandLaws
 pub mod Headline
 pub mod HeadlineLaws
+pub mod Examples

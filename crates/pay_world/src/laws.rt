@@ -2,7 +2,7 @@
 //! stands on.
 
 ghost use Rattle.pay_world.specs.Below.{Below, OfBooks};
-ghost use Rattle.pay_world.specs.DeedLaws.{NoHistoryAtFirst, HistoryByOneMore, HistoriesGrow, NoDeedIsGenuine, GenuineByOneMore, PrefixIsGenuine, GenuineByPlace, CorrectIsTold, ForgedIsTold};
+ghost use Rattle.pay_world.specs.DeedLaws.{NoHistoryAtFirst, HistoryByOneMore, HistoriesGrow, NoDeedIsGenuine, GenuineByOneMore, PrefixIsGenuine, GenuineByPlace, CorrectIsTold, ForgedIsTold, NoneForgedIsTold};
 ghost use Rattle.pay_world.specs.StandLaws.{StandsAtFirst, StandsByOneMore, GenuineStands, Agreement, ListsCompare, Integrity, ListIsAsked, NothingIsTakenBack, Convergence, ListsConverge, AsksAreDelivered, ListIsAllAsked};
 ghost use Rattle.pay_world.specs.HeadlineLaws.{HeadlineHolds, BooksConverge, NoListForks, ListWasAsked, ListStays, ListsAreEqual, ListIsComplete};
 
@@ -73,10 +73,11 @@ pub fn genuine_deeds()
     ensures by_place { GenuineByPlace }
 {}
 
-/// The tests say which members are correct, and which deeds are genuine after those before them.
+/// The tests say which members are correct, which deed is genuine after those before it, and whether all are.
 pub fn forged_is_told()
     ensures correct { CorrectIsTold }
     ensures forged { ForgedIsTold }
+    ensures none { NoneForgedIsTold }
 {}
 
 /// Authenticity and the rule of READY hold between correct members at first, after one event more, and so after

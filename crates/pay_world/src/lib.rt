@@ -2,6 +2,7 @@
 //! others do.
 #![tactic(auto)]
 
+pub mod examples;
 pub mod laws;
 mod liar_fault;
 mod liar_laws;

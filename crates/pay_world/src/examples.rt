@@ -1,0 +1,56 @@
+//! Worked examples of what happens in a group, computed from the definitions alone: the premises of the laws can
+//! be met, and none of them can be left out.
+
+ghost use Rattle.std.specs.Prelude.{◌≡◌, ◌≤◌, true, [], Some, None};
+ghost use Rattle.pay_frame.specs.declared.kind.Kind.TheVariants.{Ready};
+ghost use Rattle.pay_echo.specs.Broadcast.{size};
+ghost use Rattle.pay_world.specs.Setting.{HasFewFaulty};
+ghost use Rattle.pay_world.specs.Deeds.{history_by};
+ghost use Rattle.pay_world.specs.Genuine.{AreGenuine, is_forged};
+ghost use Rattle.pay_world.specs.Convergence.{AllTaken};
+ghost use Rattle.pay_world.specs.Examples.{A, B, of_3, first_of, four, two_liars, three, with_a_liar, by_two_liars, by_a_forged_frame, of_three};
+
+use crate::laws::forged_is_told;
+
+/// Of four members one lies, frames come twice and too early, and all premises are met: the correct members
+/// deliver the same.
+pub fn one_liar_of_four()
+    ensures few { HasFewFaulty four }
+    ensures genuine { AreGenuine four with_a_liar }
+    ensures taken { AllTaken four (history_by four with_a_liar) }
+    ensures zero { first_of four with_a_liar 0 0 ≡ Some A }
+    ensures one { first_of four with_a_liar 1 0 ≡ Some A }
+    ensures two { first_of four with_a_liar 2 0 ≡ Some A }
+{
+    forged_is_told();
+}
+
+/// With two liars where one may lie, two correct members deliver different values.
+pub fn two_liars_of_four()
+    ensures liars { size 4 two_liars.faulty ≡ 2 }
+    ensures genuine { AreGenuine two_liars by_two_liars }
+    ensures zero { first_of two_liars by_two_liars 0 3 ≡ Some A }
+    ensures one { first_of two_liars by_two_liars 1 3 ≡ Some B }
+{
+    forged_is_told();
+}
+
+/// So they do with one liar, where a single frame is forged.
+pub fn one_forged_frame()
+    ensures few { HasFewFaulty four }
+    ensures forged { is_forged four [] (of_3 Ready 0 2 0 A) ≡ true }
+    ensures zero { first_of four by_a_forged_frame 0 3 ≡ Some A }
+    ensures one { first_of four by_a_forged_frame 1 3 ≡ Some B }
+{}
+
+/// With three members of which one may lie, N = 3f. What one correct member delivers the other doesn't, though
+/// each took all that the other sent.
+pub fn one_liar_of_three()
+    ensures few { size 3 three.faulty ≤ three.faults }
+    ensures genuine { AreGenuine three of_three }
+    ensures taken { AllTaken three (history_by three of_three) }
+    ensures zero { first_of three of_three 0 0 ≡ Some A }
+    ensures one { first_of three of_three 1 0 ≡ None }
+{
+    forged_is_told();
+}
