@@ -1,10 +1,10 @@
 -- Words of a line, by the place of its first blank.
 use Rattle.std.proofs.Common.{◌≡◌, ℕ, suc, ◌+◌, ◌<◌, ◌≤◌, List, [], ◌∷◌, ◌++◌, length, take, drop, refl, ◌∙◌, ap, subst, arith, true, false, Some, None, Bool, ◌-◌, length-drop}
-use Rattle.std.specs.Prelude.{◌==◌, cond, not, ⊤, nat_lt}
+use Rattle.std.specs.Prelude.{◌==◌, cond, not, nat_lt}
 use Rattle.std.specs.List.{position, position_or_len}
 use Rattle.std.proofs.lemmas.Bool.Decides.{Decides-ltb}
 use Rattle.std.proofs.lemmas.List.{take_all}
-use Rattle.pay_text.specs.Words.{blank, onto_first, words_of, joined, is_none}
+use Rattle.pay_text.specs.Words.{AreWords, IsWord, blank, onto_first, words_of, joined, is_none}
 
 -- how many bytes stand before the first blank
 abbrev pub before_blank : List ℕ → ℕ
@@ -59,11 +59,6 @@ rest_of line k = take_all (length line - k) (drop k line) (omega (arith, length-
 
 -- ---- words that are joined
 
--- no blank is among the bytes
-abbrev pub IsWord : List ℕ → Type 0
-IsWord [] = ⊤
-IsWord (b ∷ bytes) = ((b == blank) ≡ false) × IsWord bytes
-
 pub one_word : (word : List ℕ) → IsWord word → words_of word ≡ word ∷ []
 unfolding words_of
 one_word [] is = refl
@@ -73,11 +68,6 @@ pub word_then : (word rest : List ℕ) → IsWord word → words_of (word ++ bla
 unfolding words_of
 word_then [] rest is = refl
 word_then (b ∷ bytes) rest (first, is) = rw (first, word_then bytes rest is) refl
-
--- each is a word
-abbrev pub AreWords : List (List ℕ) → Type 0
-AreWords [] = ⊤
-AreWords (word ∷ words) = IsWord word × AreWords words
 
 pub words_joined : (word : List ℕ) (words : List (List ℕ)) → IsWord word → AreWords words → words_of (joined word words) ≡ word ∷ words
 unfolding joined

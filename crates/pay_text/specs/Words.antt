@@ -1,5 +1,5 @@
 -- The words of a line.
-use Rattle.std.specs.Prelude.{ℕ, ◌==◌, Bool, List, [], ◌∷◌, ◌++◌, if◌then◌else◌, Option, Some, None, true, false}
+use Rattle.std.specs.Prelude.{◌≡◌, ⊤, ℕ, ◌==◌, Bool, List, [], ◌∷◌, ◌++◌, if◌then◌else◌, Option, Some, None, true, false}
 
 -- the code of a blank
 abbrev pub blank : ℕ
@@ -35,3 +35,13 @@ first_word (word ∷ words) = Some word
 abbrev pub is_none : List (List ℕ) → Bool
 is_none [] = true
 is_none (word ∷ words) = false
+
+-- no blank is among the bytes
+abbrev pub IsWord : List ℕ → Type 0
+IsWord [] = ⊤
+IsWord (b ∷ bytes) = ((b == blank) ≡ false) × IsWord bytes
+
+-- each is a word
+abbrev pub AreWords : List (List ℕ) → Type 0
+AreWords [] = ⊤
+AreWords (word ∷ words) = IsWord word × AreWords words

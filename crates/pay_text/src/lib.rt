@@ -1,12 +1,14 @@
-//! Lines of text: their words and numbers, and writing them.
+//! Lines of text: cutting a text into them as it comes, their words and numbers, and writing them.
 #![tactic(auto)]
 
+mod cutter;
 mod laws;
 mod numbers;
 mod words;
 mod writing;
 
-pub use laws::a_word_is_one_number;
+pub use cutter::LineCutter;
+pub use laws::{a_word_is_one_number, lines_come_in_order, words_are_joined};
 pub use numbers::number;
 pub use words::Words;
 pub use writing::{push_number, push_word};

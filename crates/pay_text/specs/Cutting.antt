@@ -1,0 +1,31 @@
+-- A text cut into lines as it comes.
+use Rattle.std.specs.Prelude.{ℕ, ◌==◌, nat_lt, Bool, true, false, List, [], ◌∷◌, ◌++◌, length, if◌then◌else◌, Option, Some, None}
+use Rattle.pay_text.specs.Lines.{line_feed}
+
+-- The bound of lines, and the line that has begun, as far as it has come; nothing where it is over the bound.
+pub record Begun : Type 0 where
+  pub bound : ℕ
+  pub line : Option (List ℕ)
+
+-- the line that has begun, with one byte more
+unfoldable pub grown : ℕ → Option (List ℕ) → ℕ → Option (List ℕ)
+grown bound None b = None
+grown bound (Some line) b = if nat_lt (length line) bound then Some (line ++ b ∷ []) else None
+
+-- nothing of a line has come
+abbrev pub is_nothing : Option (List ℕ) → Bool
+is_nothing None = false
+is_nothing (Some []) = true
+is_nothing (Some (b ∷ line)) = false
+
+-- a line that has begun is one, unless nothing of it has come
+abbrev pub last_line : Option (List ℕ) → List (Option (List ℕ))
+last_line None = None ∷ []
+last_line (Some []) = []
+last_line (Some (b ∷ line)) = Some (b ∷ line) ∷ []
+
+-- the lines that come where a line has begun and these bytes follow
+unfoldable pub lines_after : ℕ → Option (List ℕ) → List ℕ → List (Option (List ℕ))
+lines_after bound begun [] = last_line begun
+lines_after bound begun (b ∷ bytes) =
+    if b == line_feed then begun ∷ lines_after bound (Some []) bytes else lines_after bound (grown bound begun b) bytes
