@@ -1,4 +1,5 @@
 pub mod Bringings
+pub mod Servings
 pub mod Ledgers
 pub mod Members
 pub mod Openings

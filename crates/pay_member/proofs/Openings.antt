@@ -26,21 +26,22 @@ pub no_frame : (k : KeyFields) (fault : FrameFault) → Err (Frame fault) ≡ op
 unfolding opening
 no_frame k fault = refl
 
-pub frame_refused : (k : KeyFields) (f : FrameFields) (fault : LinkFault) → Err fault ≡ judgement k f → Err (Link fault) ≡ opening k (Ok f)
+pub some_frame : (k : KeyFields) (f : FrameFields) (answer : Result OpenedFields Outcome) → answer ≡ judged (judgement k f) → answer ≡ opening k (Ok f)
 unfolding opening
+some_frame k f answer is = is
+
+pub frame_refused : (k : KeyFields) (f : FrameFields) (fault : LinkFault) → Err fault ≡ judgement k f → Err (Link fault) ≡ judged (judgement k f)
 frame_refused k f fault is = ap judged is
 
 pub frame_wanted :
     (k : KeyFields) (f : FrameFields) (o : OpenedFields) (of : Kind) (from number : ℕ)
-    → Ok o ≡ judgement k f → of ≡ o.frame.body.kind → of ≡ Want → from ≡ o.frame.from → number ≡ o.frame.number → Err (Wanted from number) ≡ opening k (Ok f)
-unfolding opening
+    → Ok o ≡ judgement k f → of ≡ o.frame.body.kind → of ≡ Want → from ≡ o.frame.from → number ≡ o.frame.number → Err (Wanted from number) ≡ judged (judgement k f)
 frame_wanted k f o of from number is kind want sender place =
     let asks : is_want o.frame.body.kind ≡ true = ap is_want (sym kind ∙ want) in
     let here : judged (Ok o) ≡ Err (Wanted o.frame.from o.frame.number) = (rw asks refl) in
     (λ i. Err (Wanted (sender i) (place i))) ∙ sym here ∙ ap judged is
 
-pub frame_opened : (k : KeyFields) (f : FrameFields) (o : OpenedFields) → Ok o ≡ judgement k f → is_want o.frame.body.kind ≡ false → Ok o ≡ opening k (Ok f)
-unfolding opening
+pub frame_opened : (k : KeyFields) (f : FrameFields) (o : OpenedFields) → Ok o ≡ judgement k f → is_want o.frame.body.kind ≡ false → Ok o ≡ judged (judgement k f)
 frame_opened k f o is other =
     let here : judged (Ok o) ≡ Ok o = (rw other refl) in
     sym here ∙ ap judged is
@@ -90,7 +91,7 @@ nothing_opens :
 nothing_opens true o outcome same = refl
 nothing_opens false o outcome same = absurd (err_ok outcome o same)
 
-nothing_judged : (j : Result OpenedFields LinkFault) (outcome : Outcome) → Err outcome ≡ judged j → unless_want j ≡ None
+pub nothing_judged : (j : Result OpenedFields LinkFault) (outcome : Outcome) → Err outcome ≡ judged j → unless_want j ≡ None
 nothing_judged (Err fault) outcome same = refl
 nothing_judged (Ok o) outcome same = nothing_opens (is_want o.frame.body.kind) o outcome same
 

@@ -11,3 +11,4 @@ pub mod Reading
 pub mod Bringing
 pub mod OpeningLaws
 pub mod EventLaws
+pub mod Serving

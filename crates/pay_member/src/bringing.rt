@@ -1,9 +1,12 @@
 //! How bytes are opened, before a member's history is looked at.
 
-ghost use Rattle.pay_member.specs.Bringing.{IsOpening};
+ghost use Rattle.std.specs.Prelude.{◌≡◌};
+ghost use Rattle.pay_frame.specs.Lent.{fields_of};
+ghost use Rattle.pay_link.specs.Opening.{judgement};
+ghost use Rattle.pay_member.specs.Bringing.{IsOpening, judged};
 
 use crate::outcome::Outcome;
-use pay_frame::{Kind, read_one};
+use pay_frame::{FrameRef, Kind, read_one};
 use pay_hmac::Tagger;
 use pay_link::{Keys, Opened, open};
 
@@ -15,10 +18,20 @@ pub(crate) fn open_bytes<'a, T: Tagger>(
 ) -> Result<Opened<'a>, Outcome>
     ensures { IsOpening keys.now bytes.now result }
 {
-    let frame = match read_one(bytes) {
-        Ok(frame) => frame,
-        Err(fault) => return Err(Outcome::Frame(fault)),
-    };
+    match read_one(bytes) {
+        Ok(frame) => open_frame(tagger, keys, frame),
+        Err(fault) => Err(Outcome::Frame(fault)),
+    }
+}
+
+/// The same of a frame that was read already.
+pub(crate) fn open_frame<'a, T: Tagger>(
+    tagger: &T,
+    keys: &Keys,
+    frame: FrameRef<'a>,
+) -> Result<Opened<'a>, Outcome>
+    ensures { result ≡ judged (judgement keys.now (fields_of frame.entry)) }
+{
     let opened = match open(tagger, keys, frame) {
         Ok(opened) => opened,
         Err(fault) => return Err(Outcome::Link(fault)),

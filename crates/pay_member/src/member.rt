@@ -1,7 +1,8 @@
-ghost use Rattle.std.specs.Prelude.{◌≡◌, ◌≢◌, ◌<◌, ◌&&◌, ◌++◌, nat_lt, min, [], length, slice_get, slice_index, None, MatchOption, IfOk, OnErr, IsOkUnless};
+ghost use Rattle.std.specs.Prelude.{◌≡◌, ◌≢◌, ◌<◌, ◌&&◌, ◌++◌, nat_lt, min, [], length, slice_get, slice_index, Some, None, MatchOption, IfOk, OnOk, OnErr, IsOkUnless};
 ghost use Rattle.std.specs.Option.{option_copied, option_map, option_to_list};
 ghost use Rattle.pay_link.specs.Keys.{IsKeysOf};
-ghost use Rattle.pay_link.specs.Checked.{IsFor};
+ghost use Rattle.pay_frame.specs.Lent.{fields_of};
+ghost use Rattle.pay_link.specs.Checked.{IsFor, checked_fields};
 ghost use Rattle.pay_link.specs.Genesis.{IsGenesis};
 ghost use Rattle.pay_book.specs.Statement.{statement_of};
 ghost use Rattle.pay_channel.specs.History.{From, asks, list_of, out};
@@ -13,9 +14,10 @@ ghost use Rattle.pay_member.specs.Reply.{took_by, told_of};
 ghost use Rattle.pay_member.specs.Refusal.{refusal};
 ghost use Rattle.pay_member.specs.Reading.{state_of, fetched};
 ghost use Rattle.pay_member.specs.Member.{with_entry};
-ghost use Rattle.pay_member.specs.Bringing.{IsOutcome, answer_to, opened_in, event_in, want_after, with_taken, with_brought};
+ghost use Rattle.pay_member.specs.Bringing.{IsOutcome, answer_to, opened_in, event_in, want_for, want_after, with_taken, with_brought};
+ghost use Rattle.pay_member.specs.Serving.{after_frame, want_of};
 
-use crate::bringing::open_bytes;
+use crate::bringing::{open_bytes, open_frame};
 use crate::brought::Brought;
 use crate::entry::HistoryEntry;
 use crate::event::Event;
@@ -31,7 +33,7 @@ use pay_book::{Line, Settle};
 use pay_channel::EventRef;
 use pay_channel::laws::{a_channel_follows, nothing_at_first, one_event_more, taken_in_order};
 use pay_echo::Instance;
-use pay_frame::{Body, Bytes, GREATEST_VALUE, SEQS, one_frame_is};
+use pay_frame::{Body, Bytes, FrameRef, GREATEST_VALUE, Kind, SEQS, one_frame_is};
 use pay_hmac::Tagger;
 use pay_link::{Checked, Fronts, Genesis, Keys, LinkFault, Opened, laws, want};
 use std::alloc::{AllocError, Global};
@@ -192,15 +194,57 @@ impl<I: Instance + Drop, B: Settle + Drop> Member<I, B> {
         one_frame_is();
         laws::opened();
         laws::owned();
-        let opened = match open_bytes(tagger, self.keys(), bytes) {
-            Ok(opened) => opened,
-            Err(outcome) => {
-                return Ok(Brought {
-                    outcome,
-                    want: None,
-                });
-            }
-        };
+        match open_bytes(tagger, self.keys(), bytes) {
+            Ok(opened) => self.take_opened(alloc, stamp, tagger, &opened),
+            Err(outcome) => Ok(Brought {
+                outcome,
+                want: None,
+            }),
+        }
+    }
+
+    // Takes a frame that was read already.
+    pub(crate) fn bring_frame<T: Tagger>(
+        &mut self,
+        alloc: Global,
+        stamp: u16,
+        tagger: &T,
+        frame: FrameRef<'_>,
+    ) -> Result<Brought, AllocError>
+        ensures want { IfOk result (λ brought. brought.want
+            ≡ want_of stamp self.old (fields_of frame.entry)) }
+        ensures after { OnOk result (self.new ≡ after_frame stamp self.old (fields_of frame.entry)) }
+        ensures err { OnErr result (self.new ≡ self.old) }
+    {
+        laws::opened();
+        laws::owned();
+        match open_frame(tagger, self.keys(), frame) {
+            Ok(opened) => self.take_opened(alloc, stamp, tagger, &opened),
+            Err(outcome) => Ok(Brought {
+                outcome,
+                want: None,
+            }),
+        }
+    }
+
+    // Takes a frame that opened for this member, and answers with the WANT for what is next.
+    fn take_opened<T: Tagger>(
+        &mut self,
+        alloc: Global,
+        stamp: u16,
+        tagger: &T,
+        opened: &Opened<'_>,
+    ) -> Result<Brought, AllocError>
+        requires mine { IsFor self.old.keys (checked_fields opened.now) }
+        requires kind { opened.now.frame.body.kind ≢ Kind.Want }
+        ensures outcome { IfOk result (λ brought. brought.outcome
+            ≡ answer_to self.old.genesis self.old.keys.own (events self.old.history) opened.now.frame) }
+        ensures want { IfOk result (λ brought. brought.want
+            ≡ Some (want_for self.old.keys (events self.new.history) opened.now.frame)) }
+        ensures entry { IfOk result (λ brought. self.new
+            ≡ with_taken self.old stamp (checked_fields opened.now) brought.outcome) }
+        ensures err { OnErr result (self.new ≡ self.old) }
+    {
         let from = opened.frame().from();
         let checked = opened.own(alloc)?;
         let outcome = self.take_mine(alloc, stamp, checked)?;

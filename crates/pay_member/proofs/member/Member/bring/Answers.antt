@@ -1,17 +1,15 @@
-use Rattle.std.proofs.Common.{◌≡◌, ◌<◌, ◌++◌, Option, Err, length, sym, ap, ◌∙◌, subst}
+use Rattle.std.proofs.Common.{◌++◌, Option, Ok, Err, refl, sym, ap, ◌∙◌, subst}
 use Rattle.std.specs.Option.{option_to_list}
-use Rattle.pay_frame.specs.Frame.{FrameFields, frame_bytes}
 use Rattle.pay_channel.specs.History as channel
-use Rattle.pay_channel.specs.Taken.{next}
-use Rattle.pay_link.specs.Keys.{KeyFields, IsPeer}
-use Rattle.pay_link.specs.Checked.{CheckedFields, IsFor}
-use Rattle.pay_link.specs.Sealing.{wanted}
+use Rattle.pay_link.specs.Keys.{KeyFields}
+use Rattle.pay_link.specs.Checked.{CheckedFields, checked_fields}
 use Rattle.pay_member.specs.Events.{events}
 use Rattle.pay_member.specs.Member.{MemberFields}
-use Rattle.pay_member.specs.Bringing.{IsOpening, with_taken, with_brought, event_of}
+use Rattle.pay_member.specs.Bringing.{IsOpening, outcome_of, want_for, with_taken, with_brought}
 use Rattle.pay_member.proofs.Ledgers.{on_err}
 use Rattle.pay_member.proofs.Openings.{HasOpened, none_opened, key_unnamed, has_opened, some_opened, opened_checked, no_want_opened, opened_is_for}
-use Rattle.pay_member.proofs.Bringings.{keys_kept, events_taken, key_known, none_wanted, none_taken, some_wanted, some_taken, some_not_none}
+use Rattle.pay_member.proofs.Bringings.{events_taken, key_known, none_wanted, none_taken, some_wanted, some_taken, some_not_none}
+use Rattle.pay_member.proofs.Servings.{if_ok, if_ok_both}
 use Rattle.pay_member.proofs.member.Member.bring.Goals as goal
 
 -- ---- no frame opened
@@ -41,78 +39,67 @@ returns-in-Err-clause-events g c =
 
 -- ---- a frame opened, and is no WANT
 
-pub own-requires : goal.own-requires
-own-requires g c =
-    let has = has_opened c.keys.result.now c.args.bytes.now c.in-Ok.opened c.in-Ok.ensures in
-    no_want_opened c.keys.result.now c.args.bytes.now c.in-Ok.opened has
+pub take_opened-requires : goal.take_opened-requires
+take_opened-requires g c =
+    let o = c.in-Ok.opened in
+    let has = subst (λ (k : KeyFields). HasOpened k c.args.bytes.now o) c.keys.ensures.value (has_opened c.keys.result.now c.args.bytes.now o c.in-Ok.ensures) in
+    record {
+      mine = opened_is_for c.opened.ensures c.owned.ensures.kept c.args.self.now.keys c.args.bytes.now o has;
+      kind = no_want_opened c.args.self.now.keys c.args.bytes.now o has;
+    }
 
-pub returns-in_err-checked-clause-memory : goal.returns-in_err-checked-clause-memory
-returns-in_err-checked-clause-memory g c =
-    let has = subst (λ (k : KeyFields). HasOpened k c.args.bytes.now c.in-Ok.opened) c.keys.ensures.value (has_opened c.keys.result.now c.args.bytes.now c.in-Ok.opened c.in-Ok.ensures) in
-    let some = some_opened c.one_frame_is.ensures.law c.args.self.now.keys c.args.bytes.now c.in-Ok.opened has in
-    on_err c.from_residual.result (some_not_none c.args.self.now.keys c.args.bytes.now c.in-Ok.opened.frame some)
-
-pub take_mine-requires : goal.take_mine-requires
-take_mine-requires g c =
-    let has = subst (λ (k : KeyFields). HasOpened k c.args.bytes.now c.in-Ok.opened) c.keys.ensures.value (has_opened c.keys.result.now c.args.bytes.now c.in-Ok.opened c.in-Ok.ensures) in
-    subst (λ (x : CheckedFields). IsFor c.args.self.now.keys x) (sym c.in_ok-checked.ensures)
-    (opened_is_for c.opened.ensures c.owned.ensures.kept c.args.self.now.keys c.args.bytes.now c.in-Ok.opened has)
-
-pub returns-in_err-outcome-clause-memory : goal.returns-in_err-outcome-clause-memory
-returns-in_err-outcome-clause-memory g c =
-    let has = subst (λ (k : KeyFields). HasOpened k c.args.bytes.now c.in-Ok.opened) c.keys.ensures.value (has_opened c.keys.result.now c.args.bytes.now c.in-Ok.opened c.in-Ok.ensures) in
-    let some = some_opened c.one_frame_is.ensures.law c.args.self.now.keys c.args.bytes.now c.in-Ok.opened has in
-    on_err c.from_residual-in_err-outcome.result (some_not_none c.args.self.now.keys c.args.bytes.now c.in-Ok.opened.frame some)
-
-pub want-requires : goal.want-requires
-want-requires g c =
-    let has = subst (λ (k : KeyFields). HasOpened k c.args.bytes.now c.in-Ok.opened) c.keys.ensures.value (has_opened c.keys.result.now c.args.bytes.now c.in-Ok.opened c.in-Ok.ensures) in
-    let mine = opened_is_for c.opened.ensures c.owned.ensures.kept c.args.self.now.keys c.args.bytes.now c.in-Ok.opened has in
-    let keys = c.keys-2.ensures.value ∙ ap (λ (x : MemberFields). x.keys) c.in_ok-outcome.ensures.entry ∙ keys_kept c.args.self.now c.args.stamp c.in_ok-checked.checked c.in_ok-outcome.outcome in
-    let from = c.from-from.ensures.value ∙ ap (λ (x : FrameFields). x.from) c.frame.ensures.value in
-    subst (λ (k : KeyFields). IsPeer k c.from-from.result) (sym keys) (subst (λ p. IsPeer c.args.self.now.keys p) (sym from) mine.sender)
-
-pub next-requires : goal.next-requires
-next-requires g c =
-    let has = subst (λ (k : KeyFields). HasOpened k c.args.bytes.now c.in-Ok.opened) c.keys.ensures.value (has_opened c.keys.result.now c.args.bytes.now c.in-Ok.opened c.in-Ok.ensures) in
-    let mine = opened_is_for c.opened.ensures c.owned.ensures.kept c.args.self.now.keys c.args.bytes.now c.in-Ok.opened has in
-    let keys = ap (λ (x : MemberFields). x.keys) c.in_ok-outcome.ensures.entry ∙ keys_kept c.args.self.now c.args.stamp c.in_ok-checked.checked c.in_ok-outcome.outcome in
-    let from = c.from-from.ensures.value ∙ ap (λ (x : FrameFields). x.from) c.frame.ensures.value in
-    let members : length c.args.self.now.keys.keys ≡ c.take_mine.new.self.genesis.members = ap (λ (k : KeyFields). length k.keys) (sym keys) ∙ c.keys-2.ensures.limits in
-    subst (λ n. c.from-from.result < n) members (subst (λ p. p < length c.args.self.now.keys.keys) (sym from) mine.sender.0)
-
-pub returns-clause-own_key : goal.returns-clause-own_key
-returns-clause-own_key g c =
+pub returns-in-Ok-clause-outcome : goal.returns-in-Ok-clause-outcome
+returns-in-Ok-clause-outcome g c =
     let m = c.args.self.now in
-    λ is. key_known m.genesis m.keys.own (events m.history) c.in_ok-checked.checked.frame (sym c.in_ok-outcome.ensures.outcome ∙ is)
+    let is = subst (λ (k : KeyFields). IsOpening k c.args.bytes.now (Ok c.in-Ok.opened)) c.keys.ensures.value c.in-Ok.ensures in
+    if_ok c.take_opened.result
+    (λ x outcome. record { reading = is.reading; reads = is.reads; is = outcome ∙ ap (outcome_of m.genesis m.keys.own (events m.history)) is.is })
+    c.take_opened.ensures.outcome
 
-pub returns-clause-want : goal.returns-clause-want
-returns-clause-want g c =
-    let has = subst (λ (k : KeyFields). HasOpened k c.args.bytes.now c.in-Ok.opened) c.keys.ensures.value (has_opened c.keys.result.now c.args.bytes.now c.in-Ok.opened c.in-Ok.ensures) in
-    let some = some_opened c.one_frame_is.ensures.law c.args.self.now.keys c.args.bytes.now c.in-Ok.opened has in
-    let keys = c.keys-2.ensures.value ∙ ap (λ (x : MemberFields). x.keys) c.in_ok-outcome.ensures.entry ∙ keys_kept c.args.self.now c.args.stamp c.in_ok-checked.checked c.in_ok-outcome.outcome in
-    let from = c.from-from.ensures.value ∙ ap (λ (x : FrameFields). x.from) c.frame.ensures.value in
-    let number = c.next.ensures ∙ ap (λ p. next p (events c.take_mine.new.self.history)) from in
-    some_wanted c.args.self.now.keys (events c.take_mine.new.self.history) c.args.bytes.now c.in-Ok.opened.frame c.want.result some
-    (c.want.ensures.bytes ∙ (λ i. frame_bytes (wanted (keys i) (from i) (number i))))
-
-pub returns-clause-entry : goal.returns-clause-entry
-returns-clause-entry g c =
+pub returns-in-Ok-clause-own_key : goal.returns-in-Ok-clause-own_key
+returns-in-Ok-clause-own_key g c =
     let m = c.args.self.now in
-    let has = subst (λ (k : KeyFields). HasOpened k c.args.bytes.now c.in-Ok.opened) c.keys.ensures.value (has_opened c.keys.result.now c.args.bytes.now c.in-Ok.opened c.in-Ok.ensures) in
-    let some = some_opened c.one_frame_is.ensures.law m.keys c.args.bytes.now c.in-Ok.opened has in
-    let checked = c.in_ok-checked.ensures ∙ opened_checked c.opened.ensures m.keys c.args.bytes.now c.in-Ok.opened has in
-    c.in_ok-outcome.ensures.entry
-    ∙ ap (λ (x : CheckedFields). with_taken m c.args.stamp x c.in_ok-outcome.outcome) checked
-    ∙ sym (ap (with_brought m c.args.stamp c.in_ok-outcome.outcome) some)
+    if_ok c.take_opened.result
+    (λ x outcome wrong. key_known m.genesis m.keys.own (events m.history) c.in-Ok.opened.frame (sym outcome ∙ wrong))
+    c.take_opened.ensures.outcome
 
-pub returns-clause-events : goal.returns-clause-events
-returns-clause-events g c =
+pub returns-in-Ok-clause-want : goal.returns-in-Ok-clause-want
+returns-in-Ok-clause-want g c =
+    let o = c.in-Ok.opened in
+    let k = c.args.self.now.keys in
+    let after = events c.take_opened.new.self.history in
+    let has = subst (λ (k : KeyFields). HasOpened k c.args.bytes.now o) c.keys.ensures.value (has_opened c.keys.result.now c.args.bytes.now o c.in-Ok.ensures) in
+    let some = some_opened c.one_frame_is.ensures.law k c.args.bytes.now o has in
+    if_ok c.take_opened.result
+    (λ x want. want ∙ some_wanted k after c.args.bytes.now o.frame (want_for k after o.frame) some refl)
+    c.take_opened.ensures.want
+
+pub returns-in-Ok-clause-entry : goal.returns-in-Ok-clause-entry
+returns-in-Ok-clause-entry g c =
     let m = c.args.self.now in
-    let has = subst (λ (k : KeyFields). HasOpened k c.args.bytes.now c.in-Ok.opened) c.keys.ensures.value (has_opened c.keys.result.now c.args.bytes.now c.in-Ok.opened c.in-Ok.ensures) in
-    let some = some_opened c.one_frame_is.ensures.law m.keys c.args.bytes.now c.in-Ok.opened has in
-    ap (λ (x : MemberFields). events x.history) (c.in_ok-outcome.ensures.entry ∙ ap (with_taken m c.args.stamp c.in_ok-checked.checked) c.in_ok-outcome.ensures.outcome)
-    ∙ events_taken m c.args.stamp c.in_ok-checked.checked
-    ∙ ap (λ (o : Option channel.Event). events m.history ++ option_to_list o)
-    (ap (λ (x : CheckedFields). event_of (events m.history) x.frame) c.in_ok-checked.ensures
-    ∙ sym (some_taken m.keys (events m.history) c.args.bytes.now c.in-Ok.opened.frame some))
+    let o = c.in-Ok.opened in
+    let has = subst (λ (k : KeyFields). HasOpened k c.args.bytes.now o) c.keys.ensures.value (has_opened c.keys.result.now c.args.bytes.now o c.in-Ok.ensures) in
+    let some = some_opened c.one_frame_is.ensures.law m.keys c.args.bytes.now o has in
+    let checked = opened_checked c.opened.ensures m.keys c.args.bytes.now o has in
+    if_ok c.take_opened.result
+    (λ x entry. entry ∙ ap (λ (y : CheckedFields). with_taken m c.args.stamp y x.outcome) checked ∙ sym (ap (with_brought m c.args.stamp x.outcome) some))
+    c.take_opened.ensures.entry
+
+pub returns-in-Ok-clause-events : goal.returns-in-Ok-clause-events
+returns-in-Ok-clause-events g c =
+    let m = c.args.self.now in
+    let o = c.in-Ok.opened in
+    let has = subst (λ (k : KeyFields). HasOpened k c.args.bytes.now o) c.keys.ensures.value (has_opened c.keys.result.now c.args.bytes.now o c.in-Ok.ensures) in
+    let some = some_opened c.one_frame_is.ensures.law m.keys c.args.bytes.now o has in
+    if_ok_both c.take_opened.result
+    (λ x outcome entry. ap (λ (y : MemberFields). events y.history) (entry ∙ ap (with_taken m c.args.stamp (checked_fields o)) outcome)
+    ∙ events_taken m c.args.stamp (checked_fields o)
+    ∙ ap (λ (e : Option channel.Event). events m.history ++ option_to_list e) (sym (some_taken m.keys (events m.history) c.args.bytes.now o.frame some)))
+    c.take_opened.ensures.outcome c.take_opened.ensures.entry
+
+pub returns-in-Ok-clause-memory : goal.returns-in-Ok-clause-memory
+returns-in-Ok-clause-memory g c =
+    let o = c.in-Ok.opened in
+    let has = subst (λ (k : KeyFields). HasOpened k c.args.bytes.now o) c.keys.ensures.value (has_opened c.keys.result.now c.args.bytes.now o c.in-Ok.ensures) in
+    let some = some_opened c.one_frame_is.ensures.law c.args.self.now.keys c.args.bytes.now o has in
+    on_err c.take_opened.result (some_not_none c.args.self.now.keys c.args.bytes.now o.frame some)

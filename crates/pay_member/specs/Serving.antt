@@ -1,0 +1,36 @@
+-- How a member is fed from a peer's stream: each frame is brought to it, and the WANTs of its answers go out.
+use Rattle.std.specs.Prelude.{ℕ, List, [], Option, Some, None, option_map}
+use Rattle.pay_frame.specs.Frame.{FrameFields, frame_bytes}
+use Rattle.pay_engine.specs.Handling.{Handling}
+use Rattle.pay_channel.specs.Taken.{next}
+use Rattle.pay_link.specs.Opening.{judgement}
+use Rattle.pay_link.specs.Sealing.{wanted}
+use Rattle.pay_member.specs.Events.{events}
+use Rattle.pay_member.specs.Member.{MemberFields}
+use Rattle.pay_member.specs.Bringing.{judged, unless_want, outcome_of, want_for, with_brought}
+
+-- the WANT to a peer for what is next from it
+unfoldable pub first_want : MemberFields → ℕ → List ℕ
+first_want m peer = frame_bytes (wanted m.keys peer (next peer (events m.history)))
+
+-- the member behind a frame that was brought to it under a stamp
+unfoldable pub after_frame : ℕ → MemberFields → FrameFields → MemberFields
+after_frame stamp m f =
+    with_brought m stamp (outcome_of m.genesis m.keys.own (events m.history) (judged (judgement m.keys f))) (unless_want (judgement m.keys f))
+
+-- the WANT of its answer, if the frame opened and is none
+unfoldable pub want_of : ℕ → MemberFields → FrameFields → Option (List ℕ)
+want_of stamp m f = option_map (want_for m.keys (events (after_frame stamp m f).history)) (unless_want (judgement m.keys f))
+
+abbrev pub bytes_of : Option (List ℕ) → List ℕ
+bytes_of None = []
+bytes_of (Some bytes) = bytes
+
+-- A first WANT, and then, frame by frame, that of the answer. A fault is not answered to the peer.
+abbrev pub serving : ℕ → List ℕ → Handling MemberFields
+serving stamp first = record {
+  first = first;
+  after = after_frame stamp;
+  text = λ m f. bytes_of (want_of stamp m f);
+  last = λ m fault. [];
+}

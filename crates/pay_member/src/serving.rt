@@ -1,0 +1,103 @@
+//! How a member is fed from a peer's stream.
+
+ghost use Rattle.std.specs.Prelude.{◌≡◌, ◌+◌, ◌≤◌, ℕ, IsErrOf};
+ghost use Rattle.pay_frame.specs.Device.{RoseBy};
+ghost use Rattle.pay_link.specs.Keys.{IsPeer};
+ghost use Rattle.pay_engine.specs.Engine.{Gave, Takes, Writes};
+ghost use Rattle.pay_member.specs.Serving.{first_want, serving};
+
+use crate::member::Member;
+use pay_book::Settle;
+use pay_echo::Instance;
+use pay_engine::{Handler, run};
+use pay_frame::{EngineFault, FrameFault, FrameRef, Input, MOST_READS, Output};
+use pay_hmac::Tagger;
+use pay_link::{WANT_LEN, want};
+use std::alloc::{AllocError, Global};
+
+/// Brings each frame to a member, and writes the WANT of its answer.
+#[derive(Drop)]
+struct Feeding<'a, T> {
+    stamp: u16,
+    tagger: &'a T,
+    first: [u8; WANT_LEN],
+}
+
+impl<I: Instance + Drop, B: Settle + Drop, T: Tagger> Handler<Member<I, B>> for Feeding<'_, T> {
+    ghost handling = { λ f. serving f.stamp f.first };
+
+    ghost has_room = { λ _ _ _. Unit {0} };
+
+    ghost keeps_room = { λ _ _ _ _ _. tt };
+
+    fn first(&self) -> &[u8] {
+        &self.first
+    }
+
+    fn handle(
+        &self,
+        alloc: Global,
+        member: &mut Member<I, B>,
+        frame: FrameRef<'_>,
+        out: &mut Vec<u8>,
+    ) -> Result<(), AllocError> {
+        let brought = member.bring_frame(alloc, self.stamp, self.tagger, frame)?;
+        match brought.want {
+            Some(want) => out.extend_from_slice(&want),
+            None => Ok(()),
+        }
+    }
+
+    fn end(
+        &self,
+        _member: &Member<I, B>,
+        _fault: FrameFault,
+        _out: &mut Vec<u8>,
+    ) -> Result<(), AllocError> {
+        Ok(())
+    }
+}
+
+/// Feeds a member from a peer's stream: writes the WANT for what is next from the peer, then brings each frame
+/// that is read, and writes the WANT of the answer, if any.
+///
+/// A fault in the frames ends it, and is answered. After another fault what was written is a prefix of the text,
+/// and the member took a prefix of the frames.
+pub fn serve<I, B, T, R, W>(
+    alloc: Global,
+    member: &mut Member<I, B>,
+    stamp: u16,
+    tagger: &T,
+    peer: u16,
+    reader: &mut R,
+    writer: &mut W,
+) -> Result<(), EngineFault>
+where
+    I: Instance + Drop,
+    B: Settle + Drop,
+    T: Tagger,
+    R: Input,
+    W: Output,
+    requires { IsPeer member.old.keys peer }
+    ensures text { Writes (serving stamp (first_want member.old peer)) member.old member.new
+        (R.remaining reader.old) (R.remaining reader.new)
+        (W.contents writer.old) (W.contents writer.new) result }
+    ensures took { Takes (serving stamp (first_want member.old peer)) member.old member.new
+        (R.remaining reader.old) }
+    ensures read { IsErrOf result EngineFault.Read
+        → RoseBy 1 (R.failure_count reader.old) (R.failure_count reader.new) }
+    ensures write { IsErrOf result EngineFault.Write
+        → RoseBy 1 (W.failure_count writer.old) (W.failure_count writer.new) }
+    ensures most { R.call_count reader.new ≤ R.call_count reader.old + MOST_READS }
+    ensures bound { IsErrOf result EngineFault.Bound
+        → RoseBy MOST_READS (R.call_count reader.old) (R.call_count reader.new) }
+    ensures gave { IsErrOf result EngineFault.Bound
+        → Gave MOST_READS (R.remaining reader.old) (R.remaining reader.new) }
+{
+    let feeding = Feeding {
+        stamp,
+        tagger,
+        first: want(tagger, member.keys(), peer, member.next(peer)),
+    };
+    run(alloc, &feeding, member, reader, writer)
+}
