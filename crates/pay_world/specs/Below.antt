@@ -1,4 +1,5 @@
--- What the laws between members stand on: laws of one broadcast, of one member's channel and of one book, gathered.
+-- What the laws between members stand on: laws of one broadcast, of one member's channel and of
+-- one book, gathered.
 use Rattle.pay_echo.specs.Laws.{NotReadyAtFirst, EchoSetGrows, InEchoSet, InReadySet, InOtherReadySet, OwnEcho, OwnReady, SendCame, EchoCame, ReadyCame, SendIsEchoed, EchoCounts, ReadyCounts, WhyReady, WhyDelivered, QuorumMakesReady, AmplificationMakesReady, ReadysDeliver}
 use Rattle.pay_echo.specs.Quorums.{SizeOfOthers, PartIsSmaller, QuorumsShare, LargerHasAnother, RestIsQuorum, QuorumIsMore, MoreRemain}
 use Rattle.pay_channel.specs.VoteLaws.{NoVotesAtFirst, NoAsksAtFirst, AsksByOneMore, VotesGrow, EchoIsTaken, ReadyIsTaken, SendIsTaken}

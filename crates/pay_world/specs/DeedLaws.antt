@@ -17,7 +17,8 @@ HistoryByOneMore =
     → history_by w (deeds ++ d ∷ []) i ≡ history_by w deeds i ++ adds w i (history_by w deeds i) d
 
 abbrev pub HistoriesGrow : Type 0
-HistoriesGrow = (w : Setting) (deeds more : List Deed) → Grow (history_by w deeds) (history_by w (deeds ++ more))
+HistoriesGrow =
+    (w : Setting) (deeds more : List Deed) → Grow (history_by w deeds) (history_by w (deeds ++ more))
 
 -- ---- genuine deeds
 
@@ -26,10 +27,12 @@ NoDeedIsGenuine = (w : Setting) → AreGenuine w []
 
 abbrev pub GenuineByOneMore : Type 0
 GenuineByOneMore =
-    (w : Setting) (deeds : List Deed) (d : Deed) → AreGenuine w deeds → IsGenuine w deeds d → AreGenuine w (deeds ++ d ∷ [])
+    (w : Setting) (deeds : List Deed) (d : Deed) → AreGenuine w deeds → IsGenuine w deeds d
+    → AreGenuine w (deeds ++ d ∷ [])
 
 abbrev pub PrefixIsGenuine : Type 0
-PrefixIsGenuine = (w : Setting) (one deeds : List Deed) → IsPrefix one deeds → AreGenuine w deeds → AreGenuine w one
+PrefixIsGenuine =
+    (w : Setting) (one deeds : List Deed) → IsPrefix one deeds → AreGenuine w deeds → AreGenuine w one
 
 abbrev pub GenuineByPlace : Type 0
 GenuineByPlace = (w : Setting) (deeds : List Deed) → AreGenuine w deeds ↔ AreGenuineByPlace w deeds
@@ -40,7 +43,9 @@ abbrev pub CorrectIsTold : Type 0
 CorrectIsTold = (w : Setting) (i : ℕ) → (is_correct w i ≡ true) ↔ IsCorrect w i
 
 abbrev pub ForgedIsTold : Type 0
-ForgedIsTold = (w : Setting) (before : List Deed) (d : Deed) → (is_forged w before d ≡ false) ↔ IsGenuine w before d
+ForgedIsTold =
+    (w : Setting) (before : List Deed) (d : Deed) → (is_forged w before d ≡ false) ↔ IsGenuine w before d
 
 abbrev pub NoneForgedIsTold : Type 0
-NoneForgedIsTold = (w : Setting) (deeds : List Deed) → (none_forged w [] deeds ≡ true) ↔ AreGenuine w deeds
+NoneForgedIsTold =
+    (w : Setting) (deeds : List Deed) → (none_forged w [] deeds ≡ true) ↔ AreGenuine w deeds

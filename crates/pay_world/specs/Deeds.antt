@@ -8,8 +8,9 @@ use Rattle.pay_channel.specs.History.{Event, Ask, From, asks}
 use Rattle.pay_channel.specs.Taken.{next}
 use Rattle.pay_world.specs.Setting.{Setting}
 
--- A member is asked to broadcast a value, or a frame is brought to it that opens there: from whom, under
--- which number, and its body. Bytes that don't open are no deed, and neither is a WANT.
+-- A member is asked to broadcast a value, or a frame is brought to it that opens there: from
+-- whom, under which number, and its body. Bytes that don't open are no deed, and neither is a
+-- WANT.
 pub data Deed : Type 0 where
   Asks : ℕ → List ℕ → Deed
   Brings : ℕ → ℕ → ℕ → BodyFields → Deed
@@ -30,13 +31,15 @@ is_want Echo = false
 is_want Ready = false
 is_want Want = true
 
--- What is so of every frame that opens at member k: it is from another member, and about one. It is tested
--- here and asked of no deed, so that all that is said of deeds is said of every list of them.
+-- What is so of every frame that opens at member k: it is from another member, and about one. It
+-- is tested here and asked of no deed, so that all that is said of deeds is said of every list of
+-- them.
 abbrev pub may_come : Setting → ℕ → ℕ → BodyFields → Bool
-may_come w k from body = nat_lt from w.members && not (from == k) && nat_lt body.owner w.members && not (is_want body.kind)
+may_come w k from body =
+    nat_lt from w.members && not (from == k) && nat_lt body.owner w.members && not (is_want body.kind)
 
--- Whether a member with this history takes it: a value within the limits, a frame whose number is the next
--- from its sender.
+-- Whether a member with this history takes it: a value within the limits, a frame whose number is
+-- the next from its sender.
 abbrev pub counts : Setting → List Event → Deed → Bool
 counts w history (Asks k v) = nat_le (length v) GREATEST_VALUE && nat_lt (asks history) SEQS
 counts w history (Brings k from number body) = may_come w k from body && number == next from history
@@ -49,7 +52,7 @@ abbrev pub history_after : Setting → ℕ → List Event → List Deed → List
 history_after w i history [] = history
 history_after w i history (d ∷ deeds) = history_after w i (history ++ adds w i history d) deeds
 
--- The history of each member by these deeds: those of them that it took, in order. No other member's history
--- has a part in it.
+-- The history of each member by these deeds: those of them that it took, in order. No other
+-- member's history has a part in it.
 unfoldable pub history_by : Setting → List Deed → ℕ → List Event
 history_by w deeds i = history_after w i [] deeds

@@ -38,8 +38,8 @@ first_of w deeds i a = delivered_at (group_at w i) (history_by w deeds i) a 0
 
 -- ---- with a liar that says B to one and A to another
 
--- Member 0 is asked for A and member 3 lies. 3 echoes A to 0 and another value to 1, and is never READY. Some
--- frames come twice or too early, and 0, 1 and 2 deliver A all the same.
+-- Member 0 is asked for A and member 3 lies. 3 echoes A to 0 and another value to 1, and is never
+-- READY. Some frames come twice or too early, and 0, 1 and 2 deliver A all the same.
 abbrev pub with_a_liar : List Deed
 with_a_liar =
     Asks 0 A
@@ -48,7 +48,8 @@ with_a_liar =
     ∷ of_0 Echo 0 1 0 A
     ∷ of_0 Echo 1 0 1 A ∷ of_0 Echo 1 0 1 A ∷ of_0 Ready 2 0 2 A
     ∷ of_0 Echo 1 2 0 A
-    ∷ of_0 Ready 0 1 1 A ∷ of_0 Echo 2 0 1 A ∷ of_0 Ready 2 0 2 A ∷ of_0 Echo 2 1 0 A ∷ of_0 Ready 2 1 1 A
+    ∷ of_0 Ready 0 1 1 A
+    ∷ of_0 Echo 2 0 1 A ∷ of_0 Ready 2 0 2 A ∷ of_0 Echo 2 1 0 A ∷ of_0 Ready 2 1 1 A
     ∷ of_0 Echo 0 2 0 A ∷ of_0 Ready 0 2 1 A
     ∷ of_0 Ready 1 0 2 A ∷ of_0 Ready 1 2 1 A
     ∷ []
@@ -57,7 +58,10 @@ with_a_liar =
 
 -- the two are READY for A to 0, and for B to 1
 abbrev pub by_two_liars : List Deed
-by_two_liars = of_3 Ready 0 2 0 A ∷ of_3 Ready 0 3 0 A ∷ of_3 Ready 1 2 0 B ∷ of_3 Ready 1 3 0 B ∷ []
+by_two_liars =
+    of_3 Ready 0 2 0 A ∷ of_3 Ready 0 3 0 A
+    ∷ of_3 Ready 1 2 0 B ∷ of_3 Ready 1 3 0 B
+    ∷ []
 
 -- ---- with a forged frame
 

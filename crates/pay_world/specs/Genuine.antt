@@ -6,29 +6,35 @@ use Rattle.pay_channel.specs.History.{out}
 use Rattle.pay_world.specs.Setting.{Setting, group_at, IsCorrect, is_correct}
 use Rattle.pay_world.specs.Deeds.{Deed, Asks, Brings, history_by}
 
--- Between correct members, a frame's number is a place in all that its sender sent until then, and its body is
--- the one there. A faulty member's frames are its own affair, whatever it says.
+-- Between correct members, a frame's number is a place in all that its sender sent until then,
+-- and its body is the one there. A faulty member's frames are its own affair, whatever it says.
 abbrev pub IsGenuine : Setting → List Deed → Deed → Type 0
 IsGenuine w before (Asks k v) = Unit {0}
 IsGenuine w before (Brings k from number body) =
-    IsCorrect w k → IsCorrect w from → slice_get (out (group_at w from) (history_by w before from)) number ≡ Some body
+    IsCorrect w k → IsCorrect w from
+    → slice_get (out (group_at w from) (history_by w before from)) number ≡ Some body
 
 -- each deed is, after those before it
 pub record AreGenuine (w : Setting) (deeds : List Deed) : Type 0 where
-  pub each : (before : List Deed) (d : Deed) (after : List Deed) → deeds ≡ before ++ d ∷ after → IsGenuine w before d
+  pub each :
+      (before : List Deed) (d : Deed) (after : List Deed) → deeds ≡ before ++ d ∷ after
+      → IsGenuine w before d
 
 -- the same by places
 abbrev pub AreGenuineByPlace : Setting → List Deed → Type 0
-AreGenuineByPlace w deeds = (k : ℕ) (d : Deed) → slice_get deeds k ≡ Some d → IsGenuine w (take k deeds) d
+AreGenuineByPlace w deeds =
+    (k : ℕ) (d : Deed) → slice_get deeds k ≡ Some d → IsGenuine w (take k deeds) d
 
 -- ---- the same as a test
 
 abbrev pub is_body : BodyFields → Option BodyFields → Bool
 is_body body None = false
 is_body body (Some c) =
-    code_of c.kind == code_of body.kind && c.owner == body.owner && c.seq == body.seq && bytes_eq c.value body.value
+    code_of c.kind == code_of body.kind && c.owner == body.owner && c.seq == body.seq
+    && bytes_eq c.value body.value
 
--- The deed is a frame between correct members that its sender didn't send, or not under this number.
+-- The deed is a frame between correct members that its sender didn't send, or not under this
+-- number.
 abbrev pub is_forged : Setting → List Deed → Deed → Bool
 is_forged w before (Asks k v) = false
 is_forged w before (Brings k from number body) =
@@ -38,4 +44,5 @@ is_forged w before (Brings k from number body) =
 -- None of these deeds is, each after those before it.
 abbrev pub none_forged : Setting → List Deed → List Deed → Bool
 none_forged w before [] = true
-none_forged w before (d ∷ deeds) = not (is_forged w before d) && none_forged w (before ++ d ∷ []) deeds
+none_forged w before (d ∷ deeds) =
+    not (is_forged w before d) && none_forged w (before ++ d ∷ []) deeds

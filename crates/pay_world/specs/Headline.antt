@@ -31,27 +31,31 @@ settled_by w opening deeds i a = settled_entries opening (lists_by w deeds i) a
 abbrev pub asked_by : Setting → List ℕ → List Deed → ℕ → List Entry
 asked_by w opening deeds a = flat_map (entries_in (length opening) a) (asked (history_by w deeds a))
 
--- The book stands at the largest front that the lists allow, and shows the balances there. Nobody owes, and all
--- balances together are what all accounts opened with.
+-- The book stands at the largest front that the lists allow, and shows the balances there. Nobody
+-- owes, and all balances together are what all accounts opened with.
 pub record IsBookOf (opening : List ℕ) (lists : ℕ → List (List ℕ)) (book : Standing) : Type 0 where
   pub largest : IsLargest opening (entries_of (length opening) lists) (slice_index book.front)
-  pub balances : AreBalances opening (entries_of (length opening) lists) (slice_index book.front) book.balances
-  pub nobody_owes : (a : ℕ) → pos 0 ≤ℤ balance_at opening (entries_of (length opening) lists) (slice_index book.front) a
+  pub balances :
+      AreBalances opening (entries_of (length opening) lists) (slice_index book.front) book.balances
+  pub nobody_owes :
+      (a : ℕ) → pos 0 ≤ℤ balance_at opening (entries_of (length opening) lists) (slice_index book.front) a
   pub total : sum book.balances ≡ sum opening
 
 -- ---- between correct members
 
--- Whatever prefixes of these deeds two correct members have come to: of what they have settled of an account,
--- one is a prefix of the other. What a member settled, it has settled for good, and of a correct owner it
--- settles what the owner was asked for, in that order. Each book is what the member's lists make it, and
--- members with equal lists have equal books.
+-- Whatever prefixes of these deeds two correct members have come to: of what they have settled of
+-- an account, one is a prefix of the other. What a member settled, it has settled for good, and
+-- of a correct owner it settles what the owner was asked for, in that order. Each book is what
+-- the member's lists make it, and members with equal lists have equal books.
 pub record Headline (w : Setting) (opening : List ℕ) (deeds : List Deed) : Type 0 where
   pub agree :
-      (one other : List Deed) (i j a : ℕ) → IsPrefix one deeds → IsPrefix other deeds → IsCorrect w i → IsCorrect w j
+      (one other : List Deed) (i j a : ℕ) → IsPrefix one deeds → IsPrefix other deeds
+      → IsCorrect w i → IsCorrect w j
       → IsPrefix (settled_by w opening one i a) (settled_by w opening other j a)
       ⊎ IsPrefix (settled_by w opening other j a) (settled_by w opening one i a)
   pub for_good :
-      (one other : List Deed) (i a : ℕ) → IsPrefix one other → IsPrefix other deeds → IsCorrect w i → a < length opening
+      (one other : List Deed) (i a : ℕ) → IsPrefix one other → IsPrefix other deeds
+      → IsCorrect w i → a < length opening
       → IsPrefix (settled_by w opening one i a) (settled_by w opening other i a)
   pub asked :
       (one : List Deed) (i a : ℕ) → IsPrefix one deeds → IsCorrect w i → IsCorrect w a
@@ -60,6 +64,7 @@ pub record Headline (w : Setting) (opening : List ℕ) (deeds : List Deed) : Typ
       (one : List Deed) (i : ℕ) → IsPrefix one deeds → IsCorrect w i
       → IsBookOf opening (lists_by w one i) (book_by w opening one i)
   pub equal :
-      (one other : List Deed) (i j : ℕ) → IsPrefix one deeds → IsPrefix other deeds → IsCorrect w i → IsCorrect w j
+      (one other : List Deed) (i j : ℕ) → IsPrefix one deeds → IsPrefix other deeds
+      → IsCorrect w i → IsCorrect w j
       → ((a : ℕ) → a < length opening → lists_by w one i a ≡ lists_by w other j a)
       → book_by w opening one i ≡ book_by w opening other j

@@ -12,12 +12,14 @@ use Rattle.pay_world.specs.Headline.{lists_by, book_by, Headline}
 
 abbrev pub HeadlineHolds : Type 0
 HeadlineHolds =
-    (w : Setting) (opening : List ℕ) (deeds : List Deed) → HasFewFaulty w → AreGenuine w deeds → Headline w opening deeds
+    (w : Setting) (opening : List ℕ) (deeds : List Deed) → HasFewFaulty w → AreGenuine w deeds
+    → Headline w opening deeds
 
 abbrev pub BooksConverge : Type 0
 BooksConverge =
     (w : Setting) (opening : List ℕ) (deeds : List Deed) (i j : ℕ)
-    → HasFewFaulty w → AreGenuine w deeds → AllTaken w (history_by w deeds) → IsCorrect w i → IsCorrect w j
+    → HasFewFaulty w → AreGenuine w deeds → AllTaken w (history_by w deeds)
+    → IsCorrect w i → IsCorrect w j
     → book_by w opening deeds i ≡ book_by w opening deeds j
 
 -- ---- lists
@@ -25,28 +27,34 @@ BooksConverge =
 abbrev pub NoListForks : Type 0
 NoListForks =
     (w : Setting) (deeds one other : List Deed) (i j a : ℕ)
-    → HasFewFaulty w → AreGenuine w deeds → IsPrefix one deeds → IsPrefix other deeds → IsCorrect w i → IsCorrect w j
-    → IsPrefix (lists_by w one i a) (lists_by w other j a) ⊎ IsPrefix (lists_by w other j a) (lists_by w one i a)
+    → HasFewFaulty w → AreGenuine w deeds → IsPrefix one deeds → IsPrefix other deeds
+    → IsCorrect w i → IsCorrect w j
+    → IsPrefix (lists_by w one i a) (lists_by w other j a)
+    ⊎ IsPrefix (lists_by w other j a) (lists_by w one i a)
 
 abbrev pub ListWasAsked : Type 0
 ListWasAsked =
-    (w : Setting) (deeds : List Deed) (i a : ℕ) → HasFewFaulty w → AreGenuine w deeds → IsCorrect w i → IsCorrect w a
+    (w : Setting) (deeds : List Deed) (i a : ℕ) → HasFewFaulty w → AreGenuine w deeds
+    → IsCorrect w i → IsCorrect w a
     → IsPrefix (lists_by w deeds i a) (asked (history_by w deeds a))
 
 -- a list at an earlier moment, of any member and whatever the deeds
 abbrev pub ListStays : Type 0
 ListStays =
-    (w : Setting) (one deeds : List Deed) (i a : ℕ) → IsPrefix one deeds → IsPrefix (lists_by w one i a) (lists_by w deeds i a)
+    (w : Setting) (one deeds : List Deed) (i a : ℕ) → IsPrefix one deeds
+    → IsPrefix (lists_by w one i a) (lists_by w deeds i a)
 
 -- where all was taken
 abbrev pub ListsAreEqual : Type 0
 ListsAreEqual =
     (w : Setting) (deeds : List Deed) (i j : ℕ)
-    → HasFewFaulty w → AreGenuine w deeds → AllTaken w (history_by w deeds) → IsCorrect w i → IsCorrect w j
+    → HasFewFaulty w → AreGenuine w deeds → AllTaken w (history_by w deeds)
+    → IsCorrect w i → IsCorrect w j
     → lists_by w deeds i ≡ lists_by w deeds j
 
 abbrev pub ListIsComplete : Type 0
 ListIsComplete =
     (w : Setting) (deeds : List Deed) (i a : ℕ)
-    → HasFewFaulty w → AreGenuine w deeds → AllTaken w (history_by w deeds) → IsCorrect w i → IsCorrect w a
+    → HasFewFaulty w → AreGenuine w deeds → AllTaken w (history_by w deeds)
+    → IsCorrect w i → IsCorrect w a
     → lists_by w deeds i a ≡ asked (history_by w deeds a)

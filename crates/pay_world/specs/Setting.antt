@@ -1,10 +1,11 @@
--- A group of which some members are faulty (Cachin, Guerraoui, Rodrigues, Introduction to Reliable and Secure
--- Distributed Programming, second edition, chapter 2: arbitrary faults, also called Byzantine).
+-- A group of which some members are faulty (Cachin, Guerraoui, Rodrigues, Introduction to
+-- Reliable and Secure Distributed Programming, second edition, chapter 2: arbitrary faults, also
+-- called Byzantine).
 use Rattle.std.specs.Prelude.{◌≡◌, ℕ, ◌*◌, ◌<◌, ◌≤◌, Bool, false, not, ◌&&◌, nat_lt}
 use Rattle.pay_echo.specs.Broadcast.{Group, size}
 
--- N members, numbered from 0, of which f may be faulty, and which are. A faulty member says what it likes,
--- and to each what it likes.
+-- N members, numbered from 0, of which f may be faulty, and which are. A faulty member says what
+-- it likes, and to each what it likes.
 pub record Setting : Type 0 where
   pub members : ℕ
   pub faults : ℕ

@@ -20,7 +20,8 @@ StandsByOneMore =
     → HasFewFaulty w → IsLonger old new k e → IsAllowed w old k e → Stands w old → Stands w new
 
 abbrev pub GenuineStands : Type 0
-GenuineStands = (w : Setting) (deeds : List Deed) → HasFewFaulty w → AreGenuine w deeds → Stands w (history_by w deeds)
+GenuineStands =
+    (w : Setting) (deeds : List Deed) → HasFewFaulty w → AreGenuine w deeds → Stands w (history_by w deeds)
 
 -- ---- two correct members, each at a moment of its own
 
@@ -28,14 +29,17 @@ GenuineStands = (w : Setting) (deeds : List Deed) → HasFewFaulty w → AreGenu
 abbrev pub Agreement : Type 0
 Agreement =
     (w : Setting) (histories one other : ℕ → List Event) (i j a s : ℕ) (v u : List ℕ)
-    → Stands w histories → HasFewFaulty w → Grow one histories → Grow other histories → IsCorrect w i → IsCorrect w j
-    → delivered_at (group_at w i) (one i) a s ≡ Some v → delivered_at (group_at w j) (other j) a s ≡ Some u → v ≡ u
+    → Stands w histories → HasFewFaulty w → Grow one histories → Grow other histories
+    → IsCorrect w i → IsCorrect w j
+    → delivered_at (group_at w i) (one i) a s ≡ Some v
+    → delivered_at (group_at w j) (other j) a s ≡ Some u → v ≡ u
 
 -- of their lists of an account one is a prefix of the other
 abbrev pub ListsCompare : Type 0
 ListsCompare =
     (w : Setting) (histories one other : ℕ → List Event) (i j a : ℕ)
-    → Stands w histories → HasFewFaulty w → Grow one histories → Grow other histories → IsCorrect w i → IsCorrect w j
+    → Stands w histories → HasFewFaulty w → Grow one histories → Grow other histories
+    → IsCorrect w i → IsCorrect w j
     → IsPrefix (list_of (group_at w i) (one i) a) (list_of (group_at w j) (other j) a)
     ⊎ IsPrefix (list_of (group_at w j) (other j) a) (list_of (group_at w i) (one i) a)
 
@@ -46,7 +50,8 @@ abbrev pub Integrity : Type 0
 Integrity =
     (w : Setting) (histories : ℕ → List Event) (i a s : ℕ) (v : List ℕ)
     → Stands w histories → HasFewFaulty w → IsCorrect w i → IsCorrect w a
-    → delivered_at (group_at w i) (histories i) a s ≡ Some v → slice_get (asked (histories a)) s ≡ Some v
+    → delivered_at (group_at w i) (histories i) a s ≡ Some v
+    → slice_get (asked (histories a)) s ≡ Some v
 
 abbrev pub ListIsAsked : Type 0
 ListIsAsked =
@@ -82,11 +87,13 @@ abbrev pub AsksAreDelivered : Type 0
 AsksAreDelivered =
     (w : Setting) (histories : ℕ → List Event) (i a s : ℕ) (v : List ℕ)
     → Stands w histories → HasFewFaulty w → AllTaken w histories → IsCorrect w i → IsCorrect w a
-    → slice_get (asked (histories a)) s ≡ Some v → delivered_at (group_at w i) (histories i) a s ≡ Some v
+    → slice_get (asked (histories a)) s ≡ Some v
+    → delivered_at (group_at w i) (histories i) a s ≡ Some v
 
 -- and is the owner's list
 abbrev pub ListIsAllAsked : Type 0
 ListIsAllAsked =
     (w : Setting) (histories : ℕ → List Event) (i a : ℕ)
     → Stands w histories → HasFewFaulty w → AllTaken w histories → IsCorrect w i → IsCorrect w a
-    → length (asked (histories a)) ≤ seqs → list_of (group_at w i) (histories i) a ≡ asked (histories a)
+    → length (asked (histories a)) ≤ seqs
+    → list_of (group_at w i) (histories i) a ≡ asked (histories a)

@@ -15,15 +15,21 @@ votes_at histories i a s = votes i a s (histories i)
 pub record HasQuorum (w : Setting) (histories : ℕ → List Event) (a s : ℕ) (v : List ℕ) : Type 0 where
   pub holder : ℕ
   pub correct : IsCorrect w holder
-  pub quorum : w.members + w.faults < 2 * size w.members (echo_set (group_at w holder) (votes_at histories holder a s) v)
+  pub quorum :
+      w.members + w.faults
+      < 2 * size w.members (echo_set (group_at w holder) (votes_at histories holder a s) v)
 
--- Authenticity: what one correct member took from another is a prefix of all that the other sent. And the rule
--- of READY: behind each correct member's READY stands a quorum of ECHOs for its value at some correct member.
+-- Authenticity: what one correct member took from another is a prefix of all that the other sent.
+-- And the rule of READY: behind each correct member's READY stands a quorum of ECHOs for its
+-- value at some correct member.
 pub record Stands (w : Setting) (histories : ℕ → List Event) : Type 0 where
   pub proper : (i : ℕ) → IsCorrect w i → All (IsEvent (group_at w i)) (histories i)
-  pub authentic : (i j : ℕ) → IsCorrect w i → IsCorrect w j → IsPrefix (taken j (histories i)) (out (group_at w j) (histories j))
+  pub authentic :
+      (i j : ℕ) → IsCorrect w i → IsCorrect w j
+      → IsPrefix (taken j (histories i)) (out (group_at w j) (histories j))
   pub ruled :
-      (i a s : ℕ) (v : List ℕ) → IsCorrect w i → readied (group_at w i) (votes_at histories i a s) ≡ Some v
+      (i a s : ℕ) (v : List ℕ) → IsCorrect w i
+      → readied (group_at w i) (votes_at histories i a s) ≡ Some v
       → HasQuorum w histories a s v
 
 -- ---- one event more
@@ -33,8 +39,8 @@ pub record IsLonger (old new : ℕ → List Event) (k : ℕ) (e : Event) : Type 
   pub here : new k ≡ old k ++ e ∷ []
   pub others : (i : ℕ) → i ≢ k → new i ≡ old i
 
--- Where k is correct, it may take the event, and a body of a correct member is the next one of all that this
--- member sent.
+-- Where k is correct, it may take the event, and a body of a correct member is the next one of
+-- all that this member sent.
 pub record IsAllowed (w : Setting) (old : ℕ → List Event) (k : ℕ) (e : Event) : Type 0 where
   pub proper : IsCorrect w k → IsEvent (group_at w k) e
   pub genuine :

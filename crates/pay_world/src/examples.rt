@@ -1,5 +1,5 @@
-//! Worked examples of what happens in a group, computed from the definitions alone: the premises of the laws can
-//! be met, and none of them can be left out.
+//! Worked examples of what happens in a group, computed from the definitions alone: the premises
+//! of the laws can be met, and none of them can be left out.
 
 ghost use Rattle.std.specs.Prelude.{◌≡◌, ◌≤◌, true, [], Some, None};
 ghost use Rattle.pay_frame.specs.declared.kind.Kind.TheVariants.{Ready};
@@ -12,8 +12,8 @@ ghost use Rattle.pay_world.specs.Examples.{A, B, of_3, first_of, four, two_liars
 
 use crate::laws::forged_is_told;
 
-/// Of four members one lies, frames come twice and too early, and all premises are met: the correct members
-/// deliver the same.
+/// Of four members one lies, frames come twice and too early, and all premises are met: the
+/// correct members deliver the same.
 pub fn one_liar_of_four()
     ensures few { HasFewFaulty four }
     ensures genuine { AreGenuine four with_a_liar }
@@ -43,8 +43,8 @@ pub fn one_forged_frame()
     ensures one { first_of four by_a_forged_frame 1 3 ≡ Some B }
 {}
 
-/// With three members of which one may lie, N = 3f. What one correct member delivers the other doesn't, though
-/// each took all that the other sent.
+/// With three members of which one may lie, N = 3f. What one correct member delivers the other
+/// doesn't, though each took all that the other sent.
 pub fn one_liar_of_three()
     ensures few { size 3 three.faulty ≤ three.faults }
     ensures genuine { AreGenuine three of_three }

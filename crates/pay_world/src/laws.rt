@@ -1,5 +1,5 @@
-//! Laws between members. Each function's contract is the law. Its body is empty, or only names the laws that it
-//! stands on.
+//! Laws between members. Each function's contract is the law. Its body is empty, or only names
+//! the laws that it stands on.
 
 ghost use Rattle.pay_world.specs.Below.{Below, OfBooks};
 ghost use Rattle.pay_world.specs.DeedLaws.{NoHistoryAtFirst, HistoryByOneMore, HistoriesGrow, NoDeedIsGenuine, GenuineByOneMore, PrefixIsGenuine, GenuineByPlace, CorrectIsTold, ForgedIsTold, NoneForgedIsTold};
@@ -57,15 +57,16 @@ fn laws_of_books()
     settled_entries_were_asked();
 }
 
-/// Each member's history is what it took of the deeds, one after the other: it grows at its end, by one event
-/// or none a deed.
+/// Each member's history is what it took of the deeds, one after the other: it grows at its end,
+/// by one event or none a deed.
 pub fn histories_by_deeds()
     ensures first { NoHistoryAtFirst }
     ensures one_more { HistoryByOneMore }
     ensures grow { HistoriesGrow }
 {}
 
-/// Deeds are genuine up to the first that isn't. It comes to the same to say it of each place in their list.
+/// Deeds are genuine up to the first that isn't. It comes to the same to say it of each place in
+/// their list.
 pub fn genuine_deeds()
     ensures first { NoDeedIsGenuine }
     ensures one_more { GenuineByOneMore }
@@ -73,15 +74,16 @@ pub fn genuine_deeds()
     ensures by_place { GenuineByPlace }
 {}
 
-/// The tests say which members are correct, which deed is genuine after those before it, and whether all are.
+/// The tests say which members are correct, which deed is genuine after those before it, and
+/// whether all are.
 pub fn forged_is_told()
     ensures correct { CorrectIsTold }
     ensures forged { ForgedIsTold }
     ensures none { NoneForgedIsTold }
 {}
 
-/// Authenticity and the rule of READY hold between correct members at first, after one event more, and so after
-/// any genuine deeds.
+/// Authenticity and the rule of READY hold between correct members at first, after one event
+/// more, and so after any genuine deeds.
 pub fn correct_members_stand()
     ensures first { StandsAtFirst }
     ensures one_more { StandsByOneMore }
@@ -90,8 +92,8 @@ pub fn correct_members_stand()
     laws_below();
 }
 
-/// Two correct members, each at any moment, deliver no two values under one number of one account. So of their
-/// lists of an account one is a prefix of the other.
+/// Two correct members, each at any moment, deliver no two values under one number of one
+/// account. So of their lists of an account one is a prefix of the other.
 pub fn correct_members_agree()
     ensures values { Agreement }
     ensures lists { ListsCompare }
@@ -99,7 +101,8 @@ pub fn correct_members_agree()
     laws_below();
 }
 
-/// What a correct member delivers of a correct owner, this owner was asked to broadcast, under that number.
+/// What a correct member delivers of a correct owner, this owner was asked to broadcast, under
+/// that number.
 pub fn nothing_is_invented()
     ensures value { Integrity }
     ensures list { ListIsAsked }
@@ -114,8 +117,8 @@ pub fn nothing_is_taken_back()
     laws_below();
 }
 
-/// Where each correct member took all that the other correct ones sent, all of them delivered the same, and all
-/// that correct owners were asked for.
+/// Where each correct member took all that the other correct ones sent, all of them delivered the
+/// same, and all that correct owners were asked for.
 pub fn all_converge()
     ensures deliveries { Convergence }
     ensures lists { ListsConverge }
@@ -125,10 +128,11 @@ pub fn all_converge()
     laws_below();
 }
 
-/// The headline: take any deeds of which none is a forged frame, in a group with few faulty members. Then correct
-/// members never settle different payments of one account; what one settled stays settled, and of a correct owner
-/// it is what the owner was asked for. Each book is the largest front of its member's lists, where nobody owes and
-/// no money was made or lost, and equal lists give equal books.
+/// The headline: take any deeds of which none is a forged frame, in a group with few faulty
+/// members. Then correct members never settle different payments of one account; what one settled
+/// stays settled, and of a correct owner it is what the owner was asked for. Each book is the
+/// largest front of its member's lists, where nobody owes and no money was made or lost, and
+/// equal lists give equal books.
 pub fn headline()
     ensures { HeadlineHolds }
 {
@@ -144,8 +148,9 @@ pub fn books_converge()
     laws_of_books();
 }
 
-/// The same of whole lists: no two correct members' lists of an account fork, nothing in them is invented or taken
-/// back, and where all was taken they are equal, and have all that correct owners were asked for.
+/// The same of whole lists: no two correct members' lists of an account fork, nothing in them is
+/// invented or taken back, and where all was taken they are equal, and have all that correct
+/// owners were asked for.
 pub fn lists_by_deeds()
     ensures no_fork { NoListForks }
     ensures asked { ListWasAsked }
