@@ -17,10 +17,10 @@ def test_key(one, other):
     return bytes(30) + bytes([min(one, other), max(one, other)])
 
 
-def frame(kind, sender, receiver, number, owner=0, seq=0, value=b""):
-    """The bytes of a frame, rightly tagged under the test key of its sender and receiver."""
+def frame(kind, sender, receiver, number, owner=0, seq=0, value=b"", key=None):
+    """The bytes of a frame, rightly tagged under this key, or the test key of its sender and receiver."""
     text = HEAD.pack(54 + len(value), 1, kind, sender, receiver, number, owner, seq, len(value)) + value
-    return text + hmac.digest(test_key(sender, receiver), text, hashlib.sha256)
+    return text + hmac.digest(key or test_key(sender, receiver), text, hashlib.sha256)
 
 
 def payment(payee, amount):

@@ -1,27 +1,22 @@
 //! The program `payd`: its words lead to an engine, and how the engine ended to a status.
 #![tactic(auto)]
 
+mod files;
+mod stop;
 mod words;
 
 use clap::error::ErrorKind;
+use files::{genesis_of, keys_of};
 use pay_cli::run_check;
 use pay_frame::{EngineFault, Reader, Writer};
 use pay_hmac::PreparedHmac;
-use pay_link::{Genesis, GenesisFault, Keys, test_keys};
+use pay_link::Keys;
 use std::alloc::{AllocError, Global};
 use std::process::ExitCode;
+use std::rt::Files;
 use std::{env, io};
+use stop::Stop;
 use words::{Job, NOT_UTF8, job_of};
-
-/// Members, faults and opening amounts where no file names them.
-const MEMBERS: u64 = 4;
-
-const FAULTS: u64 = 1;
-
-const OPENING: [u64; 4] = [100, 0, 0, 50];
-
-/// The member that judges, where no file names its keys.
-const OWN: u16 = 1;
 
 fn main(rt: HostRuntime) -> ExitCode {
     let words = match env::args(&rt) {
@@ -31,23 +26,30 @@ fn main(rt: HostRuntime) -> ExitCode {
     let mut given = Vec::new(rt.alloc());
     for word in words {
         if given.push(word).is_err() {
-            return status_of(&rt, Err(EngineFault::Memory));
+            return status_of(&rt, Err(Stop::Engine(EngineFault::Memory)));
         }
     }
     match job_of(rt.alloc(), given.as_slice()) {
-        Ok(Job::Check) => status_of(&rt, check(rt.alloc(), &rt)),
+        Ok(Job::Check { genesis, keys }) => {
+            status_of(&rt, check(rt.alloc(), &rt, genesis, keys))
+        }
         Err(answer) => status_of_answer(&rt, &answer),
     }
 }
 
-/// Judges the frames on standard input.
-fn check(alloc: Global, rt: &(impl Input + Print)) -> Result<(), EngineFault> {
-    let genesis = Genesis::new(alloc, MEMBERS, FAULTS, &OPENING).map_err(|_| EngineFault::Memory)?;
-    let keys = test_keys(alloc, &genesis, OWN)?;
+/// Judges the frames on standard input, once the files are read.
+fn check<'a>(
+    alloc: Global,
+    rt: &(impl Files + Input + Print),
+    genesis: Option<&'a str>,
+    keys: Option<&'a str>,
+) -> Result<(), Stop<'a>> {
+    let genesis = genesis_of(alloc, rt, genesis)?;
+    let keys = keys_of(alloc, rt, &genesis, keys)?;
     let tagger = tagger_of(alloc, &keys)?;
     let mut reader = Reader::new(rt.reader());
     let mut writer = Writer::new(io::writer(rt));
-    run_check(alloc, &tagger, &genesis, &keys, &mut reader, &mut writer)
+    Ok(run_check(alloc, &tagger, &genesis, &keys, &mut reader, &mut writer)?)
 }
 
 /// Tags with the keys of all peers prepared.
@@ -62,13 +64,14 @@ fn tagger_of(alloc: Global, keys: &Keys) -> Result<PreparedHmac, AllocError> {
 }
 
 /// A fault in the frames has its line already; another one is named on standard error.
-fn status_of(rt: &impl Eprint, ended: Result<(), EngineFault>) -> ExitCode {
+fn status_of(rt: &impl Eprint, ended: Result<(), Stop>) -> ExitCode {
     match ended {
         Ok(()) => ExitCode::SUCCESS,
-        Err(EngineFault::Frame(_)) => ExitCode::from(1),
-        Err(fault) => {
-            let _ = eprintln!(rt; "payd: engine {fault}");
-            ExitCode::from(3)
+        Err(stop) => {
+            if !matches!(stop, Stop::Engine(EngineFault::Frame(_))) {
+                let _ = eprintln!(rt; "payd: {stop}");
+            }
+            ExitCode::from(stop.status())
         }
     }
 }
@@ -79,17 +82,17 @@ fn status_without_words(rt: &impl Eprint, error: &io::Error) -> ExitCode {
         let _ = eprintln!(rt; "{NOT_UTF8}");
         ExitCode::from(2)
     } else {
-        status_of(rt, Err(EngineFault::Memory))
+        status_of(rt, Err(Stop::Engine(EngineFault::Memory)))
     }
 }
 
 /// Prints what the reading of the words answers in place of a job: help, the version, or a mistake.
 fn status_of_answer(rt: &(impl Print + Eprint), answer: &clap::Error) -> ExitCode {
     if answer.kind() == ErrorKind::OutOfMemory {
-        return status_of(rt, Err(EngineFault::Memory));
+        return status_of(rt, Err(Stop::Engine(EngineFault::Memory)));
     }
     if answer.print(rt).is_err() {
-        return status_of(rt, Err(EngineFault::Write));
+        return status_of(rt, Err(Stop::Engine(EngineFault::Write)));
     }
     ExitCode::from(if answer.use_stderr() { 2 } else { 0 })
 }

@@ -1,11 +1,19 @@
-use clap::{Command, Error};
-use std::alloc::Global;
+ghost use Rattle.std.specs.Prelude.{◌≡◌, IfOk, map, string_bytes};
+ghost use Rattle.clap.specs.Words.{FailsBy, fault_of, found_of, new_app, rows_of, subcommand_of, subcommand_rows_of};
+ghost use Rattle.payd.specs.Job.{IsCommand, IsOption, asked, asked_by, asked_in, asked_of, check_app, file_rule, payd_alone, payd_app};
+
+use clap::{Arg, ArgMatches, Command, Error};
+use std::alloc::{AllocError, Global};
 
 /// What the program is asked to do.
 #[derive(Clone, Copy, Debug, PartialEq, Eq)]
-pub(crate) enum Job {
-    /// Judge the frames on standard input.
-    Check,
+pub(crate) enum Job<'a> {
+    /// Judge the frames on standard input, as a member of this genesis with these keys, each read from
+    /// the file of this name.
+    Check {
+        genesis: Option<&'a str>,
+        keys: Option<&'a str>,
+    },
 }
 
 /// What is said where a word isn't UTF-8, which `clap` never sees.
@@ -20,8 +28,9 @@ const CHECK_ABOUT: &str =
     "Reads frames on standard input and writes what a member would make of each";
 
 const CHECK_HELP: &str = "\
-Input: frames, one after the other, as members send them. They are judged by member 1 of four, with
-the test keys, which anyone can name: 30 zero bytes, then the lesser and the greater of the pair.
+Input: frames, one after the other, as members send them. Without --genesis there are four members, of
+whom one may lie. Without --keys they are judged by member 1, or by member 0 of one alone, with the
+test keys, which anyone can name: 30 zero bytes, then the lesser and the greater of the pair.
 
 Output: a line for each frame, numbered from 1.
   K ok KIND from P number M owner A seq S value L   taken: the next frame from P
@@ -30,23 +39,93 @@ Output: a line for each frame, numbered from 1.
   K refused C NAME next M                           5 Repeat, 6 Gap: M is the next number from P
   K fault C NAME                                    no frame; the last line
 
-Status: 0 at the input's end, 1 after a fault, 2 for words that are not known, 3 where memory, a read
-or a write fails, or after 1,000,000 reads.
+Status: 0 at the input's end, 1 after a fault, 2 for words or a file that can't be read, 3 where memory,
+a read or a write fails, or after 1,000,000 reads.
 
 Example: payd check < examples/frames.bin";
 
 /// What the words ask for, the program's name the first of them; or help, the version, or what is
-/// wrong with them.
-/// With no further word it is `check`.
-pub(crate) fn job_of(alloc: Global, words: &[String]) -> Result<Job, Error> {
-    let check = Command::new(alloc, "check")
-        .about(CHECK_ABOUT)
-        .after_help(CHECK_HELP);
-    let command = Command::new(alloc, "payd")
+/// wrong with them. Without a command it is `check`.
+pub(crate) fn job_of<'a>(alloc: Global, words: &'a [String]) -> Result<Job<'a>, Error>
+    ensures value { IfOk result (λ job. asked job ≡ asked_by (map string_bytes words.now)) }
+    ensures fault { FailsBy (fault_of payd_app (map string_bytes words.now)) result }
+{
+    let matches = matches_of(alloc, words)?;
+    Ok(job_in(&matches))
+}
+
+/// What the words match, or why they don't.
+fn matches_of<'a>(alloc: Global, words: &'a [String]) -> Result<ArgMatches<'a>, Error>
+    ensures command { IfOk result (λ matches.
+        subcommand_rows_of matches ≡ subcommand_of payd_app (map string_bytes words.now)) }
+    ensures fault { FailsBy (fault_of payd_app (map string_bytes words.now)) result }
+{
+    let command = payd(alloc)?;
+    command.try_get_matches_from(words)
+}
+
+/// The job of the command that was met, and `check` where there is none.
+fn job_in<'a>(matches: &ArgMatches<'a>) -> Job<'a>
+    ensures { asked result ≡ asked_in (subcommand_rows_of matches.now) }
+{
+    match matches.subcommand() {
+        Some((_, check)) => check_job(check),
+        None => Job::Check {
+            genesis: None,
+            keys: None,
+        },
+    }
+}
+
+/// The job of `check` with these options.
+fn check_job<'a>(check: &ArgMatches<'a>) -> Job<'a>
+    ensures { asked result ≡ asked_of (rows_of (found_of check.now)) }
+{
+    Job::Check {
+        genesis: check.get_str("genesis"),
+        keys: check.get_str("keys"),
+    }
+}
+
+/// The program and its commands.
+fn payd<'a>(alloc: Global) -> Result<Command<'a>, AllocError>
+    ensures { IfOk result (λ command. IsCommand command payd_app) }
+{
+    payd_alone(alloc).subcommand(check(alloc)?)
+}
+
+fn payd_alone<'a>(alloc: Global) -> Command<'a>
+    ensures { IsCommand result payd_alone }
+{
+    Command::new(alloc, "payd")
         .about(ABOUT)
         .version(VERSION)
         .disable_help_subcommand(true)
-        .subcommand(check)?;
-    command.try_get_matches_from(words)?;
-    Ok(Job::Check)
+}
+
+/// The command `check` and its options.
+fn check<'a>(alloc: Global) -> Result<Command<'a>, AllocError>
+    ensures { IfOk result (λ command. IsCommand command check_app) }
+{
+    let command = titled(alloc, "check", CHECK_ABOUT, CHECK_HELP);
+    let genesis = file_option(alloc, "genesis", "A file of JSON with the genesis");
+    let keys = file_option(alloc, "keys", "A file of JSON with the keys of one member");
+    command.arg(genesis)?.arg(keys)
+}
+
+/// A command without options, and what its help says.
+fn titled<'a>(alloc: Global, name: &'a str, about: &'a str, help: &'a str) -> Command<'a>
+    ensures { IsCommand result (new_app name.entry.now) }
+{
+    Command::new(alloc, name).about(about).after_help(help)
+}
+
+/// An option that takes the name of a file.
+fn file_option<'a>(alloc: Global, name: &'a str, help: &'a str) -> Arg<'a>
+    ensures { IsOption result (file_rule name.entry.now) }
+{
+    Arg::new(alloc, name)
+        .long(name)
+        .value_name("FILE")
+        .help(help)
 }

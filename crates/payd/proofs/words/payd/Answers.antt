@@ -1,0 +1,13 @@
+use Rattle.std.proofs.Common.{ap, ap₂, refl, ◌∙◌}
+use Rattle.std.proofs.lemmas.Result.{IfOk-weaker}
+use Rattle.clap.specs.Words.{App, with_subcommand}
+use Rattle.payd.proofs.words.payd.Goals as goal
+
+pub returns : goal.returns
+returns c =
+    let alone = c.payd_alone.ensures in
+    let check = c.in_ok-check.ensures in
+    IfOk-weaker c.subcommand.result _ _ (λ r h. record {
+      app = h.shape check.globals ∙ ap₂ with_subcommand alone.app (ap (λ (a : App). a.top) check.app);
+      globals = rw (h.globals, alone.globals, check.globals) refl;
+    }) c.subcommand.ensures

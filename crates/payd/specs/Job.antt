@@ -1,0 +1,57 @@
+-- What the words of the program ask for. Which words a command takes is what `clap` says of simple commands.
+use Rattle.std.specs.Prelude.{◌≡◌, List, Option, Some, None, true, false, codes, option_map}
+use Rattle.std.specs.Option.{option_map_or}
+use Rattle.clap.specs.Words.{App, Row, Rule, Text, app_of, first_of, new_app, new_rule, rule_of, subcommand_of, with_rule, with_subcommand}
+use Rattle.clap.specs.declared.builder.Arg.{Arg}
+use Rattle.clap.specs.declared.builder.Command.{Command}
+use Rattle.clap.specs.declared.builder.command.Command.TheViews.{out-Command}
+use Rattle.payd.specs.declared.words.Job.{Job}
+use Rattle.payd.specs.declared.words.Job.TheVariants.{Check}
+
+-- an option that takes the name of a file
+abbrev pub file_rule : Text → Rule
+file_rule name = record (new_rule name) { long = Some name; value_names = 1 }
+
+-- `check`, which takes a genesis and keys
+abbrev pub check_app : App
+check_app = with_rule (with_rule (new_app (codes "check")) (file_rule (codes "genesis"))) (file_rule (codes "keys"))
+
+-- the program without its commands: it has a version, and no command for help
+abbrev pub payd_alone : App
+payd_alone = record (new_app (codes "payd")) {
+  top = record (new_app (codes "payd")).top { disable_help_subcommand = true; has_version = true };
+}
+
+-- the program
+abbrev pub payd_app : App
+payd_app = with_subcommand payd_alone check_app.top
+
+-- a command as these definitions have it, without an option for all commands
+pub record IsCommand (c : Command) (a : App) : Type 0 where
+  pub app : app_of c ≡ a
+  pub globals : (out-Command c).has_globals ≡ false
+
+-- an option that is a rule, and isn't for all commands
+pub record IsOption (o : Arg) (r : Rule) : Type 0 where
+  pub rule : rule_of o ≡ r
+  pub global : o.global ≡ false
+
+-- a command, and the names of the files that it is given
+pub data Asked : Type 0 where
+  check : Option Text → Option Text → Asked
+
+-- what a job is, by the texts that it lends
+abbrev pub asked : Job → Asked
+asked (Check genesis keys) = check (option_map (λ name. name.now) genesis) (option_map (λ name. name.now) keys)
+
+-- what the words of a command ask for
+abbrev pub asked_of : List Row → Asked
+asked_of rows = check (first_of (codes "genesis") rows) (first_of (codes "keys") rows)
+
+-- what the command that was met asks for; without one it is `check`
+abbrev pub asked_in : Option (Text × List Row) → Asked
+asked_in command = option_map_or (λ met. asked_of met.1) command (check None None)
+
+-- what these words ask for, the program's name the first of them
+abbrev pub asked_by : List Text → Asked
+asked_by words = asked_in (subcommand_of payd_app words)
