@@ -1,9 +1,9 @@
 -- A channel and its book after an event.
 use Rattle.std.specs.Result.{OnErr}
-use Rattle.std.proofs.lemmas.List.{take_more, get_or-drop}
+use Rattle.std.proofs.lemmas.List.{take_more, take_all, get_or-drop}
 use Rattle.std.proofs.lemmas.Option.{slice_get_within, get_or_from_slice_get}
 use Rattle.pay_frame.specs.Frame.{BodyFields}
-use Rattle.std.proofs.Common.{drop, take, slice_get, Some, length-drop, ◌+◌, ◌≡◌, ℕ, ◌<◌, ◌≤◌, Bool, Result, Ok, Err, List, [], ◌∷◌, ◌++◌, length, sum, refl, sym, ap, ◌∙◌, subst, arith}
+use Rattle.std.proofs.Common.{drop, take, slice_get, Some, length-drop, ◌+◌, ◌≡◌, ℕ, ◌<◌, ◌≤◌, Bool, Result, Ok, Err, List, [], ◌∷◌, ◌++◌, length, sum, slice_index, refl, sym, ap, ◌∙◌, subst, arith}
 use Rattle.pay_frame.specs.declared.limits.TheConstants.{MOST_MEMBERS}
 use Rattle.pay_echo.specs.Broadcast.{Group}
 use Rattle.pay_channel.specs.Source.{GrowsOnly}
@@ -146,3 +146,17 @@ piece_more sent from k x is =
     let inside = slice_get_within sent (from + k) x is in
     take_more (drop from sent) k x (simp length-drop (omega arith))
     ∙ ap (λ y. take k (drop from sent) ++ y ∷ []) (get_or-drop from sent k x ∙ get_or_from_slice_get sent (from + k) x x is)
+
+-- ---- the front in pieces
+
+-- one account more
+pub front_more :
+    (l : LedgerFields) (k f : ℕ) → IsLedger l → k < length l.book.opening → f ≡ slice_index l.book.front k
+    → take (k + 1) l.book.front ≡ take k l.book.front ++ f ∷ []
+front_more l k f sound account is =
+    let each = sound.settled.is.one_for_each in
+    take_more l.book.front k 0 (omega arith) ∙ ap (λ x. take k l.book.front ++ x ∷ []) (sym is)
+
+-- all of them
+pub front_whole : (l : LedgerFields) (k : ℕ) → IsLedger l → k ≡ length l.book.opening → take k l.book.front ≡ l.book.front
+front_whole l k sound is = take_all k l.book.front (let each = sound.settled.is.one_for_each in omega arith)

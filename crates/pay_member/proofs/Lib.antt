@@ -1,5 +1,7 @@
 pub mod Bringings
-pub mod Servings
+pub mod BroughtEvents
+pub mod Histories
 pub mod Ledgers
 pub mod Members
 pub mod Openings
+pub mod Servings

@@ -1,15 +1,25 @@
 -- Histories that a member can have.
-use Rattle.std.specs.Prelude.{◌≡◌, List, ◌∷◌, ◌++◌, None}
+use Rattle.std.specs.Prelude.{◌≡◌, List, ◌∷◌, ◌++◌, None, ⊤}
 use Rattle.pay_channel.specs.History as channel
 use Rattle.pay_link.specs.Genesis.{GenesisFields}
 use Rattle.pay_link.specs.Keys.{KeyFields}
+use Rattle.pay_link.specs.Checked.{IsChecked}
+use Rattle.pay_member.specs.declared.event.Event.{Event}
+use Rattle.pay_member.specs.declared.event.Event.TheVariants.{Ask, Taken, Query}
 use Rattle.pay_member.specs.declared.entry.HistoryEntry.{HistoryEntry}
 use Rattle.pay_member.specs.Events.{events}
 use Rattle.pay_member.specs.Reply.{reply_to}
 use Rattle.pay_member.specs.Refusal.{refusal}
 
+-- a frame in it is within its limits, rightly tagged under its key, and no WANT
+abbrev pub IsKept : Event → Type 0
+IsKept (Ask v) = ⊤
+IsKept (Taken c) = IsChecked c
+IsKept (Query a) = ⊤
+
 -- behind these events nothing refuses the entry's event, and its reply is the one owed
 pub record IsOwed (g : GenesisFields) (k : KeyFields) (before : List channel.Event) (e : HistoryEntry) : Type 0 where
+  pub kept : IsKept e.event
   pub taken : refusal g k before e.event ≡ None
   pub reply : e.reply ≡ reply_to g k.own before e.event
 

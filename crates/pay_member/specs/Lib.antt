@@ -12,3 +12,4 @@ pub mod Bringing
 pub mod OpeningLaws
 pub mod EventLaws
 pub mod Serving
+pub mod Laws

@@ -119,6 +119,18 @@ impl<I: Instance + Drop, B: Settle + Drop> Ledger<I, B> {
         self.book.front(account)
     }
 
+    /// How many entries are settled of each account.
+    pub fn fronts(&self, alloc: Global, accounts: u16) -> Result<Vec<u32>, AllocError>
+        requires { accounts ≡ length self.now.book.opening }
+        ensures { IfOk result (λ fronts. fronts.items ≡ self.now.book.front) }
+    {
+        let mut fronts = Vec::new(alloc);
+        for account in 0..accounts {
+            fronts.push(self.book.front(account))?;
+        }
+        Ok(fronts)
+    }
+
     pub fn balance(&self, account: u16) -> u64
         requires { account < length self.now.book.opening }
         ensures { result ≡ slice_index self.now.book.balances account }

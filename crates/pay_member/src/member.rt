@@ -13,6 +13,7 @@ ghost use Rattle.pay_member.specs.Book.{book_after};
 ghost use Rattle.pay_member.specs.Reply.{took_by, told_of};
 ghost use Rattle.pay_member.specs.Refusal.{refusal};
 ghost use Rattle.pay_member.specs.Reading.{state_of, fetched};
+ghost use Rattle.pay_member.specs.Legal.{Legal};
 ghost use Rattle.pay_member.specs.Member.{with_entry};
 ghost use Rattle.pay_member.specs.Bringing.{IsOutcome, answer_to, opened_in, event_in, want_for, want_after, with_taken, with_brought};
 ghost use Rattle.pay_member.specs.Serving.{after_frame, want_of};
@@ -332,7 +333,8 @@ impl<I: Instance + Drop, B: Settle + Drop> Member<I, B> {
 
     /// All that the member took and replied, oldest first.
     pub fn history(&self) -> &[HistoryEntry]
-        ensures { result.now ≡ self.now.history }
+        ensures value { result.now ≡ self.now.history }
+        ensures legal { Legal self.now.genesis self.now.keys self.now.history }
     {
         self.history.as_slice()
     }
@@ -371,6 +373,16 @@ impl<I: Instance + Drop, B: Settle + Drop> Member<I, B> {
         a_channel_follows();
         settled_book_is_one();
         self.ledger.front(account)
+    }
+
+    /// How many entries are settled of each account.
+    pub fn fronts(&self, alloc: Global) -> Result<Vec<u32>, AllocError>
+        ensures { IfOk result (λ fronts. fronts.items
+            ≡ (book_after self.now.genesis self.now.keys.own (events self.now.history)).front) }
+    {
+        a_channel_follows();
+        settled_book_is_one();
+        self.ledger.fronts(alloc, self.genesis.members())
     }
 
     pub fn balance(&self, account: u16) -> u64

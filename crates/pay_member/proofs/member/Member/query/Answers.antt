@@ -20,6 +20,7 @@ invariant_of-self-2 g c =
     subst At (sym items)
     (member_queried m c.self.inside.ledger c.self.inside.fronts x c.self.invariant refl
     (record {
+      kept = tt;
       taken = query_taken m.genesis m.keys (events h) c.args.account member;
       reply = ap reply.Told
           (told_is c.a_channel_follows.ensures.lists c.settled_book_is_one.ensures m.genesis m.keys.own (events h) c.self.inside.ledger c.args.account
