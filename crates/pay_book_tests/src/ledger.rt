@@ -27,7 +27,9 @@ impl<B: Settle> Model for Ledger<B> {
 
     ghost view = { λ ledger. B.shows ledger.book };
 
-    ghost invariant = { λ ledger. IsLedger ledger.accounts (vec_len ledger.lists.values) (values_of ledger.lists.values.items) (B.shows ledger.book) };
+    ghost invariant = { λ ledger.
+        IsLedger ledger.accounts (vec_len ledger.lists.values)
+        (values_of ledger.lists.values.items) (B.shows ledger.book) };
 }
 
 impl<B: Settle + Drop> Ledger<B> {

@@ -19,7 +19,8 @@ impl Lists {
     /// Empty lists of so many owners.
     pub(crate) fn new(alloc: Global, owners: u16) -> Result<Self, AllocError>
         ensures owners { IfOk result (λ lists. vec_len lists.values ≡ owners) }
-        ensures empty { IfOk result (λ lists. (owner : ℕ) → length (values_of lists.values.items owner) ≡ 0) }
+        ensures empty { IfOk result (λ lists. (owner : ℕ)
+            → length (values_of lists.values.items owner) ≡ 0) }
     {
         let mut values = Vec::new(alloc);
         for _owner in 0..owners {
@@ -44,8 +45,10 @@ impl Lists {
         requires owner { owner < vec_len self.old.values }
         requires room { length (values_of self.old.values.items owner) < SEQS }
         ensures owners { vec_len self.new.values ≡ vec_len self.old.values }
-        ensures ok { OnOk result (GrowsOnly (values_of self.old.values.items) (values_of self.new.values.items) owner) }
-        ensures err { OnErr result ((a : ℕ) → values_of self.new.values.items a ≡ values_of self.old.values.items a) }
+        ensures ok { OnOk result
+            (GrowsOnly (values_of self.old.values.items) (values_of self.new.values.items) owner) }
+        ensures err { OnErr result ((a : ℕ)
+            → values_of self.new.values.items a ≡ values_of self.old.values.items a) }
     {
         self.values[owner as usize].push(value)?;
         Ok(())
