@@ -1,21 +1,16 @@
 -- Histories by deeds: one deed more, more deeds, and genuine deeds make histories that stand.
-use Rattle.std.proofs.Common.{◌≡◌, ◌≢◌, ◌⊎◌, inl, inr, ⊎_elim, ◌↔◌, ℕ, zero, suc, true, false, not, eqb, ltb, leb, ◌&&◌, List, [], ◌∷◌, ◌++◌, length, take, drop, slice_get, Some, refl, sym, ap, ◌∙◌, subst, append_assoc, append-nil, ltb-true, leb-true, eqb-true, eq-eqb, ne_eqb}
-use Rattle.std.proofs.lemmas.Bool.{cases_eq, cases_Bool, and_parts, and_left, and_right, and_from, not-true, cond-true, cond-false, eqb-false}
+use Rattle.std.proofs.Common.{◌≡◌, ◌↔◌, ℕ, zero, suc, List, [], ◌∷◌, ◌++◌, length, take, drop, slice_get, Some, refl, sym, ap, ◌∙◌, subst, append_assoc, append-nil}
 use Rattle.std.proofs.lemmas.List.{same_from_push, take_at}
-use Rattle.pay_frame.specs.declared.limits.TheConstants.{GREATEST_VALUE, SEQS}
-use Rattle.pay_frame.specs.declared.kind.Kind.{Kind}
-use Rattle.pay_frame.specs.declared.kind.Kind.TheVariants.{Send, Echo, Ready, Want}
-use Rattle.pay_frame.specs.Frame.{BodyFields}
 use Rattle.pay_channel.specs.Prefix.{IsPrefix}
-use Rattle.pay_channel.specs.History.{Event, Ask, From, asks, out}
-use Rattle.pay_channel.specs.Taken.{next}
-use Rattle.pay_world.specs.Setting.{Setting, group_at, IsCorrect, HasFewFaulty}
-use Rattle.pay_world.specs.Deeds.{Deed, Asks, Brings, member_of, event_of, is_want, may_come, counts, adds, history_after, history_by}
+use Rattle.pay_channel.specs.History.{Event}
+use Rattle.pay_world.specs.Setting.{Setting, HasFewFaulty}
+use Rattle.pay_world.specs.Deeds.{Deed, adds, history_after, history_by}
 use Rattle.pay_world.specs.Genuine.{IsGenuine, AreGenuine, AreGenuineByPlace}
-use Rattle.pay_world.specs.Stands.{Stands, IsLonger, IsAllowed, Grow}
+use Rattle.pay_world.specs.Stands.{Stands, Grow}
 use Rattle.pay_world.specs.Below.{Below}
 use Rattle.pay_world.proofs.Lists.{none_some, some_same, by_push}
-use Rattle.pay_world.proofs.Standing.{stands_at_first, stands_by_one_more}
+use Rattle.pay_world.proofs.Standing.{stands_at_first}
+use Rattle.pay_world.proofs.Taking.{stands_by_deed}
 
 -- ---- one deed more, and more deeds
 
@@ -52,59 +47,7 @@ histories_grow w deeds more = record { each = λ i. go i } where
 pub prefixes_grow : (w : Setting) (one deeds : List Deed) → IsPrefix one deeds → Grow (history_by w one) (history_by w deeds)
 prefixes_grow w one deeds p = subst (λ l. Grow (history_by w one) (history_by w l)) (sym p.is) (histories_grow w one p.rest)
 
--- ---- a deed that counts may happen
-
-is_no_want : (kind : Kind) → is_want kind ≡ false → kind ≢ Want
-is_no_want Send other e = cc
-is_no_want Echo other e = cc
-is_no_want Ready other e = cc
-is_no_want Want other e = cc
-
-ask_is_from : (v : List ℕ) (j : ℕ) (body : BodyFields) → Ask v ≡ From j body → ⊥
-ask_is_from v j body e = cc
-
-from_same : (p j : ℕ) (b c : BodyFields) → From p b ≡ From j c → (p ≡ j) × (b ≡ c)
-from_same p j b c e = (cc, cc)
-
-counted_is_allowed :
-    (w : Setting) (deeds : List Deed) (d : Deed)
-    → counts w (history_by w deeds (member_of d)) d ≡ true → IsGenuine w deeds d
-    → IsAllowed w (history_by w deeds) (member_of d) (event_of d)
-counted_is_allowed w deeds (Asks k v) count genuine =
-    let limits = and_parts (leb (length v) GREATEST_VALUE) (ltb (asks (history_by w deeds k)) SEQS) count in
-    record {
-      proper = λ ck. leb-true (length v) GREATEST_VALUE limits.0;
-      genuine = λ j body ck cj e. absurd (ask_is_from v j body e);
-    }
-counted_is_allowed w deeds (Brings k from number body) count genuine =
-    let both = and_parts (may_come w k from body) (eqb number (next from (history_by w deeds k))) count in
-    let kind = and_parts (ltb from w.members && not (eqb from k) && ltb body.owner w.members) (not (is_want body.kind)) both.0 in
-    let owner = and_parts (ltb from w.members && not (eqb from k)) (ltb body.owner w.members) kind.0 in
-    let sender = and_parts (ltb from w.members) (not (eqb from k)) owner.0 in
-    record {
-      proper = λ ck. (
-        ltb-true from w.members sender.0,
-        eqb-false from k (not-true (eqb from k) sender.1),
-        ltb-true body.owner w.members owner.1,
-        is_no_want body.kind (not-true (is_want body.kind) kind.1),
-      );
-      genuine = λ j c ck cj e.
-          let same = from_same from j body c e in
-          let At : ℕ → Type 0 = λ q. IsCorrect w q → slice_get (out (group_at w q) (history_by w deeds q)) (next q (history_by w deeds k)) ≡ Some body in
-          let here : At from = λ cf.
-          subst (λ n. slice_get (out (group_at w from) (history_by w deeds from)) n ≡ Some body)
-          (eqb-true number (next from (history_by w deeds k)) both.1) (genuine ck cf) in
-          subst At same.0 here cj ∙ ap Some same.1;
-    }
-
 -- ---- genuine deeds make histories that stand
-
-adds-none : (w : Setting) (i : ℕ) (history : List Event) (d : Deed) → (eqb (member_of d) i && counts w history d) ≡ false → adds w i history d ≡ []
-adds-none w i history d unheard = cond-false (eqb (member_of d) i && counts w history d) (event_of d ∷ []) [] unheard
-
-adds-elsewhere : (w : Setting) (i : ℕ) (history : List Event) (d : Deed) → i ≢ member_of d → adds w i history d ≡ []
-adds-elsewhere w i history d differs =
-    adds-none w i history d (and_left (eqb (member_of d) i) (counts w history d) (ne_eqb (member_of d) i (λ same. differs (sym same))))
 
 pub genuine_front : (w : Setting) (deeds more : List Deed) → AreGenuine w (deeds ++ more) → AreGenuine w deeds
 genuine_front w deeds more are = record {
@@ -119,33 +62,8 @@ genuine_prefix w one deeds p are = genuine_front w one p.rest (subst (AreGenuine
 stands_more :
     (below : Below) (w : Setting) (few : HasFewFaulty w) (deeds : List Deed) (d : Deed)
     → IsGenuine w deeds d → Stands w (history_by w deeds) → Stands w (history_by w (deeds ++ d ∷ []))
-stands_more below w few deeds d genuine stands = ⊎_elim counted uncounted (cases_Bool (counts w (old k) d)) where
-  old : ℕ → List Event
-  old = history_by w deeds
-
-  new : ℕ → List Event
-  new = history_by w (deeds ++ d ∷ [])
-
-  k : ℕ
-  k = member_of d
-
-  counted : counts w (old k) d ≡ true → Stands w new
-  counted count =
-      let longer : IsLonger old new k (event_of d) = record {
-        here = history_by_one_more w deeds d k ∙ ap (λ l. old k ++ l) (cond-true (eqb k k && counts w (old k) d) (event_of d ∷ []) [] (and_from (eqb k k) (counts w (old k) d) (eq-eqb k k refl) count));
-        others = λ i differs. history_by_one_more w deeds d i ∙ ap (λ l. old i ++ l) (adds-elsewhere w i (old i) d differs) ∙ append-nil (old i);
-      } in
-      stands_by_one_more below w old new k (event_of d) longer few (counted_is_allowed w deeds d count genuine) stands
-
-  uncounted : counts w (old k) d ≡ false → Stands w new
-  uncounted ignored = subst (Stands w) (λ t i. unchanged i t) stands where
-    unchanged : (i : ℕ) → old i ≡ new i
-    unchanged i = sym (history_by_one_more w deeds d i ∙ ap (λ l. old i ++ l) (nothing (cases_eq i k)) ∙ append-nil (old i)) where
-      nothing : ((i ≡ k) ⊎ (i ≢ k)) → adds w i (old i) d ≡ []
-      nothing (inr differs) = adds-elsewhere w i (old i) d differs
-      nothing (inl same) =
-          adds-none w i (old i) d
-          (and_right (eqb k i) (counts w (old i) d) (ap (λ j. counts w (old j) d) same ∙ ignored))
+stands_more below w few deeds d genuine stands =
+    stands_by_deed below w few (history_by w deeds) (history_by w (deeds ++ d ∷ [])) d genuine (history_by_one_more w deeds d) stands
 
 Made : Setting → List Deed → Type 0
 Made w deeds = AreGenuine w deeds → Stands w (history_by w deeds)

@@ -7,3 +7,6 @@ pub mod Converging
 pub mod Happening
 pub mod Telling
 pub mod Booking
+pub mod Taking
+pub mod WorldLemmas
+pub mod GroupKeyLemmas

@@ -5,10 +5,10 @@ use Rattle.std.proofs.lemmas.Slice.Eq.{bytes_eq-Decides}
 use Rattle.pay_frame.specs.declared.kind.Kind.{Kind}
 use Rattle.pay_frame.specs.declared.kind.Kind.TheVariants.{Send, Echo, Ready, Want}
 use Rattle.pay_frame.specs.Frame.{BodyFields, code_of}
-use Rattle.pay_channel.specs.History.{out}
+use Rattle.pay_channel.specs.History.{Event, out}
 use Rattle.pay_world.specs.Setting.{Setting, group_at, IsCorrect, is_correct}
 use Rattle.pay_world.specs.Deeds.{Deed, Asks, Brings, history_by}
-use Rattle.pay_world.specs.Genuine.{IsGenuine, AreGenuine, is_body, is_forged, none_forged}
+use Rattle.pay_world.specs.Genuine.{IsGenuine, IsGenuineIn, AreGenuine, is_body, is_forged, is_forged_in, none_forged}
 use Rattle.pay_world.proofs.Happening.{genuine_by_one_more, no_deed_is_genuine}
 
 pub correct_is_told : (w : Setting) (i : ℕ) → (is_correct w i ≡ true) ↔ IsCorrect w i
@@ -59,11 +59,11 @@ its_body body =
     (eq-eqb body.seq body.seq refl))
     ((bytes_eq-Decides body.value body.value).1 refl)
 
-pub forged_is_told : (w : Setting) (before : List Deed) (d : Deed) → (is_forged w before d ≡ false) ↔ IsGenuine w before d
-forged_is_told w before (Asks k v) = ((λ is. tt), (λ genuine. refl))
-forged_is_told w before (Brings k from number body) = (there, back) where
+pub forged_is_told : (w : Setting) (histories : ℕ → List Event) (d : Deed) → (is_forged_in w histories d ≡ false) ↔ IsGenuineIn w histories d
+forged_is_told w histories (Asks k v) = ((λ is. tt), (λ genuine. refl))
+forged_is_told w histories (Brings k from number body) = (there, back) where
   place : Option BodyFields
-  place = slice_get (out (group_at w from) (history_by w before from)) number
+  place = slice_get (out (group_at w from) (histories from)) number
 
   correct : Bool
   correct = is_correct w k && is_correct w from
@@ -94,7 +94,7 @@ genuine_so_far :
 genuine_so_far w before [] are none = subst (AreGenuine w) (sym (append-nil before)) are
 genuine_so_far w before (d ∷ deeds) are none =
     let both = and_parts (not (is_forged w before d)) (none_forged w (before ++ d ∷ []) deeds) none in
-    let genuine = (forged_is_told w before d).0 (not-true (is_forged w before d) both.0) in
+    let genuine = (forged_is_told w (history_by w before) d).0 (not-true (is_forged w before d) both.0) in
     subst (AreGenuine w) (append_assoc before (d ∷ []) deeds)
     (genuine_so_far w (before ++ d ∷ []) deeds (genuine_by_one_more w before d are genuine) both.1)
 
@@ -103,7 +103,7 @@ none_from_here :
 none_from_here w before [] are = refl
 none_from_here w before (d ∷ deeds) are =
     and_from (not (is_forged w before d)) (none_forged w (before ++ d ∷ []) deeds)
-    (ap not ((forged_is_told w before d).1 (are.each before d deeds refl)))
+    (ap not ((forged_is_told w (history_by w before) d).1 (are.each before d deeds refl)))
     (none_from_here w (before ++ d ∷ []) deeds (subst (AreGenuine w) (sym (append_assoc before (d ∷ []) deeds)) are))
 
 pub none_forged_is_told : (w : Setting) (deeds : List Deed) → (none_forged w [] deeds ≡ true) ↔ AreGenuine w deeds

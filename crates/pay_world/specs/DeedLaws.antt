@@ -1,9 +1,10 @@
 -- What holds of deeds and of the histories by them, as statements. Each is proved as a public law.
 use Rattle.std.specs.Prelude.{◌≡◌, ◌↔◌, ℕ, true, false, List, [], ◌∷◌, ◌++◌}
 use Rattle.pay_channel.specs.Prefix.{IsPrefix}
+use Rattle.pay_channel.specs.History.{Event}
 use Rattle.pay_world.specs.Setting.{Setting, IsCorrect, is_correct}
 use Rattle.pay_world.specs.Deeds.{Deed, adds, history_by}
-use Rattle.pay_world.specs.Genuine.{IsGenuine, AreGenuine, AreGenuineByPlace, is_forged, none_forged}
+use Rattle.pay_world.specs.Genuine.{IsGenuine, IsGenuineIn, AreGenuine, AreGenuineByPlace, is_forged_in, none_forged}
 use Rattle.pay_world.specs.Stands.{Grow}
 
 -- ---- histories
@@ -44,7 +45,8 @@ CorrectIsTold = (w : Setting) (i : ℕ) → (is_correct w i ≡ true) ↔ IsCorr
 
 abbrev pub ForgedIsTold : Type 0
 ForgedIsTold =
-    (w : Setting) (before : List Deed) (d : Deed) → (is_forged w before d ≡ false) ↔ IsGenuine w before d
+    (w : Setting) (histories : ℕ → List Event) (d : Deed)
+    → (is_forged_in w histories d ≡ false) ↔ IsGenuineIn w histories d
 
 abbrev pub NoneForgedIsTold : Type 0
 NoneForgedIsTold =

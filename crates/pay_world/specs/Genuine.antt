@@ -2,17 +2,22 @@
 use Rattle.std.specs.Prelude.{◌≡◌, ℕ, Bool, true, false, not, ◌&&◌, ◌==◌, List, [], ◌∷◌, ◌++◌, slice_get, take, Option, Some, None}
 use Rattle.std.specs.Str.{bytes_eq}
 use Rattle.pay_frame.specs.Frame.{BodyFields, code_of}
-use Rattle.pay_channel.specs.History.{out}
+use Rattle.pay_channel.specs.History.{Event, out}
 use Rattle.pay_world.specs.Setting.{Setting, group_at, IsCorrect, is_correct}
 use Rattle.pay_world.specs.Deeds.{Deed, Asks, Brings, history_by}
 
--- Between correct members, a frame's number is a place in all that its sender sent until then,
--- and its body is the one there. A faulty member's frames are its own affair, whatever it says.
-abbrev pub IsGenuine : Setting → List Deed → Deed → Type 0
-IsGenuine w before (Asks k v) = Unit {0}
-IsGenuine w before (Brings k from number body) =
+-- Between correct members, a frame's number is a place in all that its sender sent, and its body is
+-- the one there: with these histories of all members. A faulty member's frames are its own affair,
+-- whatever it says.
+abbrev pub IsGenuineIn : Setting → (ℕ → List Event) → Deed → Type 0
+IsGenuineIn w histories (Asks k v) = Unit {0}
+IsGenuineIn w histories (Brings k from number body) =
     IsCorrect w k → IsCorrect w from
-    → slice_get (out (group_at w from) (history_by w before from)) number ≡ Some body
+    → slice_get (out (group_at w from) (histories from)) number ≡ Some body
+
+-- the same behind a list of deeds
+abbrev pub IsGenuine : Setting → List Deed → Deed → Type 0
+IsGenuine w before d = IsGenuineIn w (history_by w before) d
 
 -- each deed is, after those before it
 pub record AreGenuine (w : Setting) (deeds : List Deed) : Type 0 where
@@ -35,11 +40,14 @@ is_body body (Some c) =
 
 -- The deed is a frame between correct members that its sender didn't send, or not under this
 -- number.
-abbrev pub is_forged : Setting → List Deed → Deed → Bool
-is_forged w before (Asks k v) = false
-is_forged w before (Brings k from number body) =
+abbrev pub is_forged_in : Setting → (ℕ → List Event) → Deed → Bool
+is_forged_in w histories (Asks k v) = false
+is_forged_in w histories (Brings k from number body) =
     is_correct w k && is_correct w from
-    && not (is_body body (slice_get (out (group_at w from) (history_by w before from)) number))
+    && not (is_body body (slice_get (out (group_at w from) (histories from)) number))
+
+abbrev pub is_forged : Setting → List Deed → Deed → Bool
+is_forged w before d = is_forged_in w (history_by w before) d
 
 -- None of these deeds is, each after those before it.
 abbrev pub none_forged : Setting → List Deed → List Deed → Bool

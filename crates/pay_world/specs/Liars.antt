@@ -2,6 +2,7 @@
 use Rattle.std.specs.Prelude.{◌≡◌, ◌≢◌, ℕ, ◌<◌, ◌≤◌, ◌==◌, ◌||◌, nat_lt, Bool, false, List, [], ◌∷◌, All, AllPairs, length, Option, Some, None, if◌then◌else◌}
 use Rattle.std.specs.List.{list_all, list_any}
 use Rattle.pay_link.specs.Genesis.{GenesisFields}
+use Rattle.pay_world.specs.Setting.{Setting}
 use Rattle.pay_world.specs.declared.liar_fault.LiarFault.{LiarFault}
 use Rattle.pay_world.specs.declared.liar_fault.LiarFault.TheVariants.{Unknown, Twice, TooMany}
 
@@ -42,6 +43,10 @@ is_listed liars i = list_any (λ x. x == i) liars
 abbrev pub has_twice : List ℕ → Bool
 has_twice [] = false
 has_twice (x ∷ xs) = is_listed xs x || has_twice xs
+
+-- the group in which they are the faulty ones
+abbrev pub setting_of : LiarFields → Setting
+setting_of l = record { members = l.members; faults = l.faults; faulty = is_listed l.liars }
 
 -- the first fault that holds of the whole list, if there is one
 abbrev pub liar_fault : LiarFields → Option LiarFault

@@ -11,3 +11,5 @@ pub mod StandLaws
 pub mod Headline
 pub mod HeadlineLaws
 pub mod Examples
+pub mod World
+pub mod GroupKeys

@@ -1,11 +1,11 @@
 -- What holds between correct members' histories, as statements. Each is proved as a public law.
-use Rattle.std.specs.Prelude.{◌≡◌, ◌⊎◌, ℕ, ◌≤◌, List, [], length, slice_get, Some}
+use Rattle.std.specs.Prelude.{◌≡◌, ◌⊎◌, ℕ, ◌≤◌, List, [], ◌++◌, length, slice_get, Some}
 use Rattle.pay_channel.specs.Prefix.{IsPrefix}
 use Rattle.pay_channel.specs.History.{Event, seqs, delivered_at, list_of}
 use Rattle.pay_channel.specs.Asked.{asked}
 use Rattle.pay_world.specs.Setting.{Setting, group_at, IsCorrect, HasFewFaulty}
-use Rattle.pay_world.specs.Deeds.{Deed, history_by}
-use Rattle.pay_world.specs.Genuine.{AreGenuine}
+use Rattle.pay_world.specs.Deeds.{Deed, adds, history_by}
+use Rattle.pay_world.specs.Genuine.{IsGenuineIn, AreGenuine}
 use Rattle.pay_world.specs.Stands.{Stands, IsLonger, IsAllowed, Grow}
 use Rattle.pay_world.specs.Convergence.{AllTaken}
 
@@ -18,6 +18,12 @@ abbrev pub StandsByOneMore : Type 0
 StandsByOneMore =
     (w : Setting) (old new : ℕ → List Event) (k : ℕ) (e : Event)
     → HasFewFaulty w → IsLonger old new k e → IsAllowed w old k e → Stands w old → Stands w new
+
+-- so by one genuine deed more
+abbrev pub StandsByDeed : Type 0
+StandsByDeed =
+    (w : Setting) (old new : ℕ → List Event) (d : Deed)
+    → HasFewFaulty w → IsGenuineIn w old d → ((i : ℕ) → new i ≡ old i ++ adds w i (old i) d) → Stands w old → Stands w new
 
 abbrev pub GenuineStands : Type 0
 GenuineStands =

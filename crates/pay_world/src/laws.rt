@@ -3,7 +3,7 @@
 
 ghost use Rattle.pay_world.specs.Below.{Below, OfBooks};
 ghost use Rattle.pay_world.specs.DeedLaws.{NoHistoryAtFirst, HistoryByOneMore, HistoriesGrow, NoDeedIsGenuine, GenuineByOneMore, PrefixIsGenuine, GenuineByPlace, CorrectIsTold, ForgedIsTold, NoneForgedIsTold};
-ghost use Rattle.pay_world.specs.StandLaws.{StandsAtFirst, StandsByOneMore, GenuineStands, Agreement, ListsCompare, Integrity, ListIsAsked, NothingIsTakenBack, Convergence, ListsConverge, AsksAreDelivered, ListIsAllAsked};
+ghost use Rattle.pay_world.specs.StandLaws.{StandsAtFirst, StandsByOneMore, StandsByDeed, GenuineStands, Agreement, ListsCompare, Integrity, ListIsAsked, NothingIsTakenBack, Convergence, ListsConverge, AsksAreDelivered, ListIsAllAsked};
 ghost use Rattle.pay_world.specs.HeadlineLaws.{HeadlineHolds, BooksConverge, NoListForks, ListWasAsked, ListStays, ListsAreEqual, ListIsComplete};
 
 use pay_book::laws::{
@@ -83,10 +83,11 @@ pub fn forged_is_told()
 {}
 
 /// Authenticity and the rule of READY hold between correct members at first, after one event
-/// more, and so after any genuine deeds.
+/// more or one genuine deed more, and so after any genuine deeds.
 pub fn correct_members_stand()
     ensures first { StandsAtFirst }
     ensures one_more { StandsByOneMore }
+    ensures deed { StandsByDeed }
     ensures genuine { GenuineStands }
 {
     laws_below();

@@ -64,7 +64,8 @@ impl Liars {
 
     /// An equal list.
     pub fn copy(&self, alloc: Global) -> Result<Liars, AllocError>
-        ensures { IfOk result (λ copy. copy ≡ self.now) }
+        ensures value { IfOk result (λ copy. copy ≡ self.now) }
+        ensures limits { AreLiars self.now }
     {
         let liars = Vec::from_slice(alloc, self.liars.as_slice())?;
         Ok(Liars {

@@ -2,12 +2,22 @@
 //! others do.
 #![tactic(auto)]
 
+mod event;
 pub mod examples;
+mod fault;
+mod group_keys;
 pub mod laws;
 mod liar_fault;
 mod liar_laws;
 mod liars;
+mod reply;
+mod world;
 
+pub use event::WorldEvent;
+pub use fault::WorldFault;
+pub use group_keys::group_test_keys;
 pub use liar_fault::LiarFault;
 pub use liar_laws::liar_causes;
 pub use liars::Liars;
+pub use reply::Reply;
+pub use world::World;

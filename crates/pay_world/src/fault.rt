@@ -1,0 +1,50 @@
+ghost use Rattle.std.specs.Prelude.{◌≡◌};
+ghost use Rattle.pay_world.specs.Faults.{world_fault_name, world_fault_number};
+
+use std::alloc::AllocError;
+use thiserror::Error;
+
+/// Why a world doesn't answer an event.
+#[derive(Clone, Copy, Debug, PartialEq, Eq, Error)]
+#[error("{} {}", self.number(), self.name())]
+pub enum WorldFault {
+    /// Memory was refused; looked for last.
+    Memory,
+    /// The event with this number, counted from 0, brings a frame in the name of a correct member that didn't
+    /// send it.
+    Forged(u64),
+}
+
+impl WorldFault {
+    const fn entry(self) -> (u8, &'static str)
+        ensures number { result.0 ≡ world_fault_number self }
+        ensures name { result.1.now ≡ world_fault_name self }
+    {
+        match self {
+            WorldFault::Memory => (0, "Memory"),
+            WorldFault::Forged(_) => (1, "Forged"),
+        }
+    }
+
+    pub fn number(self) -> u8
+        ensures value { result ≡ world_fault_number self }
+    {
+        self.entry().0
+    }
+
+    pub fn name(self) -> &'static str
+        ensures value { result.now ≡ world_fault_name self }
+    {
+        self.entry().1
+    }
+}
+
+impl From<AllocError> for WorldFault {
+    ghost use Rattle.pay_world.specs.declared.fault.WorldFault.TheVariants.{Memory};
+
+    ghost from_gives = { λ _ e. e ≡ Memory };
+
+    fn from(_error: AllocError) -> WorldFault {
+        WorldFault::Memory
+    }
+}
