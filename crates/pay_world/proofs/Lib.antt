@@ -9,4 +9,7 @@ pub mod Telling
 pub mod Booking
 pub mod Taking
 pub mod WorldLemmas
+pub mod Forging
+pub mod Answering
+pub mod Running
 pub mod GroupKeyLemmas

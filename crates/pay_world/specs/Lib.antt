@@ -12,4 +12,6 @@ pub mod Headline
 pub mod HeadlineLaws
 pub mod Examples
 pub mod World
+pub mod Answer
+pub mod Run
 pub mod GroupKeys

@@ -11,6 +11,7 @@ mod liar_fault;
 mod liar_laws;
 mod liars;
 mod reply;
+mod run;
 mod world;
 
 pub use event::WorldEvent;
@@ -20,4 +21,5 @@ pub use liar_fault::LiarFault;
 pub use liar_laws::liar_causes;
 pub use liars::Liars;
 pub use reply::Reply;
+pub use run::run_world;
 pub use world::World;

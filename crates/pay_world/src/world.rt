@@ -1,15 +1,29 @@
-ghost use Rattle.std.specs.Prelude.{◌≡◌, IfOk};
-ghost use Rattle.std.specs.Option.{option_copied};
+ghost use Rattle.std.specs.Prelude.{◌≡◌, ℕ, slice_get, Some, IfOk, IsOkUnless, MatchOption, OnOk, OnErr};
+ghost use Rattle.std.specs.Option.{option_copied, option_map};
+ghost use Rattle.pay_frame.specs.Lent.{fields_of};
+ghost use Rattle.pay_channel.specs.History.{out};
+ghost use Rattle.pay_channel.specs.Prefix.{IsPrefix};
 ghost use Rattle.pay_link.specs.Keys.{IsKeysOf};
+ghost use Rattle.pay_member.specs.Group.{group_in};
+ghost use Rattle.pay_member.specs.Events.{events};
+ghost use Rattle.pay_world.specs.Genuine.{is_body};
 ghost use Rattle.pay_world.specs.Liars.{AreLiarsOf};
-ghost use Rattle.pay_world.specs.World.{AreKeysOf, IsWorld, fresh_place, fresh_world, member_in};
+ghost use Rattle.pay_world.specs.World.{AreKeysOf, IsWorld, fresh_place, fresh_world, history_in, member_in};
+ghost use Rattle.pay_world.specs.Answer.{Answers, IsGrownBy, IsReplyFrom, forgery, is_forged_at, member_after, one_more};
 
-use crate::laws::correct_members_stand;
+use crate::event::WorldEvent;
+use crate::fault::WorldFault;
+use crate::laws::{correct_members_stand, forged_is_told};
 use crate::liars::Liars;
+use crate::reply::Reply;
 use pay_book::Settle;
 use pay_echo::Instance;
+use pay_echo::laws::sizes_of_sets;
+use pay_frame::{Body, Bytes, FrameRef};
+use pay_hmac::Tagger;
 use pay_link::{Genesis, Keys};
-use pay_member::Member;
+use pay_member::laws::{events_in_order, what_opens};
+use pay_member::{Member, MemberFault};
 use std::alloc::{AllocError, Global};
 use std::marker::Model;
 
@@ -46,7 +60,8 @@ impl<I: Instance + Drop, B: Settle + Drop> World<I, B> {
     ) -> Result<World<I, B>, AllocError>
         requires keys { AreKeysOf genesis.now keys.now }
         requires liars { AreLiarsOf genesis.now liars.now }
-        ensures { IfOk result (λ world. world ≡ fresh_world genesis.now keys.now liars.now) }
+        ensures value { IfOk result (λ world. world ≡ fresh_world genesis.now keys.now liars.now) }
+        ensures limits { IfOk result IsWorld }
     {
         correct_members_stand();
         let mut members = Vec::with_capacity(alloc, usize::from(genesis.members()))?;
@@ -61,6 +76,117 @@ impl<I: Instance + Drop, B: Settle + Drop> World<I, B> {
         })
     }
 
+    /// Lets an event happen, and returns what its member answered.
+    ///
+    /// Refuses a frame in the name of a correct member that didn't send it (`Forged`), with the count of the
+    /// events answered before, which stays at the greatest number that it can hold. A refused event changes
+    /// nothing.
+    pub fn apply<T: Tagger>(
+        &mut self,
+        alloc: Global,
+        tagger: &T,
+        event: WorldEvent,
+    ) -> Result<Reply, WorldFault>
+        ensures refused { MatchOption (forgery self.old event)
+            (IsOkUnless result WorldFault.Memory)
+            (λ fault. result ≡ Err fault) }
+        ensures answers { IfOk result (Answers self.old self.new event) }
+        ensures count { OnOk result (self.new.answered ≡ one_more self.old.answered) }
+        ensures prefix { (i : ℕ) → IsPrefix (history_in self.old i) (history_in self.new i) }
+        ensures err { OnErr result (self.new ≡ self.old) }
+    {
+        let reply = self.happen(alloc, tagger, event)?;
+        self.answered = self.answered.saturating_add(1);
+        Ok(reply)
+    }
+
+    // Lets an event happen, and doesn't count it.
+    fn happen<T: Tagger>(
+        &mut self,
+        alloc: Global,
+        tagger: &T,
+        event: WorldEvent,
+    ) -> Result<Reply, WorldFault>
+        ensures refused { MatchOption (forgery self.old event)
+            (IsOkUnless result WorldFault.Memory)
+            (λ fault. result ≡ Err fault) }
+        ensures answers { IfOk result (Answers self.old self.new event) }
+        ensures count { self.new.answered ≡ self.old.answered }
+        ensures err { OnErr result (self.new ≡ self.old) }
+    {
+        match event {
+            WorldEvent::Ask(member, value) => self.ask(alloc, member, value),
+            WorldEvent::Bring(member, bytes) => {
+                self.bring(alloc, tagger, member, bytes.as_slice())
+            }
+        }
+    }
+
+    // Asks a member to broadcast a value.
+    fn ask(&mut self, alloc: Global, member: u16, value: Bytes) -> Result<Reply, WorldFault>
+        ensures refused { MatchOption (forgery self.old (WorldEvent.Ask member value))
+            (IsOkUnless result WorldFault.Memory)
+            (λ fault. result ≡ Err fault) }
+        ensures answers { IfOk result (Answers self.old self.new (WorldEvent.Ask member value)) }
+        ensures count { self.new.answered ≡ self.old.answered }
+        ensures err { OnErr result (self.new ≡ self.old) }
+    {
+        events_in_order();
+        sizes_of_sets();
+        correct_members_stand();
+        let place = usize::from(member);
+        if place >= self.members.len() {
+            return Ok(Reply::Ignored);
+        }
+        ask_place(&mut self.members[place], alloc, value)
+    }
+
+    // Brings bytes to a member, unless they are a forged frame.
+    fn bring<T: Tagger>(
+        &mut self,
+        alloc: Global,
+        tagger: &T,
+        member: u16,
+        bytes: &[u8],
+    ) -> Result<Reply, WorldFault>
+        ensures refused { MatchOption (forgery self.old (WorldEvent.Bring member bytes.now))
+            (IsOkUnless result WorldFault.Memory)
+            (λ fault. result ≡ Err fault) }
+        ensures answers { IfOk result (Answers self.old self.new (WorldEvent.Bring member bytes.now)) }
+        ensures count { self.new.answered ≡ self.old.answered }
+        ensures err { OnErr result (self.new ≡ self.old) }
+    {
+        what_opens();
+        sizes_of_sets();
+        correct_members_stand();
+        forged_is_told();
+        if self.is_forged(tagger, member, bytes) {
+            return Err(WorldFault::Forged(self.answered));
+        }
+        let place = usize::from(member);
+        if place >= self.members.len() {
+            return Ok(Reply::Ignored);
+        }
+        bring_place(&mut self.members[place], alloc, tagger, bytes)
+    }
+
+    // Whether bytes are a frame that opens at a correct member, in the name of a correct member that didn't send
+    // it under this number.
+    fn is_forged<T: Tagger>(&self, tagger: &T, member: u16, bytes: &[u8]) -> bool
+        ensures { result ≡ is_forged_at self.now (WorldEvent.Bring member bytes.now) }
+    {
+        let Some(receiver) = self.member(member) else {
+            return false;
+        };
+        let Some(opened) = receiver.opens(tagger, bytes) else {
+            return false;
+        };
+        match self.member(opened.frame().from()) {
+            Some(sender) => !is_sent(sender, opened.frame()),
+            None => false,
+        }
+    }
+
     /// The member of a number, unless it is no member or lies.
     pub fn member(&self, member: u16) -> Option<&Member<I, B>>
         ensures value { option_copied result ≡ member_in self.now member }
@@ -71,6 +197,73 @@ impl<I: Instance + Drop, B: Settle + Drop> World<I, B> {
             _ => None,
         }
     }
+}
+
+// Asks the member at a place, if there is one, to broadcast a value.
+fn ask_place<I: Instance + Drop, B: Settle + Drop>(
+    place: &mut Option<Member<I, B>>,
+    alloc: Global,
+    value: Bytes,
+) -> Result<Reply, WorldFault>
+    ensures reply { IfOk result (IsReplyFrom place.old (WorldEvent.Ask 0 value)) }
+    ensures after { IfOk result (λ reply. place.new
+        ≡ option_map (member_after (WorldEvent.Ask 0 value) reply) place.old) }
+    ensures memory { IsOkUnless result WorldFault.Memory }
+    ensures err { OnErr result (place.new ≡ place.old) }
+{
+    let Some(member) = place else {
+        return Ok(Reply::Ignored);
+    };
+    match member.ask(alloc, 0, value) {
+        Ok(number) => Ok(Reply::Asked(number)),
+        Err(MemberFault::Memory) => Err(WorldFault::Memory),
+        Err(fault) => Ok(Reply::Refused(fault)),
+    }
+}
+
+// Brings bytes to the member at a place, if there is one.
+fn bring_place<I: Instance + Drop, B: Settle + Drop, T: Tagger>(
+    place: &mut Option<Member<I, B>>,
+    alloc: Global,
+    tagger: &T,
+    bytes: &[u8],
+) -> Result<Reply, WorldFault>
+    ensures reply { IfOk result (IsReplyFrom place.old (WorldEvent.Bring 0 bytes.now)) }
+    ensures after { IfOk result (λ reply. place.new
+        ≡ option_map (member_after (WorldEvent.Bring 0 bytes.now) reply) place.old) }
+    ensures grown { IfOk result (λ _. IsGrownBy place.old place.new bytes.now) }
+    ensures memory { IsOkUnless result WorldFault.Memory }
+    ensures err { OnErr result (place.new ≡ place.old) }
+{
+    let Some(member) = place else {
+        return Ok(Reply::Ignored);
+    };
+    let brought = member.bring(alloc, 0, tagger, bytes)?;
+    Ok(Reply::Brought(brought.outcome))
+}
+
+// Whether the member sent this body under this number.
+fn is_sent<I: Instance + Drop, B: Settle + Drop>(
+    sender: &Member<I, B>,
+    frame: &FrameRef<'_>,
+) -> bool
+    ensures { result ≡ is_body (fields_of frame.now).body
+        (slice_get (out (group_in sender.now.genesis sender.now.keys.own) (events sender.now.history))
+        (fields_of frame.now).number) }
+{
+    match sender.sent(frame.number()) {
+        Some(body) => is_body(body, frame),
+        None => false,
+    }
+}
+
+fn is_body(body: &Body, frame: &FrameRef<'_>) -> bool
+    ensures { result ≡ is_body (fields_of frame.now).body (Some body.now) }
+{
+    body.kind() == frame.kind()
+        && body.owner() == frame.owner()
+        && body.seq() == frame.seq()
+        && body.value() == frame.value()
 }
 
 // What stands at the place of the member with these keys.

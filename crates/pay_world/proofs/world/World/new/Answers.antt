@@ -17,3 +17,14 @@ invariant_of-result g c =
     subst (λ x. At x c.in_ok-copy-2.field-0 c.loop-keys.members.items) (sym c.in_ok-copy.ensures)
     (subst (λ x. At c.args.genesis.now x c.loop-keys.members.items) (sym c.in_ok-copy-2.ensures.value)
     (subst (At c.args.genesis.now c.args.liars.now) (sym members) first))
+
+pub returns-clause-limits : goal.returns-clause-limits
+returns-clause-limits g c =
+    let members : c.loop-keys.members.items ≡ map (fresh_place c.args.genesis.now c.args.liars.now) c.args.keys.now =
+    c.loop-keys.invariant ∙ ap (map (fresh_place c.args.genesis.now c.args.liars.now)) (take_all c.loop-keys.keys-index c.args.keys.now (omega arith)) in
+    let At : GenesisFields → LiarFields → List (Option MemberFields) → Type 0 = λ genesis liars members. IsWorld (record { genesis = genesis; liars = liars; members = members; answered = 0 }) in
+    let first : At c.args.genesis.now c.args.liars.now (map (fresh_place c.args.genesis.now c.args.liars.now) c.args.keys.now) =
+    fresh_is_world c.args.genesis.now c.args.keys.now c.args.liars.now c.members.ensures.limits c.copy-2.ensures.limits c.requires.liars c.requires.keys c.correct_members_stand.ensures.first in
+    subst (λ x. At x c.in_ok-copy-2.field-0 c.loop-keys.members.items) (sym c.in_ok-copy.ensures)
+    (subst (λ x. At c.args.genesis.now x c.loop-keys.members.items) (sym c.in_ok-copy-2.ensures.value)
+    (subst (At c.args.genesis.now c.args.liars.now) (sym members) first))

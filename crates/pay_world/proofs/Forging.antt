@@ -1,0 +1,80 @@
+-- Which bytes are a forged frame, by the members of a world.
+use Rattle.std.proofs.Common.{◌≡◌, ℕ, Bool, true, false, not, ◌&&◌, List, [], slice_get, Option, None, Some, is_some, option_map, option_and_then, refl, sym, ap, ◌∙◌}
+use Rattle.std.specs.Option.{option_map_or}
+use Rattle.pay_frame.specs.Frame.{BodyFields, FrameFields}
+use Rattle.pay_echo.specs.Broadcast.{Group}
+use Rattle.pay_channel.specs.History.{Event, out}
+use Rattle.pay_member.specs.Events.{events}
+use Rattle.pay_member.specs.Bringing.{opened_in}
+use Rattle.pay_member.specs.Group.{group_in}
+use Rattle.pay_member.specs.Member.{MemberFields}
+use Rattle.pay_world.specs.declared.event.WorldEvent.{WorldEvent}
+use Rattle.pay_world.specs.declared.event.WorldEvent.TheVariants.{Ask, Bring}
+use Rattle.pay_world.specs.Setting.{group_at, is_correct}
+use Rattle.pay_world.specs.Deeds.{Deed, Asks, Brings}
+use Rattle.pay_world.specs.Genuine.{is_body, is_forged_in}
+use Rattle.pay_world.specs.World.{WorldFields, setting_in, member_in, history_in, keys_in, IsWorld}
+use Rattle.pay_world.specs.Answer.{receiver, brought_to, deed_with, deed_of, is_forged_at}
+
+-- ---- what an event is
+
+-- where its member isn't there
+pub deed_nowhere : (w : WorldFields) (e : WorldEvent) → member_in w (receiver e) ≡ None → deed_of (keys_in w) e ≡ None
+deed_nowhere w e none = ap (λ (o : Option MemberFields). option_and_then (λ k. deed_with k e) (option_map (λ (m : MemberFields). m.keys) o)) none
+
+-- and where it is
+pub deed_there : (w : WorldFields) (e : WorldEvent) (m : MemberFields) → member_in w (receiver e) ≡ Some m → deed_of (keys_in w) e ≡ deed_with m.keys e
+deed_there w e m there = ap (λ (o : Option MemberFields). option_and_then (λ k. deed_with k e) (option_map (λ (m : MemberFields). m.keys) o)) there
+
+-- ---- whether it is forged
+
+by_deed : (w : WorldFields) (e : WorldEvent) (o : Option Deed) → deed_of (keys_in w) e ≡ o → is_forged_at w e ≡ option_map_or (is_forged_in (setting_in w) (history_in w)) o false
+by_deed w e o is = ap (λ (x : Option Deed). option_map_or (is_forged_in (setting_in w) (history_in w)) x false) is
+
+pub forged_nowhere : (w : WorldFields) (i : ℕ) (bytes : List ℕ) → member_in w i ≡ None → false ≡ is_forged_at w (Bring i bytes)
+forged_nowhere w i bytes none = sym (by_deed w (Bring i bytes) None (deed_nowhere w (Bring i bytes) none))
+
+pub forged_unopened :
+    (w : WorldFields) (i : ℕ) (bytes : List ℕ) (m : MemberFields) → member_in w i ≡ Some m → opened_in m.keys bytes ≡ None
+    → false ≡ is_forged_at w (Bring i bytes)
+forged_unopened w i bytes m there none =
+    sym (by_deed w (Bring i bytes) None (deed_there w (Bring i bytes) m there ∙ ap (option_map (brought_to i)) none))
+
+-- what an opened frame is
+pub deed_opened :
+    (w : WorldFields) (i : ℕ) (bytes : List ℕ) (m : MemberFields) (f : FrameFields) → member_in w i ≡ Some m → opened_in m.keys bytes ≡ Some f
+    → deed_of (keys_in w) (Bring i bytes) ≡ Some (brought_to i f)
+deed_opened w i bytes m f there some = deed_there w (Bring i bytes) m there ∙ ap (option_map (brought_to i)) some
+
+and_no : (a : Bool) → (a && false) ≡ false
+and_no true = refl
+and_no false = refl
+
+pub forged_unnamed :
+    (w : WorldFields) (i : ℕ) (bytes : List ℕ) (m : MemberFields) (f : FrameFields) → IsWorld w → member_in w i ≡ Some m → opened_in m.keys bytes ≡ Some f
+    → member_in w f.from ≡ None → false ≡ is_forged_at w (Bring i bytes)
+forged_unnamed w i bytes m f is there some none =
+    let liar : is_correct (setting_in w) f.from ≡ false = sym (is.there f.from) ∙ ap is_some none in
+    let sent = is_body f.body (slice_get (out (group_at (setting_in w) f.from) (history_in w f.from)) f.number) in
+    sym (by_deed w (Bring i bytes) (Some (brought_to i f)) (deed_opened w i bytes m f there some)
+    ∙ ap (λ b. (is_correct (setting_in w) i && b) && not sent) liar
+    ∙ ap (λ b. b && not sent) (and_no (is_correct (setting_in w) i)))
+
+pub forged_named :
+    (w : WorldFields) (i : ℕ) (bytes : List ℕ) (m x : MemberFields) (f : FrameFields) (b : Bool) → IsWorld w → member_in w i ≡ Some m → opened_in m.keys bytes ≡ Some f
+    → member_in w f.from ≡ Some x → b ≡ is_body f.body (slice_get (out (group_in x.genesis x.keys.own) (events x.history)) f.number)
+    → not b ≡ is_forged_at w (Bring i bytes)
+forged_named w i bytes m x f b is there some named sent =
+    let one : is_correct (setting_in w) i ≡ true = sym (is.there i) ∙ ap is_some there in
+    let other : is_correct (setting_in w) f.from ≡ true = sym (is.there f.from) ∙ ap is_some named in
+    let at = is.each f.from x named in
+    let group : group_in x.genesis x.keys.own ≡ group_at (setting_in w) f.from =
+    ap (λ g. group_in g x.keys.own) at.genesis ∙ (λ j. record { members = sym is.group.members j; faults = sym is.group.faults j; own = at.own j }) in
+    let history : events x.history ≡ history_in w f.from =
+    sym (ap (λ (o : Option MemberFields). option_map_or (λ (y : MemberFields). events y.history) o []) named) in
+    let said : b ≡ is_body f.body (slice_get (out (group_at (setting_in w) f.from) (history_in w f.from)) f.number) =
+    sent ∙ (λ j. is_body f.body (slice_get (out (group j) (history j)) f.number)) in
+    sym (by_deed w (Bring i bytes) (Some (brought_to i f)) (deed_opened w i bytes m f there some)
+    ∙ ap (λ c. (c && is_correct (setting_in w) f.from) && not (is_body f.body (slice_get (out (group_at (setting_in w) f.from) (history_in w f.from)) f.number))) one
+    ∙ ap (λ c. c && not (is_body f.body (slice_get (out (group_at (setting_in w) f.from) (history_in w f.from)) f.number))) other
+    ∙ ap not (sym said))

@@ -1,0 +1,44 @@
+use Rattle.std.proofs.Common.{◌≡◌, ℕ, ◌<◌, length, slice_get, get_or, Some, Bool, false, IfOk, OnErr, refl, sym, ap, ◌∙◌, subst, arith, rules}
+use Rattle.std.proofs.lemmas.Grind.{common_steps}
+use Rattle.std.proofs.lemmas.Option.{slice_get-get_or}
+use Rattle.pay_world.specs.declared.event.WorldEvent.TheVariants.{Ask, Bring}
+use Rattle.pay_world.specs.Setting.{HasFewFaulty}
+use Rattle.pay_world.specs.World.{WorldFields, setting_in}
+use Rattle.pay_world.specs.Answer.{Answers, is_forged_at}
+use Rattle.pay_world.proofs.WorldLemmas.{few_lie}
+use Rattle.pay_world.proofs.Answering.{with_place, IsAny, ask_any, bring_any}
+use Rattle.pay_world.proofs.world.World.ask.Goals as goal
+
+pub invariant_of-self : goal.invariant_of-self
+invariant_of-self g c =
+    let w : WorldFields = record { genesis = c.self.inside.genesis; liars = c.self.inside.liars; members = c.self.inside.members.items; answered = c.self.inside.answered } in
+    let i = c.from-place.result in
+    let few : HasFewFaulty (setting_in w) = few_lie c.sizes_of_sets.ensures.listed w.genesis w.liars c.self.invariant.genesis c.self.invariant.liars c.self.invariant.group in
+    let inside : i < length w.members = first_of (omega arith, grind (arith, common_steps), search rules) in
+    let here : slice_get w.members i ≡ Some c.index_mut.result.now = slice_get-get_or w.members i c.index_mut.result.now inside ∙ ap Some (sym c.index_mut.ensures.value) in
+    (ask_any c.events_in_order.ensures.one_more c.correct_members_stand.ensures.deed w i c.args.value c.index_mut.result.now c.ask_place.new.place c.ask_place.result
+    c.self.invariant few here c.ask_place.ensures.reply c.ask_place.ensures.after c.ask_place.ensures.err).world
+
+pub returns-clause-answers : goal.returns-clause-answers
+returns-clause-answers g c =
+    let w : WorldFields = record { genesis = c.self.inside.genesis; liars = c.self.inside.liars; members = c.self.inside.members.items; answered = c.self.inside.answered } in
+    let i = c.from-place.result in
+    let few : HasFewFaulty (setting_in w) = few_lie c.sizes_of_sets.ensures.listed w.genesis w.liars c.self.invariant.genesis c.self.invariant.liars c.self.invariant.group in
+    let inside : i < length w.members = first_of (omega arith, grind (arith, common_steps), search rules) in
+    let here : slice_get w.members i ≡ Some c.index_mut.result.now = slice_get-get_or w.members i c.index_mut.result.now inside ∙ ap Some (sym c.index_mut.ensures.value) in
+    let any = ask_any c.events_in_order.ensures.one_more c.correct_members_stand.ensures.deed w i c.args.value c.index_mut.result.now c.ask_place.new.place c.ask_place.result
+    c.self.invariant few here c.ask_place.ensures.reply c.ask_place.ensures.after c.ask_place.ensures.err in
+    let p = c.ask_place.new.place in
+    subst (λ (x : WorldFields). IfOk c.ask_place.result (Answers x (with_place w i p) (Ask c.args.member c.args.value))) c.self.view_is
+    (subst (λ n. IfOk c.ask_place.result (Answers w (with_place w i p) (Ask n c.args.value))) c.from-place.ensures any.answers)
+
+pub returns-clause-err : goal.returns-clause-err
+returns-clause-err g c =
+    let w : WorldFields = record { genesis = c.self.inside.genesis; liars = c.self.inside.liars; members = c.self.inside.members.items; answered = c.self.inside.answered } in
+    let i = c.from-place.result in
+    let few : HasFewFaulty (setting_in w) = few_lie c.sizes_of_sets.ensures.listed w.genesis w.liars c.self.invariant.genesis c.self.invariant.liars c.self.invariant.group in
+    let inside : i < length w.members = first_of (omega arith, grind (arith, common_steps), search rules) in
+    let here : slice_get w.members i ≡ Some c.index_mut.result.now = slice_get-get_or w.members i c.index_mut.result.now inside ∙ ap Some (sym c.index_mut.ensures.value) in
+    let any = ask_any c.events_in_order.ensures.one_more c.correct_members_stand.ensures.deed w i c.args.value c.index_mut.result.now c.ask_place.new.place c.ask_place.result
+    c.self.invariant few here c.ask_place.ensures.reply c.ask_place.ensures.after c.ask_place.ensures.err in
+    subst (λ (x : WorldFields). OnErr c.ask_place.result (with_place w i c.ask_place.new.place ≡ x)) c.self.view_is any.err

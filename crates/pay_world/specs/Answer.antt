@@ -1,0 +1,121 @@
+-- What a world answers to an event, and what becomes of its members.
+use Rattle.std.specs.Prelude.{◌≡◌, ◌≢◌, ℕ, ◌+◌, ◌-◌, ◌^◌, min, Bool, false, List, [], ◌∷◌, ◌++◌, Option, Some, None, option_map, option_and_then, MatchOption, if◌then◌else◌}
+use Rattle.std.specs.Option.{option_map_or, option_to_list}
+use Rattle.std.specs.List.{filter_map}
+use Rattle.pay_frame.specs.Frame.{FrameFields}
+use Rattle.pay_channel.specs.History.{Event, asks}
+use Rattle.pay_link.specs.Keys.{KeyFields}
+use Rattle.pay_member.specs.declared.event.Event.TheVariants as entry
+use Rattle.pay_member.specs.declared.fault.MemberFault.{MemberFault}
+use Rattle.pay_member.specs.declared.reply.Reply.TheVariants as entry_reply
+use Rattle.pay_member.specs.Events.{events}
+use Rattle.pay_member.specs.Refusal.{refusal}
+use Rattle.pay_member.specs.Bringing.{IsOutcome, opened_in, event_in, with_brought}
+use Rattle.pay_member.specs.Member.{MemberFields, with_entry}
+use Rattle.pay_world.specs.declared.event.WorldEvent.{WorldEvent}
+use Rattle.pay_world.specs.declared.event.WorldEvent.TheVariants.{Ask, Bring}
+use Rattle.pay_world.specs.declared.fault.WorldFault.{WorldFault}
+use Rattle.pay_world.specs.declared.fault.WorldFault.TheVariants.{Forged}
+use Rattle.pay_world.specs.declared.reply.Reply.{Reply}
+use Rattle.pay_world.specs.declared.reply.Reply.TheVariants.{Asked, Refused, Brought, Ignored}
+use Rattle.pay_world.specs.Deeds.{Deed, Asks, Brings, adds}
+use Rattle.pay_world.specs.Genuine.{is_forged_in}
+use Rattle.pay_world.specs.World.{WorldFields, setting_in, member_in, history_in, keys_in}
+
+-- to which member it happens
+abbrev pub receiver : WorldEvent → ℕ
+receiver (Ask i v) = i
+receiver (Bring i bytes) = i
+
+-- ---- events as deeds
+
+-- a frame that opened at member i
+abbrev pub brought_to : ℕ → FrameFields → Deed
+brought_to i f = Brings i f.from f.number f.body
+
+-- what an event is to the member with these keys: bytes are a deed exactly where they open there
+abbrev pub deed_with : KeyFields → WorldEvent → Option Deed
+deed_with k (Ask i v) = Some (Asks i v)
+deed_with k (Bring i bytes) = option_map (brought_to i) (opened_in k bytes)
+
+-- what it is where these are the correct members' keys
+abbrev pub deed_of : (ℕ → Option KeyFields) → WorldEvent → Option Deed
+deed_of keys e = option_and_then (λ k. deed_with k e) (keys (receiver e))
+
+abbrev pub deeds_of : (ℕ → Option KeyFields) → List WorldEvent → List Deed
+deeds_of keys events = filter_map (deed_of keys) events
+
+-- Whether it brings a frame that the correct member which it names didn't send.
+abbrev pub is_forged_at : WorldFields → WorldEvent → Bool
+is_forged_at w e = option_map_or (is_forged_in (setting_in w) (history_in w)) (deed_of (keys_in w) e) false
+
+-- the fault of such an event
+abbrev pub forgery : WorldFields → WorldEvent → Option WorldFault
+forgery w e = if is_forged_at w e then Some (Forged w.answered) else None
+
+-- what an event adds to the history of member i of a world
+abbrev pub added_in : WorldFields → WorldEvent → ℕ → List Event
+added_in w e i = option_map_or (adds (setting_in w) i (history_in w i)) (deed_of (keys_in w) e) []
+
+-- ---- the answer
+
+-- to a value of a member's own
+abbrev pub answer_to_ask : Option MemberFault → ℕ → Reply
+answer_to_ask (Some fault) number = Refused fault
+answer_to_ask None number = Asked number
+
+-- to bytes that were brought to it: what comes of them
+abbrev pub IsBrought : MemberFields → List ℕ → Reply → Type 0
+IsBrought m bytes (Brought outcome) = IsOutcome m.genesis m.keys (events m.history) bytes outcome
+IsBrought m bytes (Asked number) = ⊥
+IsBrought m bytes (Refused fault) = ⊥
+IsBrought m bytes Ignored = ⊥
+
+abbrev pub IsReplyOf : MemberFields → WorldEvent → Reply → Type 0
+IsReplyOf m (Ask i v) reply = reply ≡ answer_to_ask (refusal m.genesis m.keys (events m.history) (entry.Ask v)) (asks (events m.history))
+IsReplyOf m (Bring i bytes) reply = IsBrought m bytes reply
+
+-- the member's own, if it is there
+abbrev pub IsReplyFrom : Option MemberFields → WorldEvent → Reply → Type 0
+IsReplyFrom member e reply = MatchOption member (reply ≡ Ignored) (λ m. IsReplyOf m e reply)
+
+abbrev pub IsReply : WorldFields → WorldEvent → Reply → Type 0
+IsReply w e reply = IsReplyFrom (member_in w (receiver e)) e reply
+
+-- ---- what becomes of the members
+
+abbrev pub after_ask : MemberFields → List ℕ → Reply → MemberFields
+after_ask m v (Asked number) = with_entry m (record { stamp = 0; event = entry.Ask v; reply = entry_reply.Asked number })
+after_ask m v (Refused fault) = m
+after_ask m v (Brought outcome) = m
+after_ask m v Ignored = m
+
+abbrev pub after_bring : MemberFields → List ℕ → Reply → MemberFields
+after_bring m bytes (Brought outcome) = with_brought m 0 outcome (opened_in m.keys bytes)
+after_bring m bytes (Asked number) = m
+after_bring m bytes (Refused fault) = m
+after_bring m bytes Ignored = m
+
+-- the member once it replied
+abbrev pub member_after : WorldEvent → Reply → MemberFields → MemberFields
+member_after (Ask i v) reply m = after_ask m v reply
+member_after (Bring i bytes) reply m = after_bring m bytes reply
+
+-- its history is as much longer as these bytes make it
+abbrev pub IsGrownBy : Option MemberFields → Option MemberFields → List ℕ → Type 0
+IsGrownBy None new bytes = Unit {0}
+IsGrownBy (Some old) None bytes = ⊥
+IsGrownBy (Some old) (Some new) bytes = events new.history ≡ events old.history ++ option_to_list (event_in old.keys (events old.history) bytes)
+
+-- The receiver replied, and its history is as much longer as the event adds; the others are as they were.
+pub record Answers (old new : WorldFields) (e : WorldEvent) (reply : Reply) : Type 0 where
+  pub genesis : new.genesis ≡ old.genesis
+  pub liars : new.liars ≡ old.liars
+  pub said : IsReply old e reply
+  pub here : member_in new (receiver e) ≡ option_map (member_after e reply) (member_in old (receiver e))
+  pub others : (i : ℕ) → i ≢ receiver e → member_in new i ≡ member_in old i
+  pub histories : (i : ℕ) → history_in new i ≡ history_in old i ++ added_in old e i
+
+-- one event more was answered; the count stays at the greatest number that it can hold
+abbrev pub one_more : ℕ → ℕ
+one_more answered = min (answered + 1) (2 ^ 64 - 1)
