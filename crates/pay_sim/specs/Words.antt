@@ -1,0 +1,71 @@
+-- The lines that a script prints.
+use Rattle.std.specs.Prelude.{ℕ, Bool, ◌==◌, List, [], ◌++◌, decimal, codes, slice_index, if◌then◌else◌}
+use Rattle.std.specs.List.{flat_map, range_with_len}
+use Rattle.pay_frame.specs.Fault.{number_of, name_of}
+use Rattle.pay_link.specs.declared.link_fault.LinkFault.{LinkFault}
+use Rattle.pay_link.specs.declared.link_fault.LinkFault.TheVariants.{NotForMe, UnknownSender, UnknownOwner, BadTag, Repeat, Gap}
+use Rattle.pay_link.specs.Faults.{link_fault_number, link_fault_name}
+use Rattle.pay_book.specs.Book.{Standing}
+use Rattle.pay_member.specs.declared.fault.MemberFault.TheVariants as member
+use Rattle.pay_member.specs.declared.outcome.Outcome.{Outcome}
+use Rattle.pay_member.specs.declared.outcome.Outcome.TheVariants.{Took, Wanted, Frame, Link, WrongKey}
+use Rattle.pay_member.specs.declared.took.Took as took
+use Rattle.pay_member.specs.Book.{book_after}
+use Rattle.pay_member.specs.Events.{events}
+use Rattle.pay_member.specs.Member.{MemberFields}
+use Rattle.pay_member.specs.Faults.{member_fault_number, member_fault_name}
+
+-- ` refused WHERE C NAME`
+unfoldable pub refused_words : List ℕ → ℕ → List ℕ → List ℕ
+refused_words at number name =
+    codes "refused " ++ at ++ codes " " ++ decimal number ++ codes " " ++ name
+
+abbrev pub if_so : Bool → List ℕ → List ℕ
+if_so so words = if so then words else []
+
+-- ` settle K`, where some entry settled
+abbrev pub settle_words : ℕ → List ℕ
+settle_words settled = if settled == 0 then [] else codes " settle " ++ decimal settled
+
+-- `took`, and what followed
+unfoldable pub took_words : took.Took → List ℕ
+took_words t =
+    codes "took" ++ if_so t.echo (codes " echo") ++ if_so t.ready (codes " ready")
+    ++ if_so t.deliver (codes " deliver") ++ settle_words t.settled
+
+-- ` next M`, where a refusal says which number is next
+abbrev pub next_words : LinkFault → List ℕ
+next_words NotForMe = []
+next_words UnknownSender = []
+next_words UnknownOwner = []
+next_words BadTag = []
+next_words (Repeat next) = codes " next " ++ decimal next
+next_words (Gap next) = codes " next " ++ decimal next
+
+-- `refused link C NAME`, and which number is next
+abbrev pub link_words : LinkFault → List ℕ
+link_words fault =
+    refused_words (codes "link") (link_fault_number fault) (link_fault_name fault) ++ next_words fault
+
+-- what came of bytes that were brought to a member
+unfoldable pub outcome_words : Outcome → List ℕ
+outcome_words (Took t) = took_words t
+outcome_words (Wanted from number) = codes "wanted " ++ decimal from ++ codes " " ++ decimal number
+outcome_words (Frame fault) = refused_words (codes "frame") (number_of fault) (name_of fault)
+outcome_words (Link fault) = link_words fault
+outcome_words WrongKey =
+    refused_words (codes "member") (member_fault_number member.WrongKey) (member_fault_name member.WrongKey)
+
+-- the book that a member shows
+abbrev pub book_of : MemberFields → Standing
+book_of m = book_after m.genesis m.keys.own (events m.history)
+
+-- a number for each of some accounts, each behind a blank
+unfoldable pub account_words : (ℕ → ℕ) → ℕ → List ℕ
+account_words number_of accounts = flat_map (λ a. codes " " ++ decimal (number_of a)) (range_with_len 0 accounts)
+
+-- `member I fronts F0 F1 .. balances B0 B1 ..`
+unfoldable pub book_words : ℕ → ℕ → Standing → List ℕ
+book_words accounts member book =
+    codes "member " ++ decimal member ++ codes " fronts" ++ account_words (slice_index book.front) accounts
+    ++ codes " balances" ++ account_words (slice_index book.balances) accounts

@@ -1,0 +1,41 @@
+use pay_frame::{Body, Bytes};
+
+/// A script's members are numbers below this one, whether the group has them or not.
+pub const MEMBERS: u32 = 128;
+
+/// Its accounts are numbers below this one: those that a payment can name.
+pub const ACCOUNTS: u32 = 65_536;
+
+/// What a line of a script asks for.
+#[derive(Debug, Drop)]
+pub enum Command {
+    /// A member is asked to pay.
+    Ask {
+        member: u16,
+        payee: u16,
+        amount: u64,
+    },
+    /// The frame at a place of a member's sent list is brought to another.
+    Bring {
+        from: u16,
+        to: u16,
+        number: u64,
+    },
+    /// A frame is sealed under the test key of two members and brought to one of them. Without a number it has
+    /// the one that its receiver would take next.
+    Lie {
+        from: u16,
+        to: u16,
+        number: Option<u64>,
+        body: Body,
+    },
+    /// Bytes are brought to a member.
+    Raw {
+        to: u16,
+        bytes: Bytes,
+    },
+    /// All that correct members sent one another and didn't take yet is brought.
+    All,
+    /// Each correct member shows its book.
+    Show,
+}

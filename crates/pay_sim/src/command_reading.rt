@@ -1,0 +1,220 @@
+//! How the lines of a script are read.
+
+ghost use Rattle.std.specs.Prelude.{◌≡◌, ◌≤◌, IfOk, drop};
+ghost use Rattle.std.specs.Str.{bytes_eq};
+ghost use Rattle.pay_frame.specs.OneFrame.{is_body};
+ghost use Rattle.pay_sim.specs.Commands.{alone_in, ask_in, below, body_in, bring_in, bytes_of, command_in, first_bytes, first_kind, first_turn, if_last, kind_of, lie_in, raw_in, turn_of};
+
+use crate::command::{ACCOUNTS, Command, MEMBERS};
+use hex::{FromHexError, decode};
+use pay_frame::{Body, Bytes, GREATEST_VALUE, Kind, SEQS};
+use pay_text::{Words, number};
+use std::alloc::{AllocError, Global};
+
+/// What a line of a script asks for, or `None` where it is no command.
+#[tactic(auto, unfolding(crate::specs::Commands::command_in))]
+pub fn read_command(alloc: Global, line: &[u8]) -> Result<Option<Command>, AllocError>
+    ensures { IfOk result (λ command. command ≡ command_in line.now) }
+{
+    let mut words = Words::new(line);
+    let Some(name) = words.next_word() else {
+        return Ok(None);
+    };
+    if is_word(name, "ask") {
+        Ok(read_ask(&mut words))
+    } else if is_word(name, "bring") {
+        Ok(read_bring(&mut words))
+    } else if is_word(name, "lie") {
+        read_lie(alloc, &mut words)
+    } else if is_word(name, "raw") {
+        read_raw(alloc, &mut words)
+    } else {
+        Ok(read_alone(name, &words))
+    }
+}
+
+#[tactic(auto, unfolding(crate::specs::Commands::ask_in))]
+fn read_ask(words: &mut Words) -> Option<Command>
+    ensures { result ≡ ask_in words.old }
+{
+    let member = next_below(words, MEMBERS)?;
+    let payee = next_below(words, ACCOUNTS)?;
+    let amount = words.next_number()?;
+    if_last(
+        words,
+        Command::Ask {
+            member,
+            payee,
+            amount,
+        },
+    )
+}
+
+#[tactic(auto, unfolding(crate::specs::Commands::bring_in))]
+fn read_bring(words: &mut Words) -> Option<Command>
+    ensures { result ≡ bring_in words.old }
+{
+    let from = next_below(words, MEMBERS)?;
+    let to = next_below(words, MEMBERS)?;
+    let number = words.next_number()?;
+    if_last(words, Command::Bring { from, to, number })
+}
+
+#[tactic(auto, unfolding(crate::specs::Commands::lie_in))]
+fn read_lie(alloc: Global, words: &mut Words) -> Result<Option<Command>, AllocError>
+    ensures { IfOk result (λ command. command ≡ lie_in words.old) }
+{
+    let (Some(from), Some(to), Some(number)) = (
+        next_below(words, MEMBERS),
+        next_below(words, MEMBERS),
+        next_turn(words),
+    ) else {
+        return Ok(None);
+    };
+    let Some(body) = read_body(alloc, words)? else {
+        return Ok(None);
+    };
+    Ok(Some(Command::Lie {
+        from,
+        to,
+        number,
+        body,
+    }))
+}
+
+#[tactic(auto, unfolding(crate::specs::Commands::body_in))]
+fn read_body(alloc: Global, words: &mut Words) -> Result<Option<Body>, AllocError>
+    ensures { IfOk result (λ body. body ≡ body_in words.old) }
+{
+    let (Some(kind), Some(owner), Some(seq)) = (
+        next_kind(words),
+        next_below(words, ACCOUNTS),
+        next_below(words, SEQS),
+    ) else {
+        return Ok(None);
+    };
+    let Some(value) = next_bytes(alloc, words)? else {
+        return Ok(None);
+    };
+    if !is_body(kind, owner, seq, &value) || !words.is_done() {
+        return Ok(None);
+    }
+    Ok(Some(Body::new(kind, owner, u32::from(seq), value)))
+}
+
+#[tactic(auto, unfolding(crate::specs::Commands::raw_in))]
+fn read_raw(alloc: Global, words: &mut Words) -> Result<Option<Command>, AllocError>
+    ensures { IfOk result (λ command. command ≡ raw_in words.old) }
+{
+    let Some(to) = next_below(words, MEMBERS) else {
+        return Ok(None);
+    };
+    let Some(bytes) = next_bytes(alloc, words)? else {
+        return Ok(None);
+    };
+    Ok(if_last(words, Command::Raw { to, bytes }))
+}
+
+// A command that is its name alone.
+#[tactic(auto, unfolding(crate::specs::Commands::alone_in))]
+fn read_alone(name: &[u8], words: &Words) -> Option<Command>
+    ensures { result ≡ alone_in name.now words.now }
+{
+    if is_word(name, "all") {
+        if_last(words, Command::All)
+    } else if is_word(name, "show") {
+        if_last(words, Command::Show)
+    } else {
+        None
+    }
+}
+
+// Whether these parts are within a frame's limits.
+fn is_body(kind: Kind, owner: u16, seq: u16, value: &Bytes) -> bool
+    ensures { result ≡ is_body (record { kind = kind; owner = owner; seq = seq; value = value.now }) }
+{
+    value.len() <= usize::from(GREATEST_VALUE)
+        && (kind != Kind::Want || (owner == 0 && seq == 0 && value.is_empty()))
+}
+
+// Takes bytes in hexadecimal digits.
+#[tactic(auto, unfolding(crate::specs::Commands::bytes_of))]
+fn next_bytes(alloc: Global, words: &mut Words) -> Result<Option<Bytes>, AllocError>
+    ensures bytes { IfOk result (λ bytes. bytes ≡ first_bytes words.old) }
+    ensures rest { words.new ≡ drop 1 words.old }
+{
+    let Some(word) = words.next_word() else {
+        return Ok(None);
+    };
+    if is_word(word, "-") {
+        return Ok(Some(Bytes::new(Vec::new(alloc))));
+    }
+    if word.is_empty() {
+        return Ok(None);
+    }
+    match decode(alloc, word) {
+        Ok(bytes) => Ok(Some(Bytes::new(bytes))),
+        Err(FromHexError::OutOfMemory) => Err(AllocError),
+        Err(_) => Ok(None),
+    }
+}
+
+// Takes a frame's kind.
+#[tactic(auto, unfolding(crate::specs::Commands::kind_of))]
+fn next_kind(words: &mut Words) -> Option<Kind>
+    ensures kind { result ≡ first_kind words.old }
+    ensures rest { words.new ≡ drop 1 words.old }
+{
+    let word = words.next_word()?;
+    if is_word(word, "send") {
+        Some(Kind::Send)
+    } else if is_word(word, "echo") {
+        Some(Kind::Echo)
+    } else if is_word(word, "ready") {
+        Some(Kind::Ready)
+    } else if is_word(word, "want") {
+        Some(Kind::Want)
+    } else {
+        None
+    }
+}
+
+// Takes a frame's number, or `next`, for which there is none.
+#[tactic(auto, unfolding(crate::specs::Commands::turn_of))]
+fn next_turn(words: &mut Words) -> Option<Option<u64>>
+    ensures number { result ≡ first_turn words.old }
+    ensures rest { words.new ≡ drop 1 words.old }
+{
+    let word = words.next_word()?;
+    if is_word(word, "next") {
+        Some(None)
+    } else {
+        number(word).map(Some)
+    }
+}
+
+fn is_word(word: &[u8], name: &str) -> bool
+    ensures { result ≡ bytes_eq word.now name.now }
+{
+    word == name.as_bytes()
+}
+
+// Takes a number below a bound of at most 16 bits.
+fn next_below(words: &mut Words, bound: u32) -> Option<u16>
+    requires { bound ≤ ACCOUNTS }
+    ensures number { result ≡ below bound words.old }
+    ensures rest { words.new ≡ drop 1 words.old }
+{
+    let number = words.next_number()?;
+    if number < u64::from(bound) {
+        u16::try_from(number).ok()
+    } else {
+        None
+    }
+}
+
+fn if_last(words: &Words, command: Command) -> Option<Command>
+    ensures { result ≡ if_last words.now command }
+{
+    if words.is_done() { Some(command) } else { None }
+}

@@ -1,0 +1,97 @@
+//! What a script prints of replies, written behind what is written already.
+
+ghost use Rattle.std.specs.Prelude.{◌≡◌, ◌++◌, OnOk, codes, decimal};
+ghost use Rattle.pay_sim.specs.Words.{if_so, link_words, next_words, outcome_words, refused_words, settle_words, took_words};
+
+use pay_link::LinkFault;
+use pay_member::{MemberFault, Outcome, Took};
+use pay_text::{push_number, push_word};
+use std::alloc::AllocError;
+
+/// What came of bytes that were brought to a member.
+#[tactic(auto, unfolding(crate::specs::Words::outcome_words))]
+pub fn push_outcome(out: &mut Vec<u8>, outcome: &Outcome) -> Result<(), AllocError>
+    ensures { OnOk result (out.new.items ≡ out.old.items ++ outcome_words outcome.now) }
+{
+    match outcome {
+        Outcome::Took(took) => push_took(out, *took),
+        Outcome::Wanted { from, number } => push_wanted(out, *from, *number),
+        Outcome::Frame(fault) => push_refused(out, "frame", fault.number(), fault.name()),
+        Outcome::Link(fault) => push_link(out, *fault),
+        Outcome::WrongKey => {
+            let fault = MemberFault::WrongKey;
+            push_refused(out, "member", fault.number(), fault.name())
+        }
+    }
+}
+
+#[tactic(auto, unfolding(crate::specs::Words::took_words))]
+fn push_took(out: &mut Vec<u8>, took: Took) -> Result<(), AllocError>
+    ensures { OnOk result (out.new.items ≡ out.old.items ++ took_words took) }
+{
+    push_word(out, "took")?;
+    push_if(out, took.echo, " echo")?;
+    push_if(out, took.ready, " ready")?;
+    push_if(out, took.deliver, " deliver")?;
+    push_settled(out, took.settled)
+}
+
+fn push_if(out: &mut Vec<u8>, so: bool, words: &str) -> Result<(), AllocError>
+    ensures { OnOk result (out.new.items ≡ out.old.items ++ if_so so words.now) }
+{
+    if so { push_word(out, words) } else { Ok(()) }
+}
+
+fn push_settled(out: &mut Vec<u8>, settled: u32) -> Result<(), AllocError>
+    ensures { OnOk result (out.new.items ≡ out.old.items ++ settle_words settled) }
+{
+    if settled == 0 {
+        return Ok(());
+    }
+    push_word(out, " settle ")?;
+    push_number(out, u64::from(settled))
+}
+
+fn push_wanted(out: &mut Vec<u8>, from: u16, number: u64) -> Result<(), AllocError>
+    ensures { OnOk result (out.new.items
+        ≡ out.old.items ++ codes "wanted " ++ decimal from ++ codes " " ++ decimal number) }
+{
+    push_word(out, "wanted ")?;
+    push_number(out, u64::from(from))?;
+    push_word(out, " ")?;
+    push_number(out, number)
+}
+
+fn push_link(out: &mut Vec<u8>, fault: LinkFault) -> Result<(), AllocError>
+    ensures { OnOk result (out.new.items ≡ out.old.items ++ link_words fault) }
+{
+    push_refused(out, "link", fault.number(), fault.name())?;
+    push_next(out, fault)
+}
+
+fn push_next(out: &mut Vec<u8>, fault: LinkFault) -> Result<(), AllocError>
+    ensures { OnOk result (out.new.items ≡ out.old.items ++ next_words fault) }
+{
+    let next = match fault {
+        LinkFault::Repeat(next) => next,
+        LinkFault::Gap(next) => next,
+        LinkFault::NotForMe
+        | LinkFault::UnknownSender
+        | LinkFault::UnknownOwner
+        | LinkFault::BadTag => return Ok(()),
+    };
+    push_word(out, " next ")?;
+    push_number(out, next)
+}
+
+#[tactic(auto, unfolding(crate::specs::Words::refused_words))]
+pub fn push_refused(out: &mut Vec<u8>, at: &str, number: u8, name: &str) -> Result<(), AllocError>
+    ensures { OnOk result (out.new.items ≡ out.old.items ++ refused_words at.now number name.now) }
+{
+    push_word(out, "refused ")?;
+    push_word(out, at)?;
+    push_word(out, " ")?;
+    push_number(out, u64::from(number))?;
+    push_word(out, " ")?;
+    push_word(out, name)
+}
