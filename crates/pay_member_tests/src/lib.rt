@@ -1,4 +1,4 @@
-//! Tests of `pay_member`: worked rows by calls, and what is printed of each refusal.
+//! Tests of `pay_member`: worked rows by calls, a stream that feeds a member, and what is printed of each refusal.
 #![tactic(auto)]
 
 #[cfg(test)]
@@ -7,5 +7,7 @@ mod plays;
 mod rows;
 #[cfg(test)]
 mod step;
+#[cfg(test)]
+mod streams;
 #[cfg(test)]
 mod trial;
