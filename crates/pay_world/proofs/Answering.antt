@@ -1,5 +1,5 @@
 -- What the members of a world are after an event.
-use Rattle.std.proofs.Common.{◌≡◌, ◌≢◌, ◌⊎◌, inl, inr, ⊎_elim, ℕ, ◌<◌, ◌≤◌, Bool, true, false, not, cond, eqb, ltb, leb, ◌&&◌, List, [], ◌∷◌, ◌++◌, length, set, slice_get, Option, None, Some, option_map, option_and_then, option_to_list, MatchOption, IsOkUnless, IfOk, OnErr, Result, Ok, Err, refl, sym, ap, ◌∙◌, subst, arith, append-nil, lt-ltb, ne_eqb}
+use Rattle.std.proofs.Common.{◌≡◌, ◌≢◌, ◌⊎◌, inl, inr, ⊎_elim, ℕ, ◌<◌, Bool, true, false, not, cond, eqb, ltb, leb, ◌&&◌, List, [], ◌++◌, length, set, slice_get, Option, None, Some, option_map, option_and_then, option_to_list, MatchOption, IsOkUnless, IfOk, OnErr, Result, Ok, Err, refl, sym, ap, ◌∙◌, subst, arith, append-nil, lt-ltb, ne_eqb}
 use Rattle.std.specs.Option.{option_map_or}
 use Rattle.std.proofs.lemmas.Bool.{cases_eq, cases_Bool, and_from, and_right}
 use Rattle.std.proofs.lemmas.Bool.Decides.{nat_tests}
@@ -11,7 +11,6 @@ use Rattle.pay_channel.specs.History.{Event, asks}
 use Rattle.pay_channel.specs.History as channel
 use Rattle.pay_channel.specs.Prefix.{IsPrefix}
 use Rattle.pay_channel.specs.Taken.{next}
-use Rattle.pay_link.specs.Genesis.{GenesisFields}
 use Rattle.pay_link.specs.Keys.{KeyFields}
 use Rattle.pay_link.specs.Checked.{CheckedFields}
 use Rattle.pay_member.specs.declared.event.Event.TheVariants as entry
@@ -33,12 +32,12 @@ use Rattle.pay_world.specs.declared.fault.WorldFault.{WorldFault}
 use Rattle.pay_world.specs.declared.reply.Reply.{Reply}
 use Rattle.pay_world.specs.declared.reply.Reply.TheVariants.{Asked, Refused, Brought, Ignored}
 use Rattle.pay_world.specs.Setting.{Setting, HasFewFaulty}
-use Rattle.pay_world.specs.Deeds.{Deed, Asks, Brings, member_of, is_want, may_come, counts, adds}
+use Rattle.pay_world.specs.Deeds.{Deed, Asks, member_of, is_want, may_come, counts, adds}
 use Rattle.pay_world.specs.Genuine.{IsGenuineIn, is_forged_in}
 use Rattle.pay_world.specs.DeedLaws.{ForgedIsTold}
 use Rattle.pay_world.specs.Stands.{Stands}
 use Rattle.pay_world.specs.StandLaws.{StandsByDeed}
-use Rattle.pay_world.specs.World.{WorldFields, setting_in, member_at, history_at, member_in, history_in, keys_in, IsWorld}
+use Rattle.pay_world.specs.World.{WorldFields, setting_in, history_at, member_in, history_in, keys_in, IsWorld}
 use Rattle.pay_world.specs.Answer.{receiver, brought_to, deed_with, deed_of, is_forged_at, added_in, answer_to_ask, IsReplyOf, IsReplyFrom, IsGrownBy, after_ask, after_bring, member_after, Answers}
 use Rattle.pay_world.proofs.Taking.{adds-counted, adds-uncounted}
 use Rattle.pay_world.proofs.WorldLemmas.{member_here, member_elsewhere, histories_by, changed_is_world, counted_is_world, set_same}

@@ -1,17 +1,16 @@
 -- Which bytes are a forged frame, by the members of a world.
 use Rattle.std.proofs.Common.{◌≡◌, ℕ, Bool, true, false, not, ◌&&◌, List, [], slice_get, Option, None, Some, is_some, option_map, option_and_then, refl, sym, ap, ◌∙◌}
 use Rattle.std.specs.Option.{option_map_or}
-use Rattle.pay_frame.specs.Frame.{BodyFields, FrameFields}
-use Rattle.pay_echo.specs.Broadcast.{Group}
-use Rattle.pay_channel.specs.History.{Event, out}
+use Rattle.pay_frame.specs.Frame.{FrameFields}
+use Rattle.pay_channel.specs.History.{out}
 use Rattle.pay_member.specs.Events.{events}
 use Rattle.pay_member.specs.Bringing.{opened_in}
 use Rattle.pay_member.specs.Group.{group_in}
 use Rattle.pay_member.specs.Member.{MemberFields}
 use Rattle.pay_world.specs.declared.event.WorldEvent.{WorldEvent}
-use Rattle.pay_world.specs.declared.event.WorldEvent.TheVariants.{Ask, Bring}
+use Rattle.pay_world.specs.declared.event.WorldEvent.TheVariants.{Bring}
 use Rattle.pay_world.specs.Setting.{group_at, is_correct}
-use Rattle.pay_world.specs.Deeds.{Deed, Asks, Brings}
+use Rattle.pay_world.specs.Deeds.{Deed}
 use Rattle.pay_world.specs.Genuine.{is_body, is_forged_in}
 use Rattle.pay_world.specs.World.{WorldFields, setting_in, member_in, history_in, keys_in, IsWorld}
 use Rattle.pay_world.specs.Answer.{receiver, brought_to, deed_with, deed_of, is_forged_at}

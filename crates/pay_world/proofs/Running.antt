@@ -1,5 +1,5 @@
 -- A world after one event more.
-use Rattle.std.proofs.Common.{MatchOption, IsOkUnless, Result, Ok, Err, ◌≡◌, ◌≢◌, ◌⊎◌, inl, inr, ⊎_elim, ℕ, ◌+◌, ◌-◌, ◌^◌, ◌<◌, ◌≤◌, min, Bool, true, false, not, cond, List, [], ◌∷◌, ◌++◌, length, map, take, slice_get, Option, None, Some, option_map, option_and_then, refl, sym, ap, ◌∙◌, subst, arith, length-append, append-nil}
+use Rattle.std.proofs.Common.{MatchOption, IsOkUnless, Result, Ok, Err, ◌≡◌, ◌≢◌, ◌⊎◌, inl, inr, ℕ, Bool, true, false, cond, List, [], ◌∷◌, ◌++◌, length, take, slice_get, Option, None, Some, option_map, refl, sym, ap, ◌∙◌, subst, arith, length-append, append-nil}
 use Rattle.std.specs.Option.{option_map_or}
 use Rattle.std.specs.List.{filter_map}
 use Rattle.std.proofs.lemmas.Bool.{cases_eq}
@@ -17,11 +17,11 @@ use Rattle.pay_world.specs.declared.reply.Reply.{Reply}
 use Rattle.pay_world.specs.declared.reply.Reply.TheVariants.{Asked, Refused, Brought, Ignored}
 use Rattle.pay_world.specs.Setting.{Setting}
 use Rattle.pay_world.specs.Deeds.{Deed, adds, history_by}
-use Rattle.pay_world.specs.Genuine.{IsGenuineIn, IsGenuine, AreGenuine, is_forged_in}
+use Rattle.pay_world.specs.Genuine.{IsGenuine, AreGenuine, is_forged_in}
 use Rattle.pay_world.specs.DeedLaws.{NoHistoryAtFirst, HistoryByOneMore, NoDeedIsGenuine, GenuineByOneMore, ForgedIsTold}
 use Rattle.pay_world.specs.Liars.{LiarFields, is_listed, setting_of}
 use Rattle.pay_world.specs.World.{WorldFields, setting_in, member_in, history_in, keys_in, AreKeysOf, fresh_world}
-use Rattle.pay_world.specs.Answer.{receiver, deed_of, deeds_of, is_forged_at, forgery, added_in, member_after, Answers, one_more}
+use Rattle.pay_world.specs.Answer.{receiver, deed_of, is_forged_at, forgery, added_in, member_after, Answers, one_more}
 use Rattle.pay_world.specs.Run.{correct_keys, deeds_by, history_of, IsFirstForged, IsWorldAfter}
 use Rattle.pay_world.proofs.WorldLemmas.{placed, fresh_empty}
 use Rattle.pay_world.proofs.Answering.{ask_keeps_keys, bring_keeps}

@@ -8,7 +8,7 @@ use Rattle.pay_frame.specs.Frame.{BodyFields, code_of}
 use Rattle.pay_channel.specs.History.{Event, out}
 use Rattle.pay_world.specs.Setting.{Setting, group_at, IsCorrect, is_correct}
 use Rattle.pay_world.specs.Deeds.{Deed, Asks, Brings, history_by}
-use Rattle.pay_world.specs.Genuine.{IsGenuine, IsGenuineIn, AreGenuine, is_body, is_forged, is_forged_in, none_forged}
+use Rattle.pay_world.specs.Genuine.{IsGenuineIn, AreGenuine, is_body, is_forged, is_forged_in, none_forged}
 use Rattle.pay_world.proofs.Happening.{genuine_by_one_more, no_deed_is_genuine}
 
 pub correct_is_told : (w : Setting) (i : ℕ) → (is_correct w i ≡ true) ↔ IsCorrect w i

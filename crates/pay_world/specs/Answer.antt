@@ -1,5 +1,5 @@
 -- What a world answers to an event, and what becomes of its members.
-use Rattle.std.specs.Prelude.{◌≡◌, ◌≢◌, ℕ, ◌+◌, ◌-◌, ◌^◌, min, Bool, false, List, [], ◌∷◌, ◌++◌, Option, Some, None, option_map, option_and_then, MatchOption, if◌then◌else◌}
+use Rattle.std.specs.Prelude.{◌≡◌, ◌≢◌, ℕ, ◌+◌, ◌-◌, ◌^◌, min, Bool, false, List, [], ◌++◌, Option, Some, None, option_map, option_and_then, MatchOption, if◌then◌else◌}
 use Rattle.std.specs.Option.{option_map_or, option_to_list}
 use Rattle.std.specs.List.{filter_map}
 use Rattle.pay_frame.specs.Frame.{FrameFields}
@@ -47,7 +47,8 @@ deeds_of keys events = filter_map (deed_of keys) events
 
 -- Whether it brings a frame that the correct member which it names didn't send.
 abbrev pub is_forged_at : WorldFields → WorldEvent → Bool
-is_forged_at w e = option_map_or (is_forged_in (setting_in w) (history_in w)) (deed_of (keys_in w) e) false
+is_forged_at w e =
+    option_map_or (is_forged_in (setting_in w) (history_in w)) (deed_of (keys_in w) e) false
 
 -- the fault of such an event
 abbrev pub forgery : WorldFields → WorldEvent → Option WorldFault
@@ -72,7 +73,9 @@ IsBrought m bytes (Refused fault) = ⊥
 IsBrought m bytes Ignored = ⊥
 
 abbrev pub IsReplyOf : MemberFields → WorldEvent → Reply → Type 0
-IsReplyOf m (Ask i v) reply = reply ≡ answer_to_ask (refusal m.genesis m.keys (events m.history) (entry.Ask v)) (asks (events m.history))
+IsReplyOf m (Ask i v) reply =
+    reply
+    ≡ answer_to_ask (refusal m.genesis m.keys (events m.history) (entry.Ask v)) (asks (events m.history))
 IsReplyOf m (Bring i bytes) reply = IsBrought m bytes reply
 
 -- the member's own, if it is there
@@ -85,7 +88,8 @@ IsReply w e reply = IsReplyFrom (member_in w (receiver e)) e reply
 -- ---- what becomes of the members
 
 abbrev pub after_ask : MemberFields → List ℕ → Reply → MemberFields
-after_ask m v (Asked number) = with_entry m (record { stamp = 0; event = entry.Ask v; reply = entry_reply.Asked number })
+after_ask m v (Asked number) =
+    with_entry m (record { stamp = 0; event = entry.Ask v; reply = entry_reply.Asked number })
 after_ask m v (Refused fault) = m
 after_ask m v (Brought outcome) = m
 after_ask m v Ignored = m
@@ -105,14 +109,18 @@ member_after (Bring i bytes) reply m = after_bring m bytes reply
 abbrev pub IsGrownBy : Option MemberFields → Option MemberFields → List ℕ → Type 0
 IsGrownBy None new bytes = Unit {0}
 IsGrownBy (Some old) None bytes = ⊥
-IsGrownBy (Some old) (Some new) bytes = events new.history ≡ events old.history ++ option_to_list (event_in old.keys (events old.history) bytes)
+IsGrownBy (Some old) (Some new) bytes =
+    events new.history
+    ≡ events old.history ++ option_to_list (event_in old.keys (events old.history) bytes)
 
--- The receiver replied, and its history is as much longer as the event adds; the others are as they were.
+-- The receiver replied, and its history is as much longer as the event adds; the others are as they
+-- were.
 pub record Answers (old new : WorldFields) (e : WorldEvent) (reply : Reply) : Type 0 where
   pub genesis : new.genesis ≡ old.genesis
   pub liars : new.liars ≡ old.liars
   pub said : IsReply old e reply
-  pub here : member_in new (receiver e) ≡ option_map (member_after e reply) (member_in old (receiver e))
+  pub here :
+      member_in new (receiver e) ≡ option_map (member_after e reply) (member_in old (receiver e))
   pub others : (i : ℕ) → i ≢ receiver e → member_in new i ≡ member_in old i
   pub histories : (i : ℕ) → history_in new i ≡ history_in old i ++ added_in old e i
 

@@ -23,7 +23,8 @@ abbrev pub history_of : List KeyFields → LiarFields → List WorldEvent → �
 history_of keys l events i = history_by (setting_of l) (deeds_by keys l events) i
 
 -- Event k is a forged frame, behind genuine ones: it is the first that is forged.
-pub record IsFirstForged (keys : List KeyFields) (l : LiarFields) (events : List WorldEvent) (k : ℕ) : Type 0 where
+pub record IsFirstForged (keys : List KeyFields) (l : LiarFields)
+    (events : List WorldEvent) (k : ℕ) : Type 0 where
   pub before : AreGenuine (setting_of l) (deeds_by keys l (take k events))
   pub event : WorldEvent
   pub place : slice_get events k ≡ Some event
@@ -31,8 +32,10 @@ pub record IsFirstForged (keys : List KeyFields) (l : LiarFields) (events : List
   pub is : deed_of (correct_keys keys l) event ≡ Some deed
   pub forged : ¬ (IsGenuine (setting_of l) (deeds_by keys l (take k events)) deed)
 
--- The world of this group after these events, none of which is forged: it has the histories by them.
-pub record IsWorldAfter (g : GenesisFields) (keys : List KeyFields) (l : LiarFields) (events : List WorldEvent) (w : WorldFields) : Type 0 where
+-- The world of this group after these events, none of which is forged: it has the histories by
+-- them.
+pub record IsWorldAfter (g : GenesisFields) (keys : List KeyFields) (l : LiarFields)
+    (events : List WorldEvent) (w : WorldFields) : Type 0 where
   pub genesis : w.genesis ≡ g
   pub liars : w.liars ≡ l
   pub known : (i : ℕ) → keys_in w i ≡ correct_keys keys l i

@@ -23,7 +23,8 @@ StandsByOneMore =
 abbrev pub StandsByDeed : Type 0
 StandsByDeed =
     (w : Setting) (old new : ℕ → List Event) (d : Deed)
-    → HasFewFaulty w → IsGenuineIn w old d → ((i : ℕ) → new i ≡ old i ++ adds w i (old i) d) → Stands w old → Stands w new
+    → HasFewFaulty w → IsGenuineIn w old d → ((i : ℕ) → new i ≡ old i ++ adds w i (old i) d)
+    → Stands w old → Stands w new
 
 abbrev pub GenuineStands : Type 0
 GenuineStands =

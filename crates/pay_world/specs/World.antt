@@ -70,7 +70,9 @@ pub record AreKeysOf (g : GenesisFields) (keys : List KeyFields) : Type 0 where
 
 -- what stands at the place of the member with these keys, as long as it took nothing
 abbrev pub fresh_place : GenesisFields → LiarFields → KeyFields → Option MemberFields
-fresh_place g l k = if is_listed l.liars k.own then None else Some (record { genesis = g; keys = k; history = [] })
+fresh_place g l k =
+    if is_listed l.liars k.own then None else Some (record { genesis = g; keys = k; history = [] })
 
 abbrev pub fresh_world : GenesisFields → List KeyFields → LiarFields → WorldFields
-fresh_world g keys l = record { genesis = g; liars = l; members = map (fresh_place g l) keys; answered = 0 }
+fresh_world g keys l =
+    record { genesis = g; liars = l; members = map (fresh_place g l) keys; answered = 0 }

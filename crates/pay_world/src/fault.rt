@@ -10,8 +10,8 @@ use thiserror::Error;
 pub enum WorldFault {
     /// Memory was refused; looked for last.
     Memory,
-    /// The event with this number, counted from 0, brings a frame in the name of a correct member that didn't
-    /// send it.
+    /// The event with this number, counted from 0, brings a frame in the name of a correct member
+    /// that didn't send it.
     Forged(u64),
 }
 

@@ -3,7 +3,8 @@ ghost use Rattle.pay_world.specs.Faults.{liar_fault_name, liar_fault_number};
 
 use thiserror::Error;
 
-/// Why a list isn't one of a group's liars, in the order in which it is tested; memory stands apart.
+/// Why a list isn't one of a group's liars, in the order in which it is tested; memory stands
+/// apart.
 #[derive(Clone, Copy, Debug, PartialEq, Eq, Error)]
 #[error("{} {}", self.number(), self.name())]
 pub enum LiarFault {

@@ -5,11 +5,12 @@ ghost use Rattle.pay_world.specs.Liars.{LiarFields, AreMembers, AreDistinct, Are
 
 use crate::liar_fault::LiarFault;
 
-/// A list of liars has no fault exactly where it keeps their limits, and each fault comes exactly where its
-/// own cause holds and no earlier one.
+/// A list of liars has no fault exactly where it keeps their limits, and each fault comes exactly
+/// where its own cause holds and no earlier one.
 pub fn liar_causes()
     ensures none { (l : LiarFields) → (liar_fault l ≡ None) ↔ AreLiars l }
-    ensures unknown { (l : LiarFields) → (liar_fault l ≡ Some LiarFault.Unknown) ↔ ¬ (AreMembers l) }
+    ensures unknown { (l : LiarFields) → (liar_fault l ≡ Some LiarFault.Unknown)
+        ↔ ¬ (AreMembers l) }
     ensures twice { (l : LiarFields) → (liar_fault l ≡ Some LiarFault.Twice)
         ↔ (AreMembers l × ¬ (AreDistinct l)) }
     ensures too_many { (l : LiarFields) → (liar_fault l ≡ Some LiarFault.TooMany)

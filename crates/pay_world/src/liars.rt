@@ -7,8 +7,8 @@ use pay_link::Genesis;
 use std::alloc::{AllocError, Global};
 use std::marker::Model;
 
-/// The members of a group that lie. Its type keeps that they are members, each named once, and no more than
-/// the genesis says may lie.
+/// The members of a group that lie. Its type keeps that they are members, each named once, and no
+/// more than the genesis says may lie.
 #[derive(Debug, Drop)]
 pub struct Liars {
     members: u16,

@@ -18,8 +18,8 @@ use std::alloc::Global;
 
 /// The world of a group after a list of events. There are keys for each member, at its place.
 ///
-/// Refuses a list with a forged frame (`Forged`), and names the first. Memory aside it refuses no other. Of the
-/// events of a world that it returns the headline holds.
+/// Refuses a list with a forged frame (`Forged`), and names the first. Memory aside it refuses no
+/// other. Of the events of a world that it returns the headline holds.
 pub fn run_world<I: Instance + Drop, B: Settle + Drop, T: Tagger>(
     alloc: Global,
     tagger: &T,

@@ -27,11 +27,12 @@ use pay_member::{Member, MemberFault};
 use std::alloc::{AllocError, Global};
 use std::marker::Model;
 
-/// The members of a group in one process: the correct ones, each at its place, and nothing in the liars' places.
-/// What liars send is brought to the others as bytes.
+/// The members of a group in one process: the correct ones, each at its place, and nothing in the
+/// liars' places. What liars send is brought to the others as bytes.
 ///
-/// Its type keeps that what a correct member took from another is a prefix of all that the other sent, and that
-/// behind each READY of a correct member stands a quorum of ECHOs at some correct one.
+/// Its type keeps that what a correct member took from another is a prefix of all that the other
+/// sent, and that behind each READY of a correct member stands a quorum of ECHOs at some correct
+/// one.
 #[derive(Drop)]
 pub struct World<I: Instance + Drop, B: Settle + Drop> {
     genesis: Genesis,
@@ -78,9 +79,9 @@ impl<I: Instance + Drop, B: Settle + Drop> World<I, B> {
 
     /// Lets an event happen, and returns what its member answered.
     ///
-    /// Refuses a frame in the name of a correct member that didn't send it (`Forged`), with the count of the
-    /// events answered before, which stays at the greatest number that it can hold. A refused event changes
-    /// nothing.
+    /// Refuses a frame in the name of a correct member that didn't send it (`Forged`), with the count
+    /// of the events answered before, which stays at the greatest number that it can hold. A refused
+    /// event changes nothing.
     pub fn apply<T: Tagger>(
         &mut self,
         alloc: Global,
@@ -152,7 +153,8 @@ impl<I: Instance + Drop, B: Settle + Drop> World<I, B> {
         ensures refused { MatchOption (forgery self.old (WorldEvent.Bring member bytes.now))
             (IsOkUnless result WorldFault.Memory)
             (λ fault. result ≡ Err fault) }
-        ensures answers { IfOk result (Answers self.old self.new (WorldEvent.Bring member bytes.now)) }
+        ensures answers { IfOk result
+            (Answers self.old self.new (WorldEvent.Bring member bytes.now)) }
         ensures count { self.new.answered ≡ self.old.answered }
         ensures err { OnErr result (self.new ≡ self.old) }
     {
@@ -170,8 +172,8 @@ impl<I: Instance + Drop, B: Settle + Drop> World<I, B> {
         bring_place(&mut self.members[place], alloc, tagger, bytes)
     }
 
-    // Whether bytes are a frame that opens at a correct member, in the name of a correct member that didn't send
-    // it under this number.
+    // Whether bytes are a frame that opens at a correct member, in the name of a correct member that
+    // didn't send it under this number.
     fn is_forged<T: Tagger>(&self, tagger: &T, member: u16, bytes: &[u8]) -> bool
         ensures { result ≡ is_forged_at self.now (WorldEvent.Bring member bytes.now) }
     {

@@ -1,12 +1,12 @@
-use Rattle.std.proofs.Common.{◌≡◌, ℕ, ◌<◌, length, slice_get, get_or, Some, Bool, false, IfOk, OnErr, refl, sym, ap, ◌∙◌, subst, arith, rules}
+use Rattle.std.proofs.Common.{◌≡◌, ◌<◌, length, slice_get, Some, IfOk, OnErr, sym, ap, ◌∙◌, subst, arith, rules}
 use Rattle.std.proofs.lemmas.Grind.{common_steps}
 use Rattle.std.proofs.lemmas.Option.{slice_get-get_or}
-use Rattle.pay_world.specs.declared.event.WorldEvent.TheVariants.{Ask, Bring}
+use Rattle.pay_world.specs.declared.event.WorldEvent.TheVariants.{Ask}
 use Rattle.pay_world.specs.Setting.{HasFewFaulty}
 use Rattle.pay_world.specs.World.{WorldFields, setting_in}
-use Rattle.pay_world.specs.Answer.{Answers, is_forged_at}
+use Rattle.pay_world.specs.Answer.{Answers}
 use Rattle.pay_world.proofs.WorldLemmas.{few_lie}
-use Rattle.pay_world.proofs.Answering.{with_place, IsAny, ask_any, bring_any}
+use Rattle.pay_world.proofs.Answering.{with_place, ask_any}
 use Rattle.pay_world.proofs.world.World.ask.Goals as goal
 
 pub invariant_of-self : goal.invariant_of-self

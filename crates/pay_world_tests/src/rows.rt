@@ -1,0 +1,134 @@
+//! The rows, and what is printed of each fault.
+
+use crate::step::Step::{Ask, Balance, Bring, Nobody, Raw};
+use crate::step::{Row, Unsealed};
+use pay_frame::{FrameFault, Kind};
+use pay_link::LinkFault;
+use pay_member::{MemberFault, Outcome, Took};
+use pay_world::Reply::{Asked, Brought, Ignored, Refused};
+use pay_world::{LiarFault, Reply, WorldFault};
+
+const THIRTY_TO_1: &[u8] = &[1, 0, 1, 0, 0, 0, 0, 0, 0, 0, 30];
+
+const FIVE_TO_1: &[u8] = &[1, 0, 1, 0, 0, 0, 0, 0, 0, 0, 5];
+
+// A byte longer than a frame's value may be.
+const LONG: &[u8] = &[0; 1025];
+
+// Member 0 sends member 1 an empty value, under a tag of zeros.
+const MISTAGGED: &[u8] = &[
+    0, 54, 1, 1, 0, 0, 0, 1, 0, 0, 0, 0, 0, 0, 0, 0, 0, 0, 0, 0, 0, 0, 0, 0, 0, 0, 0, 0, 0, 0, 0,
+    0, 0, 0, 0, 0, 0, 0, 0, 0, 0, 0, 0, 0, 0, 0, 0, 0, 0, 0, 0, 0, 0, 0, 0, 0,
+];
+
+// Member 0 sends member 1 thirty for account 1.
+const SENT: Unsealed = Unsealed {
+    from: 0,
+    to: 1,
+    number: 0,
+    kind: Kind::Send,
+    owner: 0,
+    seq: 0,
+    value: THIRTY_TO_1,
+};
+
+// The liar sends member 0 a payment of its own.
+const LIE: Unsealed = Unsealed {
+    from: 3,
+    to: 0,
+    number: 0,
+    kind: Kind::Send,
+    owner: 3,
+    seq: 0,
+    value: FIVE_TO_1,
+};
+
+const ECHO: Reply = Brought(Outcome::Took(Took {
+    echo: true,
+    ready: false,
+    deliver: false,
+    settled: 0,
+}));
+
+const REPEAT: Reply = Brought(Outcome::Link(LinkFault::Repeat(1)));
+
+const GAP: Reply = Brought(Outcome::Link(LinkFault::Gap(1)));
+
+const BAD_TAG: Reply = Brought(Outcome::Link(LinkFault::BadTag));
+
+const TRUNCATED: Reply = Brought(Outcome::Frame(FrameFault::Truncated));
+
+pub(crate) const ROWS: [Row; 3] = [
+    Row {
+        name: "what another didn't send is forged",
+        steps: &[
+            Raw(1, MISTAGGED, Ok(BAD_TAG)),
+            Bring(SENT, Err(WorldFault::Forged(1))),
+            Balance(1, 0, 100),
+            Ask(0, THIRTY_TO_1, Ok(Asked(0))),
+            Bring(
+                Unsealed {
+                    value: FIVE_TO_1,
+                    ..SENT
+                },
+                Err(WorldFault::Forged(2)),
+            ),
+            Bring(SENT, Ok(ECHO)),
+            Bring(SENT, Ok(REPEAT)),
+            Bring(Unsealed { number: 2, ..SENT }, Err(WorldFault::Forged(4))),
+        ],
+    },
+    Row {
+        name: "a liar says what it likes",
+        steps: &[
+            Bring(LIE, Ok(ECHO)),
+            Bring(Unsealed { number: 5, ..LIE }, Ok(GAP)),
+            Bring(Unsealed { to: 1, ..LIE }, Ok(ECHO)),
+            Bring(
+                Unsealed {
+                    to: 2,
+                    value: THIRTY_TO_1,
+                    ..LIE
+                },
+                Ok(ECHO),
+            ),
+            Balance(2, 3, 50),
+        ],
+    },
+    Row {
+        name: "what is nobody's is ignored",
+        steps: &[
+            Ask(3, THIRTY_TO_1, Ok(Ignored)),
+            Ask(9, THIRTY_TO_1, Ok(Ignored)),
+            Raw(3, MISTAGGED, Ok(Ignored)),
+            Raw(0, &[], Ok(TRUNCATED)),
+            Ask(0, LONG, Ok(Refused(MemberFault::TooLong))),
+            Nobody(3),
+            Nobody(4),
+            Balance(0, 3, 50),
+        ],
+    },
+];
+
+/// Lists of liars of that group, and the fault of each.
+pub(crate) const LIARS: [(&[u16], Option<LiarFault>); 6] = [
+    (&[], None),
+    (&[3], None),
+    (&[4], Some(LiarFault::Unknown)),
+    (&[2, 2], Some(LiarFault::Twice)),
+    (&[2, 2, 4], Some(LiarFault::Unknown)),
+    (&[2, 3], Some(LiarFault::TooMany)),
+];
+
+/// A world's fault is printed as its number and its name.
+pub(crate) const PRINTED: [(WorldFault, &str); 2] = [
+    (WorldFault::Memory, "0 Memory"),
+    (WorldFault::Forged(7), "1 Forged"),
+];
+
+pub(crate) const LIAR_FAULTS_PRINTED: [(LiarFault, &str); 4] = [
+    (LiarFault::Memory, "0 Memory"),
+    (LiarFault::Unknown, "1 Unknown"),
+    (LiarFault::Twice, "2 Twice"),
+    (LiarFault::TooMany, "3 TooMany"),
+];

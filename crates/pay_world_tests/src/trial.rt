@@ -1,0 +1,105 @@
+//! A world to which steps happen.
+
+use crate::step::{Step, Unsealed};
+use pay_book::PlainBook;
+use pay_echo::PlainInstance;
+use pay_frame::{Body, Bytes, GREATEST_VALUE, Kind, SEQS};
+use pay_hmac::HmacSha256;
+use pay_link::{Genesis, Keys, seal, test_keys};
+use pay_world::{Liars, Reply, World, WorldEvent, WorldFault, group_test_keys};
+use std::alloc::Global;
+
+/// The world of a group of four whose accounts began with 100, 0, 0 and 50.
+#[derive(Drop)]
+pub(crate) struct Trial {
+    genesis: Genesis,
+    world: World<PlainInstance, PlainBook>,
+}
+
+pub(crate) fn four(alloc: Global) -> Option<Genesis> {
+    Genesis::new(alloc, 4, 1, &[100, 0, 0, 50]).ok()
+}
+
+impl Trial {
+    /// That world, with its member 3 a liar, unless memory is refused.
+    pub(crate) fn new(alloc: Global) -> Option<Trial> {
+        let genesis = four(alloc)?;
+        let keys = group_test_keys(alloc, &genesis).ok()?;
+        let liars = Liars::new(alloc, &genesis, &[3]).ok()?;
+        let world = World::new(alloc, &genesis, keys.as_slice(), &liars).ok()?;
+        Some(Trial { genesis, world })
+    }
+
+    /// Lets a step happen, and says whether the answer is the one expected. It isn't where memory is refused.
+    pub(crate) fn meets(&mut self, alloc: Global, step: &Step) -> bool {
+        match *step {
+            Step::Ask(member, value, answer) => match Bytes::from_slice(alloc, value) {
+                Ok(value) => self.answers(alloc, WorldEvent::Ask(member, value), answer),
+                Err(_) => false,
+            },
+            Step::Bring(frame, answer) => match self.sealed(alloc, frame) {
+                Some(bytes) => self.answers(alloc, WorldEvent::Bring(frame.to, bytes), answer),
+                None => false,
+            },
+            Step::Raw(member, bytes, answer) => match Bytes::from_slice(alloc, bytes) {
+                Ok(bytes) => self.answers(alloc, WorldEvent::Bring(member, bytes), answer),
+                Err(_) => false,
+            },
+            Step::Balance(member, account, balance) => self.has(member, account, balance),
+            Step::Nobody(member) => self.world.member(member).is_none(),
+        }
+    }
+
+    fn answers(
+        &mut self,
+        alloc: Global,
+        event: WorldEvent,
+        answer: Result<Reply, WorldFault>,
+    ) -> bool {
+        self.world.apply(alloc, &HmacSha256, event) == answer
+    }
+
+    fn has(&self, member: u16, account: u16, balance: u64) -> bool {
+        match self.world.member(member) {
+            Some(member) => {
+                account < member.genesis().members() && member.balance(account) == balance
+            }
+            None => false,
+        }
+    }
+
+    // The frame, sealed by its sender.
+    fn sealed(&self, alloc: Global, frame: Unsealed) -> Option<Bytes> {
+        let sender = keys_in(alloc, &self.genesis, frame.from)?;
+        if !sender.is_peer(frame.to) {
+            return None;
+        }
+        let body = body_of(alloc, frame)?;
+        let bytes = seal(alloc, &HmacSha256, &sender, frame.to, frame.number, &body).ok()?;
+        Some(Bytes::new(bytes))
+    }
+}
+
+// A member's test keys, if there is such a member.
+fn keys_in(alloc: Global, genesis: &Genesis, own: u16) -> Option<Keys> {
+    if own >= genesis.members() {
+        return None;
+    }
+    test_keys(alloc, genesis, own).ok()
+}
+
+// A body that says this, if it is no WANT and within a frame's limits.
+fn body_of(alloc: Global, frame: Unsealed) -> Option<Body> {
+    let Unsealed {
+        kind,
+        owner,
+        seq,
+        value,
+        ..
+    } = frame;
+    if kind == Kind::Want || seq >= SEQS || value.len() > usize::from(GREATEST_VALUE) {
+        return None;
+    }
+    let value = Bytes::from_slice(alloc, value).ok()?;
+    Some(Body::new(kind, owner, seq, value))
+}
