@@ -12,7 +12,10 @@ const GENESES: [(&str, Option<GenesisFault>); 7] = [
         None,
     ),
     ("{", Some(GenesisFault::BadJson)),
-    (r#"{"members":65,"faults":0,"opening":[]"#, Some(GenesisFault::BadJson)),
+    (
+        r#"{"members":65,"faults":0,"opening":[]"#,
+        Some(GenesisFault::BadJson),
+    ),
     (r#"{"members":65,"faults":0}"#, Some(GenesisFault::BadShape)),
     (
         r#"{"members":2,"faults":0,"opening":[7,1.0]}"#,
