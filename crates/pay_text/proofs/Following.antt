@@ -1,7 +1,7 @@
 -- Lines as they come, and the lines of the whole text.
-use Rattle.std.proofs.Common.{◌≡◌, ℕ, ◌<◌, ◌≤◌, List, [], ◌∷◌, ◌++◌, length, map, refl, sym, ◌∙◌, ap, arith, append_assoc, append-nil, length-append, true, false, Some, None, rules, inl, inr, ◌+◌, ◌⊎◌}
-use Rattle.std.specs.Prelude.{◌==◌, cond, ⊤, nat_le, nat_lt}
-use Rattle.std.proofs.lemmas.Bool.Decides.{Decides-ltb}
+use Rattle.std.proofs.Common.{◌≡◌, ℕ, ◌<◌, ◌≤◌, List, [], ◌∷◌, ◌++◌, length, map, refl, sym, ◌∙◌, ap, arith, append_assoc, append-nil, length-append, drop, get_or, drop-cons, add-one, true, false, Some, None, rules, inl, inr, ◌+◌, ◌⊎◌}
+use Rattle.std.specs.Prelude.{◌==◌, Option, cond, ⊤, nat_le, nat_lt}
+use Rattle.std.proofs.lemmas.Bool.Decides.{Decides-eqb, Decides-ltb}
 use Rattle.std.proofs.lemmas.Bool.{cases_lt}
 use Rattle.std.proofs.Math.Dec.{leb-zero}
 use Rattle.std.proofs.Math.Facts.{leb_yes, yes_leb}
@@ -91,3 +91,16 @@ lines_after_is bound (b ∷ bytes) rest whole = elim (b == line_feed) as (λ e. 
 
 pub lines_from_start : (bound : ℕ) (bytes : List ℕ) → lines_after bound (Some []) bytes ≡ lines_within bound bytes
 lines_from_start bound bytes = ap (λ l. lines_after bound l bytes) (sym (nothing_within bound)) ∙ lines_after_is bound bytes [] tt
+
+-- ---- the next byte of a piece
+
+pub at_feed : (bound : ℕ) (begun : Option (List ℕ)) (piece more : List ℕ) (i : ℕ) → i < length piece → get_or piece i 0 ≡ line_feed → lines_after bound begun (drop i piece ++ more) ≡ begun ∷ lines_after bound (Some []) (drop (i + 1) piece ++ more)
+unfolding lines_after
+at_feed bound begun piece more i lt feed = rw (drop-cons piece i 0, feed, add-one) refl
+
+pub at_other : (bound : ℕ) (begun : Option (List ℕ)) (piece more : List ℕ) (i : ℕ) → i < length piece → (get_or piece i 0 == line_feed) ≡ false → lines_after bound begun (drop i piece ++ more) ≡ lines_after bound (grown bound begun (get_or piece i 0)) (drop (i + 1) piece ++ more)
+unfolding lines_after
+at_other bound begun piece more i lt other = rw (drop-cons piece i 0, other, add-one) refl
+
+pub other_byte : (b : ℕ) → (b ≡ line_feed → ⊥) → (b == line_feed) ≡ false
+other_byte b apart = elim (b == line_feed) as (λ e. (e ≡ true → b ≡ line_feed) → e ≡ false) [ true ↦ λ h. absurd (apart (h refl)) | false ↦ λ h. refl ] (Decides-eqb b line_feed).0

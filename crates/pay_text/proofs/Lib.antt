@@ -1,3 +1,5 @@
 pub mod Reading
 pub mod Splitting
 pub mod Following
+pub mod Answering
+pub mod Rounds

@@ -2,3 +2,5 @@ pub mod Words
 pub mod Numbers
 pub mod Lines
 pub mod Cutting
+pub mod Answers
+pub mod Engine

@@ -1,0 +1,29 @@
+-- The answers to lines, one behind the other.
+use Rattle.std.specs.Prelude.{◌≡◌, ℕ, Bool, true, false, List, [], ◌∷◌, ◌++◌, Option}
+use Rattle.pay_text.specs.declared.answerer.Text.{Text}
+use Rattle.pay_text.specs.declared.answerer.Text.TheVariants.{Made, Fixed}
+
+-- the bytes of a text
+abbrev pub bytes_of : Text → List ℕ
+bytes_of (Made made) = made.items
+bytes_of (Fixed words) = words.now
+
+-- nothing is said any more, and nobody changed
+pub record IsOver {A : Type 0} (text : List ℕ) (on : Bool) (mid last : A) : Type 0 where
+  pub silent : text ≡ []
+  pub over : on ≡ false
+  pub same : last ≡ mid
+
+-- the one case or the other
+abbrev pub Either : Bool → Type 0 → Type 0 → Type 0
+Either true P Q = P
+Either false P Q = Q
+
+-- The text of the answers to these lines, up to the first behind which none may follow; whether one may follow
+-- still, and who has then answered them. `says` is what becomes of who answers by one line: who it was, the line, or
+-- nothing where it is over the bound, the answer, whether a line may follow, and who it is then.
+abbrev pub Answers : {A : Type 0} → (A → Option (List ℕ) → List ℕ → Bool → A → Type 0) → A → List (Option (List ℕ)) → List ℕ → Bool → A → Type 0
+Answers {A} says a [] text on last = (text ≡ []) × (on ≡ true) × (last ≡ a)
+Answers {A} says a (line ∷ lines) text on last =
+    (first rest : List ℕ) × (goes : Bool) × (mid : A) × says a line first goes mid × (text ≡ first ++ rest)
+    × Either goes (Answers says mid lines rest on last) (IsOver rest on mid last)
