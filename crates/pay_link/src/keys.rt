@@ -57,7 +57,8 @@ impl Keys {
 
     /// The keys that a file of JSON says for a member of this genesis.
     pub fn read(alloc: Global, genesis: &Genesis, bytes: &[u8]) -> Result<Keys, KeysFault>
-        ensures value { (result ≡ keys_in genesis.now.members bytes.now) ⊎ (result ≡ Err KeysFault.Memory) }
+        ensures value { (result ≡ keys_in genesis.now.members bytes.now)
+            ⊎ (result ≡ Err KeysFault.Memory) }
         ensures genesis { IfOk result (IsKeysOf genesis.now) }
     {
         let value = value_in(alloc, bytes).map_err(|_| KeysFault::Memory)?;
@@ -136,8 +137,10 @@ impl Keys {
 
 /// The place of a member, where there is a key for each member of the genesis.
 fn place_in(genesis: &Genesis, own: u64, count: usize) -> Result<u16, KeysFault>
-    ensures value { result ≡ option_map_or Err (place_fault genesis.now.members own count) (Ok own) }
-    ensures limits { IfOk result (λ place. (place < count) × (count ≤ MOST_MEMBERS) × (count ≡ genesis.now.members)) }
+    ensures value { result
+        ≡ option_map_or Err (place_fault genesis.now.members own count) (Ok own) }
+    ensures limits { IfOk result (λ place.
+        (place < count) × (count ≤ MOST_MEMBERS) × (count ≡ genesis.now.members)) }
 {
     let members = genesis.members();
     if own >= u64::from(members) {

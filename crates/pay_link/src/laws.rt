@@ -65,12 +65,14 @@ pub fn keys_causes()
 pub fn keys_file_faults()
     ensures json { (members : ℕ) (bytes : List ℕ) → (keys_in members bytes ≡ Err KeysFault.BadJson)
         ↔ (value_in bytes ≡ None) }
-    ensures shape { (members : ℕ) (bytes : List ℕ) → (keys_in members bytes ≡ Err KeysFault.BadShape)
+    ensures shape { (members : ℕ) (bytes : List ℕ)
+        → (keys_in members bytes ≡ Err KeysFault.BadShape)
         ↔ ((d : Data) × ((value_in bytes ≡ Some d) × (keys_said d ≡ None))) }
     ensures key { (members : ℕ) (said : KeysSaid) (place : ℕ) →
         (keys_judged members said ≡ Err (KeysFault.BadKey place))
         ↔ ((place_fault members said.own (length said.texts) ≡ None) × IsLeastBad said place) }
-    ensures value { (members : ℕ) (said : KeysSaid) (k : KeyFields) → (keys_judged members said ≡ Ok k)
+    ensures value { (members : ℕ) (said : KeysSaid) (k : KeyFields)
+        → (keys_judged members said ≡ Ok k)
         ↔ ((place_fault members said.own (length said.texts) ≡ None) × SaysKeys said k) }
 {}
 

@@ -214,7 +214,8 @@ impl<I: Instance + Drop, B: Settle + Drop> Member<I, B> {
     ) -> Result<Brought, AllocError>
         ensures want { IfOk result (λ brought. brought.want
             ≡ want_of stamp self.old (fields_of frame.entry)) }
-        ensures after { OnOk result (self.new ≡ after_frame stamp self.old (fields_of frame.entry)) }
+        ensures after { OnOk result
+            (self.new ≡ after_frame stamp self.old (fields_of frame.entry)) }
         ensures err { OnErr result (self.new ≡ self.old) }
     {
         laws::opened();
@@ -239,7 +240,8 @@ impl<I: Instance + Drop, B: Settle + Drop> Member<I, B> {
         requires mine { IsFor self.old.keys (checked_fields opened.now) }
         requires kind { opened.now.frame.body.kind ≢ Kind.Want }
         ensures outcome { IfOk result (λ brought. brought.outcome
-            ≡ answer_to self.old.genesis self.old.keys.own (events self.old.history) opened.now.frame) }
+            ≡ answer_to self.old.genesis self.old.keys.own (events self.old.history)
+            opened.now.frame) }
         ensures want { IfOk result (λ brought. brought.want
             ≡ Some (want_for self.old.keys (events self.new.history) opened.now.frame)) }
         ensures entry { IfOk result (λ brought. self.new
@@ -264,8 +266,10 @@ impl<I: Instance + Drop, B: Settle + Drop> Member<I, B> {
     ) -> Result<Outcome, AllocError>
         requires { IsFor self.old.keys checked }
         ensures outcome { IfOk result (λ outcome. outcome
-            ≡ answer_to self.old.genesis self.old.keys.own (events self.old.history) checked.frame) }
-        ensures entry { IfOk result (λ outcome. self.new ≡ with_taken self.old stamp checked outcome) }
+            ≡ answer_to self.old.genesis self.old.keys.own (events self.old.history)
+            checked.frame) }
+        ensures entry { IfOk result (λ outcome.
+            self.new ≡ with_taken self.old stamp checked outcome) }
         ensures err { OnErr result (self.new ≡ self.old) }
     {
         match self.take(alloc, stamp, checked) {
@@ -342,7 +346,8 @@ impl<I: Instance + Drop, B: Settle + Drop> Member<I, B> {
     /// The body at a place of all that the member sent to all.
     pub fn sent(&self, place: u64) -> Option<&Body>
         ensures { option_copied result
-            ≡ slice_get (out (group_in self.now.genesis self.now.keys.own) (events self.now.history)) place }
+            ≡ slice_get (out (group_in self.now.genesis self.now.keys.own)
+            (events self.now.history)) place }
     {
         self.ledger.sent(place as usize)
     }
@@ -368,7 +373,8 @@ impl<I: Instance + Drop, B: Settle + Drop> Member<I, B> {
     pub fn front(&self, account: u16) -> u32
         requires { account < self.now.genesis.members }
         ensures { result
-            ≡ slice_index (book_after self.now.genesis self.now.keys.own (events self.now.history)).front account }
+            ≡ slice_index (book_after self.now.genesis self.now.keys.own
+            (events self.now.history)).front account }
     {
         a_channel_follows();
         settled_book_is_one();
@@ -388,7 +394,8 @@ impl<I: Instance + Drop, B: Settle + Drop> Member<I, B> {
     pub fn balance(&self, account: u16) -> u64
         requires { account < self.now.genesis.members }
         ensures { result
-            ≡ slice_index (book_after self.now.genesis self.now.keys.own (events self.now.history)).balances account }
+            ≡ slice_index (book_after self.now.genesis self.now.keys.own
+            (events self.now.history)).balances account }
     {
         a_channel_follows();
         settled_book_is_one();
@@ -398,7 +405,8 @@ impl<I: Instance + Drop, B: Settle + Drop> Member<I, B> {
     /// How far the payment under a number of an account has come.
     pub fn state(&self, owner: u16, seq: u32) -> PaymentState
         requires { owner < self.now.genesis.members }
-        ensures { result ≡ state_of self.now.genesis self.now.keys.own (events self.now.history) owner seq }
+        ensures { result
+            ≡ state_of self.now.genesis self.now.keys.own (events self.now.history) owner seq }
     {
         a_channel_follows();
         settled_book_is_one();
@@ -419,7 +427,8 @@ impl<I: Instance + Drop, B: Settle + Drop> Member<I, B> {
         ensures { IfOk result (λ lines. lines.items
             ≡ statement_of self.now.genesis.members
             (list_of (group_in self.now.genesis self.now.keys.own) (events self.now.history))
-            (slice_index (book_after self.now.genesis self.now.keys.own (events self.now.history)).front) account) }
+            (slice_index (book_after self.now.genesis self.now.keys.own
+            (events self.now.history)).front) account) }
     {
         a_channel_follows();
         settled_book_is_one();
