@@ -11,5 +11,6 @@ pub mod Taking
 pub mod WorldLemmas
 pub mod Forging
 pub mod Answering
+pub mod UnderWay
 pub mod Running
 pub mod GroupKeyLemmas

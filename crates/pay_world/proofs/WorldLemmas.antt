@@ -20,7 +20,7 @@ use Rattle.pay_world.proofs.Taking.{adds-elsewhere}
 
 -- ---- places of a list
 
-none_past : {X : Type 0} (xs : List X) (i : ℕ) → slice_get xs i ≡ None → length xs ≤ i
+pub none_past : {X : Type 0} (xs : List X) (i : ℕ) → slice_get xs i ≡ None → length xs ≤ i
 none_past xs i is = ⊎_elim (λ inside. absurd (none-some inside.0 (sym is ∙ inside.2))) (λ past. past.0) (slice_get_cases xs i).1
 
 get-set_same : {X : Type 0} (xs : List X) (i : ℕ) (y : X) → i < length xs → slice_get (set xs i y) i ≡ Some y

@@ -4,8 +4,12 @@ use Rattle.pay_channel.specs.History.{Event, out}
 use Rattle.pay_channel.specs.Taken.{next}
 use Rattle.pay_world.specs.Setting.{Setting, group_at, IsCorrect}
 
+-- Member i took all that member j sent, where these are two and both are correct.
+abbrev pub HasTaken : Setting → (ℕ → List Event) → ℕ → ℕ → Type 0
+HasTaken w histories i j =
+    IsCorrect w i → IsCorrect w j → i ≢ j
+    → next j (histories i) ≡ length (out (group_at w j) (histories j))
+
 -- Each correct member took all that each other correct one sent.
 pub record AllTaken (w : Setting) (histories : ℕ → List Event) : Type 0 where
-  pub each :
-      (i j : ℕ) → IsCorrect w i → IsCorrect w j → i ≢ j
-      → next j (histories i) ≡ length (out (group_at w j) (histories j))
+  pub each : (i j : ℕ) → HasTaken w histories i j

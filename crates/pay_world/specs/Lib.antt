@@ -12,6 +12,7 @@ pub mod Headline
 pub mod HeadlineLaws
 pub mod Examples
 pub mod World
+pub mod Converged
 pub mod Answer
 pub mod Run
 pub mod GroupKeys

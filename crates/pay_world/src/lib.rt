@@ -1,7 +1,8 @@
-//! Many members of one group and all that happens to them: what holds between correct members, whatever the
-//! others do.
+//! Many members of one group and all that happens to them: what holds between correct members,
+//! whatever the others do.
 #![tactic(auto)]
 
+mod convergence;
 mod event;
 pub mod examples;
 mod fault;
@@ -14,6 +15,7 @@ mod reply;
 mod run;
 mod world;
 
+pub use convergence::all_taken;
 pub use event::WorldEvent;
 pub use fault::WorldFault;
 pub use group_keys::group_test_keys;

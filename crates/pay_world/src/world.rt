@@ -79,9 +79,9 @@ impl<I: Instance + Drop, B: Settle + Drop> World<I, B> {
 
     /// Lets an event happen, and returns what its member answered.
     ///
-    /// Refuses a frame in the name of a correct member that didn't send it (`Forged`), with the count
-    /// of the events answered before, which stays at the greatest number that it can hold. A refused
-    /// event changes nothing.
+    /// Refuses a frame in the name of a correct member that didn't send it (`Forged`), with the
+    /// count of the events answered before, which stays at the greatest number that it can hold. A
+    /// refused event changes nothing.
     pub fn apply<T: Tagger>(
         &mut self,
         alloc: Global,
@@ -187,6 +187,14 @@ impl<I: Instance + Drop, B: Settle + Drop> World<I, B> {
             Some(sender) => !is_sent(sender, opened.frame()),
             None => false,
         }
+    }
+
+    // How many members the group has, those that lie among them.
+    pub(crate) fn members(&self) -> u16
+        ensures value { result ≡ self.now.genesis.members }
+        ensures limits { IsWorld self.now }
+    {
+        self.genesis.members()
     }
 
     /// The member of a number, unless it is no member or lies.
