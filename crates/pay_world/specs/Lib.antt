@@ -15,4 +15,5 @@ pub mod World
 pub mod Converged
 pub mod Answer
 pub mod Run
+pub mod RunLaws
 pub mod GroupKeys

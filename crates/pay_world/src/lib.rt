@@ -13,6 +13,7 @@ mod liar_laws;
 mod liars;
 mod reply;
 mod run;
+mod run_laws;
 mod world;
 
 pub use convergence::all_taken;
@@ -24,4 +25,5 @@ pub use liar_laws::liar_causes;
 pub use liars::Liars;
 pub use reply::Reply;
 pub use run::run_world;
+pub use run_laws::world_by_events;
 pub use world::World;
