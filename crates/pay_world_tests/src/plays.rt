@@ -1,10 +1,10 @@
 //! Rows played in a world.
 //!
-//! They also hold where an allocation fails, as under `rt try --test --fail-alloc N`: nothing happened then, and
-//! the same step has its answer when it is given again.
+//! They also hold where an allocation fails, as under `rt try --test --fail-alloc N`: nothing
+//! happened then, and the same step has its answer when it is given again.
 
 use crate::rows::{LIAR_FAULTS_PRINTED, LIARS, PRINTED, ROWS};
-use crate::step::{Row, Step};
+use crate::step::{Group, Row, Step};
 use crate::trial::{Trial, four};
 use pay_world::{LiarFault, Liars};
 use std::alloc::Global;
@@ -17,15 +17,15 @@ fn meets(alloc: Global, trial: &mut Trial, step: &Step) -> bool {
 }
 
 // A new world, at the second try where memory is refused at the first.
-fn fresh(alloc: Global) -> Option<Trial> {
-    match Trial::new(alloc) {
+fn fresh(alloc: Global, group: Group) -> Option<Trial> {
+    match Trial::new(alloc, group) {
         Some(trial) => Some(trial),
-        None => Trial::new(alloc),
+        None => Trial::new(alloc, group),
     }
 }
 
 fn plays(rt: &impl Abort, alloc: Global, row: &Row) -> Result<(), Fail> {
-    let mut trial = fresh(alloc).ok_or("no such world")?;
+    let mut trial = fresh(alloc, row.group).ok_or("no such world")?;
     let name = row.name;
     for (place, step) in row.steps.iter().enumerate() {
         assert!(rt; meets(alloc, &mut trial, step), "{name}, step {place}");

@@ -1,7 +1,7 @@
 //! The rows, and what is printed of each fault.
 
-use crate::step::Step::{Ask, Balance, Bring, Nobody, Raw};
-use crate::step::{Row, Unsealed};
+use crate::step::Step::{AllTaken, Ask, Balance, Bring, Nobody, Pass, Raw};
+use crate::step::{Group, Row, Unsealed};
 use pay_frame::{FrameFault, Kind};
 use pay_link::LinkFault;
 use pay_member::{MemberFault, Outcome, Took};
@@ -11,6 +11,8 @@ use pay_world::{LiarFault, Reply, WorldFault};
 const THIRTY_TO_1: &[u8] = &[1, 0, 1, 0, 0, 0, 0, 0, 0, 0, 30];
 
 const FIVE_TO_1: &[u8] = &[1, 0, 1, 0, 0, 0, 0, 0, 0, 0, 5];
+
+const TEN_TO_2: &[u8] = &[1, 0, 2, 0, 0, 0, 0, 0, 0, 0, 10];
 
 // A byte longer than a frame's value may be.
 const LONG: &[u8] = &[0; 1025];
@@ -58,9 +60,10 @@ const BAD_TAG: Reply = Brought(Outcome::Link(LinkFault::BadTag));
 
 const TRUNCATED: Reply = Brought(Outcome::Frame(FrameFault::Truncated));
 
-pub(crate) const ROWS: [Row; 3] = [
+pub(crate) const ROWS: [Row; 5] = [
     Row {
         name: "what another didn't send is forged",
+        group: Group::Four,
         steps: &[
             Raw(1, MISTAGGED, Ok(BAD_TAG)),
             Bring(SENT, Err(WorldFault::Forged(1))),
@@ -80,6 +83,7 @@ pub(crate) const ROWS: [Row; 3] = [
     },
     Row {
         name: "a liar says what it likes",
+        group: Group::Four,
         steps: &[
             Bring(LIE, Ok(ECHO)),
             Bring(Unsealed { number: 5, ..LIE }, Ok(GAP)),
@@ -97,6 +101,7 @@ pub(crate) const ROWS: [Row; 3] = [
     },
     Row {
         name: "what is nobody's is ignored",
+        group: Group::Four,
         steps: &[
             Ask(3, THIRTY_TO_1, Ok(Ignored)),
             Ask(9, THIRTY_TO_1, Ok(Ignored)),
@@ -106,6 +111,47 @@ pub(crate) const ROWS: [Row; 3] = [
             Nobody(3),
             Nobody(4),
             Balance(0, 3, 50),
+        ],
+    },
+    Row {
+        name: "one frame behind the other, until all was taken",
+        group: Group::Four,
+        steps: &[
+            AllTaken(true),
+            Ask(0, THIRTY_TO_1, Ok(Asked(0))),
+            AllTaken(false),
+            // SEND and ECHO of member 0, then the others' ECHOs and READYs
+            Pass(0, 1),
+            Pass(0, 1),
+            Pass(0, 2),
+            Pass(0, 2),
+            Pass(1, 0),
+            Pass(2, 0),
+            Pass(1, 2),
+            Pass(2, 1),
+            Pass(0, 1),
+            Pass(0, 2),
+            Pass(1, 0),
+            Pass(2, 0),
+            Pass(1, 2),
+            AllTaken(false),
+            Pass(2, 1),
+            AllTaken(true),
+            Balance(0, 1, 30),
+            Balance(1, 1, 30),
+            Balance(2, 1, 30),
+            Ask(0, TEN_TO_2, Ok(Asked(1))),
+            AllTaken(false),
+        ],
+    },
+    Row {
+        name: "alone, nothing is ever under way",
+        group: Group::Alone,
+        steps: &[
+            AllTaken(true),
+            Ask(0, THIRTY_TO_1, Ok(Asked(0))),
+            AllTaken(true),
+            Balance(0, 0, 7),
         ],
     },
 ];

@@ -26,10 +26,24 @@ pub(crate) enum Step {
     Balance(u16, u16, u64),
     /// There is no such correct member.
     Nobody(u16),
+    /// One member takes the next frame of all that another one sent: from whom, to whom.
+    Pass(u16, u16),
+    /// Whether all was taken.
+    AllTaken(bool),
 }
 
-/// What happens to a world of four, of which member 3 lies.
+/// The group that a row is played in.
+#[derive(Clone, Copy)]
+pub(crate) enum Group {
+    /// Four members whose accounts began with 100, 0, 0 and 50; member 3 lies.
+    Four,
+    /// One member by itself.
+    Alone,
+}
+
+/// What happens to a world.
 pub(crate) struct Row {
     pub(crate) name: &'static str,
+    pub(crate) group: Group,
     pub(crate) steps: &'static [Step],
 }

@@ -1,15 +1,16 @@
 //! A world to which steps happen.
 
-use crate::step::{Step, Unsealed};
+use crate::step::{Group, Step, Unsealed};
 use pay_book::PlainBook;
 use pay_echo::PlainInstance;
 use pay_frame::{Body, Bytes, GREATEST_VALUE, Kind, SEQS};
 use pay_hmac::HmacSha256;
 use pay_link::{Genesis, Keys, seal, test_keys};
-use pay_world::{Liars, Reply, World, WorldEvent, WorldFault, group_test_keys};
+use pay_member::Outcome;
+use pay_world::{Liars, Reply, World, WorldEvent, WorldFault, all_taken, group_test_keys};
 use std::alloc::Global;
 
-/// The world of a group of four whose accounts began with 100, 0, 0 and 50.
+/// A group's world.
 #[derive(Drop)]
 pub(crate) struct Trial {
     genesis: Genesis,
@@ -21,16 +22,23 @@ pub(crate) fn four(alloc: Global) -> Option<Genesis> {
 }
 
 impl Trial {
-    /// That world, with its member 3 a liar, unless memory is refused.
-    pub(crate) fn new(alloc: Global) -> Option<Trial> {
-        let genesis = four(alloc)?;
+    /// That world, unless memory is refused.
+    pub(crate) fn new(alloc: Global, group: Group) -> Option<Trial> {
+        match group {
+            Group::Four => Trial::of(alloc, four(alloc)?, &[3]),
+            Group::Alone => Trial::of(alloc, Genesis::new(alloc, 1, 0, &[7]).ok()?, &[]),
+        }
+    }
+
+    fn of(alloc: Global, genesis: Genesis, liars: &[u16]) -> Option<Trial> {
         let keys = group_test_keys(alloc, &genesis).ok()?;
-        let liars = Liars::new(alloc, &genesis, &[3]).ok()?;
+        let liars = Liars::new(alloc, &genesis, liars).ok()?;
         let world = World::new(alloc, &genesis, keys.as_slice(), &liars).ok()?;
         Some(Trial { genesis, world })
     }
 
-    /// Lets a step happen, and says whether the answer is the one expected. It isn't where memory is refused.
+    /// Lets a step happen, and says whether the answer is the one expected. It isn't where memory is
+    /// refused.
     pub(crate) fn meets(&mut self, alloc: Global, step: &Step) -> bool {
         match *step {
             Step::Ask(member, value, answer) => match Bytes::from_slice(alloc, value) {
@@ -47,6 +55,8 @@ impl Trial {
             },
             Step::Balance(member, account, balance) => self.has(member, account, balance),
             Step::Nobody(member) => self.world.member(member).is_none(),
+            Step::Pass(from, to) => self.passes(alloc, from, to),
+            Step::AllTaken(answer) => all_taken(&self.world) == answer,
         }
     }
 
@@ -66,6 +76,31 @@ impl Trial {
             }
             None => false,
         }
+    }
+
+    // Whether a member takes the next frame of another one.
+    fn passes(&mut self, alloc: Global, from: u16, to: u16) -> bool {
+        let Some(bytes) = self.next_frame(alloc, from, to) else {
+            return false;
+        };
+        matches!(
+            self.world
+                .apply(alloc, &HmacSha256, WorldEvent::Bring(to, bytes)),
+            Ok(Reply::Brought(Outcome::Took(_)))
+        )
+    }
+
+    // What one member has to send another, under the number that is next there.
+    fn next_frame(&self, alloc: Global, from: u16, to: u16) -> Option<Bytes> {
+        let sender = self.world.member(from)?;
+        let receiver = self.world.member(to)?;
+        if from >= receiver.genesis().members() || !sender.keys().is_peer(to) {
+            return None;
+        }
+        let number = receiver.next(from);
+        let body = sender.sent(number)?;
+        let bytes = seal(alloc, &HmacSha256, sender.keys(), to, number, body).ok()?;
+        Some(Bytes::new(bytes))
     }
 
     // The frame, sealed by its sender.
