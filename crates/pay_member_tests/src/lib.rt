@@ -1,4 +1,5 @@
-//! Tests of `pay_member`: worked rows by calls, a stream that feeds a member, and what is printed of each refusal.
+//! Tests of `pay_member`: worked rows by calls, a stream that feeds a member, and what is printed of
+//! each refusal.
 #![tactic(auto)]
 
 #[cfg(test)]

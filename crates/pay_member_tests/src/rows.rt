@@ -1,12 +1,13 @@
 //! The rows, and what is printed of each refusal.
 
-use crate::step::Fact::{Balance, Entries, Fetched, Front, Next, State, Statement};
-use crate::step::Step::{Ask, Query, Show, Take};
+use crate::step::Fact::{Balance, Entries, Fetched, Front, Fronts, Next, State, Statement};
+use crate::step::Step::{Ask, Bring, Query, Raw, Show, Take};
 use crate::step::{Row, Said, Unsealed};
 use pay_book::Line;
-use pay_frame::Kind;
-use pay_member::MemberFault::{Gap, NoAccount, Repeat, TooLong, WrongKey};
-use pay_member::{MemberFault, PaymentState, Told, Took};
+use pay_frame::{FrameFault, Kind};
+use pay_link::LinkFault;
+use pay_member::MemberFault::{Gap, NoAccount, Repeat, Spent, TooLong, WrongKey};
+use pay_member::{MemberFault, Outcome, PaymentState, Told, Took};
 
 const THIRTY_TO_1: &[u8] = &[1, 0, 1, 0, 0, 0, 0, 0, 0, 0, 30];
 
@@ -34,6 +35,13 @@ const ALONE_READY: Said = Said {
     ..ALONE_SEND
 };
 
+// The READY of its last broadcast, of an empty value.
+const LAST_READY: Said = Said {
+    seq: 65_535,
+    value: &[],
+    ..ALONE_READY
+};
+
 // A byte longer than a frame's value may be.
 const LONG: &[u8] = &[0; 1025];
 
@@ -47,6 +55,20 @@ const SENT: Unsealed = Unsealed {
     seq: 0,
     value: THIRTY_TO_1,
 };
+
+// Member 0 asks for another's frames from number 7 on.
+const WANTED: Unsealed = Unsealed {
+    number: 7,
+    kind: Kind::Want,
+    value: &[],
+    ..SENT
+};
+
+// Member 0 sends member 1 an empty value, under a tag of zeros.
+const MISTAGGED: &[u8] = &[
+    0, 54, 1, 1, 0, 0, 0, 1, 0, 0, 0, 0, 0, 0, 0, 0, 0, 0, 0, 0, 0, 0, 0, 0, 0, 0, 0, 0, 0, 0, 0,
+    0, 0, 0, 0, 0, 0, 0, 0, 0, 0, 0, 0, 0, 0, 0, 0, 0, 0, 0, 0, 0, 0, 0, 0, 0,
+];
 
 // The same broadcast's ECHO, its second frame.
 const ECHOED: Unsealed = Unsealed {
@@ -106,7 +128,7 @@ const SETTLED: Took = Took {
 
 const OPENING: &[u64] = &[100, 0, 0, 50];
 
-pub(crate) const ROWS: [Row; 5] = [
+pub(crate) const ROWS: [Row; 6] = [
     Row {
         name: "refusals leave no entry",
         faults: 1,
@@ -145,6 +167,28 @@ pub(crate) const ROWS: [Row; 5] = [
         ],
     },
     Row {
+        name: "brought bytes",
+        faults: 1,
+        opening: OPENING,
+        own: 1,
+        steps: &[
+            Raw(&[], Outcome::Frame(FrameFault::Truncated)),
+            Raw(MISTAGGED, Outcome::Link(LinkFault::BadTag)),
+            Bring(SENT, Outcome::Took(ECHO), Some(1)),
+            Bring(SENT, Outcome::Link(LinkFault::Repeat(1)), Some(1)),
+            Bring(READIED, Outcome::Link(LinkFault::Gap(1)), Some(1)),
+            Bring(
+                Unsealed { to: 2, ..ECHOED },
+                Outcome::Link(LinkFault::NotForMe),
+                None,
+            ),
+            Bring(WANTED, Outcome::Wanted { from: 0, number: 7 }, None),
+            Show(Entries(1)),
+            Show(Next(0, 1)),
+            Show(Fronts(&[0, 0, 0, 0])),
+        ],
+    },
+    Row {
         name: "plain payment, its payee",
         faults: 1,
         opening: OPENING,
@@ -173,6 +217,7 @@ pub(crate) const ROWS: [Row; 5] = [
             Show(State(0, 0, PaymentState::Settled)),
             Show(Front(0, 1)),
             Show(Front(1, 0)),
+            Show(Fronts(&[1, 0, 0, 0])),
             Show(Balance(0, 70)),
             Show(Balance(1, 30)),
             Show(Balance(2, 0)),
@@ -293,6 +338,25 @@ pub(crate) const ROWS: [Row; 5] = [
         ],
     },
 ];
+
+/// A member alone that broadcast a value under each number.
+pub(crate) const SPENT: Row = Row {
+    name: "asks spent",
+    faults: 0,
+    opening: &[7],
+    own: 0,
+    steps: &[
+        Show(Front(0, 65_536)),
+        Ask(FIVE_TO_0, Err(Spent)),
+        Ask(LONG, Err(TooLong)),
+        Show(Entries(65_536)),
+        Show(Front(0, 65_536)),
+        Show(Balance(0, 7)),
+        Show(State(0, 65_535, PaymentState::Settled)),
+        Show(State(0, 65_536, PaymentState::Unknown)),
+        Show(Fetched(196_607, 16, &[LAST_READY])),
+    ],
+};
 
 /// A refusal is printed as its number and its name.
 pub(crate) const PRINTED: [(MemberFault, &str); 7] = [

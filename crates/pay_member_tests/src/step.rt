@@ -2,7 +2,7 @@
 
 use pay_book::Line;
 use pay_frame::Kind;
-use pay_member::{MemberFault, PaymentState, Told, Took};
+use pay_member::{MemberFault, Outcome, PaymentState, Told, Took};
 
 /// A frame, before its sender seals it.
 #[derive(Clone, Copy)]
@@ -22,6 +22,10 @@ pub(crate) enum Step {
     Ask(&'static [u8], Result<u32, MemberFault>),
     /// The frame is opened by the member that it was sealed for.
     Take(Unsealed, Result<Took, MemberFault>),
+    /// The frame's bytes are brought: what comes of them, and which number the WANT asks for.
+    Bring(Unsealed, Outcome, Option<u64>),
+    /// These bytes are brought, and no WANT is answered.
+    Raw(&'static [u8], Outcome),
     Query(u16, Result<Told, MemberFault>),
     Show(Fact),
 }
@@ -35,6 +39,8 @@ pub(crate) enum Fact {
     Next(u16, u64),
     /// So many of an account's entries are settled.
     Front(u16, u32),
+    /// So many of each account's are.
+    Fronts(&'static [u32]),
     Balance(u16, u64),
     /// How far the payment under an owner's number has come.
     State(u16, u32, PaymentState),

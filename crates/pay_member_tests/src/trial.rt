@@ -7,8 +7,8 @@ use pay_book::{Line, PlainBook};
 use pay_echo::PlainInstance;
 use pay_frame::{Body, Bytes, GREATEST_VALUE, Kind, SEQS, read_one};
 use pay_hmac::HmacSha256;
-use pay_link::{Checked, Genesis, Keys, open, seal, test_keys};
-use pay_member::Member;
+use pay_link::{Checked, Genesis, Keys, open, seal, test_keys, want};
+use pay_member::{Brought, Member, Outcome};
 use std::alloc::Global;
 
 /// A member, and the genesis that it was made with.
@@ -36,7 +36,8 @@ impl Trial {
         self.member.history().len()
     }
 
-    /// Takes a step, and says whether the reply is the one expected. It isn't where memory is refused.
+    /// Takes a step, and says whether the reply is the one expected. It isn't where memory is
+    /// refused.
     pub(crate) fn meets(&mut self, alloc: Global, step: &Step) -> bool {
         match *step {
             Step::Ask(value, reply) => match Bytes::from_slice(alloc, value) {
@@ -47,8 +48,27 @@ impl Trial {
                 Some(checked) => self.member.take(alloc, 0, checked) == reply,
                 None => false,
             },
+            Step::Bring(frame, outcome, number) => match self.sealed(alloc, frame) {
+                Some(bytes) => self.brings(alloc, bytes.as_slice(), outcome, number),
+                None => false,
+            },
+            Step::Raw(bytes, outcome) => self.brings(alloc, bytes, outcome, None),
             Step::Query(account, reply) => self.member.query(alloc, 0, account) == reply,
             Step::Show(fact) => self.shows(alloc, fact),
+        }
+    }
+
+    // Whether that comes of the bytes, and the WANT asks for that number.
+    fn brings(
+        &mut self,
+        alloc: Global,
+        bytes: &[u8],
+        outcome: Outcome,
+        number: Option<u64>,
+    ) -> bool {
+        match self.member.bring(alloc, 0, &HmacSha256, bytes) {
+            Ok(brought) => brought.outcome == outcome && number_in(&brought) == number,
+            Err(_) => false,
         }
     }
 
@@ -58,6 +78,10 @@ impl Trial {
             Fact::Entries(count) => self.entries() == count,
             Fact::Next(peer, number) => peer < members && self.member.next(peer) == number,
             Fact::Front(account, front) => account < members && self.member.front(account) == front,
+            Fact::Fronts(fronts) => match self.member.fronts(alloc) {
+                Ok(shown) => shown.as_slice() == fronts,
+                Err(_) => false,
+            },
             Fact::Balance(account, balance) => {
                 account < members && self.member.balance(account) == balance
             }
@@ -93,14 +117,23 @@ impl Trial {
         }
     }
 
-    // The frame, sealed by its sender and opened by its receiver.
-    fn checked(&self, alloc: Global, frame: Unsealed) -> Option<Checked> {
+    // The frame, sealed by its sender.
+    fn sealed(&self, alloc: Global, frame: Unsealed) -> Option<Vec<u8>> {
         let sender = keys_in(alloc, &self.genesis, frame.from)?;
         if !sender.is_peer(frame.to) {
             return None;
         }
+        if frame.kind == Kind::Want {
+            let bytes = want(&HmacSha256, &sender, frame.to, frame.number);
+            return Vec::from_slice(alloc, &bytes).ok();
+        }
         let body = body_of(alloc, frame)?;
-        let bytes = seal(alloc, &HmacSha256, &sender, frame.to, frame.number, &body).ok()?;
+        seal(alloc, &HmacSha256, &sender, frame.to, frame.number, &body).ok()
+    }
+
+    // The frame, sealed by its sender and opened by its receiver.
+    fn checked(&self, alloc: Global, frame: Unsealed) -> Option<Checked> {
+        let bytes = self.sealed(alloc, frame)?;
         let receiver = keys_in(alloc, &self.genesis, frame.to)?;
         let opened = open(&HmacSha256, &receiver, read_one(bytes.as_slice()).ok()?).ok()?;
         if opened.frame().kind() == Kind::Want {
@@ -132,6 +165,13 @@ fn body_of(alloc: Global, frame: Unsealed) -> Option<Body> {
     }
     let value = Bytes::from_slice(alloc, value).ok()?;
     Some(Body::new(kind, owner, seq, value))
+}
+
+// The number that an answer's WANT asks for.
+fn number_in(brought: &Brought) -> Option<u64> {
+    let bytes = brought.want?;
+    let frame = read_one(&bytes).ok()?;
+    Some(frame.number())
 }
 
 fn is_said(body: &Body, said: &Said) -> bool {
