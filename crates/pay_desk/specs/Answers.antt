@@ -1,0 +1,118 @@
+-- What a desk answers to a line, as a function of what it keeps, the line, and what its teller replies.
+use Rattle.std.specs.Prelude.{◌≡◌, ℕ, ◌==◌, ◌||◌, nat_lt, true, List, Option, Some, None, Result, Ok, Err, if◌then◌else◌, ◌⊎◌}
+use Rattle.pay_book.specs.declared.line.Line.{Line}
+use Rattle.pay_book.specs.Payment.{payment_value}
+use Rattle.pay_desk.specs.declared.command.Command.{Command}
+use Rattle.pay_desk.specs.declared.command.Command.TheVariants.{Pay, Balance, State, Statement, Front}
+use Rattle.pay_desk.specs.declared.command.Order.{Order}
+use Rattle.pay_desk.specs.declared.desk.Desk.{Desk}
+use Rattle.pay_desk.specs.declared.fault.DeskFault.{DeskFault}
+use Rattle.pay_desk.specs.declared.fault.DeskFault.TheVariants.{BadLine, NoAccount, ZeroOrSelf, IdUsed}
+use Rattle.pay_desk.specs.declared.kept.Kept.{Kept}
+use Rattle.pay_desk.specs.declared.teller_fault.TellerFault.{TellerFault}
+use Rattle.pay_desk.specs.Calls as call
+use Rattle.pay_desk.specs.Calls.{Call, Reply, Replies, only_reads}
+use Rattle.pay_desk.specs.Faults.{desk_fault_of}
+use Rattle.pay_desk.specs.Kept.{kept_under, is_same, kept_after}
+use Rattle.pay_desk.specs.Words.{refused_words, asked_words, balance_words, state_words, statement_words, front_words}
+
+-- ---- the words by what the teller replied
+
+-- words of what was told, or of the refusal
+abbrev pub told_or_refused : {X : Type 0} → (X → List ℕ) → Result X TellerFault → List ℕ
+told_or_refused words (Ok told) = words told
+told_or_refused words (Err fault) = refused_words (desk_fault_of fault)
+
+abbrev pub stated_words : ℕ → List Line × ℕ → List ℕ
+stated_words account (lines, balance) = statement_words account lines balance
+
+-- a kept id: the same payment has the answer that it had, and another one none
+abbrev pub kept_words : Kept → Order → List ℕ
+kept_words kept order = if is_same kept.order order then asked_words order.id kept.seq else refused_words IdUsed
+
+-- ---- refusals before the teller is asked
+
+abbrev pub account_fault : ℕ → ℕ → Option DeskFault
+account_fault accounts account = if nat_lt account accounts then None else Some NoAccount
+
+abbrev pub pay_fault : ℕ → ℕ → Order → Option DeskFault
+pay_fault accounts own order =
+    if nat_lt order.to accounts
+    then (if (order.amount == 0) || (order.to == own) then Some ZeroOrSelf else None)
+    else Some NoAccount
+
+-- ---- answers
+
+-- the words of a refusal, and nothing changes
+pub record IsRefused {T : Type 0} (fault : DeskFault) (old : Desk T) (text : List ℕ) (new : Desk T) : Type 0 where
+  pub words : text ≡ refused_words fault
+  pub same : new ≡ old
+
+-- a refusal if there is one, and else this
+abbrev pub Unless : {T : Type 0} → Option DeskFault → Desk T → List ℕ → Desk T → Type 0 → Type 0
+Unless (Some fault) old text new Otherwise = IsRefused fault old text new
+Unless None old text new Otherwise = Otherwise
+
+-- The teller is called, and the words are those of its reply. Nothing but the teller changes.
+pub record Calls {T X : Type 0} (says : T → Call → Reply → T → Type 0) (called : Call) (reply : X → Reply) (words : X → List ℕ) (old : Desk T) (text : List ℕ) (new : Desk T) : Type 0 where
+  pub outcome : Result X TellerFault
+  pub replied : Replies says old.teller called reply outcome new.teller
+  pub told : text ≡ told_or_refused words outcome
+  pub same : new ≡ record old { teller = new.teller }
+
+-- The teller is asked to broadcast the payment, which is kept unless it is refused.
+pub record Pays {T : Type 0} (says : T → Call → Reply → T → Type 0) (order : Order) (old : Desk T) (text : List ℕ) (new : Desk T) : Type 0 where
+  pub outcome : Result ℕ TellerFault
+  pub replied : Replies says old.teller (call.Ask (payment_value order.to order.amount)) call.Asked outcome new.teller
+  pub told : text ≡ told_or_refused (asked_words order.id) outcome
+  pub kept : new.kept ≡ kept_after old.kept order outcome
+  pub same : new ≡ record old { teller = new.teller; kept = new.kept }
+
+-- the words of what is kept, and nothing changes
+pub record IsKeptAnswer {T : Type 0} (kept : Kept) (order : Order) (old : Desk T) (text : List ℕ) (new : Desk T) : Type 0 where
+  pub words : text ≡ kept_words kept order
+  pub same : new ≡ old
+
+abbrev pub AnswersPay : {T : Type 0} → (T → Call → Reply → T → Type 0) → Option Kept → Order → Desk T → List ℕ → Desk T → Type 0
+AnswersPay says (Some kept) order old text new = IsKeptAnswer kept order old text new
+AnswersPay says None order old text new =
+    Unless (pay_fault old.accounts old.own order) old text new (Pays says order old text new)
+
+abbrev pub AnswersBalance : {T : Type 0} → (T → Call → Reply → T → Type 0) → ℕ → Desk T → List ℕ → Desk T → Type 0
+AnswersBalance says account old text new =
+    Unless (account_fault old.accounts account) old text new
+    (Calls says (call.Query account) call.Queried (λ told. balance_words account told.balance) old text new)
+
+abbrev pub AnswersState : {T : Type 0} → (T → Call → Reply → T → Type 0) → ℕ → ℕ → Desk T → List ℕ → Desk T → Type 0
+AnswersState says owner seq old text new =
+    Unless (account_fault old.accounts owner) old text new
+    (Calls says (call.State owner seq) call.Stood (state_words owner seq) old text new)
+
+abbrev pub AnswersStatement : {T : Type 0} → (T → Call → Reply → T → Type 0) → ℕ → Desk T → List ℕ → Desk T → Type 0
+AnswersStatement says account old text new =
+    Unless (account_fault old.accounts account) old text new
+    (Calls says (call.Statement account) call.stated (stated_words account) old text new)
+
+abbrev pub AnswersFront : {T : Type 0} → (T → Call → Reply → T → Type 0) → Desk T → List ℕ → Desk T → Type 0
+AnswersFront says old text new = Calls says call.Fronts call.Settled front_words old text new
+
+-- The answer to a command, and to a line that is none. `says` is what becomes of the teller.
+abbrev pub Answers : {T : Type 0} → (T → Call → Reply → T → Type 0) → Option Command → Desk T → List ℕ → Desk T → Type 0
+Answers says None old text new = IsRefused BadLine old text new
+Answers says (Some (Pay order)) old text new = AnswersPay says (kept_under order.id old.kept) order old text new
+Answers says (Some (Balance account)) old text new = AnswersBalance says account old text new
+Answers says (Some (State owner seq)) old text new = AnswersState says owner seq old text new
+Answers says (Some (Statement account)) old text new = AnswersStatement says account old text new
+Answers says (Some Front) old text new = AnswersFront says old text new
+
+-- ---- memory
+
+-- the teller is as it was, or was called by one that only reads
+abbrev pub OnlyRead : {T : Type 0} → (T → Call → Reply → T → Type 0) → T → T → Type 0
+OnlyRead says old new =
+    (new ≡ old) ⊎ ((called : Call) × (reply : Reply) × (only_reads called ≡ true) × says old called reply new)
+
+-- Where memory was refused nothing changed, but that the teller may have been read.
+pub record GaveUp {T : Type 0} (says : T → Call → Reply → T → Type 0) (old new : Desk T) : Type 0 where
+  pub teller : OnlyRead says old.teller new.teller
+  pub same : new ≡ record old { teller = new.teller }

@@ -1,0 +1,65 @@
+-- What a desk asks of its teller, and what that replies.
+use Rattle.std.specs.Prelude.{◌≡◌, ℕ, Bool, true, false, List, [], ◌∷◌, Result, Ok, Err}
+use Rattle.pay_book.specs.declared.line.Line.{Line}
+use Rattle.pay_member.specs.declared.standing.PaymentState.{PaymentState}
+use Rattle.pay_member.specs.declared.told.Told.{Told}
+use Rattle.pay_desk.specs.declared.teller_fault.TellerFault.{TellerFault}
+use Rattle.pay_desk.specs.declared.teller_fault.TellerFault.TheVariants.{Memory, NoAccount, Spent}
+
+pub data Call : Type 0 where
+  -- to broadcast a value of the account's own
+  Ask : List ℕ → Call
+  -- for the state of an account, which the member notes
+  Query : ℕ → Call
+  -- for what became of the payment under a number of an account
+  State : ℕ → ℕ → Call
+  -- for the lines of an account's statement, and its balance
+  Statement : ℕ → Call
+  -- for how many entries of each account are settled
+  Fronts : Call
+
+pub data Reply : Type 0 where
+  Asked : ℕ → Reply
+  Queried : Told → Reply
+  Stood : PaymentState → Reply
+  Stated : List Line → ℕ → Reply
+  Settled : List ℕ → Reply
+  Refused : TellerFault → Reply
+
+-- A call came to its end: it replied, or memory was refused and nothing changed. `says` is what becomes of a teller:
+-- who it was, what it was asked, what it replied, and who it is then.
+abbrev pub Replies : {T X : Type 0} → (T → Call → Reply → T → Type 0) → T → Call → (X → Reply) → Result X TellerFault → T → Type 0
+Replies says old call reply (Ok x) new = says old call (reply x) new
+Replies says old call reply (Err Memory) new = new ≡ old
+Replies says old call reply (Err NoAccount) new = says old call (Refused NoAccount) new
+Replies says old call reply (Err Spent) new = says old call (Refused Spent) new
+
+-- the same outcome, with what was told seen as this
+abbrev pub seen_as : {X Y : Type 0} → Result X TellerFault → (X → Y) → Result Y TellerFault
+seen_as (Ok x) see = Ok (see x)
+seen_as (Err fault) see = Err fault
+
+-- a statement that was told: its lines, and the account's balance
+abbrev pub stated : List Line × ℕ → Reply
+stated (lines, balance) = Stated lines balance
+
+-- what was broadcast by a call with this reply
+abbrev pub asked_by : Call → Reply → List (List ℕ)
+asked_by (Ask value) (Asked seq) = value ∷ []
+asked_by (Ask value) (Queried told) = []
+asked_by (Ask value) (Stood state) = []
+asked_by (Ask value) (Stated lines balance) = []
+asked_by (Ask value) (Settled fronts) = []
+asked_by (Ask value) (Refused fault) = []
+asked_by (Query account) reply = []
+asked_by (State owner seq) reply = []
+asked_by (Statement account) reply = []
+asked_by Fronts reply = []
+
+-- such a call leaves no entry at a member
+abbrev pub only_reads : Call → Bool
+only_reads (Ask value) = false
+only_reads (Query account) = false
+only_reads (State owner seq) = true
+only_reads (Statement account) = true
+only_reads Fronts = true

@@ -1,0 +1,65 @@
+-- What the lines of a desk ask for, word by word.
+use Rattle.std.specs.Prelude.{ℕ, nat_le, nat_lt, List, length, drop, codes, if◌then◌else◌, Option, Some, None, option_and_then}
+use Rattle.std.specs.Str.{bytes_eq}
+use Rattle.pay_frame.specs.declared.limits.TheConstants.{SEQS}
+use Rattle.pay_text.specs.Words.{words_of, first_word, is_none}
+use Rattle.pay_text.specs.Numbers.{first_number}
+use Rattle.pay_desk.specs.declared.command.Command.{Command}
+use Rattle.pay_desk.specs.declared.command.Command.TheVariants.{Pay, Balance, State, Statement, Front}
+use Rattle.pay_desk.specs.declared.command.TheConstants.{MOST_LINE}
+
+-- the numbers that payments of an account have
+abbrev pub if_seq : ℕ → Option ℕ
+if_seq n = if nat_lt n SEQS then Some n else None
+
+abbrev pub first_seq : List (List ℕ) → Option ℕ
+first_seq words = option_and_then if_seq (first_number words)
+
+-- what is asked for, where no word is left
+abbrev pub if_last : {X : Type 0} → List (List ℕ) → X → Option X
+if_last words x = if is_none words then Some x else None
+
+-- ---- commands, by the words behind their names
+
+-- `ID TO AMOUNT`
+unfoldable pub pay_in : List (List ℕ) → Option Command
+pay_in words =
+    option_and_then (λ id. option_and_then (λ to. option_and_then (λ amount.
+    if_last (drop 1 (drop 1 (drop 1 words))) (Pay (record { id = id; to = to; amount = amount })))
+    (first_number (drop 1 (drop 1 words))))
+    (first_number (drop 1 words)))
+    (first_number words)
+
+-- `OWNER SEQ`
+unfoldable pub state_in : List (List ℕ) → Option Command
+state_in words =
+    option_and_then (λ owner. option_and_then (λ seq.
+    if_last (drop 1 (drop 1 words)) (State owner seq))
+    (first_seq (drop 1 words)))
+    (first_number words)
+
+-- `A`
+unfoldable pub balance_in : List (List ℕ) → Option Command
+balance_in words = option_and_then (λ account. if_last (drop 1 words) (Balance account)) (first_number words)
+
+-- `A`
+unfoldable pub statement_in : List (List ℕ) → Option Command
+statement_in words = option_and_then (λ account. if_last (drop 1 words) (Statement account)) (first_number words)
+
+-- the command of this name
+abbrev pub command_of : List (List ℕ) → List ℕ → Option Command
+command_of words name =
+    if bytes_eq name (codes "PAY") then pay_in words
+    else if bytes_eq name (codes "BALANCE") then balance_in words
+    else if bytes_eq name (codes "STATE") then state_in words
+    else if bytes_eq name (codes "STATEMENT") then statement_in words
+    else if bytes_eq name (codes "FRONT") then if_last words Front
+    else None
+
+-- what these words ask for
+unfoldable pub command_by : List (List ℕ) → Option Command
+command_by words = option_and_then (command_of (drop 1 words)) (first_word words)
+
+-- what a line asks for; one over the bound is no command, whatever it says
+unfoldable pub command_in : List ℕ → Option Command
+command_in line = if nat_le (length line) MOST_LINE then command_by (words_of line) else None

@@ -1,0 +1,28 @@
+-- The numbers and names of a desk's refusals.
+use Rattle.std.specs.Prelude.{ℕ, List, codes}
+use Rattle.pay_desk.specs.declared.fault.DeskFault.{DeskFault}
+use Rattle.pay_desk.specs.declared.fault.DeskFault.TheVariants.{Memory, BadLine, NoAccount, ZeroOrSelf, IdUsed, Spent}
+use Rattle.pay_desk.specs.declared.teller_fault.TellerFault.{TellerFault}
+use Rattle.pay_desk.specs.declared.teller_fault.TellerFault.TheVariants as teller
+
+abbrev pub desk_fault_number : DeskFault → ℕ
+desk_fault_number Memory = 0
+desk_fault_number BadLine = 1
+desk_fault_number NoAccount = 2
+desk_fault_number ZeroOrSelf = 3
+desk_fault_number IdUsed = 4
+desk_fault_number Spent = 5
+
+abbrev pub desk_fault_name : DeskFault → List ℕ
+desk_fault_name Memory = codes "Memory"
+desk_fault_name BadLine = codes "BadLine"
+desk_fault_name NoAccount = codes "NoAccount"
+desk_fault_name ZeroOrSelf = codes "ZeroOrSelf"
+desk_fault_name IdUsed = codes "IdUsed"
+desk_fault_name Spent = codes "Spent"
+
+-- what a desk answers where its teller refuses
+abbrev pub desk_fault_of : TellerFault → DeskFault
+desk_fault_of teller.Memory = Memory
+desk_fault_of teller.NoAccount = NoAccount
+desk_fault_of teller.Spent = Spent

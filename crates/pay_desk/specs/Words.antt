@@ -1,0 +1,61 @@
+-- The answers of a desk, each line with its line feed.
+use Rattle.std.specs.Prelude.{ℕ, List, [], ◌∷◌, ◌++◌, decimal, codes}
+use Rattle.std.specs.List.{flat_map}
+use Rattle.pay_book.specs.declared.line.Line.{Line}
+use Rattle.pay_book.specs.declared.line.Line.TheVariants.{Out, Void, In}
+use Rattle.pay_member.specs.declared.standing.PaymentState.{PaymentState}
+use Rattle.pay_member.specs.declared.standing.PaymentState.TheVariants.{Unknown, Asked, Waiting, Settled}
+use Rattle.pay_desk.specs.declared.fault.DeskFault.{DeskFault}
+use Rattle.pay_desk.specs.Faults.{desk_fault_number, desk_fault_name}
+
+-- the end of a line
+abbrev pub end_of_line : List ℕ
+end_of_line = 10 ∷ []
+
+-- `refused C NAME`
+unfoldable pub refused_words : DeskFault → List ℕ
+refused_words fault =
+    codes "refused " ++ decimal (desk_fault_number fault) ++ codes " " ++ desk_fault_name fault ++ end_of_line
+
+-- `asked ID seq S`
+unfoldable pub asked_words : ℕ → ℕ → List ℕ
+asked_words id seq = codes "asked " ++ decimal id ++ codes " seq " ++ decimal seq ++ end_of_line
+
+-- `balance A B`
+unfoldable pub balance_words : ℕ → ℕ → List ℕ
+balance_words account balance = codes "balance " ++ decimal account ++ codes " " ++ decimal balance ++ end_of_line
+
+unfoldable pub state_name : PaymentState → List ℕ
+state_name Unknown = codes "unknown"
+state_name Asked = codes "asked"
+state_name Waiting = codes "waiting"
+state_name Settled = codes "settled"
+
+-- `state OWNER SEQ WORD`
+unfoldable pub state_words : ℕ → ℕ → PaymentState → List ℕ
+state_words owner seq state =
+    codes "state " ++ decimal owner ++ codes " " ++ decimal seq ++ codes " " ++ state_name state ++ end_of_line
+
+-- `out SEQ to PAYEE AMOUNT`, `void SEQ` or `in OWNER SEQ AMOUNT`
+unfoldable pub line_words : Line → List ℕ
+line_words (Out seq payee amount) =
+    codes "out " ++ decimal seq ++ codes " to " ++ decimal payee ++ codes " " ++ decimal amount ++ end_of_line
+line_words (Void seq) = codes "void " ++ decimal seq ++ end_of_line
+line_words (In owner seq amount) =
+    codes "in " ++ decimal owner ++ codes " " ++ decimal seq ++ codes " " ++ decimal amount ++ end_of_line
+
+-- `end A balance B`
+unfoldable pub end_words : ℕ → ℕ → List ℕ
+end_words account balance = codes "end " ++ decimal account ++ codes " balance " ++ decimal balance ++ end_of_line
+
+-- the lines of a statement, and its end
+unfoldable pub statement_words : ℕ → List Line → ℕ → List ℕ
+statement_words account lines balance = flat_map line_words lines ++ end_words account balance
+
+-- ` F0 F1 ..`
+unfoldable pub number_words : List ℕ → List ℕ
+number_words numbers = flat_map (λ n. codes " " ++ decimal n) numbers
+
+-- `front F0 F1 ..`
+unfoldable pub front_words : List ℕ → List ℕ
+front_words fronts = codes "front" ++ number_words fronts ++ end_of_line

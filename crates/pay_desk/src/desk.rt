@@ -1,0 +1,242 @@
+ghost use Rattle.std.specs.Prelude.{◌≡◌, [], IfOk, OnErr, None, Some, MatchResult};
+ghost use Rattle.pay_desk.specs.Answers.{Answers, AnswersBalance, AnswersFront, AnswersPay, AnswersState, AnswersStatement, Calls, GaveUp, Pays, account_fault, pay_fault, stated_words};
+ghost use Rattle.pay_desk.specs.Calls as call;
+ghost use Rattle.pay_desk.specs.Commands.{command_in};
+ghost use Rattle.pay_desk.specs.Kept.{kept_under};
+ghost use Rattle.pay_desk.specs.Words.{balance_words, state_words};
+
+use crate::command::{Command, Order};
+use crate::command_reading::read_command;
+use crate::fault::DeskFault;
+use crate::kept::KeptOrders;
+use crate::putting::{
+    kept_text, put_asked, put_balance, put_refused, put_state, refused_text, room,
+};
+use crate::teller::Teller;
+use crate::teller_fault::TellerFault;
+use crate::words::{push_front, push_statement};
+use pay_book::payment_value;
+use pay_frame::Bytes;
+use std::alloc::{AllocError, Global};
+
+/// How many bytes a number of an answer takes at most in a front, with the blank before it.
+const MOST_NUMBER: usize = 11;
+
+/// A desk: a teller, how many accounts there are and which one is the own, and all payments that were asked for.
+#[derive(Drop)]
+pub struct Desk<T> {
+    teller: T,
+    accounts: u16,
+    own: u16,
+    kept: KeptOrders,
+}
+
+impl<T: Teller> Desk<T> {
+    /// A desk that asked for nothing yet, over a teller of this account among so many.
+    pub fn new(alloc: Global, teller: T, accounts: u16, own: u16) -> Desk<T>
+        ensures { result ≡ record { teller = teller; accounts = accounts; own = own; kept = [] } }
+    {
+        Desk {
+            teller,
+            accounts,
+            own,
+            kept: KeptOrders::new(alloc),
+        }
+    }
+
+    pub fn teller(&self) -> &T
+        ensures { result.now ≡ self.now.teller }
+    {
+        &self.teller
+    }
+
+    /// Gives the teller back.
+    pub fn into_teller(self) -> T
+        ensures { result ≡ self.teller }
+    {
+        let Desk { teller, .. } = self;
+        teller
+    }
+
+    /// Answers a line: the text has a line feed at the end of each of its lines.
+    ///
+    /// Where memory is refused the desk is unchanged, and the line may be given again.
+    pub fn line(&mut self, alloc: Global, line: &[u8]) -> Result<Vec<u8>, AllocError>
+        ensures text { IfOk result (λ text.
+            Answers T.says (command_in line.now) self.old text.items self.new) }
+        ensures err { OnErr result (GaveUp T.says self.old self.new) }
+    {
+        let Some(command) = read_command(line) else {
+            return refused_text(alloc, DeskFault::BadLine);
+        };
+        match command {
+            Command::Pay(order) => self.pay(alloc, order),
+            Command::Balance(account) => self.balance(alloc, account),
+            Command::State { owner, seq } => self.state(alloc, owner, seq),
+            Command::Statement(account) => self.statement(alloc, account),
+            Command::Front => self.front(alloc),
+        }
+    }
+
+    // An id that is kept has its answer; another one is looked at.
+    fn pay(&mut self, alloc: Global, order: Order) -> Result<Vec<u8>, AllocError>
+        ensures text { IfOk result (λ text.
+            AnswersPay T.says (kept_under order.id self.old.kept) order self.old text.items self.new) }
+        ensures err { OnErr result (self.new ≡ self.old) }
+    {
+        match self.kept.find(order.id) {
+            Some(kept) => kept_text(alloc, kept, order),
+            None => self.pay_anew(alloc, order),
+        }
+    }
+
+    fn pay_anew(&mut self, alloc: Global, order: Order) -> Result<Vec<u8>, AllocError>
+        requires { kept_under order.id self.old.kept ≡ None }
+        ensures text { IfOk result (λ text.
+            AnswersPay T.says None order self.old text.items self.new) }
+        ensures err { OnErr result (self.new ≡ self.old) }
+    {
+        match self.payee(order) {
+            Ok(payee) => self.ask(alloc, order, payee),
+            Err(fault) => refused_text(alloc, fault),
+        }
+    }
+
+    // Whom a payment pays, or why it isn't asked for.
+    fn payee(&self, order: Order) -> Result<u16, DeskFault>
+        ensures { MatchResult result
+            (λ payee. (pay_fault self.now.accounts self.now.own order ≡ None) × (payee ≡ order.to))
+            (λ fault. pay_fault self.now.accounts self.now.own order ≡ Some fault) }
+    {
+        let payee = self.account(order.to)?;
+        if order.amount == 0 || payee == self.own {
+            return Err(DeskFault::ZeroOrSelf);
+        }
+        Ok(payee)
+    }
+
+    // The account of this number, if there is one.
+    fn account(&self, number: u64) -> Result<u16, DeskFault>
+        ensures { MatchResult result
+            (λ account. (account_fault self.now.accounts number ≡ None) × (account ≡ number))
+            (λ fault. account_fault self.now.accounts number ≡ Some fault) }
+    {
+        if number < u64::from(self.accounts) {
+            u16::try_from(number).map_err(|_| DeskFault::NoAccount)
+        } else {
+            Err(DeskFault::NoAccount)
+        }
+    }
+
+    fn ask(&mut self, alloc: Global, order: Order, payee: u16) -> Result<Vec<u8>, AllocError>
+        requires fresh { kept_under order.id self.old.kept ≡ None }
+        requires payee { payee ≡ order.to }
+        ensures text { IfOk result (λ text. Pays T.says order self.old text.items self.new) }
+        ensures err { OnErr result (self.new ≡ self.old) }
+    {
+        let mut text = room(alloc)?;
+        let value = Bytes::from_slice(alloc, &payment_value(payee, order.amount))?;
+        match self.kept.ask(alloc, &mut self.teller, order, value) {
+            Ok(seq) => put_asked(&mut text, order.id, seq),
+            Err(TellerFault::Memory) => return Err(AllocError),
+            Err(fault) => put_refused(&mut text, DeskFault::from(fault)),
+        }
+        Ok(text)
+    }
+
+    fn balance(&mut self, alloc: Global, account: u64) -> Result<Vec<u8>, AllocError>
+        ensures text { IfOk result (λ text.
+            AnswersBalance T.says account self.old text.items self.new) }
+        ensures err { OnErr result (self.new ≡ self.old) }
+    {
+        match self.account(account) {
+            Ok(account) => self.query(alloc, account),
+            Err(fault) => refused_text(alloc, fault),
+        }
+    }
+
+    fn query(&mut self, alloc: Global, account: u16) -> Result<Vec<u8>, AllocError>
+        ensures text { IfOk result (λ text. Calls T.says (call.Query account) call.Queried
+            (λ told. balance_words account told.balance) self.old text.items self.new) }
+        ensures err { OnErr result (self.new ≡ self.old) }
+    {
+        let mut text = room(alloc)?;
+        match self.teller.query(alloc, account) {
+            Ok(told) => put_balance(&mut text, account, told.balance),
+            Err(TellerFault::Memory) => return Err(AllocError),
+            Err(fault) => put_refused(&mut text, DeskFault::from(fault)),
+        }
+        Ok(text)
+    }
+
+    fn state(&mut self, alloc: Global, owner: u64, seq: u32) -> Result<Vec<u8>, AllocError>
+        ensures text { IfOk result (λ text.
+            AnswersState T.says owner seq self.old text.items self.new) }
+        ensures err { OnErr result (self.new ≡ self.old) }
+    {
+        match self.account(owner) {
+            Ok(owner) => self.state_of(alloc, owner, seq),
+            Err(fault) => refused_text(alloc, fault),
+        }
+    }
+
+    fn state_of(&mut self, alloc: Global, owner: u16, seq: u32) -> Result<Vec<u8>, AllocError>
+        ensures text { IfOk result (λ text. Calls T.says (call.State owner seq) call.Stood
+            (state_words owner seq) self.old text.items self.new) }
+        ensures err { OnErr result (self.new ≡ self.old) }
+    {
+        let mut text = room(alloc)?;
+        match self.teller.state(alloc, owner, seq) {
+            Ok(state) => put_state(&mut text, owner, seq, state),
+            Err(TellerFault::Memory) => return Err(AllocError),
+            Err(fault) => put_refused(&mut text, DeskFault::from(fault)),
+        }
+        Ok(text)
+    }
+
+    fn statement(&mut self, alloc: Global, account: u64) -> Result<Vec<u8>, AllocError>
+        ensures text { IfOk result (λ text.
+            AnswersStatement T.says account self.old text.items self.new) }
+        ensures err { OnErr result (GaveUp T.says self.old self.new) }
+    {
+        match self.account(account) {
+            Ok(account) => self.statement_of(alloc, account),
+            Err(fault) => refused_text(alloc, fault),
+        }
+    }
+
+    fn statement_of(&mut self, alloc: Global, account: u16) -> Result<Vec<u8>, AllocError>
+        ensures text { IfOk result (λ text.
+            Calls T.says (call.Statement account) call.stated
+            (stated_words account) self.old text.items self.new) }
+        ensures err { OnErr result (GaveUp T.says self.old self.new) }
+    {
+        let mut text = room(alloc)?;
+        match self.teller.statement(alloc, account) {
+            Ok((lines, balance)) => push_statement(&mut text, account, lines.as_slice(), balance)?,
+            Err(TellerFault::Memory) => return Err(AllocError),
+            Err(fault) => put_refused(&mut text, DeskFault::from(fault)),
+        }
+        Ok(text)
+    }
+
+    fn front(&mut self, alloc: Global) -> Result<Vec<u8>, AllocError>
+        ensures text { IfOk result (λ text.
+            AnswersFront T.says self.old text.items self.new) }
+        ensures err { OnErr result (GaveUp T.says self.old self.new) }
+    {
+        let mut text = room(alloc)?;
+        text.reserve(front_room(self.accounts))?;
+        match self.teller.fronts(alloc) {
+            Ok(fronts) => push_front(&mut text, fronts.as_slice())?,
+            Err(TellerFault::Memory) => return Err(AllocError),
+            Err(fault) => put_refused(&mut text, DeskFault::from(fault)),
+        }
+        Ok(text)
+    }
+}
+
+// How many bytes the numbers of so many accounts take at most, each behind a blank.
+fn front_room(accounts: u16) -> usize {
+    usize::from(accounts) * MOST_NUMBER
+}

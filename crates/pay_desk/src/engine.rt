@@ -1,0 +1,84 @@
+ghost use Rattle.std.specs.Prelude.{◌≡◌, ◌+◌, ◌≤◌, IsErrOf, MatchResult};
+ghost use Rattle.pay_frame.specs.declared.fault.FrameFault.{FrameFault};
+ghost use Rattle.pay_frame.specs.Device.{RoseBy};
+ghost use Rattle.pay_text.specs.Answers.{bytes_of};
+ghost use Rattle.pay_text.specs.Engine.{Gave};
+ghost use Rattle.pay_desk.specs.Desk.{DeskSays, WritesAnswers};
+ghost use Rattle.pay_desk.specs.Words.{refused_words};
+
+use crate::command::MOST_LINE;
+use crate::desk::Desk;
+use crate::fault::DeskFault;
+use crate::teller::Teller;
+use pay_frame::{EngineFault, Input, MOST_READS, Output};
+use pay_text::{Answer, Answerer, Text, run_lines};
+use std::alloc::{AllocError, Global};
+
+const BAD_LINE: &str = "refused 1 BadLine\n";
+
+const MEMORY: &str = "refused 0 Memory\n";
+
+impl<T: Teller> Answerer for Desk<T> {
+    ghost says = { λ old line text on new. DeskSays T.says old line text on new };
+
+    fn answer(&mut self, alloc: Global, line: Option<&[u8]>) -> Result<Answer, AllocError> {
+        let text = match line {
+            Some(line) => text_of(self.line(alloc, line)),
+            None => bad_line_text(),
+        };
+        Ok(Answer {
+            text,
+            goes_on: true,
+        })
+    }
+}
+
+fn text_of(answer: Result<Vec<u8>, AllocError>) -> Text
+    ensures { MatchResult answer
+        (λ text. bytes_of result ≡ text.items)
+        (λ _. bytes_of result ≡ refused_words DeskFault.Memory) }
+{
+    match answer {
+        Ok(text) => Text::Made(text),
+        Err(_) => memory_text(),
+    }
+}
+
+fn bad_line_text() -> Text
+    ensures { bytes_of result ≡ refused_words DeskFault.BadLine }
+{
+    Text::Fixed(BAD_LINE)
+}
+
+fn memory_text() -> Text
+    ensures { bytes_of result ≡ refused_words DeskFault.Memory }
+{
+    Text::Fixed(MEMORY)
+}
+
+/// Answers the lines that are read, to the input's end. A line over the bound is refused as a whole; where memory is
+/// refused the answer says so, and it goes on.
+///
+/// After a fault what was written is a prefix of the answers.
+pub fn run_desk<T: Teller, R: Input, W: Output>(
+    alloc: Global,
+    desk: &mut Desk<T>,
+    reader: &mut R,
+    writer: &mut W,
+) -> Result<(), EngineFault>
+    ensures text { WritesAnswers T.says desk.old desk.new (R.remaining reader.old)
+        (R.remaining reader.new) (W.contents writer.old) (W.contents writer.new) result }
+    ensures read { IsErrOf result EngineFault.Read
+        → RoseBy 1 (R.failure_count reader.old) (R.failure_count reader.new) }
+    ensures write { IsErrOf result EngineFault.Write
+        → RoseBy 1 (W.failure_count writer.old) (W.failure_count writer.new) }
+    ensures most { R.call_count reader.new ≤ R.call_count reader.old + MOST_READS }
+    ensures bound { IsErrOf result EngineFault.Bound
+        → RoseBy MOST_READS (R.call_count reader.old) (R.call_count reader.new) }
+    ensures gave { IsErrOf result EngineFault.Bound
+        → Gave MOST_READS (R.remaining reader.old) (R.remaining reader.new) }
+    ensures frame { (fault : FrameFault) → ¬ (IsErrOf result (EngineFault.Frame fault)) }
+{
+    run_lines(alloc, MOST_LINE, desk, reader, writer)?;
+    Ok(())
+}

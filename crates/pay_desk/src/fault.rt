@@ -1,0 +1,66 @@
+ghost use Rattle.std.specs.Prelude.{◌≡◌};
+ghost use Rattle.pay_desk.specs.Faults.{desk_fault_name, desk_fault_number, desk_fault_of};
+
+use crate::teller_fault::TellerFault;
+use thiserror::Error;
+
+/// Why a desk refuses a line.
+#[derive(Clone, Copy, Debug, PartialEq, Eq, Error)]
+#[error("{} {}", self.number(), self.name())]
+pub enum DeskFault {
+    /// Memory was refused. The same line may be given again.
+    Memory,
+    /// The line is no command.
+    BadLine,
+    /// There is no such account.
+    NoAccount,
+    /// Nothing is paid, or it is paid to the own account.
+    ZeroOrSelf,
+    /// Another payment was asked for under this id.
+    IdUsed,
+    /// All numbers of the own account are used.
+    Spent,
+}
+
+impl DeskFault {
+    const fn entry(self) -> (u8, &'static str)
+        ensures number { result.0 ≡ desk_fault_number self }
+        ensures name { result.1.now ≡ desk_fault_name self }
+    {
+        match self {
+            DeskFault::Memory => (0, "Memory"),
+            DeskFault::BadLine => (1, "BadLine"),
+            DeskFault::NoAccount => (2, "NoAccount"),
+            DeskFault::ZeroOrSelf => (3, "ZeroOrSelf"),
+            DeskFault::IdUsed => (4, "IdUsed"),
+            DeskFault::Spent => (5, "Spent"),
+        }
+    }
+
+    pub fn number(self) -> u8
+        ensures value { result ≡ desk_fault_number self }
+    {
+        self.entry().0
+    }
+
+    pub fn name(self) -> &'static str
+        ensures value { result.now ≡ desk_fault_name self }
+    {
+        self.entry().1
+    }
+}
+
+impl From<TellerFault> for DeskFault {
+    ghost use Rattle.std.specs.Prelude.{◌≡◌};
+    ghost use Rattle.pay_desk.specs.Faults.{desk_fault_of};
+
+    ghost from_gives = { λ fault e. e ≡ desk_fault_of fault };
+
+    fn from(fault: TellerFault) -> DeskFault {
+        match fault {
+            TellerFault::Memory => DeskFault::Memory,
+            TellerFault::NoAccount => DeskFault::NoAccount,
+            TellerFault::Spent => DeskFault::Spent,
+        }
+    }
+}

@@ -1,0 +1,27 @@
+//! What the owner of an account types: commands to pay and to look, each answered by a line or more.
+//!
+//! A [`Desk`] stands over any [`Teller`], as over a member that is its own. It keeps each payment that it asked for
+//! under the id that its owner gave it, so that a line may be given again.
+#![tactic(auto)]
+
+mod command;
+mod command_reading;
+mod desk;
+mod engine;
+mod fault;
+mod kept;
+mod one_member;
+mod putting;
+mod teller;
+mod teller_fault;
+mod words;
+
+pub use command::{Command, MOST_LINE, Order};
+pub use command_reading::read_command;
+pub use desk::Desk;
+pub use engine::run_desk;
+pub use fault::DeskFault;
+pub use kept::{Kept, KeptOrders};
+pub use one_member::OneMember;
+pub use teller::Teller;
+pub use teller_fault::TellerFault;

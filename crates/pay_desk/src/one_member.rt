@@ -1,0 +1,67 @@
+ghost use Rattle.std.specs.Prelude.{◌≡◌};
+ghost use Rattle.pay_desk.specs.OneMember.{MemberSays, values_asked};
+
+use crate::teller::Teller;
+use crate::teller_fault::TellerFault;
+use pay_book::{Line, Settle};
+use pay_echo::Instance;
+use pay_frame::Bytes;
+use pay_member::{Member, MemberFault, PaymentState, Told};
+use std::alloc::Global;
+
+/// A member as a teller, which puts a stamp on what it is asked for.
+#[derive(Drop)]
+pub struct OneMember<I: Instance + Drop, B: Settle + Drop> {
+    pub member: Member<I, B>,
+    pub stamp: u16,
+}
+
+impl<I: Instance + Drop, B: Settle + Drop> Teller for OneMember<I, B> {
+    ghost says = { λ old called reply new. MemberSays old.stamp old.member called reply new.member × (new.stamp ≡ old.stamp) };
+
+    ghost asked = { λ m. values_asked m.member.history };
+
+    #[tactic(auto, unfolding(crate::specs::OneMember::reply_by, crate::specs::OneMember::member_after))]
+    fn ask(&mut self, alloc: Global, value: Bytes) -> Result<u32, TellerFault> {
+        match self.member.ask(alloc, self.stamp, value) {
+            Ok(seq) => Ok(seq),
+            Err(MemberFault::Spent) => Err(TellerFault::Spent),
+            Err(_) => Err(TellerFault::Memory),
+        }
+    }
+
+    #[tactic(auto, unfolding(crate::specs::OneMember::reply_by, crate::specs::OneMember::member_after))]
+    fn query(&mut self, alloc: Global, account: u16) -> Result<Told, TellerFault> {
+        match self.member.query(alloc, self.stamp, account) {
+            Ok(told) => Ok(told),
+            Err(MemberFault::NoAccount) => Err(TellerFault::NoAccount),
+            Err(_) => Err(TellerFault::Memory),
+        }
+    }
+
+    #[tactic(auto, unfolding(crate::specs::OneMember::reply_by, crate::specs::OneMember::member_after))]
+    fn state(&mut self, _alloc: Global, owner: u16, seq: u32) -> Result<PaymentState, TellerFault> {
+        if owner >= self.member.genesis().members() {
+            return Err(TellerFault::NoAccount);
+        }
+        Ok(self.member.state(owner, seq))
+    }
+
+    #[tactic(auto, unfolding(crate::specs::OneMember::reply_by, crate::specs::OneMember::member_after))]
+    fn statement(&mut self, alloc: Global, account: u16) -> Result<(Vec<Line>, u64), TellerFault> {
+        if account >= self.member.genesis().members() {
+            return Err(TellerFault::NoAccount);
+        }
+        let lines = self.member.statement(alloc, account)?;
+        Ok((lines, self.member.balance(account)))
+    }
+
+    #[tactic(auto, unfolding(crate::specs::OneMember::reply_by, crate::specs::OneMember::member_after))]
+    fn fronts(&mut self, alloc: Global) -> Result<Vec<u32>, TellerFault> {
+        Ok(self.member.fronts(alloc)?)
+    }
+
+    ghost use Rattle.pay_desk.specs.MemberAsks.{member_asks};
+
+    ghost only_asks = { λ old new called reply said. member_asks old.stamp old.member new.member called reply said.0 };
+}

@@ -1,0 +1,132 @@
+//! Answers of one line each, put into room that was made before: so nothing stands between a teller's reply and the
+//! answer that tells it.
+
+ghost use Rattle.std.specs.Prelude.{◌≡◌, ◌+◌, ◌++◌, ◌≤◌, [], IfOk, decimal, length, vec_capacity, vec_len};
+ghost use Rattle.pay_desk.specs.Answers.{kept_words};
+ghost use Rattle.pay_desk.specs.Words.{asked_words, balance_words, refused_words, state_name, state_words};
+
+use crate::command::Order;
+use crate::fault::DeskFault;
+use crate::kept::Kept;
+use itoa::Buffer;
+use pay_member::PaymentState;
+use std::alloc::{AllocError, Global};
+
+/// How many bytes an answer of one line has at most.
+pub(crate) const MOST_ANSWER: usize = 64;
+
+/// Room for an answer of one line.
+pub(crate) fn room(alloc: Global) -> Result<Vec<u8>, AllocError>
+    ensures empty { IfOk result (λ out. out.items ≡ []) }
+    ensures room { IfOk result (λ out. vec_len out + MOST_ANSWER ≤ vec_capacity out) }
+{
+    Vec::with_capacity(alloc, MOST_ANSWER)
+}
+
+#[tactic(auto, unfolding(crate::specs::Words::refused_words))]
+pub(crate) fn put_refused(out: &mut Vec<u8>, fault: DeskFault)
+    requires { vec_len out.old + MOST_ANSWER ≤ vec_capacity out.old }
+    ensures { out.new.items ≡ out.old.items ++ refused_words fault }
+{
+    put_word(out, "refused ");
+    put_number(out, u64::from(fault.number()));
+    put_word(out, " ");
+    put_word(out, fault.name());
+    put_word(out, "\n");
+}
+
+#[tactic(auto, unfolding(crate::specs::Words::asked_words))]
+pub(crate) fn put_asked(out: &mut Vec<u8>, id: u64, seq: u32)
+    requires { vec_len out.old + MOST_ANSWER ≤ vec_capacity out.old }
+    ensures { out.new.items ≡ out.old.items ++ asked_words id seq }
+{
+    put_word(out, "asked ");
+    put_number(out, id);
+    put_word(out, " seq ");
+    put_number(out, u64::from(seq));
+    put_word(out, "\n");
+}
+
+#[tactic(auto, unfolding(crate::specs::Words::balance_words))]
+pub(crate) fn put_balance(out: &mut Vec<u8>, account: u16, balance: u64)
+    requires { vec_len out.old + MOST_ANSWER ≤ vec_capacity out.old }
+    ensures { out.new.items ≡ out.old.items ++ balance_words account balance }
+{
+    put_word(out, "balance ");
+    put_number(out, u64::from(account));
+    put_word(out, " ");
+    put_number(out, balance);
+    put_word(out, "\n");
+}
+
+#[tactic(auto, unfolding(crate::specs::Words::state_words))]
+pub(crate) fn put_state(out: &mut Vec<u8>, owner: u16, seq: u32, state: PaymentState)
+    requires { vec_len out.old + MOST_ANSWER ≤ vec_capacity out.old }
+    ensures { out.new.items ≡ out.old.items ++ state_words owner seq state }
+{
+    put_word(out, "state ");
+    put_number(out, u64::from(owner));
+    put_word(out, " ");
+    put_number(out, u64::from(seq));
+    put_word(out, " ");
+    put_word(out, name_of(state));
+    put_word(out, "\n");
+}
+
+#[tactic(auto, unfolding(crate::specs::Words::state_name))]
+fn name_of(state: PaymentState) -> &'static str
+    ensures name { result.now ≡ state_name state }
+    ensures short { length result.now ≤ 7 }
+{
+    match state {
+        PaymentState::Unknown => "unknown",
+        PaymentState::Asked => "asked",
+        PaymentState::Waiting => "waiting",
+        PaymentState::Settled => "settled",
+    }
+}
+
+// Puts words into room that is there.
+fn put_word(out: &mut Vec<u8>, word: &str)
+    requires { vec_len out.old + length word.now ≤ vec_capacity out.old }
+    ensures items { out.new.items ≡ out.old.items ++ word.now }
+    ensures len { vec_len out.new ≡ vec_len out.old + length word.now }
+    ensures capacity { vec_capacity out.old ≤ vec_capacity out.new }
+{
+    let Ok(()) = out.extend_from_slice(word.as_bytes()) else {
+        unreachable!()
+    };
+}
+
+// Puts a number into room that is there.
+fn put_number(out: &mut Vec<u8>, number: u64)
+    requires { vec_len out.old + 20 ≤ vec_capacity out.old }
+    ensures items { out.new.items ≡ out.old.items ++ decimal number }
+    ensures len { vec_len out.new ≤ vec_len out.old + 20 }
+    ensures capacity { vec_capacity out.old ≤ vec_capacity out.new }
+{
+    let mut buffer = Buffer::new();
+    put_word(out, buffer.format(number));
+}
+
+/// A line that says why a command is refused.
+pub(crate) fn refused_text(alloc: Global, fault: DeskFault) -> Result<Vec<u8>, AllocError>
+    ensures { IfOk result (λ text. text.items ≡ refused_words fault) }
+{
+    let mut text = room(alloc)?;
+    put_refused(&mut text, fault);
+    Ok(text)
+}
+
+/// What is answered to an id that is kept: the same payment gets the answer that it got.
+pub(crate) fn kept_text(alloc: Global, kept: Kept, order: Order) -> Result<Vec<u8>, AllocError>
+    ensures { IfOk result (λ text. text.items ≡ kept_words kept order) }
+{
+    let mut text = room(alloc)?;
+    if kept.order.to == order.to && kept.order.amount == order.amount {
+        put_asked(&mut text, order.id, kept.seq);
+    } else {
+        put_refused(&mut text, DeskFault::IdUsed);
+    }
+    Ok(text)
+}

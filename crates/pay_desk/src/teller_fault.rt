@@ -1,0 +1,23 @@
+use std::alloc::AllocError;
+
+/// Why a teller has no reply.
+#[derive(Clone, Copy, Debug, PartialEq, Eq)]
+pub enum TellerFault {
+    /// Memory was refused; looked for last.
+    Memory,
+    /// There is no such account.
+    NoAccount,
+    /// All numbers of its own are used.
+    Spent,
+}
+
+impl From<AllocError> for TellerFault {
+    ghost use Rattle.std.specs.Prelude.{◌≡◌};
+    ghost use Rattle.pay_desk.specs.declared.teller_fault.TellerFault.TheVariants.{Memory};
+
+    ghost from_gives = { λ _ e. e ≡ Memory };
+
+    fn from(_error: AllocError) -> TellerFault {
+        TellerFault::Memory
+    }
+}
