@@ -10,7 +10,7 @@ use Rattle.pay_link.specs.Keys.{KeyFields}
 use Rattle.pay_cli.specs.declared.progress.Progress.{Progress}
 use Rattle.pay_cli.specs.Lines.{Outcome, Taken, Wanted, Refused, moved, outcome_of, fronts_after}
 use Rattle.pay_cli.specs.CheckText.{at_start, known_after, outcomes, is_ok_from}
-use Rattle.pay_cli.proofs.Texts.{length-fronts_after}
+use Rattle.pay_cli.proofs.Room.{length-fronts_after}
 
 -- one frame's part
 abbrev one_of : ℕ → FrameFields × Outcome → ℕ

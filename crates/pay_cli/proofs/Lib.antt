@@ -1,4 +1,3 @@
-pub mod Texts
+pub mod Room
 pub mod Counting
-pub mod Pushing
-pub mod Going
+pub mod Starting

@@ -1,12 +1,21 @@
 -- The text of `check` for a list of bytes: a line for each frame of the stream, and one for the
 -- fault that it ends with.
-use Rattle.std.specs.Prelude.{◌≡◌, ℕ, Bool, false, ◌==◌, List, [], ◌∷◌, ◌++◌, length, replicate, Option, Some, None}
+use Rattle.std.specs.Prelude.{ℕ, Bool, false, ◌==◌, List, [], ◌∷◌, length, replicate, Option}
 use Rattle.pay_frame.specs.declared.fault.FrameFault.{FrameFault}
 use Rattle.pay_frame.specs.Frame.{FrameFields}
-use Rattle.pay_frame.specs.Stream.{IsStream}
+use Rattle.pay_engine.specs.Handling.{Handling, IsText, state_after}
 use Rattle.pay_link.specs.Keys.{KeyFields}
 use Rattle.pay_cli.specs.declared.progress.Progress.{Progress}
 use Rattle.pay_cli.specs.Lines.{Outcome, Taken, Wanted, Refused, outcome_of, line_of, moved, fault_line}
+
+-- a line for each frame, and the one of a fault
+abbrev pub checking : KeyFields → Handling Progress
+checking k = record {
+  first = [];
+  after = moved k;
+  text = line_of k;
+  last = λ p fault. fault_line p.line fault;
+}
 
 -- before the first line nothing was taken
 abbrev pub at_start : KeyFields → Progress
@@ -14,29 +23,13 @@ at_start k = record { fronts = replicate (length k.keys) 0; line = 1 }
 
 -- what is known after some frames
 abbrev pub known_after : KeyFields → Progress → List FrameFields → Progress
-known_after k p [] = p
-known_after k p (f ∷ fs) = known_after k (moved k p f) fs
-
--- their lines
-abbrev pub lines_from : KeyFields → Progress → List FrameFields → List ℕ
-lines_from k p [] = []
-lines_from k p (f ∷ fs) = line_of k p f ++ lines_from k (moved k p f) fs
-
-abbrev pub last_line : ℕ → Option FrameFault → List ℕ
-last_line line None = []
-last_line line (Some fault) = fault_line line fault
-
--- the lines of some frames, and of the fault behind them, if any
-abbrev pub text_from : KeyFields → Progress → List FrameFields → Option FrameFault → List ℕ
-text_from k p frames ending =
-    lines_from k p frames ++ last_line (known_after k p frames).line ending
+known_after k p frames = state_after (checking k) p frames
 
 -- the text of these bytes, and the fault that it ends with
 pub record IsCheckText (k : KeyFields) (bytes text : List ℕ) (ending : Option FrameFault)
     : Type 0 where
-  pub frames : List FrameFields
-  pub stream : IsStream bytes frames ending
-  pub lines : text ≡ text_from k (at_start k) frames ending
+  pub known : Progress
+  pub is : IsText (checking k) (at_start k) known bytes text ending
 
 -- some text is it
 pub record HasCheckText (k : KeyFields) (bytes : List ℕ) : Type 0 where

@@ -1,7 +1,7 @@
-ghost use Rattle.std.specs.Prelude.{◌≡◌, ℕ, ◌+◌, ◌++◌, ◌<◌, ◌^◌, IfOk, OnOk, length, replicate, slice_index};
+ghost use Rattle.std.specs.Prelude.{◌≡◌, ◌⊎◌, ℕ, ◌+◌, ◌++◌, ◌<◌, ◌^◌, IfOk, OnErr, OnOk, length, replicate, slice_index};
 ghost use Rattle.pay_frame.specs.Lent.{fields_of};
 ghost use Rattle.pay_cli.specs.Lines.{line_of, moved, outcome_of, outcome_words, opened_outcome, fronts_after};
-ghost use Rattle.pay_cli.specs.Engine.{IsInLine};
+ghost use Rattle.pay_cli.specs.Engine.{HasRoom};
 
 use crate::lines::{push_ok, push_refused, push_want};
 use pay_frame::{FrameRef, Kind};
@@ -28,7 +28,7 @@ impl Progress {
     }
 }
 
-/// Writes the line of a frame.
+/// Writes the line of a frame. Where memory is refused the frame was counted, or nothing changed.
 #[tactic(auto, unfolding(crate::specs::Lines::line_of, crate::specs::Lines::moved))]
 pub fn push_line<T: Tagger>(
     out: &mut Vec<u8>,
@@ -37,18 +37,18 @@ pub fn push_line<T: Tagger>(
     progress: &mut Progress,
     frame: FrameRef,
 ) -> Result<(), AllocError>
-    requires in_line { IsInLine (length keys.now.keys) progress.old }
-    requires room { progress.old.line + 1 < 2 ^ 64 }
+    requires room { HasRoom keys.now progress.old 1 }
     ensures text { OnOk result (out.new.items ≡ out.old.items
         ++ line_of keys.now progress.old (fields_of frame.entry)) }
     ensures moved { OnOk result (progress.new
         ≡ moved keys.now progress.old (fields_of frame.entry)) }
+    ensures err { OnErr result ((progress.new ≡ progress.old)
+        ⊎ (progress.new ≡ moved keys.now progress.old (fields_of frame.entry))) }
 {
     push_number(out, progress.line)?;
     push_judged(out, t, keys, &mut progress.fronts, frame)?;
-    push_word(out, "\n")?;
     progress.line += 1;
-    Ok(())
+    push_word(out, "\n")
 }
 
 /// Writes what a member makes of a frame.
@@ -65,6 +65,7 @@ fn push_judged<T: Tagger>(
         ≡ out.old.items ++ outcome_words f (outcome_of keys.now fronts.old f)) }
     ensures fronts { let f = fields_of frame.entry in OnOk result (fronts.new
         ≡ fronts_after fronts.old f (outcome_of keys.now fronts.old f)) }
+    ensures err { OnErr result (fronts.new ≡ fronts.old) }
 {
     // a law that the proof stands on: the call does nothing
     laws::opened();
@@ -84,6 +85,7 @@ fn push_opened(out: &mut Vec<u8>, fronts: &mut Fronts, frame: &FrameRef) -> Resu
     ensures fronts { let f = fields_of frame.now in
         OnOk result (fronts.new ≡ fronts_after fronts.old f
         (opened_outcome (slice_index fronts.old f.from) f f.body.kind)) }
+    ensures err { OnErr result (fronts.new ≡ fronts.old) }
 {
     if frame.kind() == Kind::Want {
         return push_want(out, frame);

@@ -1,5 +1,6 @@
 use Rattle.std.proofs.Common.{refl}
-use Rattle.pay_cli.specs.CheckText.{at_start, text_from}
+use Rattle.pay_engine.specs.Handling.{text_from}
+use Rattle.pay_cli.specs.CheckText.{checking, at_start, known_after}
 use Rattle.pay_cli.proofs.laws.every_text.Goals as goal
 
 pub returns : goal.returns
@@ -7,8 +8,11 @@ returns c = record {
   law = λ keys bytes is.
       let stream = c.every_stream.ensures.law bytes is in
       record {
-        text = text_from keys (at_start keys) stream.frames stream.ending;
+        text = text_from (checking keys) (at_start keys) stream.frames stream.ending;
         ending = stream.ending;
-        is = record { frames = stream.frames; stream = stream.is; lines = refl };
+        is = record {
+          known = known_after keys (at_start keys) stream.frames;
+          is = record { frames = stream.frames; stream = stream.is; texts = refl; state = refl };
+        };
       };
 }
