@@ -1,13 +1,25 @@
 -- What a job is, by the rows of the command that was met; and that the program's command is simple.
-use Rattle.std.proofs.Common.{◌≡◌, List, Option, Some, None, option_map, true, refl, ap}
+use Rattle.std.proofs.Common.{◌≡◌, List, Option, Some, None, option_map, true, refl, ap₂, Bor}
+use Rattle.std.specs.Option.{unwrap_or}
 use Rattle.clap.specs.Words.{Row, Text, is_simple, is_simple_and_free}
 use Rattle.clap.proofs.OnLiterals.{clap_on_literals}
 use Rattle.payd.specs.Job.{asked_in, asked_of, check, payd_app}
 
-pub asked-some : (met : Option (Text × List Row)) (rows : List Row) → Some rows ≡ option_map (λ p. p.1) met →
-    asked_of rows ≡ asked_in met
-asked-some None rows h = absurd cc
-asked-some (Some p) rows h = let same : rows ≡ p.1 = cc in ap asked_of same
+pub asked-some : {A : Type 0} (name_of : A → Text) (rows_in : A → List Row) (met : Option A) (name : Text) (rows : List Row)
+    → Some name ≡ option_map name_of met
+    → Some rows ≡ option_map (λ (p : Text × List Row). p.1) (option_map (λ a. (name_of a, rows_in a)) met)
+    → asked_of name rows ≡ asked_in (option_map (λ a. (name_of a, rows_in a)) met)
+asked-some name_of rows_in None name rows h k = absurd cc
+asked-some name_of rows_in (Some a) name rows h k =
+    let same_name : name ≡ name_of a = cc in
+    let same_rows : rows ≡ rows_in a = cc in
+    ap₂ asked_of same_name same_rows
+
+-- the text that is lent, or another
+pub text_or : (lent : Option (Bor Text)) (other : Bor Text)
+    → (unwrap_or lent other).now ≡ unwrap_or (option_map (λ (s : Bor Text). s.now) lent) other.now
+text_or None other = refl
+text_or (Some s) other = refl
 
 pub asked-none : (met : Option (Text × List Row)) → None ≡ option_map (λ p. p.1) met → check None None ≡ asked_in met
 asked-none None h = refl

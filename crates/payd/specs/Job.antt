@@ -1,20 +1,29 @@
 -- What the words of the program ask for. Which words a command takes is what `clap` says of simple commands.
-use Rattle.std.specs.Prelude.{◌≡◌, List, Option, Some, None, true, false, codes, option_map}
-use Rattle.std.specs.Option.{option_map_or}
+use Rattle.std.specs.Prelude.{◌≡◌, List, [], Option, Some, None, true, false, codes, option_map, if◌then◌else◌}
+use Rattle.std.specs.Option.{option_map_or, unwrap_or}
+use Rattle.std.specs.Str.{bytes_eq}
 use Rattle.clap.specs.Words.{App, Row, Rule, Text, app_of, first_of, new_app, new_rule, rule_of, subcommand_of, with_rule, with_subcommand}
 use Rattle.clap.specs.declared.builder.Arg.{Arg}
 use Rattle.clap.specs.declared.builder.Command.{Command}
 use Rattle.clap.specs.declared.builder.command.Command.TheViews.{out-Command}
 use Rattle.payd.specs.declared.words.Job.{Job}
-use Rattle.payd.specs.declared.words.Job.TheVariants.{Check}
+use Rattle.payd.specs.declared.words.Job.TheVariants.{Check, Desk}
 
 -- an option that takes the name of a file
 abbrev pub file_rule : Text → Rule
 file_rule name = record (new_rule name) { long = Some name; value_names = 1 }
 
+-- one without which the words aren't read
+abbrev pub required_rule : Text → Rule
+required_rule name = record (file_rule name) { required = true }
+
 -- `check`, which takes a genesis and keys
 abbrev pub check_app : App
 check_app = with_rule (with_rule (new_app (codes "check")) (file_rule (codes "genesis"))) (file_rule (codes "keys"))
+
+-- `desk`, which needs both
+abbrev pub desk_app : App
+desk_app = with_rule (with_rule (new_app (codes "desk")) (required_rule (codes "genesis"))) (required_rule (codes "keys"))
 
 -- the program without its commands: it has a version, and no command for help
 abbrev pub payd_alone : App
@@ -24,7 +33,7 @@ payd_alone = record (new_app (codes "payd")) {
 
 -- the program
 abbrev pub payd_app : App
-payd_app = with_subcommand payd_alone check_app.top
+payd_app = with_subcommand (with_subcommand payd_alone check_app.top) desk_app.top
 
 -- a command as these definitions have it, without an option for all commands
 pub record IsCommand (c : Command) (a : App) : Type 0 where
@@ -39,18 +48,30 @@ pub record IsOption (o : Arg) (r : Rule) : Type 0 where
 -- a command, and the names of the files that it is given
 pub data Asked : Type 0 where
   check : Option Text → Option Text → Asked
+  desk : Text → Text → Asked
 
 -- what a job is, by the texts that it lends
 abbrev pub asked : Job → Asked
 asked (Check genesis keys) = check (option_map (λ name. name.now) genesis) (option_map (λ name. name.now) keys)
+asked (Desk genesis keys) = desk genesis.now keys.now
 
 -- what the words of a command ask for
-abbrev pub asked_of : List Row → Asked
-asked_of rows = check (first_of (codes "genesis") rows) (first_of (codes "keys") rows)
+abbrev pub check_asked : List Row → Asked
+check_asked rows = check (first_of (codes "genesis") rows) (first_of (codes "keys") rows)
+
+-- the value of an option that has to be there: the words aren't read without it
+abbrev pub named : Text → List Row → Text
+named option rows = unwrap_or (first_of option rows) []
+
+abbrev pub desk_asked : List Row → Asked
+desk_asked rows = desk (named (codes "genesis") rows) (named (codes "keys") rows)
+
+abbrev pub asked_of : Text → List Row → Asked
+asked_of name rows = if bytes_eq name (codes "desk") then desk_asked rows else check_asked rows
 
 -- what the command that was met asks for; without one it is `check`
 abbrev pub asked_in : Option (Text × List Row) → Asked
-asked_in command = option_map_or (λ met. asked_of met.1) command (check None None)
+asked_in command = option_map_or (λ met. asked_of met.0 met.1) command (check None None)
 
 -- what these words ask for, the program's name the first of them
 abbrev pub asked_by : List Text → Asked

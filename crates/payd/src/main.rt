@@ -7,10 +7,14 @@ mod words;
 
 use clap::error::ErrorKind;
 use files::{genesis_of, keys_of};
+use pay_book::PlainBook;
 use pay_cli::run_check;
+use pay_desk::{Desk, OneMember, run_desk};
+use pay_echo::PlainInstance;
 use pay_frame::{EngineFault, Reader, Writer};
 use pay_hmac::PreparedHmac;
 use pay_link::Keys;
+use pay_member::Member;
 use std::alloc::{AllocError, Global};
 use std::process::ExitCode;
 use std::rt::Files;
@@ -33,6 +37,9 @@ fn main(rt: HostRuntime) -> ExitCode {
         Ok(Job::Check { genesis, keys }) => {
             status_of(&rt, check(rt.alloc(), &rt, genesis, keys))
         }
+        Ok(Job::Desk { genesis, keys }) => {
+            status_of(&rt, serve_desk(rt.alloc(), &rt, genesis, keys))
+        }
         Err(answer) => status_of_answer(&rt, &answer),
     }
 }
@@ -50,6 +57,24 @@ fn check<'a>(
     let mut reader = Reader::new(rt.reader());
     let mut writer = Writer::new(io::writer(rt));
     Ok(run_check(alloc, &tagger, &genesis, &keys, &mut reader, &mut writer)?)
+}
+
+/// Answers the lines on standard input, once the files are read. The member meets no peer.
+fn serve_desk<'a>(
+    alloc: Global,
+    rt: &(impl Files + Input + Print),
+    genesis: &'a str,
+    keys: &'a str,
+) -> Result<(), Stop<'a>> {
+    let genesis = genesis_of(alloc, rt, Some(genesis))?;
+    let keys = keys_of(alloc, rt, &genesis, Some(keys))?;
+    let (accounts, own) = (genesis.members(), keys.own());
+    let member: Member<PlainInstance, PlainBook> = Member::new(alloc, genesis, keys)?;
+    let teller = OneMember { member, stamp: 0 };
+    let mut desk = Desk::new(alloc, teller, accounts, own);
+    let mut reader = Reader::new(rt.reader());
+    let mut writer = Writer::new(io::writer(rt));
+    Ok(run_desk(alloc, &mut desk, &mut reader, &mut writer)?)
 }
 
 /// Tags with the keys of all peers prepared.

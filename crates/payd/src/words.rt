@@ -1,6 +1,6 @@
 ghost use Rattle.std.specs.Prelude.{◌≡◌, IfOk, map, string_bytes};
 ghost use Rattle.clap.specs.Words.{FailsBy, fault_of, found_of, new_app, rows_of, subcommand_of, subcommand_rows_of};
-ghost use Rattle.payd.specs.Job.{IsCommand, IsOption, asked, asked_by, asked_in, asked_of, check_app, file_rule, payd_alone, payd_app};
+ghost use Rattle.payd.specs.Job.{IsCommand, IsOption, asked, asked_by, asked_in, asked_of, check_app, check_asked, desk_app, desk_asked, file_rule, named, payd_alone, payd_app, required_rule};
 
 use clap::{Arg, ArgMatches, Command, Error};
 use std::alloc::{AllocError, Global};
@@ -13,6 +13,12 @@ pub(crate) enum Job<'a> {
     Check {
         genesis: Option<&'a str>,
         keys: Option<&'a str>,
+    },
+    /// Answer the lines on standard input, as the desk of the member with these keys, each read from
+    /// the file of this name.
+    Desk {
+        genesis: &'a str,
+        keys: &'a str,
     },
 }
 
@@ -44,6 +50,32 @@ a read or a write fails, or after 1,000,000 reads.
 
 Example: payd check < examples/frames.bin";
 
+const DESK_ABOUT: &str =
+    "Reads commands on standard input and answers each, for an account's owner";
+
+const DESK_HELP: &str = "\
+Input: a command a line, words with one blank between them and decimal numbers, 128 bytes at most.
+  PAY ID TO AMOUNT   pays an account, once under this ID: the same line again has the same answer
+  BALANCE A          an account's balance
+  STATE OWNER SEQ    what became of the payment under a number of an account
+  STATEMENT A        all that settled of an account, and what was paid to it
+  FRONT              how many entries of each account are settled
+
+Output: the answer to each line.
+  asked ID seq S                  the payment has the number S
+  balance A B
+  state OWNER SEQ WORD            unknown, asked, waiting or settled
+  out SEQ to PAYEE AMOUNT, void SEQ, in OWNER SEQ AMOUNT, end A balance B
+  front F0 F1 ..
+  refused C NAME                  1 BadLine, 2 NoAccount, 3 ZeroOrSelf, 4 IdUsed, 5 Spent, 0 Memory
+
+The member meets no peer, so a payment settles in a group of one alone.
+
+Status: 0 at the input's end, 2 for words or a file that can't be read, 3 where memory, a read or a
+write fails, or after 1,000,000 reads.
+
+Example: payd desk --genesis examples/genesis.json --keys examples/keys-0.json < examples/desk.txt";
+
 /// What the words ask for, the program's name the first of them; or help, the version, or what is
 /// wrong with them. Without a command it is `check`.
 pub(crate) fn job_of<'a>(alloc: Global, words: &'a [String]) -> Result<Job<'a>, Error>
@@ -69,7 +101,7 @@ fn job_in<'a>(matches: &ArgMatches<'a>) -> Job<'a>
     ensures { asked result ≡ asked_in (subcommand_rows_of matches.now) }
 {
     match matches.subcommand() {
-        Some((_, check)) => check_job(check),
+        Some((name, command)) => command_job(name, command),
         None => Job::Check {
             genesis: None,
             keys: None,
@@ -77,9 +109,20 @@ fn job_in<'a>(matches: &ArgMatches<'a>) -> Job<'a>
     }
 }
 
+/// The job of the command of this name.
+fn command_job<'a>(name: &str, command: &ArgMatches<'a>) -> Job<'a>
+    ensures { asked result ≡ asked_of name.now (rows_of (found_of command.now)) }
+{
+    if name == "desk" {
+        desk_job(command)
+    } else {
+        check_job(command)
+    }
+}
+
 /// The job of `check` with these options.
 fn check_job<'a>(check: &ArgMatches<'a>) -> Job<'a>
-    ensures { asked result ≡ asked_of (rows_of (found_of check.now)) }
+    ensures { asked result ≡ check_asked (rows_of (found_of check.now)) }
 {
     Job::Check {
         genesis: check.get_str("genesis"),
@@ -87,11 +130,30 @@ fn check_job<'a>(check: &ArgMatches<'a>) -> Job<'a>
     }
 }
 
+/// The job of `desk` with these options.
+fn desk_job<'a>(desk: &ArgMatches<'a>) -> Job<'a>
+    ensures { asked result ≡ desk_asked (rows_of (found_of desk.now)) }
+{
+    Job::Desk {
+        genesis: named(desk, "genesis"),
+        keys: named(desk, "keys"),
+    }
+}
+
+/// What a required option names: the words aren't read without it.
+fn named<'a>(matches: &ArgMatches<'a>, option: &str) -> &'a str
+    ensures { result.now ≡ named option.now (rows_of (found_of matches.now)) }
+{
+    matches.get_str(option).unwrap_or("")
+}
+
 /// The program and its commands.
 fn payd<'a>(alloc: Global) -> Result<Command<'a>, AllocError>
     ensures { IfOk result (λ command. IsCommand command payd_app) }
 {
-    payd_alone(alloc).subcommand(check(alloc)?)
+    payd_alone(alloc)
+        .subcommand(check(alloc)?)?
+        .subcommand(desk(alloc)?)
 }
 
 fn payd_alone<'a>(alloc: Global) -> Command<'a>
@@ -113,6 +175,16 @@ fn check<'a>(alloc: Global) -> Result<Command<'a>, AllocError>
     command.arg(genesis)?.arg(keys)
 }
 
+/// The command `desk` and its options.
+fn desk<'a>(alloc: Global) -> Result<Command<'a>, AllocError>
+    ensures { IfOk result (λ command. IsCommand command desk_app) }
+{
+    let command = titled(alloc, "desk", DESK_ABOUT, DESK_HELP);
+    let genesis = required_file(alloc, "genesis", "A file of JSON with the genesis");
+    let keys = required_file(alloc, "keys", "A file of JSON with the keys of one member");
+    command.arg(genesis)?.arg(keys)
+}
+
 /// A command without options, and what its help says.
 fn titled<'a>(alloc: Global, name: &'a str, about: &'a str, help: &'a str) -> Command<'a>
     ensures { IsCommand result (new_app name.entry.now) }
@@ -128,4 +200,11 @@ fn file_option<'a>(alloc: Global, name: &'a str, help: &'a str) -> Arg<'a>
         .long(name)
         .value_name("FILE")
         .help(help)
+}
+
+/// An option that takes the name of a file, and that has to be there.
+fn required_file<'a>(alloc: Global, name: &'a str, help: &'a str) -> Arg<'a>
+    ensures { IsOption result (required_rule name.entry.now) }
+{
+    file_option(alloc, name, help).required(true)
 }
