@@ -1,5 +1,5 @@
 -- What a job is, by the rows of the command that was met; and that the program's command is simple.
-use Rattle.std.proofs.Common.{◌≡◌, List, Option, Some, None, option_map, true, refl, ap₂, Bor}
+use Rattle.std.proofs.Common.{◌≡◌, List, [], Option, Some, None, option_map, true, refl, ap₂, Bor}
 use Rattle.std.specs.Option.{unwrap_or}
 use Rattle.clap.specs.Words.{Row, Text, is_simple, is_simple_and_free}
 use Rattle.clap.proofs.OnLiterals.{clap_on_literals}
@@ -14,6 +14,15 @@ asked-some name_of rows_in (Some a) name rows h k =
     let same_name : name ≡ name_of a = cc in
     let same_rows : rows ≡ rows_in a = cc in
     ap₂ asked_of same_name same_rows
+
+-- the values that an argument was given, or none
+pub given-some : (all : Option (List Text)) (values : List Text) → Some values ≡ all → values ≡ unwrap_or all []
+given-some None values h = absurd cc
+given-some (Some all) values h = let same : values ≡ all = cc in same
+
+pub given-none : (all : Option (List Text)) → None ≡ all → [] ≡ unwrap_or all []
+given-none None h = refl
+given-none (Some all) h = absurd cc
 
 -- the text that is lent, or another
 pub text_or : (lent : Option (Bor Text)) (other : Bor Text)

@@ -1,13 +1,14 @@
 -- What the words of the program ask for. Which words a command takes is what `clap` says of simple commands.
-use Rattle.std.specs.Prelude.{◌≡◌, List, [], Option, Some, None, true, false, codes, option_map, if◌then◌else◌}
+use Rattle.std.specs.Prelude.{◌≡◌, List, [], Option, Some, None, true, false, codes, map, option_map, if◌then◌else◌}
 use Rattle.std.specs.Option.{option_map_or, unwrap_or}
 use Rattle.std.specs.Str.{bytes_eq}
-use Rattle.clap.specs.Words.{App, Row, Rule, Text, app_of, first_of, new_app, new_rule, rule_of, subcommand_of, with_rule, with_subcommand}
+use Rattle.clap.specs.Words.{App, Row, Rule, Text, all_of, app_of, first_of, new_app, new_rule, rule_of, subcommand_of, with_rule, with_subcommand}
 use Rattle.clap.specs.declared.builder.Arg.{Arg}
+use Rattle.clap.specs.declared.builder.action.ArgAction.TheVariants.{Append}
 use Rattle.clap.specs.declared.builder.Command.{Command}
 use Rattle.clap.specs.declared.builder.command.Command.TheViews.{out-Command}
 use Rattle.payd.specs.declared.words.Job.{Job}
-use Rattle.payd.specs.declared.words.Job.TheVariants.{Check, Desk}
+use Rattle.payd.specs.declared.words.Job.TheVariants.{Check, Desk, Audit}
 
 -- an option that takes the name of a file
 abbrev pub file_rule : Text → Rule
@@ -25,6 +26,14 @@ check_app = with_rule (with_rule (new_app (codes "check")) (file_rule (codes "ge
 abbrev pub desk_app : App
 desk_app = with_rule (with_rule (new_app (codes "desk")) (required_rule (codes "genesis"))) (required_rule (codes "keys"))
 
+-- the names of one or more files
+abbrev pub files_rule : Rule
+files_rule = record (new_rule (codes "files")) { required = true; action = Some Append; value_names = 1 }
+
+-- `audit`, which takes files
+abbrev pub audit_app : App
+audit_app = with_rule (new_app (codes "audit")) files_rule
+
 -- the program without its commands: it has a version, and no command for help
 abbrev pub payd_alone : App
 payd_alone = record (new_app (codes "payd")) {
@@ -33,15 +42,15 @@ payd_alone = record (new_app (codes "payd")) {
 
 -- the program
 abbrev pub payd_app : App
-payd_app = with_subcommand (with_subcommand payd_alone check_app.top) desk_app.top
+payd_app = with_subcommand (with_subcommand (with_subcommand payd_alone check_app.top) desk_app.top) audit_app.top
 
 -- a command as these definitions have it, without an option for all commands
 pub record IsCommand (c : Command) (a : App) : Type 0 where
   pub app : app_of c ≡ a
   pub globals : (out-Command c).has_globals ≡ false
 
--- an option that is a rule, and isn't for all commands
-pub record IsOption (o : Arg) (r : Rule) : Type 0 where
+-- an argument that is a rule, and isn't for all commands
+pub record IsArgument (o : Arg) (r : Rule) : Type 0 where
   pub rule : rule_of o ≡ r
   pub global : o.global ≡ false
 
@@ -49,11 +58,13 @@ pub record IsOption (o : Arg) (r : Rule) : Type 0 where
 pub data Asked : Type 0 where
   check : Option Text → Option Text → Asked
   desk : Text → Text → Asked
+  audit : List Text → Asked
 
 -- what a job is, by the texts that it lends
 abbrev pub asked : Job → Asked
 asked (Check genesis keys) = check (option_map (λ name. name.now) genesis) (option_map (λ name. name.now) keys)
 asked (Desk genesis keys) = desk genesis.now keys.now
+asked (Audit files) = audit (map (λ name. name.now) files.items)
 
 -- what the words of a command ask for
 abbrev pub check_asked : List Row → Asked
@@ -66,8 +77,17 @@ named option rows = unwrap_or (first_of option rows) []
 abbrev pub desk_asked : List Row → Asked
 desk_asked rows = desk (named (codes "genesis") rows) (named (codes "keys") rows)
 
+abbrev pub files_of : List Row → List Text
+files_of rows = unwrap_or (all_of (codes "files") rows) []
+
+abbrev pub audit_asked : List Row → Asked
+audit_asked rows = audit (files_of rows)
+
 abbrev pub asked_of : Text → List Row → Asked
-asked_of name rows = if bytes_eq name (codes "desk") then desk_asked rows else check_asked rows
+asked_of name rows =
+    if bytes_eq name (codes "desk") then desk_asked rows
+    else if bytes_eq name (codes "audit") then audit_asked rows
+    else check_asked rows
 
 -- what the command that was met asks for; without one it is `check`
 abbrev pub asked_in : Option (Text × List Row) → Asked

@@ -4,6 +4,7 @@ ghost use Rattle.std.specs.Prelude.{◌≡◌, ◌<◌, IfOk};
 ghost use Rattle.pay_link.specs.Keys.{IsKeysOf};
 
 use crate::stop::Stop;
+use pay_audit::{Export, read_export};
 use pay_frame::EngineFault;
 use pay_link::{Genesis, Keys, test_keys};
 use std::alloc::Global;
@@ -53,6 +54,21 @@ pub(crate) fn keys_of<'a>(
             Ok(test_keys(alloc, genesis, own)?)
         }
     }
+}
+
+/// The exports in the files of these names.
+pub(crate) fn exports_of<'a>(
+    alloc: Global,
+    rt: &impl Files,
+    names: &[&'a str],
+) -> Result<Vec<Export>, Stop<'a>> {
+    let mut exports = Vec::new(alloc);
+    for name in names {
+        let bytes = bytes_of(alloc, rt, name)?;
+        let export = read_export(alloc, bytes.as_slice())?;
+        exports.push(export).map_err(|_| EngineFault::Memory)?;
+    }
+    Ok(exports)
 }
 
 /// All bytes of the file of this name.

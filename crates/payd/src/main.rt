@@ -6,7 +6,8 @@ mod stop;
 mod words;
 
 use clap::error::ErrorKind;
-use files::{genesis_of, keys_of};
+use files::{exports_of, genesis_of, keys_of};
+use pay_audit::Verdict;
 use pay_book::PlainBook;
 use pay_cli::run_check;
 use pay_desk::{Desk, OneMember, run_desk};
@@ -40,6 +41,7 @@ fn main(rt: HostRuntime) -> ExitCode {
         Ok(Job::Desk { genesis, keys }) => {
             status_of(&rt, serve_desk(rt.alloc(), &rt, genesis, keys))
         }
+        Ok(Job::Audit { files }) => status_of_audit(&rt, audit(rt.alloc(), &rt, files.as_slice())),
         Err(answer) => status_of_answer(&rt, &answer),
     }
 }
@@ -77,6 +79,18 @@ fn serve_desk<'a>(
     Ok(run_desk(alloc, &mut desk, &mut reader, &mut writer)?)
 }
 
+/// Says what is wrong with the exports in these files, if anything is.
+fn audit<'a>(
+    alloc: Global,
+    rt: &(impl Files + Print),
+    files: &[&'a str],
+) -> Result<Verdict, Stop<'a>> {
+    let exports = exports_of(alloc, rt, files)?;
+    let verdict = pay_audit::audit(alloc, exports.as_slice())?;
+    println!(rt; "{verdict}").map_err(|_| EngineFault::Write)?;
+    Ok(verdict)
+}
+
 /// Tags with the keys of all peers prepared.
 fn tagger_of(alloc: Global, keys: &Keys) -> Result<PreparedHmac, AllocError> {
     let mut shared = Vec::new(alloc);
@@ -98,6 +112,15 @@ fn status_of(rt: &impl Eprint, ended: Result<(), Stop>) -> ExitCode {
             }
             ExitCode::from(stop.status())
         }
+    }
+}
+
+/// An audit that isn't clean has its line already.
+fn status_of_audit(rt: &impl Eprint, ended: Result<Verdict, Stop>) -> ExitCode {
+    match ended {
+        Ok(Verdict::Clean) => ExitCode::SUCCESS,
+        Ok(_) => ExitCode::from(1),
+        Err(stop) => status_of(rt, Err(stop)),
     }
 }
 

@@ -1,3 +1,4 @@
+use pay_audit::ExportFault;
 use pay_frame::EngineFault;
 use pay_link::{GenesisFault, KeysFault};
 use std::alloc::AllocError;
@@ -12,6 +13,8 @@ pub(crate) enum Stop<'a> {
     Genesis(GenesisFault),
     #[error("keys {0}")]
     Keys(KeysFault),
+    #[error("export {0}")]
+    Export(ExportFault),
     /// The file of this name can't be read.
     #[error("file {0}")]
     File(&'a str),
@@ -35,6 +38,12 @@ impl<'a> From<KeysFault> for Stop<'a> {
     }
 }
 
+impl<'a> From<ExportFault> for Stop<'a> {
+    fn from(fault: ExportFault) -> Stop<'a> {
+        Stop::Export(fault)
+    }
+}
+
 impl<'a> From<AllocError> for Stop<'a> {
     fn from(_: AllocError) -> Stop<'a> {
         Stop::Engine(EngineFault::Memory)
@@ -46,9 +55,11 @@ impl Stop<'_> {
     pub(crate) fn status(&self) -> u8 {
         match self {
             Stop::Engine(EngineFault::Frame(_)) => 1,
-            Stop::Engine(_) | Stop::Genesis(GenesisFault::Memory) | Stop::Keys(KeysFault::Memory) =>
-                3,
-            Stop::Genesis(_) | Stop::Keys(_) | Stop::File(_) => 2,
+            Stop::Engine(_)
+            | Stop::Genesis(GenesisFault::Memory)
+            | Stop::Keys(KeysFault::Memory)
+            | Stop::Export(ExportFault::Memory) => 3,
+            Stop::Genesis(_) | Stop::Keys(_) | Stop::Export(_) | Stop::File(_) => 2,
         }
     }
 }

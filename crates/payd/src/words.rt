@@ -1,12 +1,12 @@
 ghost use Rattle.std.specs.Prelude.{◌≡◌, IfOk, map, string_bytes};
 ghost use Rattle.clap.specs.Words.{FailsBy, fault_of, found_of, new_app, rows_of, subcommand_of, subcommand_rows_of};
-ghost use Rattle.payd.specs.Job.{IsCommand, IsOption, asked, asked_by, asked_in, asked_of, check_app, check_asked, desk_app, desk_asked, file_rule, named, payd_alone, payd_app, required_rule};
+ghost use Rattle.payd.specs.Job.{IsArgument, IsCommand, asked, asked_by, asked_in, asked_of, audit_app, audit_asked, check_app, check_asked, desk_app, desk_asked, file_rule, files_of, files_rule, named, payd_alone, payd_app, required_rule};
 
-use clap::{Arg, ArgMatches, Command, Error};
+use clap::{Arg, ArgAction, ArgMatches, Command, Error};
 use std::alloc::{AllocError, Global};
 
 /// What the program is asked to do.
-#[derive(Clone, Copy, Debug, PartialEq, Eq)]
+#[derive(Debug, Drop)]
 pub(crate) enum Job<'a> {
     /// Judge the frames on standard input, as a member of this genesis with these keys, each read from
     /// the file of this name.
@@ -20,6 +20,8 @@ pub(crate) enum Job<'a> {
         genesis: &'a str,
         keys: &'a str,
     },
+    /// Say what is wrong with the exports in the files of these names, if anything is.
+    Audit { files: Vec<&'a str> },
 }
 
 /// What is said where a word isn't UTF-8, which `clap` never sees.
@@ -76,6 +78,23 @@ write fails, or after 1,000,000 reads.
 
 Example: payd desk --genesis examples/genesis.json --keys examples/keys-0.json < examples/desk.txt";
 
+const AUDIT_ABOUT: &str = "Reads exports of members and says what is wrong with them, if anything is";
+
+const AUDIT_HELP: &str = "\
+Input: a file of JSON for each export.
+
+Output: one line, in which exports are named by their places from 0: the first of these that there is.
+  clean
+  1 genesis X                 X begins otherwise than export 0
+  2 front X account A         it isn't what the lists of X allow
+  3 balance X account A       it isn't that at the front of X
+  4 fork X Y owner A seq S    X and Y have different values there
+
+Status: 0 where it is clean, 1 where it isn't, 2 for words or a file that can't be read, 3 where memory or
+the write fails.
+
+Example: payd audit member-0.json member-1.json";
+
 /// What the words ask for, the program's name the first of them; or help, the version, or what is
 /// wrong with them. Without a command it is `check`.
 pub(crate) fn job_of<'a>(alloc: Global, words: &'a [String]) -> Result<Job<'a>, Error>
@@ -83,7 +102,7 @@ pub(crate) fn job_of<'a>(alloc: Global, words: &'a [String]) -> Result<Job<'a>, 
     ensures fault { FailsBy (fault_of payd_app (map string_bytes words.now)) result }
 {
     let matches = matches_of(alloc, words)?;
-    Ok(job_in(&matches))
+    Ok(job_in(alloc, &matches)?)
 }
 
 /// What the words match, or why they don't.
@@ -97,26 +116,32 @@ fn matches_of<'a>(alloc: Global, words: &'a [String]) -> Result<ArgMatches<'a>, 
 }
 
 /// The job of the command that was met, and `check` where there is none.
-fn job_in<'a>(matches: &ArgMatches<'a>) -> Job<'a>
-    ensures { asked result ≡ asked_in (subcommand_rows_of matches.now) }
+fn job_in<'a>(alloc: Global, matches: &ArgMatches<'a>) -> Result<Job<'a>, AllocError>
+    ensures { IfOk result (λ job. asked job ≡ asked_in (subcommand_rows_of matches.now)) }
 {
     match matches.subcommand() {
-        Some((name, command)) => command_job(name, command),
-        None => Job::Check {
+        Some((name, command)) => command_job(alloc, name, command),
+        None => Ok(Job::Check {
             genesis: None,
             keys: None,
-        },
+        }),
     }
 }
 
 /// The job of the command of this name.
-fn command_job<'a>(name: &str, command: &ArgMatches<'a>) -> Job<'a>
-    ensures { asked result ≡ asked_of name.now (rows_of (found_of command.now)) }
+fn command_job<'a>(
+    alloc: Global,
+    name: &str,
+    command: &ArgMatches<'a>,
+) -> Result<Job<'a>, AllocError>
+    ensures { IfOk result (λ job. asked job ≡ asked_of name.now (rows_of (found_of command.now))) }
 {
     if name == "desk" {
-        desk_job(command)
+        Ok(desk_job(command))
+    } else if name == "audit" {
+        audit_job(alloc, command)
     } else {
-        check_job(command)
+        Ok(check_job(command))
     }
 }
 
@@ -140,6 +165,26 @@ fn desk_job<'a>(desk: &ArgMatches<'a>) -> Job<'a>
     }
 }
 
+/// The job of `audit` with these files.
+fn audit_job<'a>(alloc: Global, audit: &ArgMatches<'a>) -> Result<Job<'a>, AllocError>
+    ensures { IfOk result (λ job. asked job ≡ audit_asked (rows_of (found_of audit.now))) }
+{
+    Ok(Job::Audit {
+        files: files_in(alloc, audit)?,
+    })
+}
+
+/// The names of files that `audit` was given.
+fn files_in<'a>(alloc: Global, audit: &ArgMatches<'a>) -> Result<Vec<&'a str>, AllocError>
+    ensures { IfOk result (λ files.
+        map (λ name. name.now) files.items ≡ files_of (rows_of (found_of audit.now))) }
+{
+    match audit.get_strs("files") {
+        Some(files) => Ok(Vec::from_slice(alloc, files)?),
+        None => Ok(Vec::new(alloc)),
+    }
+}
+
 /// What a required option names: the words aren't read without it.
 fn named<'a>(matches: &ArgMatches<'a>, option: &str) -> &'a str
     ensures { result.now ≡ named option.now (rows_of (found_of matches.now)) }
@@ -153,7 +198,8 @@ fn payd<'a>(alloc: Global) -> Result<Command<'a>, AllocError>
 {
     payd_alone(alloc)
         .subcommand(check(alloc)?)?
-        .subcommand(desk(alloc)?)
+        .subcommand(desk(alloc)?)?
+        .subcommand(audit(alloc)?)
 }
 
 fn payd_alone<'a>(alloc: Global) -> Command<'a>
@@ -185,6 +231,13 @@ fn desk<'a>(alloc: Global) -> Result<Command<'a>, AllocError>
     command.arg(genesis)?.arg(keys)
 }
 
+/// The command `audit` and its files.
+fn audit<'a>(alloc: Global) -> Result<Command<'a>, AllocError>
+    ensures { IfOk result (λ command. IsCommand command audit_app) }
+{
+    titled(alloc, "audit", AUDIT_ABOUT, AUDIT_HELP).arg(files(alloc))
+}
+
 /// A command without options, and what its help says.
 fn titled<'a>(alloc: Global, name: &'a str, about: &'a str, help: &'a str) -> Command<'a>
     ensures { IsCommand result (new_app name.entry.now) }
@@ -194,7 +247,7 @@ fn titled<'a>(alloc: Global, name: &'a str, about: &'a str, help: &'a str) -> Co
 
 /// An option that takes the name of a file.
 fn file_option<'a>(alloc: Global, name: &'a str, help: &'a str) -> Arg<'a>
-    ensures { IsOption result (file_rule name.entry.now) }
+    ensures { IsArgument result (file_rule name.entry.now) }
 {
     Arg::new(alloc, name)
         .long(name)
@@ -204,7 +257,18 @@ fn file_option<'a>(alloc: Global, name: &'a str, help: &'a str) -> Arg<'a>
 
 /// An option that takes the name of a file, and that has to be there.
 fn required_file<'a>(alloc: Global, name: &'a str, help: &'a str) -> Arg<'a>
-    ensures { IsOption result (required_rule name.entry.now) }
+    ensures { IsArgument result (required_rule name.entry.now) }
 {
     file_option(alloc, name, help).required(true)
+}
+
+/// The names of one or more files.
+fn files<'a>(alloc: Global) -> Arg<'a>
+    ensures { IsArgument result files_rule }
+{
+    Arg::new(alloc, "files")
+        .required(true)
+        .action(ArgAction::Append)
+        .value_name("FILE")
+        .help("A file of JSON with an export")
 }

@@ -8,9 +8,12 @@ returns c =
     let alone = c.payd_alone.ensures in
     let check = c.in_ok-check.ensures in
     let desk = c.in_ok-desk.ensures in
+    let audit = c.in_ok-audit.ensures in
     let first = c.in_ok-subcommand.ensures in
-    IfOk-weaker c.subcommand-2.result _ _ (λ r h. record {
-      app = h.shape desk.globals
-          ∙ ap₂ with_subcommand (first.shape check.globals ∙ ap₂ with_subcommand alone.app (ap (λ (a : App). a.top) check.app)) (ap (λ (a : App). a.top) desk.app);
-      globals = rw (h.globals, first.globals, alone.globals, check.globals, desk.globals) refl;
-    }) c.subcommand-2.ensures
+    let second = c.in_ok-subcommand-2.ensures in
+    let one = first.shape check.globals ∙ ap₂ with_subcommand alone.app (ap (λ (a : App). a.top) check.app) in
+    let two = second.shape desk.globals ∙ ap₂ with_subcommand one (ap (λ (a : App). a.top) desk.app) in
+    IfOk-weaker c.subcommand-3.result _ _ (λ r h. record {
+      app = h.shape audit.globals ∙ ap₂ with_subcommand two (ap (λ (a : App). a.top) audit.app);
+      globals = rw (h.globals, second.globals, first.globals, alone.globals, check.globals, desk.globals, audit.globals) refl;
+    }) c.subcommand-3.ensures

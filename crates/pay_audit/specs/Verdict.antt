@@ -1,0 +1,83 @@
+-- What an auditor answers of several exports, each named by its place from 0. Whether a front and balances are right is
+-- asked of the export's own lists; nothing here says how a book is settled.
+use Rattle.std.specs.Prelude.{ℕ, ◌+◌, ◌==◌, ◌&&◌, Bool, List, [], ◌∷◌, slice_index, Option, Some, None, option_map, unwrap_or, if◌then◌else◌}
+use Rattle.std.specs.Option.{option_or}
+use Rattle.std.specs.List.{zip}
+use Rattle.std.specs.Str.{bytes_eq}
+use Rattle.pay_link.specs.Genesis.{GenesisFields}
+use Rattle.pay_book.specs.Book.{Standing}
+use Rattle.pay_book.specs.Settled.{settled_book}
+use Rattle.pay_audit.specs.Export.{ExportFields, lists_of}
+use Rattle.pay_audit.specs.declared.verdict.Verdict.{Verdict}
+use Rattle.pay_audit.specs.declared.verdict.Verdict.TheVariants.{Clean, OtherGenesis, WrongFront, WrongBalance, Fork}
+
+-- the first answer that there is, where each is asked with its place, counted from here
+abbrev pub first_from : {A B : Type 0} → (ℕ → A → Option B) → ℕ → List A → Option B
+first_from ask place [] = None
+first_from ask place (x ∷ xs) = option_or (ask place x) (first_from ask (place + 1) xs)
+
+-- ---- another genesis
+
+abbrev pub same_genesis : GenesisFields → GenesisFields → Bool
+same_genesis g h = (g.members == h.members) && (g.faults == h.faults) && bytes_eq g.opening h.opening
+
+abbrev pub other_genesis_at : GenesisFields → ℕ → ExportFields → Option Verdict
+other_genesis_at g x e = if same_genesis g e.genesis then None else Some (OtherGenesis x)
+
+abbrev pub other_genesis : List ExportFields → Option Verdict
+other_genesis [] = None
+other_genesis (e ∷ es) = first_from (other_genesis_at e.genesis) 0 (e ∷ es)
+
+-- ---- a wrong front, a wrong balance
+
+-- the book of an export's own lists: all is settled that they allow
+abbrev pub book_of : ExportFields → Standing
+book_of e = settled_book e.genesis.opening (lists_of e)
+
+-- this account, where its number isn't the right one
+abbrev pub if_other : List ℕ → ℕ → ℕ → Option ℕ
+if_other right a number = if number == slice_index right a then None else Some a
+
+unfoldable pub wrong_front_of : ExportFields → Option ℕ
+wrong_front_of e = first_from (if_other (book_of e).front) 0 e.front
+
+unfoldable pub wrong_balance_of : ExportFields → Option ℕ
+wrong_balance_of e = first_from (if_other (book_of e).balances) 0 e.balances
+
+abbrev pub wrong_front_at : ℕ → ExportFields → Option Verdict
+wrong_front_at x e = option_map (WrongFront x) (wrong_front_of e)
+
+abbrev pub wrong_balance_at : ℕ → ExportFields → Option Verdict
+wrong_balance_at x e = option_map (WrongBalance x) (wrong_balance_of e)
+
+-- a wrong front of any export comes before a wrong balance
+abbrev pub wrong_book : List ExportFields → Option Verdict
+wrong_book exports = option_or (first_from wrong_front_at 0 exports) (first_from wrong_balance_at 0 exports)
+
+-- ---- a fork
+
+-- this place, where the values at it differ
+abbrev pub if_differ : ℕ → List ℕ × List ℕ → Option ℕ
+if_differ place values = if bytes_eq values.0 values.1 then None else Some place
+
+-- the first place that two lists both have and where their values differ
+unfoldable pub fork_place : List (List ℕ) → List (List ℕ) → Option ℕ
+fork_place one other = first_from if_differ 0 (zip one other)
+
+abbrev pub fork_of : ℕ → ℕ → ℕ → List (List ℕ) × List (List ℕ) → Option Verdict
+fork_of x y owner lists = option_map (Fork x y owner) (fork_place lists.0 lists.1)
+
+-- export x against export y
+unfoldable pub fork_between : ℕ → ExportFields → ℕ → ExportFields → Option Verdict
+fork_between x one y other = first_from (fork_of x y) 0 (zip one.lists other.lists)
+
+-- each export against those behind it
+abbrev pub fork_from : ℕ → List ExportFields → Option Verdict
+fork_from x [] = None
+fork_from x (e ∷ es) = option_or (first_from (fork_between x e) (x + 1) es) (fork_from (x + 1) es)
+
+-- ---- the verdict
+
+unfoldable pub verdict_of : List ExportFields → Verdict
+verdict_of exports =
+    unwrap_or (option_or (other_genesis exports) (option_or (wrong_book exports) (fork_from 0 exports))) Clean

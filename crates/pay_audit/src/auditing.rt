@@ -1,0 +1,177 @@
+ghost use Rattle.std.specs.Prelude.{◌≡◌, ◌+◌, ◌^◌, ◌<◌, length, IfOk};
+ghost use Rattle.std.specs.Str.{bytes_eq};
+ghost use Rattle.pay_link.specs.Genesis.{IsGenesis};
+ghost use Rattle.pay_audit.specs.Verdict.{book_of, first_from, fork_between, fork_from, fork_place, other_genesis, other_genesis_at, same_genesis, verdict_of, wrong_balance_of, wrong_book, wrong_front_of};
+
+use crate::export::Export;
+use crate::owner_list::OwnerList;
+use crate::settling::settled;
+use crate::verdict::Verdict;
+use pay_book::{PlainBook, Settle};
+use pay_link::Genesis;
+use std::alloc::{AllocError, Global};
+
+/// What is wrong with these exports, if anything is.
+#[tactic(auto, unfolding(crate::specs::Verdict::verdict_of))]
+pub fn audit(alloc: Global, exports: &[Export]) -> Result<Verdict, AllocError>
+    ensures { IfOk result (λ verdict. verdict ≡ verdict_of exports.now) }
+{
+    if let Some(verdict) = other_genesis(exports) {
+        return Ok(verdict);
+    }
+    if let Some(verdict) = wrong_book(alloc, exports)? {
+        return Ok(verdict);
+    }
+    Ok(fork(exports).unwrap_or(Verdict::Clean))
+}
+
+// The first export that begins with another genesis than the first of all.
+fn other_genesis(exports: &[Export]) -> Option<Verdict>
+    ensures { result ≡ other_genesis exports.now }
+{
+    let first = exports.first()?;
+    other_than(&first.genesis, exports)
+}
+
+fn other_than(genesis: &Genesis, exports: &[Export]) -> Option<Verdict>
+    ensures { result ≡ first_from (other_genesis_at genesis.now) 0 exports.now }
+{
+    for (place, export) in exports.iter().enumerate() {
+        if !is_same_genesis(genesis, &export.genesis) {
+            return Some(Verdict::OtherGenesis { export: place });
+        }
+    }
+    None
+}
+
+fn is_same_genesis(one: &Genesis, other: &Genesis) -> bool
+    ensures { result ≡ same_genesis one.now other.now }
+{
+    one.members() == other.members()
+        && one.faults() == other.faults()
+        && has_same_opening(one, other)
+}
+
+fn has_same_opening(one: &Genesis, other: &Genesis) -> bool
+    requires same_members { one.now.members ≡ other.now.members }
+    requires one { IsGenesis one.now }
+    requires other { IsGenesis other.now }
+    ensures { result ≡ bytes_eq one.now.opening other.now.opening }
+{
+    for account in 0..one.members() {
+        if one.opening(account) != other.opening(account) {
+            return false;
+        }
+    }
+    true
+}
+
+// The first front that isn't what its export's lists allow, or else the first balance.
+fn wrong_book(alloc: Global, exports: &[Export]) -> Result<Option<Verdict>, AllocError>
+    ensures { IfOk result (λ verdict. verdict ≡ wrong_book exports.now) }
+{
+    let mut wrong_balance = None;
+    for (place, export) in exports.iter().enumerate() {
+        let book: PlainBook = settled(alloc, export)?;
+        if let Some(account) = wrong_front_of(export, &book) {
+            return Ok(Some(Verdict::WrongFront {
+                export: place,
+                account,
+            }));
+        }
+        if wrong_balance.is_none() {
+            wrong_balance = wrong_balance_of(export, &book).map(|account| Verdict::WrongBalance {
+                export: place,
+                account,
+            });
+        }
+    }
+    Ok(wrong_balance)
+}
+
+// The first account whose front isn't that of the book.
+#[tactic(auto, unfolding(crate::specs::Verdict::wrong_front_of))]
+fn wrong_front_of<B: Settle>(export: &Export, book: &B) -> Option<u16>
+    requires { B.shows book.now ≡ book_of export.now }
+    ensures { result ≡ wrong_front_of export.now }
+{
+    for (account, front) in export.front.iter().enumerate() {
+        if *front != u64::from(book.front(account as u16)) {
+            return Some(account as u16);
+        }
+    }
+    None
+}
+
+// The first account whose balance isn't that of the book.
+#[tactic(auto, unfolding(crate::specs::Verdict::wrong_balance_of))]
+fn wrong_balance_of<B: Settle>(export: &Export, book: &B) -> Option<u16>
+    requires { B.shows book.now ≡ book_of export.now }
+    ensures { result ≡ wrong_balance_of export.now }
+{
+    for (account, balance) in export.balances.iter().enumerate() {
+        if *balance != book.balance(account as u16) {
+            return Some(account as u16);
+        }
+    }
+    None
+}
+
+// The first fork between an export and one behind it.
+fn fork(exports: &[Export]) -> Option<Verdict>
+    ensures { result ≡ fork_from 0 exports.now }
+{
+    for (place, export) in exports.iter().enumerate() {
+        let fork = fork_behind(place, export, &exports[place + 1..]);
+        if fork.is_some() {
+            return fork;
+        }
+    }
+    None
+}
+
+// The first fork between export `one` and those that follow it.
+fn fork_behind(one: usize, export: &Export, following: &[Export]) -> Option<Verdict>
+    requires { one + length following.now + 1 < 2 ^ 64 }
+    ensures { result ≡ first_from (fork_between one export.now) (one + 1) following.now }
+{
+    for (k, other) in following.iter().enumerate() {
+        let fork = fork_between(one, export, one + 1 + k, other);
+        if fork.is_some() {
+            return fork;
+        }
+    }
+    None
+}
+
+#[tactic(auto, unfolding(crate::specs::Verdict::fork_between))]
+fn fork_between(one: usize, export: &Export, other: usize, against: &Export) -> Option<Verdict>
+    ensures { result ≡ fork_between one export.now other against.now }
+{
+    for (owner, list) in export.lists.iter().enumerate() {
+        let against = against.lists.get(owner)?;
+        if let Some(seq) = fork_place(list, against) {
+            return Some(Verdict::Fork {
+                one,
+                other,
+                owner: owner as u16,
+                seq,
+            });
+        }
+    }
+    None
+}
+
+// The first place that two lists both have and where their values differ.
+#[tactic(auto, unfolding(crate::specs::Verdict::fork_place))]
+fn fork_place(one: &OwnerList, other: &OwnerList) -> Option<u32>
+    ensures { result ≡ fork_place one.now other.now }
+{
+    for (place, value) in one.values().iter().enumerate() {
+        let against = other.values().get(place)?;
+        if value.as_slice() != against.as_slice() {
+            return Some(place as u32);
+        }
+    }
+    None
+}

@@ -1,0 +1,54 @@
+ghost use Rattle.std.specs.Prelude.{◌≡◌, ◌<◌};
+
+use crate::owner_list::OwnerList;
+use pay_link::Genesis;
+use std::marker::Model;
+
+/// What a member shows of its own without its keys: what the ledger began with, the list of each account's values, how
+/// many entries of it are settled, and all balances. Nothing of it is taken for true.
+#[derive(Debug, Drop)]
+pub struct Export {
+    pub(crate) genesis: Genesis,
+    pub(crate) member: u16,
+    pub(crate) lists: Vec<OwnerList>,
+    pub(crate) front: Vec<u64>,
+    pub(crate) balances: Vec<u64>,
+}
+
+impl Model for Export {
+    ghost use Rattle.pay_audit.specs.Export.{ExportFields, IsExport};
+
+    ghost Value = { ExportFields };
+
+    ghost view = { λ e. record {
+      genesis = e.genesis;
+      member = e.member;
+      lists = e.lists.items;
+      front = e.front.items;
+      balances = e.balances.items;
+    } };
+
+    ghost invariant = { λ e. IsExport (record {
+      genesis = e.genesis;
+      member = e.member;
+      lists = e.lists.items;
+      front = e.front.items;
+      balances = e.balances.items;
+    }) };
+}
+
+impl Export {
+    pub fn genesis(&self) -> &Genesis
+        ensures { result.now ≡ self.now.genesis }
+    {
+        &self.genesis
+    }
+
+    /// The member whose export it says it is.
+    pub fn member(&self) -> u16
+        ensures value { result ≡ self.now.member }
+        ensures limit { self.now.member < self.now.genesis.members }
+    {
+        self.member
+    }
+}

@@ -1,0 +1,54 @@
+ghost use Rattle.std.specs.Prelude.{◌≡◌};
+ghost use Rattle.pay_audit.specs.Faults.{export_fault_name, export_fault_number};
+
+use std::alloc::AllocError;
+use thiserror::Error;
+
+/// Why a file is no export, in the order in which it is tested; memory stands apart.
+#[derive(Clone, Copy, Debug, PartialEq, Eq, Error)]
+#[error("{} {}", self.number(), self.name())]
+pub enum ExportFault {
+    Memory,
+    /// The file isn't JSON.
+    BadJson,
+    /// It lacks a member, or one isn't of the type or the size that it should be.
+    BadShape,
+    /// Its members, faults and opening make no genesis.
+    BadGenesis,
+}
+
+impl ExportFault {
+    const fn entry(self) -> (u8, &'static str)
+        ensures number { result.0 ≡ export_fault_number self }
+        ensures name { result.1.now ≡ export_fault_name self }
+    {
+        match self {
+            ExportFault::Memory => (0, "Memory"),
+            ExportFault::BadJson => (1, "BadJson"),
+            ExportFault::BadShape => (2, "BadShape"),
+            ExportFault::BadGenesis => (3, "BadGenesis"),
+        }
+    }
+
+    pub fn number(self) -> u8
+        ensures value { result ≡ export_fault_number self }
+    {
+        self.entry().0
+    }
+
+    pub fn name(self) -> &'static str
+        ensures value { result.now ≡ export_fault_name self }
+    {
+        self.entry().1
+    }
+}
+
+impl From<AllocError> for ExportFault {
+    ghost use Rattle.pay_audit.specs.declared.export_fault.ExportFault.TheVariants.{Memory};
+
+    ghost from_gives = { λ _ e. e ≡ Memory };
+
+    fn from(_error: AllocError) -> ExportFault {
+        ExportFault::Memory
+    }
+}

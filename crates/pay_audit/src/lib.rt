@@ -1,0 +1,18 @@
+//! For auditors of a group's books: what a member shows of its own without its keys, and what is wrong with several of
+//! these, if anything is.
+#![tactic(auto)]
+
+mod auditing;
+mod export;
+mod export_fault;
+mod owner_list;
+mod parts;
+mod reading;
+mod settling;
+mod verdict;
+
+pub use auditing::audit;
+pub use export::Export;
+pub use export_fault::ExportFault;
+pub use reading::read_export;
+pub use verdict::Verdict;

@@ -1,0 +1,181 @@
+//! The parts that an object of JSON has, before they are judged.
+
+ghost use Rattle.std.specs.Prelude.{◌≡◌, IfOk, IfSome, option_and_then, option_map};
+ghost use Rattle.serde_json.specs.Find.{as_array};
+ghost use Rattle.serde_json.specs.View.{view};
+ghost use Rattle.pay_link.specs.Files.{genesis_said};
+ghost use Rattle.pay_audit.specs.Export as export;
+
+use crate::owner_list::OwnerList;
+use hex::{FromHexError, decode};
+use pay_frame::{Bytes, GREATEST_VALUE, SEQS};
+use pay_json::{number_at, numbers_at};
+use serde_json::Value;
+use std::alloc::{AllocError, Global};
+use std::marker::Model;
+
+/// What an object says that a ledger began with.
+#[derive(Drop)]
+pub(crate) struct Beginning {
+    pub(crate) members: u64,
+    pub(crate) faults: u64,
+    pub(crate) opening: Vec<u64>,
+}
+
+impl Model for Beginning {
+    ghost use Rattle.pay_link.specs.Genesis.{GenesisFields};
+
+    ghost Value = { GenesisFields };
+
+    ghost view = { λ b. record { members = b.members; faults = b.faults; opening = b.opening.items } };
+}
+
+/// What an object says of an export, whatever its sizes.
+#[derive(Drop)]
+pub(crate) struct Parts {
+    pub(crate) genesis: Beginning,
+    pub(crate) member: u64,
+    pub(crate) lists: Vec<OwnerList>,
+    pub(crate) front: Vec<u64>,
+    pub(crate) balances: Vec<u64>,
+}
+
+impl Model for Parts {
+    ghost use Rattle.pay_audit.specs.Export.{AreShort, ExportFields};
+
+    ghost Value = { ExportFields };
+
+    ghost view = { λ e. record {
+      genesis = e.genesis;
+      member = e.member;
+      lists = e.lists.items;
+      front = e.front.items;
+      balances = e.balances.items;
+    } };
+
+    ghost invariant = { λ e. AreShort e.lists.items };
+}
+
+/// All parts, if the object has them.
+#[tactic(auto, unfolding(crate::specs::Export::parts_in))]
+pub(crate) fn parts_in(alloc: Global, value: &Value) -> Result<Option<Parts>, AllocError>
+    ensures { IfOk result (λ parts. parts ≡ export.parts_in (view value.now)) }
+{
+    let Some(genesis) = beginning_in(alloc, value)? else {
+        return Ok(None);
+    };
+    let Some(member) = number_at(value, "member") else {
+        return Ok(None);
+    };
+    let Some(lists) = lists_in(alloc, value)? else {
+        return Ok(None);
+    };
+    let Some(front) = numbers_at(alloc, value, "front")? else {
+        return Ok(None);
+    };
+    let Some(balances) = numbers_at(alloc, value, "balances")? else {
+        return Ok(None);
+    };
+    Ok(Some(Parts {
+        genesis,
+        member,
+        lists,
+        front,
+        balances,
+    }))
+}
+
+fn beginning_in(alloc: Global, value: &Value) -> Result<Option<Beginning>, AllocError>
+    ensures { IfOk result (λ genesis. genesis ≡ genesis_said (view value.now)) }
+{
+    let Some(members) = number_at(value, "members") else {
+        return Ok(None);
+    };
+    let Some(faults) = number_at(value, "faults") else {
+        return Ok(None);
+    };
+    let Some(opening) = numbers_at(alloc, value, "opening")? else {
+        return Ok(None);
+    };
+    Ok(Some(Beginning {
+        members,
+        faults,
+        opening,
+    }))
+}
+
+#[tactic(auto, unfolding(crate::specs::Export::lists_in))]
+fn lists_in(alloc: Global, value: &Value) -> Result<Option<Vec<OwnerList>>, AllocError>
+    ensures value { IfOk result (λ lists.
+        option_map (λ l. l.items) lists ≡ export.lists_in (view value.now)) }
+    ensures short { IfOk result (λ lists. IfSome lists (λ l. export.AreShort l.items)) }
+{
+    let Some(items) = value.get("lists").and_then(Value::as_array) else {
+        return Ok(None);
+    };
+    let mut lists = Vec::new(alloc);
+    for item in items {
+        let Some(list) = list_in(alloc, item)? else {
+            return Ok(None);
+        };
+        lists.push(list)?;
+    }
+    Ok(Some(lists))
+}
+
+/// The values of an owner.
+#[tactic(auto, unfolding(crate::specs::Export::list_said))]
+fn list_in(alloc: Global, value: &Value) -> Result<Option<OwnerList>, AllocError>
+    ensures { IfOk result (λ list. list ≡ export.list_said (view value.now)) }
+{
+    let Some(values) = values_in(alloc, value)? else {
+        return Ok(None);
+    };
+    if values.len() > SEQS as usize {
+        return Ok(None);
+    }
+    Ok(Some(OwnerList::new(values)))
+}
+
+fn values_in(alloc: Global, value: &Value) -> Result<Option<Vec<Bytes>>, AllocError>
+    ensures { IfOk result (λ values. option_map (λ v. v.items) values
+        ≡ option_and_then export.values_said (as_array (view value.now))) }
+{
+    let Some(items) = value.as_array() else {
+        return Ok(None);
+    };
+    let mut values = Vec::new(alloc);
+    for item in items {
+        let Some(value) = value_said(alloc, item)? else {
+            return Ok(None);
+        };
+        values.push(value)?;
+    }
+    Ok(Some(values))
+}
+
+/// The value that a text spells.
+fn value_said(alloc: Global, value: &Value) -> Result<Option<Bytes>, AllocError>
+    ensures { IfOk result (λ bytes. bytes ≡ export.value_said (view value.now)) }
+{
+    let Some(text) = value.as_str() else {
+        return Ok(None);
+    };
+    value_of(alloc, text)
+}
+
+#[tactic(auto, unfolding(crate::specs::Export::value_of))]
+fn value_of(alloc: Global, text: &str) -> Result<Option<Bytes>, AllocError>
+    ensures { IfOk result (λ bytes. bytes ≡ export.value_of text.now) }
+{
+    match decode(alloc, text.as_bytes()) {
+        Ok(bytes) => {
+            if bytes.len() > usize::from(GREATEST_VALUE) {
+                return Ok(None);
+            }
+            Ok(Some(Bytes::new(bytes)))
+        }
+        Err(FromHexError::OutOfMemory) => Err(AllocError),
+        Err(_) => Ok(None),
+    }
+}
