@@ -1,0 +1,190 @@
+"""A slow model of an audit's verdict, and exports to try it on.
+
+It is written from docs/DEFINITIONS.md: which front is the largest is found among all fronts that steps reach. It
+shares no code with the crates.
+"""
+
+import json
+
+from frames import payment
+
+A = payment(payee=0, amount=5).hex()
+B = payment(payee=1, amount=5).hex()
+
+
+def export(opening, lists, front, balances, member=0, faults=None):
+    members = len(opening)
+    return {
+        "members": members,
+        "faults": (members - 1) // 3 if faults is None else faults,
+        "opening": opening,
+        "member": member,
+        "lists": lists,
+        "front": front,
+        "balances": balances,
+    }
+
+
+# Exports of a group of four with one liar, whose account 3 begins with 50. The first has a payment of 5 to account 0
+# settled, the second nothing, the third one to account 1 in place of it.
+PAID = export([0, 0, 0, 50], [[], [], [], [A]], [0, 0, 0, 1], [5, 0, 0, 45])
+FRESH = export([0, 0, 0, 50], [[], [], [], []], [0, 0, 0, 0], [0, 0, 0, 50], member=1)
+FORKED = export([0, 0, 0, 50], [[], [], [], [B]], [0, 0, 0, 1], [0, 5, 0, 45], member=2)
+
+# Exports, and the line that their audit has to print.
+ROWS = [
+    ([PAID], "clean"),
+    ([PAID, PAID], "clean"),
+    ([PAID, FRESH], "clean"),
+    ([FRESH, PAID], "clean"),
+    ([PAID, FRESH, FORKED], "4 fork 0 2 owner 3 seq 0"),
+    ([FRESH, PAID, FORKED, FORKED], "4 fork 1 2 owner 3 seq 0"),
+    ([{**PAID, "front": [0, 0, 0, 0]}], "2 front 0 account 3"),
+    ([FRESH, {**FRESH, "front": [0, 1, 0, 0]}], "2 front 1 account 1"),
+    ([{**PAID, "front": [0, 0, 0, 2**64 - 1]}], "2 front 0 account 3"),
+    ([{**PAID, "balances": [0, 0, 0, 50]}], "3 balance 0 account 0"),
+    ([PAID, {**PAID, "balances": [5, 0, 0, 2**64 - 1]}], "3 balance 1 account 3"),
+    ([{**PAID, "balances": [0, 0, 0, 50]}, {**PAID, "front": [0, 0, 0, 0]}], "2 front 1 account 3"),
+    ([{**PAID, "balances": [0, 0, 0, 50]}, FORKED], "3 balance 0 account 0"),
+    ([PAID, {**FRESH, "opening": [0, 0, 0, 51]}], "1 genesis 1"),
+    ([PAID, PAID, {**PAID, "faults": 0}], "1 genesis 2"),
+    ([{**PAID, "front": [0, 0, 0, 0]}, export([7], [[]], [0], [7])], "1 genesis 1"),
+    ([{**PAID, "lists": [[], [], [], [A, "ff"]], "front": [0, 0, 0, 2]}, PAID], "clean"),
+    ([{**PAID, "lists": [[], [], [], [A.upper(), ""]], "front": [0, 0, 0, 2]}, PAID], "clean"),
+]
+
+# An export's members changed, and the fault of its file.
+FAULTS = [
+    ({"lists": None}, "2 BadShape"),
+    ({"front": None}, "2 BadShape"),
+    ({"balances": None}, "2 BadShape"),
+    ({"member": None}, "2 BadShape"),
+    ({"members": None}, "2 BadShape"),
+    ({"faults": None}, "2 BadShape"),
+    ({"opening": None}, "2 BadShape"),
+    ({"member": 4}, "2 BadShape"),
+    ({"member": -1}, "2 BadShape"),
+    ({"member": 1.0}, "2 BadShape"),
+    ({"member": "0"}, "2 BadShape"),
+    ({"lists": [[], [], []]}, "2 BadShape"),
+    ({"lists": [[], [], [], [], []]}, "2 BadShape"),
+    ({"lists": [[], [], [], {}]}, "2 BadShape"),
+    ({"lists": [[], [], [], [5]]}, "2 BadShape"),
+    ({"lists": [[], [], [], ["0"]]}, "2 BadShape"),
+    ({"lists": [[], [], [], ["0g"]]}, "2 BadShape"),
+    ({"lists": [[], [], [], [1025 * "00"]]}, "2 BadShape"),
+    ({"lists": [[], [], [], 65537 * [""]]}, "2 BadShape"),
+    ({"front": [0, 0, 0]}, "2 BadShape"),
+    ({"front": [0, 0, 0, "0"]}, "2 BadShape"),
+    ({"balances": [0, 0, 0, 50, 0]}, "2 BadShape"),
+    ({"balances": [0, 0, 0, -50]}, "2 BadShape"),
+    ({"members": 5}, "2 BadShape"),
+    ({"members": 0}, "2 BadShape"),
+    ({"members": 65, "lists": 65 * [[]], "front": 65 * [0], "balances": 65 * [0]}, "3 BadGenesis"),
+    ({"faults": 2}, "3 BadGenesis"),
+    ({"faults": 2**64 - 1}, "3 BadGenesis"),
+    ({"opening": [0, 0, 50]}, "3 BadGenesis"),
+    ({"opening": [2**63, 2**63, 0, 0]}, "3 BadGenesis"),
+    ({"faults": 2, "front": []}, "2 BadShape"),
+]
+
+
+def changed(members):
+    """The text of the first export with these members changed, or left out where they are None."""
+    kept = {name: value for name, value in {**PAID, **members}.items() if value is not None}
+    return json.dumps(kept)
+
+
+# ---- the model
+
+
+def entry(value, owner, members):
+    """Payee and amount of a value, or None where it moves nothing."""
+    if len(value) != 11 or value[0] != 1:
+        return None
+    payee, amount = int.from_bytes(value[1:3], "big"), int.from_bytes(value[3:], "big")
+    return None if payee >= members or payee == owner or amount == 0 else (payee, amount)
+
+
+def balance(given, front, account):
+    entries = entries_of(given)
+    settled = [(owner, e) for owner, es in enumerate(entries) for e in es[: front[owner]] if e]
+    came = sum(amount for _, (payee, amount) in settled if payee == account)
+    went = sum(amount for owner, (_, amount) in settled if owner == account)
+    return given["opening"][account] + came - went
+
+
+def entries_of(given):
+    members = given["members"]
+    return [[entry(bytes.fromhex(text), owner, members) for text in texts] for owner, texts in enumerate(given["lists"])]
+
+
+def largest_front(given):
+    """The one of all fronts that steps reach which is as far as each other at every account."""
+    entries = entries_of(given)
+    reached, left = set(), [tuple(0 for _ in entries)]
+    while left:
+        front = left.pop()
+        if front in reached:
+            continue
+        reached.add(front)
+        for account, place in enumerate(front):
+            if place < len(entries[account]):
+                e = entries[account][place]
+                if e is None or balance(given, front, account) >= e[1]:
+                    left.append(front[:account] + (place + 1,) + front[account + 1 :])
+    return max(reached, key=sum)
+
+
+def verdict(exports):
+    """The line that an audit of these exports prints."""
+    genesis = ("members", "faults", "opening")
+    for x, given in enumerate(exports):
+        if any(given[name] != exports[0][name] for name in genesis):
+            return f"1 genesis {x}"
+    for x, given in enumerate(exports):
+        for account, (place, right) in enumerate(zip(given["front"], largest_front(given))):
+            if place != right:
+                return f"2 front {x} account {account}"
+    for x, given in enumerate(exports):
+        for account, amount in enumerate(given["balances"]):
+            if amount != balance(given, given["front"], account):
+                return f"3 balance {x} account {account}"
+    for x, one in enumerate(exports):
+        for y in range(x + 1, len(exports)):
+            for owner, (values, others) in enumerate(zip(one["lists"], exports[y]["lists"])):
+                for seq, (value, other) in enumerate(zip(values, others)):
+                    if bytes.fromhex(value) != bytes.fromhex(other):
+                        return f"4 fork {x} {y} owner {owner} seq {seq}"
+    return "clean"
+
+
+# ---- random exports
+
+
+def random_value(random, members):
+    if random.random() < 0.15:
+        return random.choice(["", "ff", "01000100000000000000", "0100010000000000000000"])
+    return payment(payee=random.randrange(members + 1), amount=random.randrange(1, 12)).hex()
+
+
+def random_exports(random):
+    """A few exports of members of one group, most of them right."""
+    members = random.randrange(1, 5)
+    opening = [random.choice([0, 0, 5, 10]) for _ in range(members)]
+    lists = [[random_value(random, members) for _ in range(random.randrange(5))] for _ in range(members)]
+    exports = []
+    for _ in range(random.randrange(1, 5)):
+        own = [values[: random.randrange(len(values) + 1)] for values in lists]
+        if random.random() < 0.15 and any(own):
+            values = random.choice([values for values in own if values])
+            values[random.randrange(len(values))] = random_value(random, members)
+        given = export(opening, own, [], [], member=random.randrange(members))
+        given["front"] = list(largest_front(given))
+        given["balances"] = [balance(given, given["front"], account) for account in range(members)]
+        for name in ("front", "balances", "opening"):
+            if random.random() < 0.05:
+                given[name] = list(given[name])
+                given[name][random.randrange(members)] += random.choice([1, 2])
+        exports.append(given)
+    return exports
