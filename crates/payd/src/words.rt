@@ -21,7 +21,9 @@ pub(crate) enum Job<'a> {
         keys: &'a str,
     },
     /// Say what is wrong with the exports in the files of these names, if anything is.
-    Audit { files: Vec<&'a str> },
+    Audit {
+        files: Vec<&'a str>,
+    },
 }
 
 /// What is said where a word isn't UTF-8, which `clap` never sees.
@@ -78,7 +80,8 @@ write fails, or after 1,000,000 reads.
 
 Example: payd desk --genesis examples/genesis.json --keys examples/keys-0.json < examples/desk.txt";
 
-const AUDIT_ABOUT: &str = "Reads exports of members and says what is wrong with them, if anything is";
+const AUDIT_ABOUT: &str =
+    "Reads exports of members and says what is wrong with them, if anything is";
 
 const AUDIT_HELP: &str = "\
 Input: a file of JSON for each export.
