@@ -13,7 +13,7 @@ use pay_book::laws::{
 };
 use pay_book::{Line, Settle, statement};
 use pay_channel::laws::{a_channel_follows, lists_of_a_channel, nothing_at_first};
-use pay_channel::{Channel, EventRef};
+use pay_channel::{Channel, EventRef, Source};
 use pay_echo::Instance;
 use pay_frame::Body;
 use pay_link::Genesis;
@@ -109,6 +109,14 @@ impl<I: Instance + Drop, B: Settle + Drop> Ledger<I, B> {
         ensures { result ≡ length (lists_of self.now.channel account) }
     {
         self.channel.in_order(account)
+    }
+
+    /// The value at a place of an account's list.
+    pub fn value(&self, account: u16, place: u32) -> &[u8]
+        requires { place < length (lists_of self.now.channel account) }
+        ensures { slice_get (lists_of self.now.channel account) place ≡ Some result.now }
+    {
+        self.channel.at(account, place)
     }
 
     /// How many of an account's entries are settled.

@@ -11,6 +11,7 @@ mod event;
 mod fault;
 pub mod laws;
 mod ledger;
+mod lists;
 mod member;
 mod outcome;
 mod reply;

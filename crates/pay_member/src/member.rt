@@ -51,7 +51,7 @@ pub struct Member<I: Instance + Drop, B: Settle + Drop> {
     genesis: Genesis,
     keys: Keys,
     fronts: Fronts,
-    ledger: Ledger<I, B>,
+    pub(crate) ledger: Ledger<I, B>,
     history: Vec<HistoryEntry>,
 }
 
