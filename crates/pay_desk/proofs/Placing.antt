@@ -2,8 +2,7 @@
 use Rattle.std.proofs.Common.{◌≡◌, ℕ, ◌+◌, ◌≤◌, Bool, true, false, List, [], ◌∷◌, ◌++◌, length, length-append, refl, sym, ◌∙◌, ap, arith, subst, cond, nat_lt, nat_eq, not, Some, None, inl, inr, add-zero}
 use Rattle.std.specs.Prelude.{◌==◌, option_and_then, slice_get}
 use Rattle.std.specs.List.{position_or_len}
-use Rattle.std.specs.BTreeMap.{BTreeMap, get}
-use Rattle.std.specs.Ordering.{nat_cmp}
+use Rattle.std.specs.HashMap.{HashMap, get}
 use Rattle.std.proofs.lemmas.Bool.{cases_lt, eqb-true}
 use Rattle.std.proofs.lemmas.Bool.Decides.{nat_tests}
 use Rattle.std.proofs.lemmas.Option.{slice_get_past, slice_get-get_or}
@@ -23,11 +22,11 @@ found_at id kept =
     ∙ (elim (nat_lt n (length kept)) as (λ b. nat_lt n (length kept) ≡ b → slice_get kept n ≡ option_and_then (slice_get kept) (cond b (Some n) None))
     [ true ↦ λ h. refl | false ↦ λ h. slice_get_past kept n (grind (arith, nat_tests)) ]) refl
 
-pub not_found : (kept : List Kept) (places : BTreeMap ℕ ℕ) (id : ℕ) → AreFound kept places → get nat_cmp places id ≡ None → kept_under id kept ≡ None
+pub not_found : {S : Type 0} (kept : List Kept) (places : HashMap ℕ ℕ S) (id : ℕ) → AreFound kept places → get nat_eq places id ≡ None → kept_under id kept ≡ None
 not_found kept places id known none =
     found_at id kept ∙ ap (option_and_then (slice_get kept)) (sym (known.each id) ∙ none)
 
-pub found : (kept : List Kept) (places : BTreeMap ℕ ℕ) (id i : ℕ) → AreFound kept places → get nat_cmp places id ≡ Some i → kept_under id kept ≡ slice_get kept i
+pub found : {S : Type 0} (kept : List Kept) (places : HashMap ℕ ℕ S) (id i : ℕ) → AreFound kept places → get nat_eq places id ≡ Some i → kept_under id kept ≡ slice_get kept i
 found kept places id i known some =
     found_at id kept ∙ ap (option_and_then (slice_get kept)) (sym (known.each id) ∙ some)
 
@@ -45,7 +44,7 @@ absent id kept none =
     [ true ↦ λ h. let some = slice_get-get_or kept n any_kept (grind (arith, nat_tests)) in absurd (let bad = sym at ∙ some in cc) | false ↦ λ h. refl ]) refl
 
 -- an id under which nothing is kept has no place
-pub no_place : (kept : List Kept) (places : BTreeMap ℕ ℕ) (id : ℕ) → AreFound kept places → kept_under id kept ≡ None → get nat_cmp places id ≡ None
+pub no_place : {S : Type 0} (kept : List Kept) (places : HashMap ℕ ℕ S) (id : ℕ) → AreFound kept places → kept_under id kept ≡ None → get nat_eq places id ≡ None
 no_place kept places id known none = known.each id ∙ absent id kept none
 
 -- ---- one payment more
@@ -98,17 +97,11 @@ push_same id kept k same none =
     (no_less n (length kept) (nat_lt n (length kept)) refl none)
 
 -- a payment more is found, and the others are as before
-pub found_more : (kept : List Kept) (old new : BTreeMap ℕ ℕ) (k : Kept) → AreFound kept old → kept_under k.order.id kept ≡ None
-    → ((q : ℕ) → get nat_cmp new q ≡ placed_after (get nat_cmp old) k.order.id (length kept) true q)
+pub found_more : {S : Type 0} (kept : List Kept) (old new : HashMap ℕ ℕ S) (k : Kept) → AreFound kept old → kept_under k.order.id kept ≡ None
+    → ((q : ℕ) → get nat_eq new q ≡ placed_after (get nat_eq old) k.order.id (length kept) true q)
     → AreFound (kept ++ k ∷ []) new
 found_more kept old new k known none placed = record {
   each = λ q. placed q
-      ∙ (elim (k.order.id == q) as (λ b. (k.order.id == q) ≡ b → cond b (Some (length kept)) (get nat_cmp old q) ≡ place_of q (kept ++ k ∷ []))
+      ∙ (elim (k.order.id == q) as (λ b. (k.order.id == q) ≡ b → cond b (Some (length kept)) (get nat_eq old q) ≡ place_of q (kept ++ k ∷ []))
       [ true ↦ λ same. sym (push_same q kept k same (subst (λ (i : ℕ). place_of i kept ≡ None) (eqb-true k.order.id q same) (absent k.order.id kept none))) | false ↦ λ other. known.each q ∙ sym (push_other q kept k other) ]) refl;
 }
-
--- where nothing was placed all are found as before
-pub found_as_before : (kept : List Kept) (old new : BTreeMap ℕ ℕ) (id place : ℕ) → AreFound kept old
-    → ((q : ℕ) → get nat_cmp new q ≡ placed_after (get nat_cmp old) id place false q)
-    → AreFound kept new
-found_as_before kept old new id place known placed = record { each = λ q. placed q ∙ known.each q }

@@ -8,3 +8,4 @@ pub mod Answers
 pub mod Desk
 pub mod OneMember
 pub mod MemberAsks
+pub mod Laws

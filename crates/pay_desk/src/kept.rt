@@ -1,6 +1,5 @@
-ghost use Rattle.std.specs.Prelude.{◌≡◌, ◌≤◌, ℕ, [], None, length, is_ok, slice_get};
-ghost use Rattle.std.specs.BTreeMap.{get};
-ghost use Rattle.std.specs.Ordering.{nat_cmp};
+ghost use Rattle.std.specs.Prelude.{◌≡◌, ◌≤◌, ℕ, [], None, length, is_ok, nat_eq, slice_get};
+ghost use Rattle.std.specs.HashMap.{get};
 ghost use Rattle.pay_desk.specs.Calls as call;
 ghost use Rattle.pay_desk.specs.Calls.{Replies};
 ghost use Rattle.pay_desk.specs.Kept.{kept_after, kept_under};
@@ -11,7 +10,7 @@ use crate::teller::Teller;
 use crate::teller_fault::TellerFault;
 use pay_frame::{Bytes, GREATEST_VALUE};
 use std::alloc::Global;
-use std::collections::BTreeMap;
+use std::collections::HashMap;
 use std::marker::Model;
 
 /// A payment that was asked for, and the number that it got.
@@ -21,11 +20,11 @@ pub struct Kept {
     pub seq: u32,
 }
 
-/// All payments that were asked for, oldest first. One is found by its id in logarithmic time.
+/// All payments that were asked for, oldest first. One is found by its id in constant time.
 #[derive(Drop)]
 pub struct KeptOrders {
     kept: Vec<Kept>,
-    places: BTreeMap<u64, usize>,
+    places: HashMap<u64, usize>,
 }
 
 impl Model for KeptOrders {
@@ -46,7 +45,7 @@ impl KeptOrders {
     {
         KeptOrders {
             kept: Vec::new(alloc),
-            places: BTreeMap::new(alloc),
+            places: HashMap::new(alloc),
         }
     }
 
@@ -89,27 +88,23 @@ fn kept_at(kept: &[Kept], place: usize) -> Option<Kept>
 // Makes room for a place under an id that has none, and has a teller broadcast a value. Where it isn't broadcast the
 // places are as before.
 fn ask_with_place<T: Teller>(
-    places: &mut BTreeMap<u64, usize>,
+    places: &mut HashMap<u64, usize>,
     place: usize,
     alloc: Global,
     teller: &mut T,
     id: u64,
     value: Bytes,
 ) -> Result<u32, TellerFault>
-    requires fresh { get nat_cmp places.old id ≡ None }
+    requires fresh { get nat_eq places.old id ≡ None }
     requires short { length value ≤ GREATEST_VALUE }
     ensures replied { Replies T.says teller.old (call.Ask value) call.Asked result teller.new }
-    ensures placed { (q : ℕ) → get nat_cmp places.new q
-        ≡ placed_after (get nat_cmp places.old) id place (is_ok result) q }
+    ensures placed { (q : ℕ) → get nat_eq places.new q
+        ≡ placed_after (get nat_eq places.old) id place (is_ok result) q }
 {
-    if places.insert(id, place).is_err() {
-        return Err(TellerFault::Memory);
-    }
-    match teller.ask(alloc, value) {
-        Ok(seq) => Ok(seq),
-        Err(fault) => {
-            places.remove(&id);
-            Err(fault)
-        }
-    }
+    places.reserve(1)?;
+    let seq = teller.ask(alloc, value)?;
+    let Ok(_) = places.insert(id, place) else {
+        unreachable!()
+    };
+    Ok(seq)
 }

@@ -1,6 +1,5 @@
-use Rattle.std.proofs.Common.{◌≡◌, ℕ, ap, rules, ◌∙◌, ◌∷◌, [], ◌++◌, length, true}
-use Rattle.std.specs.BTreeMap.{get}
-use Rattle.std.specs.Ordering.{nat_cmp}
+use Rattle.std.proofs.Common.{◌≡◌, ℕ, ap, rules, ◌∙◌, ◌∷◌, [], ◌++◌, length, nat_eq, true}
+use Rattle.std.specs.HashMap.{get}
 use Rattle.pay_desk.specs.declared.kept.Kept.{Kept}
 use Rattle.pay_desk.specs.Kept.{kept_under}
 use Rattle.pay_desk.specs.Places.{placed_after}
@@ -20,4 +19,4 @@ invariant_of-self-2 g c =
     rw items
     (found_more c.self.inside.kept.items c.self.inside.places c.ask_with_place.new.places kept c.self.invariant
     (ap (kept_under c.args.order.id) c.self.view_is ∙ c.requires.fresh) (λ q. c.in_ok-seq.ensures.placed q
-    ∙ ap (λ (n : ℕ). placed_after (get nat_cmp c.self.inside.places) c.args.order.id n true q) len))
+    ∙ ap (λ (n : ℕ). placed_after (get nat_eq c.self.inside.places) c.args.order.id n true q) len))

@@ -1,0 +1,122 @@
+-- A desk has its teller broadcast just what it keeps.
+use Rattle.std.proofs.Common.{◌≡◌, ℕ, Bool, true, false, List, [], ◌∷◌, ◌++◌, map, refl, sym, ◌∙◌, ap, subst, append-nil, append_assoc, Some, None, Ok, Err, inl, inr}
+use Rattle.std.specs.Prelude.{Option, Result}
+use Rattle.std.proofs.lemmas.List.{map-append}
+use Rattle.pay_book.specs.Payment.{payment_value}
+use Rattle.pay_text.specs.Answers as text
+use Rattle.pay_desk.specs.declared.command.Command.{Command}
+use Rattle.pay_desk.specs.declared.command.Command.TheVariants.{Pay, Balance, State, Statement, Front}
+use Rattle.pay_desk.specs.declared.command.Order.{Order}
+use Rattle.pay_desk.specs.declared.desk.Desk.{Desk}
+use Rattle.pay_desk.specs.declared.fault.DeskFault.{DeskFault}
+use Rattle.pay_desk.specs.declared.kept.Kept.{Kept}
+use Rattle.pay_desk.specs.declared.teller_fault.TellerFault.{TellerFault}
+use Rattle.pay_desk.specs.declared.teller_fault.TellerFault.TheVariants.{Memory, NoAccount, Spent}
+use Rattle.pay_desk.specs.Answers.{Answers, AnswersPay, Calls, GaveUp, Pays, Unless, account_fault, pay_fault}
+use Rattle.pay_desk.specs.Calls as call
+use Rattle.pay_desk.specs.Calls.{Call, Reply, asked_by, only_reads}
+use Rattle.pay_desk.specs.Desk.{DeskSays, command_at}
+use Rattle.pay_desk.specs.Kept.{kept_after, kept_under}
+use Rattle.pay_desk.specs.Laws.{AreUnderFreeIds, AsksOnce, value_of}
+
+module _ {T : Type 0} (says : T → Call → Reply → T → Type 0) (asked : T → List (List ℕ)) (only_asks : (old new : T) (called : Call) (reply : Reply) → says old called reply new → asked new ≡ asked old ++ asked_by called reply) where
+  -- nothing is broadcast, and nothing kept
+  nothing : (old new : Desk T) → new.kept ≡ old.kept → asked new.teller ≡ asked old.teller ++ [] → AsksOnce asked old new
+  nothing old new kept same = record { more = []; kept = kept ∙ sym (append-nil old.kept); broadcast = same; free = tt }
+
+  unchanged : (old new : Desk T) → new ≡ old → AsksOnce asked old new
+  unchanged old new same =
+      nothing old new (ap (λ (d : Desk T). d.kept) same) (ap (λ (d : Desk T). asked d.teller) same ∙ sym (append-nil (asked old.teller)))
+
+  by_unless : (fault : Option DeskFault) (old new : Desk T) (words : List ℕ) (P : Type 0) → (P → AsksOnce asked old new) → Unless fault old words new P → AsksOnce asked old new
+  by_unless (Some fault) old new words P otherwise refused = unchanged old new refused.same
+  by_unless None old new words P otherwise p = otherwise p
+
+  -- a call that broadcasts nothing
+  by_call : {X : Type 0} (called : Call) (reply : X → Reply) (words : X → List ℕ) (old new : Desk T) (t : List ℕ) → ((r : Reply) → asked_by called r ≡ []) → Calls says called reply words old t new → AsksOnce asked old new
+  by_call {X} called reply words old new t silent calls =
+      nothing old new (ap (λ (d : Desk T). d.kept) calls.same) (by_outcome calls.outcome calls.replied) where
+        said : (r : Reply) → says old.teller called r new.teller → asked new.teller ≡ asked old.teller ++ []
+        said r s = only_asks old.teller new.teller called r s ∙ ap (λ vs. asked old.teller ++ vs) (silent r)
+
+        by_outcome : (r : Result X TellerFault) → call.Replies says old.teller called reply r new.teller → asked new.teller ≡ asked old.teller ++ []
+        by_outcome (Ok x) s = said (reply x) s
+        by_outcome (Err Memory) same = ap asked same ∙ sym (append-nil (asked old.teller))
+        by_outcome (Err NoAccount) s = said (call.Refused NoAccount) s
+        by_outcome (Err Spent) s = said (call.Refused Spent) s
+
+  by_paid : (order : Order) (old new : Desk T) (outcome : Result ℕ TellerFault) → kept_under order.id old.kept ≡ None
+      → call.Replies says old.teller (call.Ask (payment_value order.to order.amount)) call.Asked outcome new.teller
+      → new.kept ≡ kept_after old.kept order outcome → AsksOnce asked old new
+  by_paid order old new (Ok seq) free said kept = record {
+    more = record { order = order; seq = seq } ∷ [];
+    kept = kept;
+    broadcast = only_asks old.teller new.teller (call.Ask (payment_value order.to order.amount)) (call.Asked seq) said;
+    free = (free, tt);
+  }
+  by_paid order old new (Err Memory) free same kept =
+      nothing old new kept (ap asked same ∙ sym (append-nil (asked old.teller)))
+  by_paid order old new (Err NoAccount) free said kept =
+      nothing old new kept (only_asks old.teller new.teller (call.Ask (payment_value order.to order.amount)) (call.Refused NoAccount) said)
+  by_paid order old new (Err Spent) free said kept =
+      nothing old new kept (only_asks old.teller new.teller (call.Ask (payment_value order.to order.amount)) (call.Refused Spent) said)
+
+  by_found : (order : Order) (old new : Desk T) (t : List ℕ) (found : Option Kept) → kept_under order.id old.kept ≡ found
+      → AnswersPay says found order old t new → AsksOnce asked old new
+  by_found order old new t (Some k) known answer = unchanged old new answer.same
+  by_found order old new t None free answer =
+      by_unless (pay_fault old.accounts old.own order) old new t (Pays says order old t new)
+      (λ pays. by_paid order old new pays.outcome free pays.replied pays.kept) answer
+
+  by_answer : (command : Option Command) (old new : Desk T) (t : List ℕ) → Answers says command old t new → AsksOnce asked old new
+  by_answer None old new t refused = unchanged old new refused.same
+  by_answer (Some (Pay order)) old new t answer = by_found order old new t (kept_under order.id old.kept) refl answer
+  by_answer (Some (Balance account)) old new t answer =
+      by_unless (account_fault old.accounts account) old new t _ (by_call (call.Query account) _ _ old new t (λ r. refl)) answer
+  by_answer (Some (State owner seq)) old new t answer =
+      by_unless (account_fault old.accounts owner) old new t _ (by_call (call.State owner seq) _ _ old new t (λ r. refl)) answer
+  by_answer (Some (Statement account)) old new t answer =
+      by_unless (account_fault old.accounts account) old new t _ (by_call (call.Statement account) _ _ old new t (λ r. refl)) answer
+  by_answer (Some Front) old new t answer = by_call call.Fronts _ _ old new t (λ r. refl) answer
+
+  silent : (called : Call) (r : Reply) → only_reads called ≡ true → asked_by called r ≡ []
+  silent (call.Ask value) r reads = absurd (let bad : false ≡ true = reads in cc)
+  silent (call.Query account) r reads = refl
+  silent (call.State owner seq) r reads = refl
+  silent (call.Statement account) r reads = refl
+  silent call.Fronts r reads = refl
+
+  by_giving_up : (old new : Desk T) → GaveUp says old new → AsksOnce asked old new
+  by_giving_up old new gave_up =
+      nothing old new (ap (λ (d : Desk T). d.kept) gave_up.same)
+      (elim gave_up.teller [
+        | inl same ↦ ap asked same ∙ sym (append-nil (asked old.teller))
+        | inr (called, reply, reads, said) ↦
+            only_asks old.teller new.teller called reply said ∙ ap (λ vs. asked old.teller ++ vs) (silent called reply reads)
+      ])
+
+  pub line_asks_once : (old new : Desk T) (line : Option (List ℕ)) (t : List ℕ) (on : Bool) → DeskSays says old line t on new → AsksOnce asked old new
+  line_asks_once old new line t on said =
+      elim said.answer [ inl answer ↦ by_answer (command_at line) old new t answer | inr tells ↦ by_giving_up old new tells.gave_up ]
+
+  free_joined : (kept more rest : List Kept) → AreUnderFreeIds kept more → AreUnderFreeIds (kept ++ more) rest → AreUnderFreeIds kept (more ++ rest)
+  free_joined kept [] rest free others = subst (λ ks. AreUnderFreeIds ks rest) (append-nil kept) others
+  free_joined kept (k ∷ more) rest (first, free) others =
+      (first, free_joined (kept ++ k ∷ []) more rest free (subst (λ ks. AreUnderFreeIds ks rest) (sym (append_assoc kept (k ∷ []) more)) others))
+
+  joined : (old mid new : Desk T) → AsksOnce asked old mid → AsksOnce asked mid new → AsksOnce asked old new
+  joined old mid new p q = record {
+    more = p.more ++ q.more;
+    kept = q.kept ∙ ap (λ ks. ks ++ q.more) p.kept ∙ append_assoc old.kept p.more q.more;
+    broadcast = q.broadcast ∙ ap (λ vs. vs ++ map value_of q.more) p.broadcast
+        ∙ append_assoc (asked old.teller) (map value_of p.more) (map value_of q.more)
+        ∙ ap (λ vs. asked old.teller ++ vs) (sym (map-append value_of p.more q.more));
+    free = free_joined old.kept p.more q.more p.free (subst (λ ks. AreUnderFreeIds ks q.more) p.kept q.free);
+  }
+
+  pub lines_ask_once : (old new : Desk T) (lines : List (Option (List ℕ))) (t : List ℕ) (on : Bool) → text.Answers (DeskSays says) old lines t on new → AsksOnce asked old new
+  lines_ask_once old new [] t on (silent, goes, same) = unchanged old new same
+  lines_ask_once old new (line ∷ lines) t on (first, rest, true, mid, said, parts, after) =
+      joined old mid new (line_asks_once old mid line first true said) (lines_ask_once mid new lines rest on after)
+  lines_ask_once old new (line ∷ lines) t on (first, rest, false, mid, said, parts, after) =
+      joined old mid new (line_asks_once old mid line first false said) (unchanged mid new after.same)
