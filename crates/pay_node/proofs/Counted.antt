@@ -1,0 +1,68 @@
+-- A frame that was taken has a number that can be counted on from: there are as many entries at least.
+use Rattle.std.proofs.Common.{◌≡◌, ◌⊎◌, inl, inr, ℕ, ◌+◌, ◌<◌, ◌≤◌, ◌^◌, true, false, ltb, Option, Some, None, Result, Ok, Err, IfOk, List, [], ◌∷◌, ◌++◌, length, refl, sym, ap, ◌∙◌, arith}
+use Rattle.std.specs.List.{filter_map}
+use Rattle.std.proofs.lemmas.List.{length_push}
+use Rattle.std.proofs.lemmas.List.Sums.{count_by-le-length}
+use Rattle.std.proofs.lemmas.Bool.{cases_Bool, ltb-false, cond-true, cond-false}
+use Rattle.pay_channel.specs.History as channel
+use Rattle.pay_channel.specs.Taken.{is_from, next}
+use Rattle.pay_channel.specs.TakenLaws.{NextIsCount}
+use Rattle.pay_link.specs.Checked.{CheckedFields}
+use Rattle.pay_member.specs.declared.entry.HistoryEntry.{HistoryEntry}
+use Rattle.pay_member.specs.declared.event.Event.{Event}
+use Rattle.pay_member.specs.declared.event.Event.TheVariants.{Ask, Taken, Query}
+use Rattle.pay_member.specs.declared.fault.MemberFault.{MemberFault}
+use Rattle.pay_member.specs.declared.reply.Reply.{Reply}
+use Rattle.pay_member.specs.Events.{channel_event, events}
+use Rattle.pay_member.specs.Member.{MemberFields, with_entry}
+use Rattle.pay_member.specs.Refusal.{refusal, is_for, turn_refusal}
+use Rattle.pay_node.specs.Receipts.{IsAnswer}
+use Rattle.pay_node.specs.Nodes.{HasNext}
+
+length-events : (history : List HistoryEntry) → length (events history) ≤ length history
+unfolding events
+length-events [] = omega arith
+length-events (x ∷ history) = go (channel_event x.event) refl (length-events history) where
+  go : (o : Option channel.Event) → channel_event x.event ≡ o
+      → length (filter_map (λ (y : HistoryEntry). channel_event y.event) history) ≤ length history
+      → length (filter_map (λ (y : HistoryEntry). channel_event y.event) (x ∷ history)) ≤ length (x ∷ history)
+  go None is more = rw is (omega arith)
+  go (Some e) is more = rw is (omega arith)
+
+some_none : {X : Type 0} (x : X) → Some x ≡ None → ⊥
+some_none x same = cc
+
+in_turn : (wanted number : ℕ) → turn_refusal wanted number ≡ None → number ≤ wanted
+in_turn wanted number is = go (cases_Bool (ltb number wanted)) where
+  above : (ltb wanted number ≡ true) ⊎ (ltb wanted number ≡ false) → ltb number wanted ≡ false → number ≤ wanted
+  above (inl gap) past = absurd (some_none _ (sym (cond-true _ _ _ gap) ∙ sym (cond-false _ _ _ past) ∙ is))
+  above (inr fits) past = ltb-false wanted number fits
+
+  go : (ltb number wanted ≡ true) ⊎ (ltb number wanted ≡ false) → number ≤ wanted
+  go (inl repeat) = absurd (some_none _ (sym (cond-true _ _ _ repeat) ∙ is))
+  go (inr past) = above (cases_Bool (ltb wanted number)) past
+
+taken_in_turn : (m : MemberFields) (c : CheckedFields) → refusal m.genesis m.keys (events m.history) (Taken c) ≡ None → c.frame.number ≤ next c.frame.from (events m.history)
+taken_in_turn m c is = go (cases_Bool (is_for m.keys c)) where
+  go : (is_for m.keys c ≡ true) ⊎ (is_for m.keys c ≡ false) → c.frame.number ≤ next c.frame.from (events m.history)
+  go (inl mine) = in_turn _ _ (sym (cond-true _ _ _ mine) ∙ is)
+  go (inr other) = absurd (some_none _ (sym (cond-false _ _ _ other) ∙ is))
+
+pub has_next :
+    NextIsCount → (m now : MemberFields) (stamp : ℕ) (event : Event) (answer : Result Reply MemberFault) → IsAnswer m event answer
+    → IfOk answer (λ reply. now ≡ with_entry m (record { stamp = stamp; event = event; reply = reply }))
+    → length now.history < 2 ^ 64 → IfOk answer (λ _. HasNext event)
+has_next count m now stamp event (Err fault) is entry few = tt
+has_next count m now stamp event (Ok reply) is entry few = go event is.0 (length_push m.history (record { stamp = stamp; event = event; reply = reply })) (ap (λ (x : MemberFields). length x.history) entry) where
+  go : (e : Event) → refusal m.genesis m.keys (events m.history) e ≡ None
+      → length (m.history ++ (record { stamp = stamp; event = event; reply = reply }) ∷ []) ≡ length m.history + 1
+      → length now.history ≡ length (m.history ++ (record { stamp = stamp; event = event; reply = reply }) ∷ [])
+      → HasNext e
+  go (Ask v) none more same = tt
+  go (Query a) none more same = tt
+  go (Taken c) none more same =
+      let turn = taken_in_turn m c none in
+      let counted = count c.frame.from (events m.history) in
+      let few_from = count_by-le-length (is_from c.frame.from) (events m.history) in
+      let few_events = length-events m.history in
+      omega arith

@@ -1,0 +1,126 @@
+-- What a judge of receipts finds, one after the other, is what makes a seat right.
+use Rattle.std.proofs.Common.{◌≡◌, ◌≢◌, ◌↔◌, ℕ, ◌+◌, ◌<◌, ◌≤◌, zero, suc, Bool, false, rules, Result, Ok, Err, IfOk, IsTrue, List, [], ◌∷◌, length, take, drop, get_or, sym, ap, ◌∙◌, subst, arith}
+use Rattle.std.specs.List.{All, AllPairs}
+use Rattle.std.proofs.lemmas.List.{length-take-le, drop_more}
+use Rattle.std.proofs.lemmas.List.Elements.{All-nil, All-cons, All-head, All-tail, All-weaker}
+use Rattle.pay_member.specs.declared.entry.HistoryEntry.{HistoryEntry}
+use Rattle.pay_member.specs.Member.{MemberFields}
+use Rattle.pay_node.specs.declared.receipt.Receipt.{Receipt}
+use Rattle.pay_node.specs.Receipts.{IsBorneOut, entries_after}
+use Rattle.pay_node.specs.Judging.{AreBorneOut, IsNextBorneOut}
+use Rattle.pay_node.specs.Seats.{SeatFields, Right, entries_told, entries_under}
+use Rattle.pay_node.proofs.Rights.{borne_out_bound}
+
+-- ---- pairs
+
+pairs_none : {X : Type 0} (R : X → X → Type 0) → AllPairs R []
+pairs_none R i j d below within = absurd (omega arith)
+
+pairs_cons : {X : Type 0} (R : X → X → Type 0) (x : X) (xs : List X) → All (R x) xs → AllPairs R xs → AllPairs R (x ∷ xs)
+pairs_cons R x xs first rest zero zero d below within = absurd (omega arith)
+pairs_cons R x xs first rest zero (suc j) d below within = first j d (omega arith)
+pairs_cons R x xs first rest (suc i) zero d below within = absurd (omega arith)
+pairs_cons R x xs first rest (suc i) (suc j) d below within = rest i j d (omega arith) (omega arith)
+
+pairs_first : {X : Type 0} (R : X → X → Type 0) (x : X) (xs : List X) → AllPairs R (x ∷ xs) → All (R x) xs
+pairs_first R x xs pairs k d within = pairs zero (suc k) d (omega arith) (omega arith)
+
+pairs_rest : {X : Type 0} (R : X → X → Type 0) (x : X) (xs : List X) → AllPairs R (x ∷ xs) → AllPairs R xs
+pairs_rest R x xs pairs i j d below within = pairs (suc i) (suc j) d (omega arith) (omega arith)
+
+-- ---- all receipts of a seat
+
+abbrev Follows : Receipt → Receipt → Type 0
+Follows r later = entries_after r ≤ later.seen
+
+-- receipts that are borne out in order, the first behind so many entries
+record AreInOrder (m : MemberFields) (stamp least : ℕ) (rs : List Receipt) : Type 0 where
+  ahead : All (λ (r : Receipt). least ≤ r.seen) rs
+  each : All (λ (r : Receipt). IsBorneOut m stamp r.seen r.call) rs
+  ordered : AllPairs Follows rs
+
+seen_first : (r : Receipt) → r.seen ≤ entries_after r
+seen_first r = search rules
+
+in_order_from : (m : MemberFields) (stamp least : ℕ) (rs : List Receipt) → AreBorneOut m stamp least rs → AreInOrder m stamp least rs
+in_order_from m stamp least [] are = record { ahead = All-nil _; each = All-nil _; ordered = pairs_none Follows }
+in_order_from m stamp least (r ∷ rs) are =
+    let rest = in_order_from m stamp (entries_after r) rs are.1 in
+    let first = seen_first r in
+    record {
+      ahead = All-cons (λ (x : Receipt). least ≤ x.seen) r rs are.0.ahead
+          (All-weaker (λ (x : Receipt). entries_after r ≤ x.seen) (λ (x : Receipt). least ≤ x.seen) (λ x above. (let below = are.0.ahead in omega arith)) rs rest.ahead);
+      each = All-cons (λ (x : Receipt). IsBorneOut m stamp x.seen x.call) r rs are.0.is rest.each;
+      ordered = pairs_cons Follows r rs rest.ahead rest.ordered;
+    }
+
+in_order_to : (m : MemberFields) (stamp least : ℕ) (rs : List Receipt) → AreInOrder m stamp least rs → AreBorneOut m stamp least rs
+in_order_to m stamp least [] are = tt
+in_order_to m stamp least (r ∷ rs) are = (
+  record {
+    ahead = All-head (λ (x : Receipt). least ≤ x.seen) r rs are.ahead;
+    is = All-head (λ (x : Receipt). IsBorneOut m stamp x.seen x.call) r rs are.each;
+  },
+  in_order_to m stamp (entries_after r) rs (record {
+    ahead = pairs_first Follows r rs are.ordered;
+    each = All-tail (λ (x : Receipt). IsBorneOut m stamp x.seen x.call) r rs are.each;
+    ordered = pairs_rest Follows r rs are.ordered;
+  }),
+)
+
+pub right_is : (m : MemberFields) (seat : SeatFields) → entries_under seat.stamp m ≡ entries_told seat → AreBorneOut m seat.stamp 0 seat.receipts ↔ Right m seat
+right_is m seat counted = (
+  (λ are. (let all = in_order_from m seat.stamp 0 seat.receipts are in record { counted = counted; each = all.each; ordered = all.ordered })),
+  (λ right. in_order_to m seat.stamp 0 seat.receipts (record { ahead = (λ k d within. omega arith); each = right.each; ordered = right.ordered })),
+)
+
+-- ---- the judge's steps
+
+abbrev taken_to : MemberFields → List HistoryEntry → ℕ → MemberFields
+taken_to first h n = record first { history = take n h }
+
+pub judged_on :
+    (first was now : MemberFields) (h : List HistoryEntry) (stamp : ℕ) (rs : List Receipt) (i : ℕ) (r : Receipt)
+    → was ≡ record first { history = take (length was.history) h }
+    → AreBorneOut (record first { history = h }) stamp 0 rs ↔ AreBorneOut (record first { history = h }) stamp (length was.history) (drop i rs)
+    → i < length rs → r ≡ get_or rs i r
+    → IsNextBorneOut (record was { history = h }) stamp (length was.history) r → now ≡ record was { history = take (entries_after r) h }
+    → (now ≡ record first { history = take (length now.history) h })
+    × (AreBorneOut (record first { history = h }) stamp 0 rs ↔ AreBorneOut (record first { history = h }) stamp (length now.history) (drop (i + 1) rs))
+judged_on first was now h stamp rs i r at before below here next after =
+    let m : MemberFields = record first { history = h } in
+    let same : ◌≡◌ {A = MemberFields} (record was { history = h }) m = ap (λ (x : MemberFields). record x { history = h }) at in
+    let borne : IsNextBorneOut m stamp (length was.history) r = subst (λ x. IsNextBorneOut x stamp (length was.history) r) same next in
+    let bound : entries_after r ≤ length h = borne_out_bound m stamp r borne.is in
+    let long : length now.history ≡ entries_after r = ap (λ (x : MemberFields). length x.history) after ∙ length-take-le (entries_after r) h bound in
+    let place : now ≡ record first { history = take (entries_after r) h } = after ∙ ap (λ (x : MemberFields). record x { history = take (entries_after r) h }) at in
+    let there : drop i rs ≡ r ∷ drop (i + 1) rs = drop_more rs i r below ∙ ap (λ x. x ∷ drop (i + 1) rs) (sym here) in
+    let step : AreBorneOut m stamp 0 rs ↔ AreBorneOut m stamp (entries_after r) (drop (i + 1) rs) = (
+      (λ all. (subst (AreBorneOut m stamp (length was.history)) there (before.0 all)).1),
+      (λ rest. before.1 (subst (AreBorneOut m stamp (length was.history)) (sym there) (borne, rest))),
+    ) in (
+      place ∙ ap (λ n. taken_to first h n) (sym long),
+      subst (λ n. AreBorneOut m stamp 0 rs ↔ AreBorneOut m stamp n (drop (i + 1) rs)) (sym long) step,
+    )
+
+pub not_counted : (m : MemberFields) (seat : SeatFields) (a b : ℕ) → a ≡ entries_under seat.stamp m → b ≡ entries_told seat → a ≢ b → IsTrue false ↔ Right m seat
+not_counted m seat a b under told other = ((λ is. absurd (search rules)), (λ right. absurd (other (under ∙ right.counted ∙ sym told))))
+
+pub judged_so :
+    {E : Type 0} (m : MemberFields) (seat : SeatFields) (answer : Result Bool E) → entries_under seat.stamp m ≡ entries_told seat
+    → IfOk answer (λ says. IsTrue says ↔ AreBorneOut m seat.stamp 0 seat.receipts)
+    → IfOk answer (λ says. IsTrue says ↔ Right m seat)
+judged_so m seat (Ok says) counted is =
+    let law = right_is m seat counted in ((λ yes. law.0 (is.0 yes)), (λ right. is.1 (law.1 right)))
+judged_so m seat (Err error) counted is = tt
+
+pub judged_there :
+    {E : Type 0} (m fresh : MemberFields) (h : List HistoryEntry) (seat : SeatFields) (stamp : ℕ) (rs : List Receipt) (answer : Result Bool E)
+    → fresh ≡ record m { history = [] } → h ≡ m.history → stamp ≡ seat.stamp → rs ≡ seat.receipts
+    → IfOk answer (λ says. IsTrue says ↔ AreBorneOut (record fresh { history = h }) stamp 0 rs)
+    → IfOk answer (λ says. IsTrue says ↔ AreBorneOut m seat.stamp 0 seat.receipts)
+judged_there m fresh h seat stamp rs answer begun at under of is =
+    let same : ◌≡◌ {A = MemberFields} (record fresh { history = h }) m = ap (λ (x : MemberFields). record x { history = h }) begun ∙ ap (λ (l : List HistoryEntry). record m { history = l }) at in
+    subst (λ x. IfOk answer (λ says. IsTrue says ↔ AreBorneOut x seat.stamp 0 seat.receipts)) same
+    (subst (λ n. IfOk answer (λ says. IsTrue says ↔ AreBorneOut (record fresh { history = h }) n 0 seat.receipts)) under
+    (subst (λ l. IfOk answer (λ says. IsTrue says ↔ AreBorneOut (record fresh { history = h }) stamp 0 l)) of is))

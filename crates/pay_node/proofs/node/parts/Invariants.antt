@@ -1,0 +1,5 @@
+use Rattle.pay_node.specs.Nodes.{AreFresh}
+use Rattle.pay_node.proofs.node.parts.Given as goal
+
+abbrev pub invariant-loop-stamp : goal.invariant-loop-stamp
+invariant-loop-stamp g l = AreFresh l.stamp l.made.items

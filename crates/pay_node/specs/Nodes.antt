@@ -1,0 +1,121 @@
+-- What a node's calls answer, and what they leave at their seat.
+use Rattle.std.specs.Prelude.{◌≡◌, ℕ, ◌+◌, ◌<◌, ◌^◌, List, [], length, slice_get, Option, Some, None, Result, Ok, Err, ⊤}
+use Rattle.pay_frame.specs.Frame.{FrameFields, frame_bytes}
+use Rattle.pay_link.specs.Keys.{KeyFields}
+use Rattle.pay_link.specs.Checked.{checked_fields}
+use Rattle.pay_link.specs.Opening.{OpenedFields}
+use Rattle.pay_link.specs.Sealing.{wanted}
+use Rattle.pay_link.specs.declared.link_fault.LinkFault.TheVariants as link
+use Rattle.pay_member.specs.declared.brought.Brought.{Brought}
+use Rattle.pay_member.specs.declared.event.Event.{Event}
+use Rattle.pay_member.specs.declared.event.Event.TheVariants.{Ask, Taken, Query}
+use Rattle.pay_member.specs.declared.fault.MemberFault.{MemberFault}
+use Rattle.pay_member.specs.declared.fault.MemberFault.TheVariants.{Memory, Spent, TooLong, Repeat, Gap, WrongKey, NoAccount}
+use Rattle.pay_member.specs.declared.outcome.Outcome.{Outcome}
+use Rattle.pay_member.specs.declared.outcome.Outcome.TheVariants as outcome
+use Rattle.pay_member.specs.declared.reply.Reply.{Reply}
+use Rattle.pay_member.specs.declared.reply.Reply.TheVariants as reply
+use Rattle.pay_member.specs.declared.took.Took.{Took}
+use Rattle.pay_member.specs.declared.told.Told.{Told}
+use Rattle.pay_member.specs.Bringing.{IsOpening}
+use Rattle.pay_member.specs.Legal.{Legal}
+use Rattle.pay_member.specs.Member.{MemberFields}
+use Rattle.pay_node.specs.declared.question.Question.{Question}
+use Rattle.pay_node.specs.declared.shown.Shown.{Shown}
+use Rattle.pay_node.specs.Receipts.{IsAnswer, shown_of, receipts_of, reading_receipt}
+use Rattle.pay_node.specs.Seats.{SeatFields, with_receipts}
+
+-- What is known of a node without its lock: the keys with which it opens frames, and how many seats it has.
+pub record NodeFields : Type 0 where
+  pub keys : KeyFields
+  pub seats : ℕ
+
+-- A node that no thread calls any more, and its member.
+pub record StoppedFields : Type 0 where
+  pub member : MemberFields
+  pub node : NodeFields
+
+-- a seat from which nothing was called
+abbrev pub fresh_seat : ℕ → SeatFields
+fresh_seat stamp = record { stamp = stamp; receipts = [] }
+
+-- so many fresh seats, with stamps from 0 on
+pub record AreFresh (count : ℕ) (seats : List SeatFields) : Type 0 where
+  pub many : length seats ≡ count
+  pub each : (stamp : ℕ) → stamp < count → slice_get seats stamp ≡ Some (fresh_seat stamp)
+
+-- ---- answers
+
+-- A member with some legal history answers so to the event, and the seat has the receipt.
+pub record IsAnswered (before after : SeatFields) (event : Event) (answer : Result Reply MemberFault) : Type 0 where
+  pub member : MemberFields
+  pub legal : Legal member.genesis member.keys member.history
+  pub is : IsAnswer member event answer
+  pub receipt : after ≡ with_receipts before (receipts_of (length member.history) event answer)
+
+-- A member with some legal history shows this, and the seat has the receipt.
+pub record IsShown (before after : SeatFields) (question : Question) (shown : Shown) : Type 0 where
+  pub member : MemberFields
+  pub legal : Legal member.genesis member.keys member.history
+  pub is : shown ≡ shown_of member question
+  pub receipt : after ≡ with_receipts before (reading_receipt (length member.history) question shown)
+
+abbrev pub asked : Result ℕ MemberFault → Result Reply MemberFault
+asked (Ok seq) = Ok (reply.Asked seq)
+asked (Err fault) = Err fault
+
+abbrev pub taken : Result Took MemberFault → Result Reply MemberFault
+taken (Ok took) = Ok (reply.Took took)
+taken (Err fault) = Err fault
+
+abbrev pub told : Result Told MemberFault → Result Reply MemberFault
+told (Ok state) = Ok (reply.Told state)
+told (Err fault) = Err fault
+
+-- a frame's number can be counted on from
+abbrev pub HasNext : Event → Type 0
+HasNext (Ask v) = ⊤
+HasNext (Taken c) = c.frame.number + 1 < 2 ^ 64
+HasNext (Query a) = ⊤
+
+-- ---- what is brought
+
+-- what is answered of a frame that opened
+abbrev pub outcome_of : Result Took MemberFault → Outcome
+outcome_of (Ok took) = outcome.Took took
+outcome_of (Err (Repeat next)) = outcome.Link (link.Repeat next)
+outcome_of (Err (Gap next)) = outcome.Link (link.Gap next)
+outcome_of (Err WrongKey) = outcome.WrongKey
+outcome_of (Err Memory) = outcome.WrongKey
+outcome_of (Err Spent) = outcome.WrongKey
+outcome_of (Err TooLong) = outcome.WrongKey
+outcome_of (Err NoAccount) = outcome.WrongKey
+
+-- the WANT that goes with it, for the number behind the frame's or for the one that was next
+abbrev pub want_of : KeyFields → FrameFields → Result Took MemberFault → Option (List ℕ)
+want_of k f (Ok took) = Some (frame_bytes (wanted k f.from (f.number + 1)))
+want_of k f (Err (Repeat next)) = Some (frame_bytes (wanted k f.from next))
+want_of k f (Err (Gap next)) = Some (frame_bytes (wanted k f.from next))
+want_of k f (Err WrongKey) = None
+want_of k f (Err Memory) = None
+want_of k f (Err Spent) = None
+want_of k f (Err TooLong) = None
+want_of k f (Err NoAccount) = None
+
+-- a frame that opened was handed to the member, whose answer this is
+pub record IsTaken (k : KeyFields) (before after : SeatFields) (opened : OpenedFields) (b : Brought) : Type 0 where
+  pub answer : Result Took MemberFault
+  pub answered : IsAnswered before after (Taken (checked_fields opened)) (taken answer)
+  pub outcome : b.outcome ≡ outcome_of answer
+  pub want : b.want ≡ want_of k opened.frame answer
+
+-- what doesn't open, or is a WANT, is answered at once and leaves no receipt
+abbrev pub IsAnsweredAs : KeyFields → SeatFields → SeatFields → Result OpenedFields Outcome → Brought → Type 0
+IsAnsweredAs k before after (Ok opened) b = IsTaken k before after opened b
+IsAnsweredAs k before after (Err o) b = (b.outcome ≡ o) × (b.want ≡ None) × (after ≡ before)
+
+-- bytes by the one reading that they have
+pub record IsBrought (k : KeyFields) (bytes : List ℕ) (before after : SeatFields) (b : Brought) : Type 0 where
+  pub opened : Result OpenedFields Outcome
+  pub opening : IsOpening k bytes opened
+  pub is : IsAnsweredAs k before after opened b

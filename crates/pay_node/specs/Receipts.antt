@@ -1,0 +1,107 @@
+-- Receipts of a node's calls, and when a history bears one out.
+use Rattle.std.specs.Prelude.{◌≡◌, ◌≢◌, ℕ, ◌+◌, ◌≤◌, nat_lt, min, Bool, true, false, if◌then◌else◌, List, [], ◌∷◌, take, length, slice_get, slice_index, Some, None, Result, Ok, Err, ⊤}
+use Rattle.pay_channel.specs.History.{list_of}
+use Rattle.pay_book.specs.Statement.{statement_of}
+use Rattle.pay_member.specs.declared.member.TheConstants.{MOST_FETCHED}
+use Rattle.pay_member.specs.declared.event.Event.{Event}
+use Rattle.pay_member.specs.declared.reply.Reply.{Reply}
+use Rattle.pay_member.specs.declared.fault.MemberFault.{MemberFault}
+use Rattle.pay_member.specs.declared.fault.MemberFault.TheVariants.{Memory, Spent, TooLong, Repeat, Gap, WrongKey, NoAccount}
+use Rattle.pay_member.specs.declared.standing.PaymentState.{PaymentState}
+use Rattle.pay_member.specs.Group.{group_in}
+use Rattle.pay_member.specs.Events.{events}
+use Rattle.pay_member.specs.Book.{book_after}
+use Rattle.pay_member.specs.Reading.{state_of, fetched}
+use Rattle.pay_member.specs.Refusal.{refusal}
+use Rattle.pay_member.specs.Reply.{reply_to}
+use Rattle.pay_member.specs.Member.{MemberFields}
+use Rattle.pay_node.specs.Shown.{StatementFields}
+use Rattle.pay_node.specs.declared.question.Question.{Question}
+use Rattle.pay_node.specs.declared.question.Question.TheVariants as question
+use Rattle.pay_node.specs.declared.shown.Shown.{Shown}
+use Rattle.pay_node.specs.declared.shown.Shown.TheVariants as shown
+use Rattle.pay_node.specs.declared.receipt.Call.{Call}
+use Rattle.pay_node.specs.declared.receipt.Call.TheVariants.{Handed, Read}
+use Rattle.pay_node.specs.declared.receipt.Receipt.{Receipt}
+
+-- ---- what a member shows
+
+abbrev pub state_shown : MemberFields → ℕ → ℕ → Result PaymentState MemberFault
+state_shown m owner seq =
+    if nat_lt owner m.genesis.members then Ok (state_of m.genesis m.keys.own (events m.history) owner seq) else Err NoAccount
+
+-- an account's lines and its balance
+abbrev pub statement_in : MemberFields → ℕ → StatementFields
+statement_in m account =
+    record {
+      lines = statement_of m.genesis.members (list_of (group_in m.genesis m.keys.own) (events m.history))
+          (slice_index (book_after m.genesis m.keys.own (events m.history)).front) account;
+      balance = slice_index (book_after m.genesis m.keys.own (events m.history)).balances account;
+    }
+
+abbrev pub statement_shown : MemberFields → ℕ → Result StatementFields MemberFault
+statement_shown m account = if nat_lt account m.genesis.members then Ok (statement_in m account) else Err NoAccount
+
+-- the answer to a question
+abbrev pub shown_of : MemberFields → Question → Shown
+shown_of m (question.Sent from max) =
+    shown.Sent (fetched m.genesis m.keys.own (events m.history) from (min max MOST_FETCHED))
+shown_of m (question.State owner seq) = shown.State (state_shown m owner seq)
+shown_of m (question.Statement account) = shown.Statement (statement_shown m account)
+shown_of m question.Fronts = shown.Fronts (book_after m.genesis m.keys.own (events m.history)).front
+
+-- ---- whether memory was refused
+
+abbrev pub HadMemory : {T : Type 0} → Result T MemberFault → Type 0
+HadMemory (Ok x) = ⊤
+HadMemory (Err fault) = fault ≢ Memory
+
+abbrev pub LackedMemory : {T : Type 0} → Result T MemberFault → Type 0
+LackedMemory (Ok x) = ⊥
+LackedMemory (Err fault) = fault ≡ Memory
+
+-- ---- receipts
+
+-- the member as it was behind its first entries
+abbrev pub back_at : MemberFields → ℕ → MemberFields
+back_at m count = record m { history = take count m.history }
+
+-- A call was answered so under a stamp when the history had so many entries. A reply stands there as an entry, with
+-- what was handed in; a refusal is the one that the entries before call for, and what was read is what they show.
+abbrev pub IsBorneOut : MemberFields → ℕ → ℕ → Call → Type 0
+IsBorneOut m stamp seen (Handed event (Ok reply)) =
+    slice_get m.history seen ≡ Some (record { stamp = stamp; event = event; reply = reply })
+IsBorneOut m stamp seen (Handed event (Err fault)) =
+    (seen ≤ length m.history) × (refusal m.genesis m.keys (events (take seen m.history)) event ≡ Some fault)
+IsBorneOut m stamp seen (Read question shown) =
+    (seen ≤ length m.history) × (shown ≡ shown_of (back_at m seen) question)
+
+abbrev pub has_entry : Call → Bool
+has_entry (Handed event (Ok reply)) = true
+has_entry (Handed event (Err fault)) = false
+has_entry (Read question shown) = false
+
+-- how many entries the history had once the call was answered
+abbrev pub entries_after : Receipt → ℕ
+entries_after r = if has_entry r.call then r.seen + 1 else r.seen
+
+-- the answer that an event calls for, memory aside: its refusal, if there is one, else its reply
+abbrev pub IsAnswer : MemberFields → Event → Result Reply MemberFault → Type 0
+IsAnswer m event (Ok reply) =
+    (refusal m.genesis m.keys (events m.history) event ≡ None) × (reply ≡ reply_to m.genesis m.keys.own (events m.history) event)
+IsAnswer m event (Err fault) = fault ≢ Memory → refusal m.genesis m.keys (events m.history) event ≡ Some fault
+
+-- of an answer one receipt, and none of refused memory
+abbrev pub receipts_of : ℕ → Event → Result Reply MemberFault → List Receipt
+receipts_of seen event (Ok reply) = record { seen = seen; call = Handed event (Ok reply) } ∷ []
+receipts_of seen event (Err Memory) = []
+receipts_of seen event (Err Spent) = record { seen = seen; call = Handed event (Err Spent) } ∷ []
+receipts_of seen event (Err TooLong) = record { seen = seen; call = Handed event (Err TooLong) } ∷ []
+receipts_of seen event (Err (Repeat next)) = record { seen = seen; call = Handed event (Err (Repeat next)) } ∷ []
+receipts_of seen event (Err (Gap next)) = record { seen = seen; call = Handed event (Err (Gap next)) } ∷ []
+receipts_of seen event (Err WrongKey) = record { seen = seen; call = Handed event (Err WrongKey) } ∷ []
+receipts_of seen event (Err NoAccount) = record { seen = seen; call = Handed event (Err NoAccount) } ∷ []
+
+-- of what was read
+abbrev pub reading_receipt : ℕ → Question → Shown → List Receipt
+reading_receipt seen question shown = record { seen = seen; call = Read question shown } ∷ []

@@ -1,0 +1,88 @@
+//! Whether all seats of a node agree with its member's history.
+
+ghost use Rattle.std.specs.Prelude.{◌≡◌, ◌↔◌, ◌≢◌, None, IfOk, IsTrue};
+ghost use Rattle.std.specs.List.{fold};
+ghost use Rattle.pay_node.specs.Closing.{IsKept, IsVerdict, lesser};
+
+use crate::judging::is_right;
+use crate::seat::Seat;
+use pay_book::Settle;
+use pay_echo::Instance;
+use pay_member::{HistoryEntry, Member};
+use std::alloc::{AllocError, Global};
+
+/// The least stamp that isn't settled, if there is one.
+pub(crate) fn least_wrong<I: Instance + Drop, B: Settle + Drop>(
+    alloc: Global,
+    member: &Member<I, B>,
+    count: u16,
+    seats: &[Seat],
+) -> Result<Option<u16>, AllocError>
+    ensures { IfOk result (λ found. IsVerdict member.now count seats.now found) }
+{
+    for stamp in 0..count {
+        if !is_kept(alloc, member, seats, stamp)? {
+            return Ok(Some(stamp));
+        }
+    }
+    let of_seats = least_of_seats(seats, count);
+    Ok(least_of_entries(of_seats, member.history(), count))
+}
+
+// Whether one seat has a stamp, and is right.
+fn is_kept<I: Instance + Drop, B: Settle + Drop>(
+    alloc: Global,
+    member: &Member<I, B>,
+    seats: &[Seat],
+    stamp: u16,
+) -> Result<bool, AllocError>
+    ensures { IfOk result (λ says. IsTrue says ↔ IsKept member.now stamp seats.now) }
+{
+    let mut met = false;
+    for seat in seats {
+        if seat.stamp() == stamp {
+            if met || !is_right(alloc, member, seat)? {
+                return Ok(false);
+            }
+            met = true;
+        }
+    }
+    Ok(met)
+}
+
+// The least stamp of a seat from a number on.
+fn least_of_seats(seats: &[Seat], count: u16) -> Option<u16>
+    ensures { result ≡ fold (λ least s. lesser count least s.stamp) None seats.now }
+{
+    let mut least = None;
+    for seat in seats {
+        least = lesser_of(count, least, seat.stamp());
+    }
+    least
+}
+
+// The least stamp of an entry from a number on, or the one that was found, if that is less.
+fn least_of_entries(found: Option<u16>, history: &[HistoryEntry], count: u16) -> Option<u16>
+    ensures { result ≡ fold (λ least e. lesser count least e.stamp) found history.now }
+{
+    let mut least = found;
+    for entry in history {
+        least = lesser_of(count, least, entry.stamp);
+    }
+    least
+}
+
+fn lesser_of(count: u16, least: Option<u16>, stamp: u16) -> Option<u16>
+    ensures { result ≡ lesser count least stamp }
+{
+    match least {
+        None => { if count <= stamp { Some(stamp) } else { None } }
+        Some(least) => {
+            if count <= stamp && stamp < least {
+                Some(stamp)
+            } else {
+                Some(least)
+            }
+        }
+    }
+}

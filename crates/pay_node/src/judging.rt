@@ -1,0 +1,193 @@
+//! Whether a history bears out what a seat was told.
+
+ghost use Rattle.std.specs.Prelude.{◌≡◌, ◌↔◌, ◌≤◌, ◌==◌, [], length, take, slice_get, IfOk, IsTrue};
+ghost use Rattle.std.specs.List.{count_by};
+ghost use Rattle.pay_member.specs.Events.{events};
+ghost use Rattle.pay_member.specs.Legal.{Legal};
+ghost use Rattle.pay_member.specs.Refusal.{refusal};
+ghost use Rattle.pay_node.specs.Judging.{AreBorneOut, IsNextBorneOut};
+ghost use Rattle.pay_node.specs.Receipts.{IsBorneOut, entries_after, has_entry, shown_of};
+ghost use Rattle.pay_node.specs.Seats.{Right};
+
+use crate::question::Question;
+use crate::receipt::{Call, Receipt};
+use crate::replaying::{anew, replay_to};
+use crate::same::{is_same_event, is_same_shown};
+use crate::seat::Seat;
+use crate::showing::{copy_of, hand, show};
+use crate::shown::Shown;
+use pay_book::Settle;
+use pay_echo::Instance;
+use pay_member::{Event, HistoryEntry, Member, MemberFault, Reply};
+use std::alloc::{AllocError, Global};
+
+/// Whether a member's history bears out all that a seat was told.
+pub(crate) fn is_right<I: Instance + Drop, B: Settle + Drop>(
+    alloc: Global,
+    member: &Member<I, B>,
+    seat: &Seat,
+) -> Result<bool, AllocError>
+    ensures { IfOk result (λ says. IsTrue says ↔ Right member.now seat.now) }
+{
+    if entries_under(member.history(), seat.stamp()) != entries_told(seat.receipts()) {
+        return Ok(false);
+    }
+    let mut fresh = anew(alloc, member)?;
+    are_borne_out(
+        alloc,
+        &mut fresh,
+        member.history(),
+        seat.stamp(),
+        seat.receipts(),
+    )
+}
+
+/// How many entries have a stamp.
+pub(crate) fn entries_under(history: &[HistoryEntry], stamp: u16) -> usize
+    ensures { result ≡ count_by (λ e. e.stamp == stamp) history.now }
+{
+    let mut count = 0;
+    for entry in history {
+        if entry.stamp == stamp {
+            count += 1;
+        }
+    }
+    count
+}
+
+// How many receipts are of calls that have an entry.
+fn entries_told(receipts: &[Receipt]) -> usize
+    ensures { result ≡ count_by (λ r. has_entry r.call) receipts.now }
+{
+    let mut count = 0;
+    for receipt in receipts {
+        if is_of_entry(&receipt.call) {
+            count += 1;
+        }
+    }
+    count
+}
+
+fn is_of_entry(call: &Call) -> bool
+    ensures { result ≡ has_entry call.now }
+{
+    match call {
+        Call::Handed { answer: Ok(_), .. } => true,
+        Call::Handed { answer: Err(_), .. } | Call::Read { .. } => false,
+    }
+}
+
+// Whether a legal history bears out receipts, one after the other, and none saw less than there was before it. A
+// member that took nothing is brought up to each.
+fn are_borne_out<I: Instance + Drop, B: Settle + Drop>(
+    alloc: Global,
+    member: &mut Member<I, B>,
+    history: &[HistoryEntry],
+    stamp: u16,
+    receipts: &[Receipt],
+) -> Result<bool, AllocError>
+    requires legal { Legal member.old.genesis member.old.keys history.now }
+    requires fresh { member.old.history ≡ [] }
+    ensures { IfOk result (λ says. IsTrue says
+        ↔ AreBorneOut (record member.old { history = history.now }) stamp 0 receipts.now) }
+{
+    for receipt in receipts {
+        if !is_next_borne_out(alloc, member, history, stamp, receipt)? {
+            return Ok(false);
+        }
+    }
+    Ok(true)
+}
+
+// Whether a legal history bears out a receipt, and it saw no less than what the member took. If so, the member is
+// brought up to the call's end.
+fn is_next_borne_out<I: Instance + Drop, B: Settle + Drop>(
+    alloc: Global,
+    member: &mut Member<I, B>,
+    history: &[HistoryEntry],
+    stamp: u16,
+    receipt: &Receipt,
+) -> Result<bool, AllocError>
+    requires legal { Legal member.old.genesis member.old.keys history.now }
+    requires begun { member.old.history ≡ take (length member.old.history) history.now }
+    ensures says { IfOk result (λ says. IsTrue says
+        ↔ IsNextBorneOut (record member.old { history = history.now }) stamp
+        (length member.old.history) receipt.now) }
+    ensures taken { IfOk result (λ says. IsTrue says → member.new
+        ≡ record member.old { history = take (entries_after receipt.now) history.now }) }
+{
+    let seen = receipt.seen;
+    if seen < member.history().len() || seen > history.len() {
+        return Ok(false);
+    }
+    replay_to(alloc, member, history, seen)?;
+    match &receipt.call {
+        Call::Handed {
+            event,
+            answer: Ok(reply),
+        } => {
+            if !has_entry_at(history, seen, stamp, event, *reply) {
+                return Ok(false);
+            }
+            replay_to(alloc, member, history, seen + 1)?;
+            Ok(true)
+        }
+        Call::Handed {
+            event,
+            answer: Err(fault),
+        } => is_refused(alloc, member, event, *fault),
+        Call::Read { question, shown } => is_shown(alloc, member, *question, shown),
+    }
+}
+
+// Whether an entry stands at a place.
+fn has_entry_at(
+    history: &[HistoryEntry],
+    place: usize,
+    stamp: u16,
+    event: &Event,
+    reply: Reply,
+) -> bool
+    ensures { IsTrue result ↔ (slice_get history.now place
+        ≡ Some (record { stamp = stamp; event = event.now; reply = reply })) }
+{
+    match history.get(place) {
+        Some(entry) => {
+            entry.stamp == stamp && is_same_event(&entry.event, event) && entry.reply == reply
+        }
+        None => false,
+    }
+}
+
+// Whether a member refuses an event so. If it does, it is as it was.
+fn is_refused<I: Instance + Drop, B: Settle + Drop>(
+    alloc: Global,
+    member: &mut Member<I, B>,
+    event: &Event,
+    fault: MemberFault,
+) -> Result<bool, AllocError>
+    ensures says { IfOk result (λ says. IsTrue says
+        ↔ (refusal member.old.genesis member.old.keys (events member.old.history) event.now
+        ≡ Some fault)) }
+    ensures same { IfOk result (λ says. IsTrue says → member.new ≡ member.old) }
+{
+    let event = copy_of(alloc, event)?;
+    match hand(alloc, member, 0, event) {
+        Ok(_) => Ok(false),
+        Err(MemberFault::Memory) => Err(AllocError),
+        Err(found) => Ok(found == fault),
+    }
+}
+
+// Whether a member shows this.
+fn is_shown<I: Instance + Drop, B: Settle + Drop>(
+    alloc: Global,
+    member: &Member<I, B>,
+    question: Question,
+    shown: &Shown,
+) -> Result<bool, AllocError>
+    ensures { IfOk result (λ says. IsTrue says ↔ (shown.now ≡ shown_of member.now question)) }
+{
+    let found = show(alloc, member, question)?;
+    Ok(is_same_shown(shown, &found))
+}

@@ -1,0 +1,102 @@
+//! What a member answers to each kind of call.
+
+ghost use Rattle.std.specs.Prelude.{◌≡◌, IfOk, OnErr};
+ghost use Rattle.pay_member.specs.Member.{with_entry};
+ghost use Rattle.pay_node.specs.Receipts.{IsAnswer, shown_of, state_shown, statement_shown};
+
+use crate::question::Question;
+use crate::shown::{Bodies, Fronts, Shown, Statement};
+use pay_book::Settle;
+use pay_echo::Instance;
+use pay_member::{Event, Member, MemberFault, PaymentState, Reply};
+use std::alloc::{AllocError, Global};
+
+/// Hands an event to a member.
+pub(crate) fn hand<I: Instance + Drop, B: Settle + Drop>(
+    alloc: Global,
+    member: &mut Member<I, B>,
+    stamp: u16,
+    event: Event,
+) -> Result<Reply, MemberFault>
+    ensures answer { IsAnswer member.old event result }
+    ensures entry { IfOk result (λ reply. member.new ≡ with_entry member.old
+        (record { stamp = stamp; event = event; reply = reply })) }
+    ensures err { OnErr result (member.new ≡ member.old) }
+{
+    match event {
+        Event::Ask(value) => Ok(Reply::Asked(member.ask(alloc, stamp, value)?)),
+        Event::Taken(checked) => Ok(Reply::Took(member.take(alloc, stamp, checked)?)),
+        Event::Query(account) => Ok(Reply::Told(member.query(alloc, stamp, account)?)),
+    }
+}
+
+/// An equal event.
+pub(crate) fn copy_of(alloc: Global, event: &Event) -> Result<Event, AllocError>
+    ensures { IfOk result (λ copy. copy ≡ event.now) }
+{
+    match event {
+        Event::Ask(value) => Ok(Event::Ask(value.copy(alloc)?)),
+        Event::Taken(checked) => Ok(Event::Taken(checked.copy(alloc)?)),
+        Event::Query(account) => Ok(Event::Query(*account)),
+    }
+}
+
+/// Asks a member a question.
+pub(crate) fn show<I: Instance + Drop, B: Settle + Drop>(
+    alloc: Global,
+    member: &Member<I, B>,
+    question: Question,
+) -> Result<Shown, AllocError>
+    ensures { IfOk result (λ shown. shown ≡ shown_of member.now question) }
+{
+    match question {
+        Question::Sent { from, max } => Ok(Shown::Sent(Bodies::new(member.fetch(
+            alloc, from, max,
+        )?))),
+        Question::State { owner, seq } => Ok(Shown::State(state(member, owner, seq))),
+        Question::Statement(account) => Ok(Shown::Statement(statement(alloc, member, account)?)),
+        Question::Fronts => Ok(Shown::Fronts(Fronts::new(member.fronts(alloc)?))),
+    }
+}
+
+fn state<I: Instance + Drop, B: Settle + Drop>(
+    member: &Member<I, B>,
+    owner: u16,
+    seq: u32,
+) -> Result<PaymentState, MemberFault>
+    ensures { result ≡ state_shown member.now owner seq }
+{
+    if owner < member.genesis().members() {
+        Ok(member.state(owner, seq))
+    } else {
+        Err(MemberFault::NoAccount)
+    }
+}
+
+fn statement<I: Instance + Drop, B: Settle + Drop>(
+    alloc: Global,
+    member: &Member<I, B>,
+    account: u16,
+) -> Result<Result<Statement, MemberFault>, AllocError>
+    ensures { IfOk result (λ answer. answer ≡ statement_shown member.now account) }
+{
+    if account < member.genesis().members() {
+        let lines = member.statement(alloc, account)?;
+        Ok(Ok(Statement::new(lines, member.balance(account))))
+    } else {
+        Ok(Err(MemberFault::NoAccount))
+    }
+}
+
+/// An equal answer.
+pub(crate) fn copy_of_shown(alloc: Global, shown: &Shown) -> Result<Shown, AllocError>
+    ensures { IfOk result (λ copy. copy ≡ shown.now) }
+{
+    match shown {
+        Shown::Sent(bodies) => Ok(Shown::Sent(bodies.copy(alloc)?)),
+        Shown::State(state) => Ok(Shown::State(*state)),
+        Shown::Statement(Ok(statement)) => Ok(Shown::Statement(Ok(statement.copy(alloc)?))),
+        Shown::Statement(Err(fault)) => Ok(Shown::Statement(Err(*fault))),
+        Shown::Fronts(fronts) => Ok(Shown::Fronts(fronts.copy(alloc)?)),
+    }
+}

@@ -1,0 +1,147 @@
+ghost use Rattle.std.specs.Prelude.{◌≡◌, IfOk};
+
+use pay_book::Line;
+use pay_frame::Body;
+use pay_member::{MemberFault, PaymentState};
+use std::alloc::{AllocError, Global};
+use std::marker::Model;
+
+/// The answer to a question.
+#[derive(Drop)]
+pub enum Shown {
+    Sent(Bodies),
+    State(Result<PaymentState, MemberFault>),
+    Statement(Result<Statement, MemberFault>),
+    Fronts(Fronts),
+}
+
+/// Bodies that a member sent to all. Contracts see them as a list.
+#[derive(Drop)]
+pub struct Bodies {
+    bodies: Vec<Body>,
+}
+
+impl Model for Bodies {
+    ghost use Rattle.std.specs.Prelude.{List};
+    ghost use Rattle.pay_frame.specs.Frame.{BodyFields};
+
+    ghost Value = { List BodyFields };
+
+    ghost view = { λ b. b.bodies.items };
+}
+
+impl Bodies {
+    pub fn new(bodies: Vec<Body>) -> Bodies
+        ensures { result ≡ bodies.items }
+    {
+        Bodies { bodies }
+    }
+
+    pub fn as_slice(&self) -> &[Body]
+        ensures { result.now ≡ self.now }
+    {
+        self.bodies.as_slice()
+    }
+
+    pub fn into_vec(self) -> Vec<Body>
+        ensures { result.items ≡ self }
+    {
+        self.bodies
+    }
+
+    pub fn copy(&self, alloc: Global) -> Result<Bodies, AllocError>
+        ensures { IfOk result (λ copy. copy ≡ self.now) }
+    {
+        let mut bodies = Vec::new(alloc);
+        for body in self.bodies.iter() {
+            bodies.push(body.copy(alloc)?)?;
+        }
+        Ok(Bodies { bodies })
+    }
+}
+
+/// The lines of an account, and its balance.
+#[derive(Drop)]
+pub struct Statement {
+    lines: Vec<Line>,
+    balance: u64,
+}
+
+impl Model for Statement {
+    ghost use Rattle.pay_node.specs.Shown.{StatementFields};
+
+    ghost Value = { StatementFields };
+
+    ghost view = { λ s. record { lines = s.lines.items; balance = s.balance } };
+}
+
+impl Statement {
+    pub fn new(lines: Vec<Line>, balance: u64) -> Statement
+        ensures { result ≡ record { lines = lines.items; balance = balance } }
+    {
+        Statement { lines, balance }
+    }
+
+    pub fn lines(&self) -> &[Line]
+        ensures { result.now ≡ self.now.lines }
+    {
+        self.lines.as_slice()
+    }
+
+    pub fn balance(&self) -> u64
+        ensures { result ≡ self.now.balance }
+    {
+        self.balance
+    }
+
+    pub fn copy(&self, alloc: Global) -> Result<Statement, AllocError>
+        ensures { IfOk result (λ copy. copy ≡ self.now) }
+    {
+        let lines = Vec::from_slice(alloc, self.lines.as_slice())?;
+        Ok(Statement {
+            lines,
+            balance: self.balance,
+        })
+    }
+}
+
+/// How many entries are settled of each account. Contracts see it as a list.
+#[derive(Drop)]
+pub struct Fronts {
+    fronts: Vec<u32>,
+}
+
+impl Model for Fronts {
+    ghost use Rattle.std.specs.Prelude.{ℕ, List};
+
+    ghost Value = { List ℕ };
+
+    ghost view = { λ f. f.fronts.items };
+}
+
+impl Fronts {
+    pub fn new(fronts: Vec<u32>) -> Fronts
+        ensures { result ≡ fronts.items }
+    {
+        Fronts { fronts }
+    }
+
+    pub fn as_slice(&self) -> &[u32]
+        ensures { result.now ≡ self.now }
+    {
+        self.fronts.as_slice()
+    }
+
+    pub fn into_vec(self) -> Vec<u32>
+        ensures { result.items ≡ self }
+    {
+        self.fronts
+    }
+
+    pub fn copy(&self, alloc: Global) -> Result<Fronts, AllocError>
+        ensures { IfOk result (λ copy. copy ≡ self.now) }
+    {
+        let fronts = Vec::from_slice(alloc, self.fronts.as_slice())?;
+        Ok(Fronts { fronts })
+    }
+}

@@ -1,0 +1,68 @@
+ghost use Rattle.std.specs.Prelude.{◌≡◌, IfErr, IfOk};
+ghost use Rattle.pay_node.specs.Closing.{AllSettled, IsFault};
+
+use crate::close_fault::CloseFault;
+use crate::closing::least_wrong;
+use crate::node::Node;
+use crate::seat::Seat;
+use pay_book::Settle;
+use pay_echo::Instance;
+use pay_link::Keys;
+use pay_member::Member;
+use std::alloc::Global;
+use std::marker::Model;
+
+/// A node that no thread calls any more, with its member out of the lock. So what is said of its member is about
+/// the very one that is handed out or started again.
+#[derive(Drop)]
+pub struct Stopped<I: Instance + Drop, B: Settle + Drop> {
+    pub(crate) member: Member<I, B>,
+    pub(crate) keys: Keys,
+    pub(crate) seats: u16,
+}
+
+impl<I: Instance + Drop, B: Settle + Drop> Model for Stopped<I, B> {
+    ghost use Rattle.pay_node.specs.Nodes.{StoppedFields};
+
+    ghost Value = { StoppedFields };
+
+    ghost view = { λ s.
+        record { member = s.member; node = record { keys = s.keys; seats = s.seats } } };
+}
+
+impl<I: Instance + Drop, B: Settle + Drop> Stopped<I, B> {
+    pub fn member(&self) -> &Member<I, B>
+        ensures { result.now ≡ self.now.member }
+    {
+        &self.member
+    }
+
+    /// The node, with its member under the lock again.
+    pub fn start(self) -> Node<I, B>
+        ensures { result ≡ self.node }
+    {
+        Node::of_parts(self.member, self.keys, self.seats)
+    }
+
+    /// Holds the receipts of all seats against the history, and gives the member out where they agree.
+    ///
+    /// Where they don't, the least stamp that is missing, doubled, not of this node or wrong is named, and the node
+    /// comes back as it was.
+    pub fn close(
+        self,
+        alloc: Global,
+        seats: &[Seat],
+    ) -> Result<Member<I, B>, (CloseFault, Stopped<I, B>)>
+        ensures member { IfOk result (λ member. member ≡ self.member) }
+        ensures closed { IfOk result (λ _. AllSettled self.member self.node.seats seats.now) }
+        ensures fault { IfErr result (λ back.
+            IsFault self.member self.node.seats seats.now back.0) }
+        ensures back { IfErr result (λ back. back.1 ≡ self) }
+    {
+        match least_wrong(alloc, &self.member, self.seats, seats) {
+            Ok(None) => Ok(self.member),
+            Ok(Some(stamp)) => Err((CloseFault::Mismatch(stamp), self)),
+            Err(_) => Err((CloseFault::Memory, self)),
+        }
+    }
+}
