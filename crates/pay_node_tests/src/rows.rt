@@ -1,0 +1,179 @@
+//! The rows, and what is printed of each fault.
+
+use crate::step::{Group, Handed, Row, Said, Step, Whose};
+use pay_book::Line;
+use pay_frame::{FrameFault, Kind};
+use pay_link::LinkFault;
+use pay_member::{MemberFault, Outcome, PaymentState, Told, Took};
+use pay_node::CloseFault;
+
+/// A payment of 5 to account 0.
+const PAYMENT: &[u8] = &[1, 0, 0, 0, 0, 0, 0, 0, 0, 0, 5];
+
+/// A member alone, with one seat.
+const ALONE: Group = Group {
+    faults: 0,
+    opening: &[7],
+    own: 0,
+    seats: 1,
+};
+
+/// Member 1 of four, with two seats.
+pub(crate) const FOUR: Group = Group {
+    faults: 1,
+    opening: &[100, 0, 0, 50],
+    own: 1,
+    seats: 2,
+};
+
+/// A SEND of member 0 to member 1, number 0, about its first broadcast, with an empty value. It and the frames
+/// below are tagged by another program.
+const SEND: [u8; 56] = [
+    0, 54, 1, 1, 0, 0, 0, 1, 0, 0, 0, 0, 0, 0, 0, 0, 0, 0, 0, 0, 0, 0, 0, 0, 95, 18, 216, 156, 232,
+    199, 171, 234, 104, 63, 10, 5, 239, 51, 203, 236, 225, 46, 12, 222, 29, 67, 48, 187, 155, 99,
+    95, 28, 6, 226, 59, 98,
+];
+
+/// One of number 5, about its second broadcast.
+const AHEAD: [u8; 56] = [
+    0, 54, 1, 1, 0, 0, 0, 1, 0, 0, 0, 0, 0, 0, 0, 5, 0, 0, 0, 0, 0, 1, 0, 0, 112, 249, 137, 86,
+    124, 170, 49, 26, 43, 21, 65, 32, 245, 217, 171, 147, 196, 192, 248, 202, 244, 233, 28, 221,
+    224, 242, 188, 51, 95, 4, 73, 212,
+];
+
+/// A WANT of member 0 from number 3 on.
+const WANT: [u8; 56] = [
+    0, 54, 1, 4, 0, 0, 0, 1, 0, 0, 0, 0, 0, 0, 0, 3, 0, 0, 0, 0, 0, 0, 0, 0, 107, 67, 18, 56, 16,
+    162, 117, 244, 60, 139, 106, 198, 94, 143, 73, 94, 51, 151, 61, 117, 137, 165, 219, 246, 199,
+    49, 4, 49, 7, 55, 237, 238,
+];
+
+/// A SEND of member 0 to member 1 with a tag of zeros.
+const WRONG_TAG: [u8; 56] = [
+    0, 54, 1, 1, 0, 0, 0, 1, 0, 0, 0, 0, 0, 0, 0, 0, 0, 0, 0, 0, 0, 0, 0, 0, 0, 0, 0, 0, 0, 0, 0,
+    0, 0, 0, 0, 0, 0, 0, 0, 0, 0, 0, 0, 0, 0, 0, 0, 0, 0, 0, 0, 0, 0, 0, 0, 0,
+];
+
+/// What a lone member sends of a payment to itself, which moves nothing.
+const LONE: [Said; 3] = [
+    Said {
+        kind: Kind::Send,
+        owner: 0,
+        seq: 0,
+        value: PAYMENT,
+    },
+    Said {
+        kind: Kind::Echo,
+        owner: 0,
+        seq: 0,
+        value: PAYMENT,
+    },
+    Said {
+        kind: Kind::Ready,
+        owner: 0,
+        seq: 0,
+        value: PAYMENT,
+    },
+];
+
+pub(crate) const ROWS: [Row; 3] = [
+    Row {
+        name: "a member alone",
+        group: ALONE,
+        steps: &[
+            Step::State(0, 0, Ok(PaymentState::Unknown)),
+            Step::Ask(PAYMENT, Ok(0)),
+            Step::Query(
+                0,
+                Ok(Told {
+                    balance: 7,
+                    front: 1,
+                    listed: 1,
+                }),
+            ),
+            Step::Fetch(0, 16, &LONE),
+            Step::State(0, 0, Ok(PaymentState::Settled)),
+            Step::State(0, 1, Ok(PaymentState::Unknown)),
+            Step::Statement(0, &[Line::Void { seq: 0 }], 7),
+            Step::Fronts(&[1]),
+            Step::Receipts(8, 2),
+        ],
+    },
+    Row {
+        name: "refusals have receipts",
+        group: ALONE,
+        steps: &[
+            Step::Query(1, Err(MemberFault::NoAccount)),
+            Step::State(1, 0, Err(MemberFault::NoAccount)),
+            Step::NoStatement(1, MemberFault::NoAccount),
+            Step::Receipts(3, 0),
+        ],
+    },
+    Row {
+        name: "frames are brought",
+        group: FOUR,
+        steps: &[
+            Step::Bring(&WRONG_TAG, Outcome::Link(LinkFault::BadTag), false),
+            Step::Bring(&[5], Outcome::Frame(FrameFault::BadLength), false),
+            Step::Bring(&WANT, Outcome::Wanted { from: 0, number: 3 }, false),
+            Step::Receipts(0, 0),
+            Step::Bring(
+                &SEND,
+                Outcome::Took(Took {
+                    echo: true,
+                    ready: false,
+                    deliver: false,
+                    settled: 0,
+                }),
+                true,
+            ),
+            Step::Bring(&SEND, Outcome::Link(LinkFault::Repeat(1)), true),
+            Step::Bring(&AHEAD, Outcome::Link(LinkFault::Gap(1)), true),
+            Step::Receipts(3, 1),
+        ],
+    },
+];
+
+/// Seats of a node with two, whose first asked once; another node has eight, from which nobody called.
+pub(crate) const HANDED: [Handed; 7] = [
+    Handed {
+        name: "its own seats",
+        seats: &[(Whose::This, 0), (Whose::This, 1)],
+        answer: None,
+    },
+    Handed {
+        name: "in another order",
+        seats: &[(Whose::This, 1), (Whose::This, 0)],
+        answer: None,
+    },
+    Handed {
+        name: "seat 7 of another node in place of seat 1",
+        seats: &[(Whose::This, 0), (Whose::Another, 7)],
+        answer: Some(CloseFault::Mismatch(1)),
+    },
+    Handed {
+        name: "and beside it",
+        seats: &[(Whose::This, 0), (Whose::This, 1), (Whose::Another, 7)],
+        answer: Some(CloseFault::Mismatch(7)),
+    },
+    Handed {
+        name: "a doubled seat",
+        seats: &[(Whose::This, 0), (Whose::This, 1), (Whose::Another, 1)],
+        answer: Some(CloseFault::Mismatch(1)),
+    },
+    Handed {
+        name: "a seat that was told nothing in place of one that asked",
+        seats: &[(Whose::Another, 0), (Whose::This, 1)],
+        answer: Some(CloseFault::Mismatch(0)),
+    },
+    Handed {
+        name: "no seat",
+        seats: &[],
+        answer: Some(CloseFault::Mismatch(0)),
+    },
+];
+
+pub(crate) const PRINTED: [(CloseFault, &str); 2] = [
+    (CloseFault::Memory, "0 Memory"),
+    (CloseFault::Mismatch(7), "1 Mismatch"),
+];
