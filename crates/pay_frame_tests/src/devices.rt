@@ -65,9 +65,8 @@ fn try_reads(
 ) -> Result<(), Fail> {
     for (left, answer, counts) in rows {
         let mut buffer = vec![in rt.alloc(); b'-'; left.len()]?;
-        assert_eq!(rt; reader.read(buffer.as_mut_slice()), *answer);
-        assert_eq!(rt; buffer.as_slice(), *left);
-        assert_eq!(rt; (reader.calls(), reader.failures()), *counts);
+        let is_met = reader.read(buffer.as_mut_slice()) == *answer && buffer.as_slice() == *left;
+        assert!(rt; is_met && (reader.calls(), reader.failures()) == *counts);
     }
     Ok(())
 }
@@ -120,8 +119,8 @@ type WriteRow = (WriteStep, (u64, u64));
 
 fn try_writes(rt: &impl Abort, writer: &mut impl Output, rows: &[WriteRow]) {
     for (step, counts) in rows {
-        assert!(rt; step.is_met(writer));
-        assert_eq!(rt; (writer.calls(), writer.failures()), *counts);
+        let is_met = step.is_met(writer);
+        assert!(rt; is_met && (writer.calls(), writer.failures()) == *counts);
     }
 }
 

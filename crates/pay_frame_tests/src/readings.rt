@@ -2,7 +2,6 @@
 
 use crate::samples::spelled;
 use pay_frame::{FrameFault, read, read_one};
-use std::process::Abort;
 use std::test::Fail;
 
 /// What bytes are.
@@ -242,34 +241,26 @@ impl Found {
 }
 
 fn size_read(bytes: &[u8]) -> Result<Option<usize>, FrameFault> {
-    Ok(read(bytes)?.map(|(_, size)| size))
+    match read(bytes)? {
+        Some((_, size)) => Ok(Some(size)),
+        None => Ok(None),
+    }
 }
 
-fn try_row(
-    rt: &(impl Abort + AllocGlobal),
-    text: &str,
-    behind: usize,
-    found: &Found,
-) -> Result<(), Fail> {
-    let bytes = spelled(rt.alloc(), text, behind)?;
-    let length = bytes.len();
-    assert_eq!(rt;
-        size_read(bytes.as_slice()),
-        found.read(length),
-        "at {text} and {behind}"
-    );
-    assert_eq!(rt;
-        read_one(bytes.as_slice()).map(|_| ()),
-        found.read_one(),
-        "at one frame, {text} and {behind}"
-    );
+fn one_read(bytes: &[u8]) -> Result<(), FrameFault> {
+    let _frame = read_one(bytes)?;
     Ok(())
+}
+
+fn reads_as(bytes: &[u8], found: &Found) -> bool {
+    size_read(bytes) == found.read(bytes.len()) && one_read(bytes) == found.read_one()
 }
 
 #[test]
 fn bytes_read_as_the_table_of_fields_says(rt: HostRuntime) -> Result<(), Fail> {
     for (text, behind, found) in &ROWS {
-        try_row(&rt, text, *behind, found)?;
+        let bytes = spelled(rt.alloc(), text, *behind)?;
+        assert!(rt; reads_as(bytes.as_slice(), found), "at {text} and {behind}");
     }
     Ok(())
 }

@@ -17,16 +17,19 @@ const ROWS: [(Kind, usize, &str); 4] = [
     (Kind::Want, 0, WANT_HEAD),
 ];
 
+fn body_of(kind: Kind, value: Bytes) -> Option<Body> {
+    if kind == Kind::Want || value.len() > 1024 {
+        return None;
+    }
+    Some(Body::new(kind, 0x0d0e, 0x1112, value))
+}
+
 /// A body of a sample's owner and number, if such a value can be one's.
 fn sample_body(alloc: Global, kind: Kind, length: usize) -> Result<Option<Body>, AllocError> {
-    let value = Bytes::new(filler(alloc, length)?);
     if kind == Kind::Want {
         return Ok(Some(Body::new(Kind::Want, 0, 0, Bytes::new(Vec::new(alloc)))));
     }
-    if value.len() > 1024 {
-        return Ok(None);
-    }
-    Ok(Some(Body::new(kind, 0x0d0e, 0x1112, value)))
+    Ok(body_of(kind, Bytes::new(filler(alloc, length)?)))
 }
 
 /// Whether a frame has the addresses and the number of the samples.
