@@ -1,0 +1,190 @@
+"""Black-box tests of the desk."""
+
+import json
+import os
+import random
+import subprocess
+import tempfile
+import threading
+
+import desks
+from runs import EXAMPLE_GENESIS, GENESIS, GENESIS_ROWS, KEYS_ROWS, PAYD, SECONDS, TOP
+from runs import example_keys, key_texts, run, same, shows, test, with_files
+
+
+def desk(text, own=0, genesis=EXAMPLE_GENESIS, keys=None):
+    """A run of the desk of a member of four, or of another one, on a text."""
+    words = ["desk", "--genesis", genesis, "--keys", keys or example_keys(own)]
+    return run(words, text if isinstance(text, bytes) else text.encode())
+
+
+def lines_of(rows):
+    return "".join(f"{row}\n" for row in rows)
+
+
+@test
+def desk_answers_a_session():
+    lines, answers = zip(*desks.SESSION)
+    shows(desk(lines_of(lines)), 0, lines_of(answers))
+    shows(desk(lines_of(lines)[:-1]), 0, lines_of(answers), of="the last line without its end")
+    shows(desk(b""), 0, "", of="no line")
+    model = desks.Desk(0, GENESIS["opening"])
+    same([model.answer(line.encode()) for line in lines], list(answers), "the model")
+
+
+@test
+def example_of_a_desk():
+    with open(os.path.join(TOP, "examples", "desk.txt"), encoding="ascii") as lines:
+        text = lines.read()
+    with open(os.path.join(TOP, "examples", "desk-answers.txt"), encoding="ascii") as answers:
+        shows(desk(text), 0, answers.read())
+
+
+@test
+def lines_that_are_no_command():
+    text = lines_of(["PAY 1 1 1", *desks.BAD_LINES, "PAY 1 1 1"])
+    answers = ["asked 1 seq 0", *len(desks.BAD_LINES) * [desks.BAD_LINE], "asked 1 seq 0"]
+    shows(desk(text), 0, lines_of(answers))
+    for raw in (b"\xff\n", b"PAY 1 1 1\xff\n", b"FRONT\r\n"):
+        shows(desk(raw), 0, "refused 1 BadLine\n", of=f"{raw}")
+
+
+@test
+def long_lines_of_a_desk():
+    for size in (127, 128, 129, 130, 4095, 4096, 4097, 100000):
+        for filler in (b"x", b" ", b"0", b"9"):
+            text = size * filler
+            shows(desk(text), 0, "refused 1 BadLine\n", of=f"{size} bytes {filler} alone")
+            wanted = "refused 1 BadLine\nfront 0 0 0 0\n"
+            shows(desk(text + b"\nFRONT"), 0, wanted, of=f"{size} bytes {filler}")
+    within = b"PAY 1 1 1 " + 118 * b"x"
+    shows(desk(b"FRONT\n" + within + b"\n\nFRONT\n"), 0, "front 0 0 0 0\n" + 2 * "refused 1 BadLine\n" + "front 0 0 0 0\n")
+
+
+@test
+def desk_of_one_alone():
+    lines = ["PAY 1 0 5", "PAY 1 1 5", "PAY 1 1 0", "BALANCE 0", "FRONT", "STATEMENT 0", "STATE 0 0", "STATE 1 0"]
+    answers = [
+        desks.ZERO_OR_SELF,
+        desks.NO_ACCOUNT,
+        desks.NO_ACCOUNT,
+        "balance 0 7",
+        "front 0",
+        "end 0 balance 7",
+        "state 0 0 unknown",
+        desks.NO_ACCOUNT,
+    ]
+    files = {"g": {"members": 1, "faults": 0, "opening": [7]}, "k": {"own": 0, "keys": [""]}}
+    shows(with_files(files, ["desk", "--genesis", "g", "--keys", "k"], lines_of(lines).encode()), 0, lines_of(answers))
+
+
+@test
+def desk_as_the_model_has_it():
+    seeded = random.Random(19)
+    for members in (2, 4, 7, 64):
+        opening = [seeded.randrange(1000) for _ in range(members)]
+        own = seeded.randrange(members)
+        lines = desks.random_lines(seeded, members, 400)
+        model = desks.Desk(own, opening)
+        answers = [model.answer(line.encode()) for line in lines]
+        files = {
+            "g": {"members": members, "faults": (members - 1) // 3, "opening": opening},
+            "k": {"own": own, "keys": key_texts(own, members)},
+        }
+        was = with_files(files, ["desk", "--genesis", "g", "--keys", "k"], lines_of(lines).encode())
+        shows(was, 0, lines_of(answers), of=f"{members} members")
+
+
+@test
+def all_numbers_of_a_desk_are_spent():
+    pays = [f"PAY {number} 1 {number + 1}" for number in range(desks.ASKS)]
+    asked = [f"asked {number} seq {number}" for number in range(desks.ASKS)]
+    lines = ["PAY 65536 1 1", "PAY 65536 4 1", "PAY 65536 0 1", "PAY 7 1 8", "PAY 7 1 9", "PAY 65536 1 1", "STATE 0 65535"]
+    answers = [
+        desks.SPENT,
+        desks.NO_ACCOUNT,
+        desks.ZERO_OR_SELF,
+        "asked 7 seq 7",
+        desks.ID_USED,
+        desks.SPENT,
+        "state 0 65535 asked",
+    ]
+    was = desk(lines_of(pays + lines))
+    wanted = lines_of(asked + answers)
+    same((was[0], was[1] == wanted, was[2]), (0, True, ""), "65,536 payments and some lines more")
+
+
+@test
+def desk_answers_line_by_line():
+    words = [PAYD, "desk", "--genesis", EXAMPLE_GENESIS, "--keys", example_keys(0)]
+    child = subprocess.Popen(words, stdin=subprocess.PIPE, stdout=subprocess.PIPE, stderr=subprocess.PIPE, bufsize=0)
+    watchdog = threading.Timer(SECONDS, child.kill)
+    watchdog.start()
+    try:
+        for line, answer in desks.SESSION:
+            for piece in (line[:3], line[3:], "\n"):
+                child.stdin.write(piece.encode())
+            same(child.stdout.readline(), f"{answer}\n".encode(), line)
+        output, errors = child.communicate()
+    finally:
+        watchdog.cancel()
+    shows((child.returncode, output.decode(), errors.decode()), 0, "")
+
+
+@test
+def faults_of_a_desks_files():
+    files = {"bad": "{", "genesis": GENESIS, "keys": {"own": 0, "keys": key_texts(0)}}
+    for genesis, keys, line in (
+        ("bad", "bad", "genesis 1 BadJson"),
+        ("none", "bad", "file none"),
+        ("genesis", "bad", "keys 1 BadJson"),
+        ("genesis", "none", "file none"),
+        ("genesis", ".", "file ."),
+    ):
+        for words in (["--genesis", genesis, "--keys", keys], ["--keys", keys, "--genesis", genesis]):
+            shows(with_files(files, ["desk", *words], b"FRONT\n"), 2, "", f"payd: {line}\n", of=f"{words}")
+    for content, fault in GENESIS_ROWS:
+        was = with_files({"g": content, "k": "{"}, ["desk", "--genesis", "g", "--keys", "k"], b"FRONT\n")
+        shows(was, 2, "", f"payd: genesis {fault}\n", of=f"{content!r}")
+    for content, fault in KEYS_ROWS:
+        was = with_files({"g": GENESIS, "k": content}, ["desk", "--genesis", "g", "--keys", "k"], b"FRONT\n")
+        shows(was, 2, "", f"payd: keys {fault}\n", of=f"{content!r}")
+
+
+@test
+def words_of_a_desk():
+    genesis, keys = ["--genesis", EXAMPLE_GENESIS], ["--keys", example_keys(0)]
+    for words in ([*genesis, *keys], [*keys, *genesis], [f"--keys={example_keys(0)}", *genesis]):
+        shows(run(["desk", *words], b"FRONT\n"), 0, "front 0 0 0 0\n", of=f"{words}")
+    for words in ([], genesis, keys, [*genesis, *keys, *keys], [*genesis, *keys, "x"], [*genesis, "--keys"]):
+        status, output, errors = run(["desk", *words], b"FRONT\n")
+        same((status, output, errors != ""), (2, "", True), f"{words}")
+    status, output, errors = run(["desk", "--help"])
+    same((status, "PAY ID TO AMOUNT" in output, errors), (0, True, ""), "help")
+
+
+@test
+def devices_of_a_desk():
+    words = [PAYD, "desk", "--genesis", EXAMPLE_GENESIS, "--keys", example_keys(0)]
+    with open("/dev/full", "wb") as sink:
+        done = subprocess.run(words, input=b"FRONT\n", stdout=sink, stderr=subprocess.PIPE, timeout=SECONDS)
+    same((done.returncode, done.stderr), (3, b"payd: engine 3 Write\n"), "a full disk")
+    folder = os.open(TOP, os.O_RDONLY)
+    done = subprocess.run(words, stdin=folder, capture_output=True, timeout=SECONDS)
+    os.close(folder)
+    same((done.returncode, done.stdout, done.stderr), (3, b"", b"payd: engine 2 Read\n"), "a folder")
+
+
+@test
+def keys_that_are_made_fit():
+    with tempfile.TemporaryDirectory() as folder:
+        made = subprocess.run([os.path.join(TOP, "examples", "make-keys"), "4", folder], capture_output=True)
+        same((made.returncode, made.stdout, made.stderr), (0, b"", b""), "make-keys")
+        keys = []
+        for own in range(4):
+            name = os.path.join(folder, f"keys-{own}.json")
+            shows(desk("FRONT\n", keys=name), 0, "front 0 0 0 0\n", of=name)
+            with open(name, encoding="ascii") as file:
+                keys.append(json.load(file)["keys"])
+        same(all(keys[a][b] == keys[b][a] for a in range(4) for b in range(4)), True, "a pair shares its key")
+        same(len({key for row in keys for key in row}), 7, "each pair has its own")

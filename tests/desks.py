@@ -1,0 +1,189 @@
+"""A slow model of a desk whose member meets no peer, and lines to try it on.
+
+It is written from docs/DEFINITIONS.md and shares no code with the crates. Without peers nothing is delivered in a
+group of several, and alone there is nobody to pay: so no balance moves.
+"""
+
+MOST_LINE = 128
+ASKS = 65536
+
+BAD_LINE = "refused 1 BadLine"
+NO_ACCOUNT = "refused 2 NoAccount"
+ZERO_OR_SELF = "refused 3 ZeroOrSelf"
+ID_USED = "refused 4 IdUsed"
+SPENT = "refused 5 Spent"
+
+# Lines to the desk of member 0 of four that opened with 100, 0, 0 and 50, one after the other, and their answers.
+SESSION = [
+    ("BALANCE 3", "balance 3 50"),
+    ("FRONT", "front 0 0 0 0"),
+    ("STATEMENT 3", "end 3 balance 50"),
+    ("BALANCE 4", NO_ACCOUNT),
+    ("STATE 0 65536", BAD_LINE),
+    ("STATE 4 0", NO_ACCOUNT),
+    ("STATE 0 0", "state 0 0 unknown"),
+    ("PAY 9 1 30", "asked 9 seq 0"),
+    ("PAY 9 1 30", "asked 9 seq 0"),
+    ("PAY 9 1 31", ID_USED),
+    ("STATE 0 0", "state 0 0 asked"),
+    ("STATE 0 1", "state 0 1 unknown"),
+    ("STATE 1 0", "state 1 0 unknown"),
+    ("PAY 10 0 5", ZERO_OR_SELF),
+    ("PAY 10 1 0", ZERO_OR_SELF),
+    ("PAY 10 4 0", NO_ACCOUNT),
+    ("PAY 010 1 5", BAD_LINE),
+    ("PAY 10 1 5", "asked 10 seq 1"),
+    # a kept id is looked at before the account, and no number is cut short
+    ("PAY 9 65537 30", ID_USED),
+    ("PAY 9 99 30", ID_USED),
+    ("PAY 9 0 30", ID_USED),
+    ("PAY 9 1 0", ID_USED),
+    ("PAY 9 1 030", BAD_LINE),
+    ("PAY 11 65537 30", NO_ACCOUNT),
+    ("PAY 11 65536 30", NO_ACCOUNT),
+    ("BALANCE 65536", NO_ACCOUNT),
+    ("STATEMENT 65539", NO_ACCOUNT),
+    ("STATE 65536 0", NO_ACCOUNT),
+    ("STATE 4 65536", BAD_LINE),
+    ("STATE 3 65535", "state 3 65535 unknown"),
+    ("PAY 0 1 1", "asked 0 seq 2"),
+    ("PAY 18446744073709551615 3 18446744073709551615", "asked 18446744073709551615 seq 3"),
+    ("PAY 18446744073709551615 3 18446744073709551615", "asked 18446744073709551615 seq 3"),
+    ("PAY 18446744073709551616 1 1", BAD_LINE),
+    ("BALANCE 0", "balance 0 100"),
+    ("STATEMENT 0", "end 0 balance 100"),
+    ("STATE 0 3", "state 0 3 asked"),
+    ("FRONT", "front 0 0 0 0"),
+]
+
+# Lines that are no command.
+BAD_LINES = [
+    "",
+    " ",
+    "\t",
+    "\r",
+    "pay 1 1 1",
+    "PAYS 1 1 1",
+    "PAY",
+    "PAY ",
+    "PAY 1 1",
+    "PAY 1 1 ",
+    "PAY 1 1 1 1",
+    "PAY 1 1 1 ",
+    " PAY 1 1 1",
+    "PAY  1 1 1",
+    "PAY\t1 1 1",
+    "PAY 1 1 1\r",
+    "PAY 1 1 1\t",
+    "PAY 01 1 1",
+    "PAY 1 01 1",
+    "PAY 1 1 00",
+    "PAY +1 1 1",
+    "PAY -1 1 1",
+    "PAY 1 1 1.0",
+    "PAY 1 1 1e0",
+    "PAY 1 1 0x1",
+    "PAY 1 x 1",
+    "PAY 1 18446744073709551616 1",
+    "PAY 1 1 18446744073709551616",
+    "PAY 1 1 " + 40 * "9",
+    "BALANCE",
+    "BALANCE ",
+    "BALANCE 0 0",
+    "BALANCE 00",
+    "BALANCE a",
+    "STATE 0",
+    "STATE 0 ",
+    "STATE 0 0 0",
+    "STATE 0 65536",
+    "STATE 0 18446744073709551615",
+    "STATEMENT",
+    "STATEMENT 0 0",
+    "STATEMENTS 0",
+    "FRONT ",
+    "FRONT 0",
+    "FRONTS",
+    "\x00",
+    "FRONT\x00",
+    "help",
+]
+
+
+def number(word):
+    """The number that a word is, or None."""
+    if not word.isdigit() or (word[:1] == b"0" and len(word) > 1):
+        return None
+    value = int(word)
+    return value if value < 2**64 else None
+
+
+class Desk:
+    def __init__(self, own, opening):
+        self.own = own
+        self.opening = opening
+        self.kept = {}
+
+    def answer(self, line):
+        """What is answered to a line of bytes, without its line feed."""
+        words = line.split(b" ")
+        counts = {b"PAY": 3, b"BALANCE": 1, b"STATE": 2, b"STATEMENT": 1, b"FRONT": 0}
+        numbers = [number(word) for word in words[1:]]
+        if len(line) > MOST_LINE or counts.get(words[0]) != len(numbers) or None in numbers:
+            return BAD_LINE
+        if words[0] == b"STATE" and numbers[1] > 65535:
+            return BAD_LINE
+        return getattr(self, words[0].decode().lower())(*numbers)
+
+    def pay(self, order, to, amount):
+        if order in self.kept:
+            *same, seq = self.kept[order]
+            return f"asked {order} seq {seq}" if same == [to, amount] else ID_USED
+        if to >= len(self.opening):
+            return NO_ACCOUNT
+        if amount == 0 or to == self.own:
+            return ZERO_OR_SELF
+        if len(self.kept) == ASKS:
+            return SPENT
+        self.kept[order] = (to, amount, len(self.kept))
+        return f"asked {order} seq {len(self.kept) - 1}"
+
+    def balance(self, account):
+        if account >= len(self.opening):
+            return NO_ACCOUNT
+        return f"balance {account} {self.opening[account]}"
+
+    def state(self, owner, seq):
+        if owner >= len(self.opening):
+            return NO_ACCOUNT
+        asked = owner == self.own and seq < len(self.kept)
+        return f"state {owner} {seq} {'asked' if asked else 'unknown'}"
+
+    def statement(self, account):
+        if account >= len(self.opening):
+            return NO_ACCOUNT
+        return f"end {account} balance {self.opening[account]}"
+
+    def front(self):
+        return "front" + len(self.opening) * " 0"
+
+
+def random_lines(seeded, accounts, count):
+    """Lines of every kind, of which most ids, accounts and numbers come again."""
+
+    def some(*others):
+        return seeded.choice([seeded.randrange(accounts), seeded.randrange(accounts + 2), *others])
+
+    def line():
+        kind = seeded.randrange(10)
+        if kind < 5:
+            amount = seeded.choice([0, 1, 2, 30, 2**64 - 1])
+            return f"PAY {seeded.randrange(40)} {some(65536, 65537)} {amount}"
+        return (
+            f"BALANCE {some(2**64 - 1)}",
+            f"STATE {some(65536)} {seeded.choice([0, 1, 5, 20, 65535, 65536])}",
+            f"STATEMENT {some(65536)}",
+            "FRONT",
+            seeded.choice(BAD_LINES),
+        )[kind - 5]
+
+    return [line() for _ in range(count)]

@@ -1,0 +1,158 @@
+"""What the black-box tests share: runs of the built program, what is compared, and files of genesis and keys."""
+
+import json
+import os
+import subprocess
+import sys
+import tempfile
+import threading
+import time
+
+TOP = os.path.dirname(os.path.dirname(os.path.realpath(__file__)))
+sys.path.insert(0, os.path.join(TOP, "examples"))
+
+from frames import test_key  # noqa: E402
+
+PAYD = os.path.join(TOP, "payd")
+SECONDS = 60
+
+TESTS = []
+
+
+def test(function):
+    TESTS.append(function)
+    return function
+
+
+# ---- runs
+
+
+def run(words, stream=b""):
+    """Status, standard output and standard error of a run."""
+    done = subprocess.run([PAYD, *words], input=stream, capture_output=True, timeout=SECONDS)
+    return done.returncode, done.stdout.decode("ascii"), done.stderr.decode()
+
+
+def run_on(stdin, stdout):
+    """Status, standard output (where it is a pipe) and standard error of a run on open files."""
+    done = subprocess.run([PAYD], stdin=stdin, stdout=stdout, stderr=subprocess.PIPE, timeout=SECONDS)
+    return done.returncode, (done.stdout or b"").decode("ascii"), done.stderr.decode()
+
+
+def run_byte_by_byte(stream):
+    """As run, with each byte written by itself and a pause behind it."""
+    child = subprocess.Popen(
+        [PAYD], stdin=subprocess.PIPE, stdout=subprocess.PIPE, stderr=subprocess.PIPE, bufsize=0
+    )
+    watchdog = threading.Timer(SECONDS, child.kill)
+    watchdog.start()
+    try:
+        for byte in stream:
+            child.stdin.write(bytes([byte]))
+            time.sleep(0.002)
+        output, errors = child.communicate()
+    finally:
+        watchdog.cancel()
+    return child.returncode, output.decode("ascii"), errors.decode()
+
+
+def same(was, wanted, of):
+    if was != wanted:
+        raise AssertionError(f"{of}: {was!r} in place of {wanted!r}")
+
+
+def shows(was, status, output, errors="", of="run"):
+    """Status, output and errors of a run are these."""
+    same(was, (status, output, errors), of)
+
+
+# ---- files
+
+
+GENESIS = {"members": 4, "faults": 1, "opening": [100, 0, 0, 50]}
+EXAMPLE_GENESIS = os.path.join(TOP, "examples", "genesis.json")
+
+
+def example_keys(own):
+    return os.path.join(TOP, "examples", f"keys-{own}.json")
+
+
+def key_texts(own, members=4):
+    """The test keys of a member as a file has them."""
+    return ["" if peer == own else test_key(own, peer).hex() for peer in range(members)]
+
+
+def with_files(files, words, stream=b""):
+    """A run in a folder with these files, each given as bytes, as text or as a value."""
+    with tempfile.TemporaryDirectory() as folder:
+        for name, content in files.items():
+            if not isinstance(content, (bytes, str)):
+                content = json.dumps(content)
+            with open(os.path.join(folder, name), "wb") as file:
+                file.write(content.encode() if isinstance(content, str) else content)
+        done = subprocess.run([PAYD, *words], input=stream, capture_output=True, cwd=folder, timeout=SECONDS)
+    return done.returncode, done.stdout.decode("ascii"), done.stderr.decode()
+
+
+# Genesis files that have a fault, and the fault.
+GENESIS_ROWS = (
+    ("", "1 BadJson"),
+    ("{", "1 BadJson"),
+    ('{"members":4,"faults":1,"opening":[100,0,0,50]}x', "1 BadJson"),
+    ('\ufeff{"members":4,"faults":1,"opening":[100,0,0,50]}', "1 BadJson"),
+    (b'{"members":4,"faults":1,"opening":[100,0,0,50],"x":"\xff"}', "1 BadJson"),
+    ('{"members":4,"faults":1,"opening":[100,0,0,50],"x":"\\ud800"}', "1 BadJson"),
+    ('{"members":4,"faults":1,"opening":[100,0,0,50],"x":' + 200 * "[" + 200 * "]" + "}", "1 BadJson"),
+    ('{"members":4,"faults":1,"opening":[100,0,0,1e999]}', "1 BadJson"),
+    ("[]", "2 BadShape"),
+    ("null", "2 BadShape"),
+    ({"faults": 1, "opening": [100, 0, 0, 50]}, "2 BadShape"),
+    ({"members": 4, "opening": [100, 0, 0, 50]}, "2 BadShape"),
+    ({"members": 4, "faults": 1}, "2 BadShape"),
+    ({"members": "4", "faults": 1, "opening": []}, "2 BadShape"),
+    ({"members": 4, "faults": None, "opening": []}, "2 BadShape"),
+    ({"members": 4, "faults": 1, "opening": 100}, "2 BadShape"),
+    ({"members": 65, "faults": 1, "opening": ["100"]}, "2 BadShape"),
+    ('{"members":4.0,"faults":1,"opening":[]}', "2 BadShape"),
+    ('{"members":4e0,"faults":1,"opening":[]}', "2 BadShape"),
+    ('{"members":4,"faults":-0,"opening":[]}', "2 BadShape"),
+    ('{"members":4,"faults":-1,"opening":[]}', "2 BadShape"),
+    ('{"members":18446744073709551616,"faults":1,"opening":[]}', "2 BadShape"),
+    ('{"members":4,"faults":1,"opening":[100,0,0,18446744073709551616]}', "2 BadShape"),
+    ({"members": 0, "faults": 0, "opening": []}, "3 BadCount"),
+    ({"members": 65, "faults": 40, "opening": []}, "3 BadCount"),
+    ({"members": 2**64 - 1, "faults": 0, "opening": [1]}, "3 BadCount"),
+    ({"members": 65540, "faults": 1, "opening": [1, 2, 3, 4]}, "3 BadCount"),
+    ({"members": 3, "faults": 1, "opening": []}, "4 BadFaults"),
+    ({"members": 4, "faults": 2**64 - 1, "opening": [0, 0, 0, 0]}, "4 BadFaults"),
+    ({"members": 4, "faults": 1, "opening": 3 * [2**64 - 1]}, "5 BadOpening"),
+    ({"members": 4, "faults": 1, "opening": 5 * [0]}, "5 BadOpening"),
+    ({"members": 4, "faults": 1, "opening": [2**63 - 1, 1, 0, 0]}, "6 BadTotal"),
+    ({"members": 2, "faults": 0, "opening": [2**63, 2**63]}, "6 BadTotal"),
+)
+
+# The same of keys, for the desk of a member of four.
+KEY = "0123456789abcdefABCDEF" + 42 * "0"
+
+KEYS_ROWS = (
+    ("", "1 BadJson"),
+    ('{"own":1,"keys":["","","",""]', "1 BadJson"),
+    ({"keys": []}, "2 BadShape"),
+    ({"own": 1}, "2 BadShape"),
+    ({"own": "1", "keys": []}, "2 BadShape"),
+    ({"own": 1, "keys": KEY}, "2 BadShape"),
+    ({"own": 9, "keys": [KEY, "", KEY, 7]}, "2 BadShape"),
+    ({"own": 1, "keys": [KEY, None, KEY, KEY]}, "2 BadShape"),
+    ({"own": 4, "keys": []}, "3 BadOwn"),
+    ({"own": 65537, "keys": [KEY, "", KEY, KEY]}, "3 BadOwn"),
+    ({"own": 1, "keys": ["x", "x", "x"]}, "4 BadKeyCount"),
+    ({"own": 1, "keys": [KEY, "", KEY, KEY, KEY]}, "4 BadKeyCount"),
+    ({"own": 1, "keys": [KEY, KEY, KEY, KEY]}, "5 BadKey"),
+    ({"own": 1, "keys": [KEY, "x", KEY, KEY]}, "5 BadKey"),
+    ({"own": 1, "keys": ["", "", KEY, KEY]}, "5 BadKey"),
+    ({"own": 1, "keys": [KEY, "", KEY[:-1], KEY]}, "5 BadKey"),
+    ({"own": 1, "keys": [KEY, "", KEY, KEY + "00"]}, "5 BadKey"),
+    ({"own": 1, "keys": [KEY, "", KEY, KEY[:-1] + "g"]}, "5 BadKey"),
+    ({"own": 1, "keys": [KEY, "", KEY, " " + KEY[1:]]}, "5 BadKey"),
+    ({"own": 1, "keys": [KEY, "", KEY, "\uff11" + KEY[1:]]}, "5 BadKey"),
+)
