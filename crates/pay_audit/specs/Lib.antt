@@ -1,3 +1,4 @@
 pub mod Faults
 pub mod Export
+pub mod Exporting
 pub mod Verdict

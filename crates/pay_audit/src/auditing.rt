@@ -3,7 +3,7 @@ ghost use Rattle.std.specs.Str.{bytes_eq};
 ghost use Rattle.pay_link.specs.Genesis.{IsGenesis};
 ghost use Rattle.pay_audit.specs.Verdict.{book_of, first_from, fork_between, fork_from, fork_place, other_genesis, other_genesis_at, same_genesis, verdict_of, wrong_balance_of, wrong_book, wrong_front_of};
 
-use crate::export::Export;
+use crate::exported::Export;
 use crate::owner_list::OwnerList;
 use crate::settling::settled;
 use crate::verdict::Verdict;

@@ -3,8 +3,9 @@
 #![tactic(auto)]
 
 mod auditing;
-mod export;
 mod export_fault;
+mod exported;
+mod exporting;
 mod owner_list;
 mod parts;
 mod reading;
@@ -12,7 +13,8 @@ mod settling;
 mod verdict;
 
 pub use auditing::audit;
-pub use export::Export;
 pub use export_fault::ExportFault;
+pub use exported::Export;
+pub use exporting::export;
 pub use reading::read_export;
 pub use verdict::Verdict;

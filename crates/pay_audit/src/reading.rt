@@ -1,8 +1,8 @@
 ghost use Rattle.std.specs.Prelude.{◌≡◌, ◌⊎◌, true};
 ghost use Rattle.pay_audit.specs.Export.{export_in, is_sized, judged};
 
-use crate::export::Export;
 use crate::export_fault::ExportFault;
+use crate::exported::Export;
 use crate::parts::{Parts, parts_in};
 use pay_json::value_in;
 use pay_link::{Genesis, GenesisFault};

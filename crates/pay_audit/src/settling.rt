@@ -4,7 +4,7 @@ ghost use Rattle.std.specs.Prelude.{◌≡◌, IfOk};
 ghost use Rattle.pay_audit.specs.Export.{list_in};
 ghost use Rattle.pay_audit.specs.Verdict.{book_of};
 
-use crate::export::Export;
+use crate::exported::Export;
 use crate::owner_list::OwnerList;
 use pay_book::Settle;
 use pay_book::laws::{

@@ -1,0 +1,107 @@
+//! A member's own export.
+
+ghost use Rattle.std.specs.Prelude.{◌≡◌, IfOk};
+ghost use Rattle.serde_json.specs.View.{view};
+ghost use Rattle.pay_audit.specs.Exporting.{export_data, exported, list_data, lists_data, numbers_data, value_data};
+
+use hex::encode;
+use pay_book::Settle;
+use pay_channel::Source;
+use pay_echo::Instance;
+use pay_link::Genesis;
+use pay_member::Member;
+use pay_member::laws::book_of_events;
+use serde_json::{Value, json};
+use std::alloc::{AllocError, Global};
+
+/// What a member shows of its own without its keys: what the ledger began with, each account's list of values in
+/// hexadecimal, how many entries of it are settled, and all balances.
+#[tactic(auto, unfolding(crate::specs::Exporting::export_data))]
+pub fn export<I: Instance + Drop, B: Settle + Drop>(
+    alloc: Global,
+    member: &Member<I, B>,
+) -> Result<Value, AllocError>
+    ensures { IfOk result (λ value. view value ≡ export_data (exported member.now)) }
+{
+    let genesis = member.genesis();
+    let balances = balances_of(alloc, member)?;
+    let front = front_of(alloc, member)?;
+    let lists = lists_of(alloc, member)?;
+    let opening = opening_of(alloc, genesis)?;
+    json!(in alloc; {
+        "balances": balances,
+        "faults": u64::from(genesis.faults()),
+        "front": front,
+        "lists": lists,
+        "member": u64::from(member.keys().own()),
+        "members": u64::from(genesis.members()),
+        "opening": opening
+    })
+}
+
+fn opening_of(alloc: Global, genesis: &Genesis) -> Result<Value, AllocError>
+    ensures { IfOk result (λ value. view value ≡ numbers_data genesis.now.opening) }
+{
+    let mut numbers = Vec::new(alloc);
+    for account in 0..genesis.members() {
+        numbers.push(Value::from(genesis.opening(account)))?;
+    }
+    Ok(Value::Array(numbers))
+}
+
+fn front_of<I: Instance + Drop, B: Settle + Drop>(
+    alloc: Global,
+    member: &Member<I, B>,
+) -> Result<Value, AllocError>
+    ensures { IfOk result (λ value. view value ≡ numbers_data (exported member.now).front) }
+{
+    book_of_events();
+    let mut numbers = Vec::new(alloc);
+    for account in 0..member.genesis().members() {
+        numbers.push(Value::from(u64::from(member.front(account))))?;
+    }
+    Ok(Value::Array(numbers))
+}
+
+fn balances_of<I: Instance + Drop, B: Settle + Drop>(
+    alloc: Global,
+    member: &Member<I, B>,
+) -> Result<Value, AllocError>
+    ensures { IfOk result (λ value. view value ≡ numbers_data (exported member.now).balances) }
+{
+    book_of_events();
+    let mut numbers = Vec::new(alloc);
+    for account in 0..member.genesis().members() {
+        numbers.push(Value::from(member.balance(account)))?;
+    }
+    Ok(Value::Array(numbers))
+}
+
+fn lists_of<I: Instance + Drop, B: Settle + Drop>(
+    alloc: Global,
+    member: &Member<I, B>,
+) -> Result<Value, AllocError>
+    ensures { IfOk result (λ value. view value ≡ lists_data (exported member.now).lists) }
+{
+    let mut lists = Vec::new(alloc);
+    for owner in 0..member.genesis().members() {
+        lists.push(list_of(alloc, member, owner)?)?;
+    }
+    Ok(Value::Array(lists))
+}
+
+fn list_of<S: Source>(alloc: Global, source: &S, owner: u16) -> Result<Value, AllocError>
+    ensures { IfOk result (λ value. view value ≡ list_data (S.lists source.now owner)) }
+{
+    let mut values = Vec::new(alloc);
+    for place in 0..source.length(owner) {
+        values.push(value_of(alloc, source.at(owner, place))?)?;
+    }
+    Ok(Value::Array(values))
+}
+
+fn value_of(alloc: Global, value: &[u8]) -> Result<Value, AllocError>
+    ensures { IfOk result (λ text. view text ≡ value_data value.now) }
+{
+    Ok(Value::from(encode(alloc, value)?))
+}
