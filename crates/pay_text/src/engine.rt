@@ -37,6 +37,7 @@ pub fn run_lines<A: Answerer, R: Input, W: Output>(
     ensures gave { IsErrOf result EngineFault.Bound
         → Gave MOST_READS (R.remaining reader.old) (R.remaining reader.new) }
     ensures frame { (fault : FrameFault) → ¬ (IsErrOf result (EngineFault.Frame fault)) }
+    ensures all_written { OnOk result (W.failure_count writer.new ≡ W.failure_count writer.old) }
 {
     let mut cutter = LineCutter::new(alloc, bound)?;
     for _ in 0..MOST_READS {
