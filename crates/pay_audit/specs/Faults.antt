@@ -1,7 +1,9 @@
--- Why a file is no export: the number and the name under which each cause is printed.
+-- The faults of this crate: the number and the name under which each cause is printed. First, why a file is no export.
 use Rattle.std.specs.Prelude.{ℕ, List, codes}
 use Rattle.pay_audit.specs.declared.export_fault.ExportFault.{ExportFault}
 use Rattle.pay_audit.specs.declared.export_fault.ExportFault.TheVariants.{Memory, BadJson, BadShape, BadGenesis}
+use Rattle.pay_audit.specs.declared.replay_fault.ReplayFault.{ReplayFault}
+use Rattle.pay_audit.specs.declared.replay_fault.ReplayFault.TheVariants as replay
 
 abbrev pub export_fault_number : ExportFault → ℕ
 export_fault_number Memory = 0
@@ -14,3 +16,12 @@ export_fault_name Memory = codes "Memory"
 export_fault_name BadJson = codes "BadJson"
 export_fault_name BadShape = codes "BadShape"
 export_fault_name BadGenesis = codes "BadGenesis"
+
+-- why a history wasn't replayed
+abbrev pub replay_fault_number : ReplayFault → ℕ
+replay_fault_number replay.Memory = 0
+replay_fault_number (replay.Illegal place) = 1
+
+abbrev pub replay_fault_name : ReplayFault → List ℕ
+replay_fault_name replay.Memory = codes "Memory"
+replay_fault_name (replay.Illegal place) = codes "Illegal"

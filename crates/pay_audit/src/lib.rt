@@ -9,6 +9,8 @@ mod exporting;
 mod owner_list;
 mod parts;
 mod reading;
+mod replay_fault;
+mod replaying;
 mod settling;
 mod verdict;
 
@@ -17,4 +19,6 @@ pub use export_fault::ExportFault;
 pub use exported::Export;
 pub use exporting::export;
 pub use reading::read_export;
+pub use replay_fault::ReplayFault;
+pub use replaying::replay;
 pub use verdict::Verdict;

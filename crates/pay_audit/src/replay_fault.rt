@@ -1,0 +1,48 @@
+ghost use Rattle.std.specs.Prelude.{◌≡◌};
+ghost use Rattle.pay_audit.specs.Faults.{replay_fault_name, replay_fault_number};
+
+use std::alloc::AllocError;
+use thiserror::Error;
+
+/// Why a history wasn't replayed; memory stands apart.
+#[derive(Clone, Copy, Debug, PartialEq, Eq, Error)]
+#[error("{} {}", self.number(), self.name())]
+pub enum ReplayFault {
+    Memory,
+    /// The entry at this place is the first that a member can't have after those before it.
+    Illegal(usize),
+}
+
+impl ReplayFault {
+    const fn entry(self) -> (u8, &'static str)
+        ensures number { result.0 ≡ replay_fault_number self }
+        ensures name { result.1.now ≡ replay_fault_name self }
+    {
+        match self {
+            ReplayFault::Memory => (0, "Memory"),
+            ReplayFault::Illegal(_) => (1, "Illegal"),
+        }
+    }
+
+    pub fn number(self) -> u8
+        ensures value { result ≡ replay_fault_number self }
+    {
+        self.entry().0
+    }
+
+    pub fn name(self) -> &'static str
+        ensures value { result.now ≡ replay_fault_name self }
+    {
+        self.entry().1
+    }
+}
+
+impl From<AllocError> for ReplayFault {
+    ghost use Rattle.pay_audit.specs.declared.replay_fault.ReplayFault.TheVariants.{Memory};
+
+    ghost from_gives = { λ _ e. e ≡ Memory };
+
+    fn from(_error: AllocError) -> ReplayFault {
+        ReplayFault::Memory
+    }
+}
