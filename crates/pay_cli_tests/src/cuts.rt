@@ -45,21 +45,38 @@ fn lines_of(bytes: usize) -> &'static str {
     }
 }
 
+/// How the engine ends for so many bytes of frames.
+fn end_of(bytes: usize) -> Result<(), EngineFault> {
+    if bytes % 56 == 0 {
+        Ok(())
+    } else {
+        Err(EngineFault::Frame(FrameFault::Truncated))
+    }
+}
+
+/// Whether these lines are written of what is read, and the engine ends so.
+fn is_judged<R: Read + Drop>(
+    alloc: Global,
+    reader: R,
+    lines: &str,
+    end: Result<(), EngineFault>,
+) -> Result<bool, Fail> {
+    let (text, ended) = judged(alloc, reader)?;
+    Ok(text.as_slice() == lines.as_bytes() && ended == end)
+}
+
 #[test]
 fn repeated_frame_cut_anywhere(rt: HostRuntime) -> Result<(), Fail> {
     let mut stream = first_frame(rt.alloc())?;
-    let again = first_frame(rt.alloc())?;
-    stream.extend_from_slice(again.as_slice())?;
-    assert_eq!(rt; stream.len(), 112);
-    for cut in 0..=stream.len() {
-        let bytes = &stream.as_slice()[..cut];
-        let whole = cut % 56 == 0;
-        let (text, ended) = judged(rt.alloc(), bytes)?;
-        assert_eq!(rt; text.as_slice(), lines_of(cut).as_bytes(), "at {cut}");
-        assert_eq!(rt; ended.is_ok(), whole, "at {cut}");
-        let (text, ended) = judged(rt.alloc(), OneByte(bytes))?;
-        assert_eq!(rt; text.as_slice(), lines_of(cut).as_bytes(), "at {cut}");
-        assert!(rt; whole || ended == Err(EngineFault::Frame(FrameFault::Truncated)));
+    stream.append(&mut first_frame(rt.alloc())?)?;
+    for cut in 0..=112 {
+        let bytes = stream.get(..cut).ok_or("a short stream")?;
+        let (lines, end) = (lines_of(cut), end_of(cut));
+        assert!(rt; is_judged(rt.alloc(), bytes, lines, end)?, "at {cut}");
+        assert!(rt;
+            is_judged(rt.alloc(), OneByte(bytes), lines, end)?,
+            "byte by byte, at {cut}"
+        );
     }
     Ok(())
 }
