@@ -4,8 +4,8 @@ use Rattle.pay_frame.specs.declared.fault.FrameFault.{FrameFault}
 use Rattle.pay_frame.specs.Frame.{FrameFields}
 use Rattle.pay_frame.specs.Stream.{IsStream}
 
--- The text that is written before anything is read; what a frame makes of a state, and its text; and the text
--- of the fault that ends a stream.
+-- The text that is written before anything is read; what a frame makes of a state, and its text;
+-- and the text of the fault that ends a stream.
 pub record Handling (S : Type 0) : Type 0 where
   pub first : List ℕ
   pub after : S → FrameFields → S
@@ -35,7 +35,8 @@ abbrev pub text_from : {S : Type 0} → Handling S → S → List FrameFields �
 text_from h s frames ending = texts_from h s frames ++ last_text h (state_after h s frames) ending
 
 -- the text of these bytes, the fault that they end with, and the state behind them
-pub record IsText {S : Type 0} (h : Handling S) (old new : S) (bytes text : List ℕ) (ending : Option FrameFault) : Type 0 where
+pub record IsText {S : Type 0} (h : Handling S) (old new : S) (bytes text : List ℕ)
+    (ending : Option FrameFault) : Type 0 where
   pub frames : List FrameFields
   pub stream : IsStream bytes frames ending
   pub texts : text ≡ h.first ++ text_from h old frames ending

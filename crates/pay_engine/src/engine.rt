@@ -18,11 +18,11 @@ struct Work {
     out: Vec<u8>,
 }
 
-/// Reads frames to the input's end, has each handled, and writes what is made of them: the text of all bytes
-/// that were read, however they come in pieces.
+/// Reads frames to the input's end, has each handled, and writes what is made of them: the text of
+/// all bytes that were read, however they come in pieces.
 ///
-/// A fault in the frames ends the text with its own, and is then answered. After another fault what was
-/// written is a prefix of the text, and the state is the one after some of the frames.
+/// A fault in the frames ends the text with its own, and is then answered. After another fault what
+/// was written is a prefix of the text, and the state is the one after some of the frames.
 pub fn run<S, H: Handler<S>, R: Input, W: Output>(
     alloc: Global,
     handler: &H,

@@ -6,8 +6,8 @@ ghost use Rattle.pay_engine.specs.Handling.{Handling};
 use pay_frame::{FrameFault, FrameRef};
 use std::alloc::{AllocError, Global};
 
-/// What is made of a stream: a text before it, a text for each frame and a state behind it, and a text for its
-/// fault.
+/// What is made of a stream: a text before it, a text for each frame and a state behind it, and a
+/// text for its fault.
 pub trait Handler<S> {
     ghost handling: { Self → Handling S };
 
@@ -18,8 +18,8 @@ pub trait Handler<S> {
     fn first(&self) -> &[u8]
         ensures text { result.now ≡ (handling self.now).first };
 
-    /// Handles a frame, and writes its text behind what stands in `out`. Where memory is refused the frame
-    /// was handled, or the state is as it was.
+    /// Handles a frame, and writes its text behind what stands in `out`. Where memory is refused
+    /// the frame was handled, or the state is as it was.
     fn handle(
         &self,
         alloc: Global,

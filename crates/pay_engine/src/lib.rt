@@ -1,5 +1,5 @@
-//! What the engines share that read frames and write what is made of them: pieces are read and cut into
-//! frames, a [`Handler`] makes a text of each, and the texts are written.
+//! What the engines share that read frames and write what is made of them: pieces are read and cut
+//! into frames, a [`Handler`] makes a text of each, and the texts are written.
 #![tactic(auto)]
 
 mod engine;

@@ -7,52 +7,45 @@ use Rattle.pay_link.specs.declared.keys_fault.KeysFault.TheVariants as keys
 use Rattle.pay_link.specs.declared.link_fault.LinkFault.{LinkFault}
 use Rattle.pay_link.specs.declared.link_fault.LinkFault.TheVariants as link
 
+abbrev pub genesis_fault_entry : GenesisFault → ℕ × List ℕ
+genesis_fault_entry genesis.Memory = (0, codes "Memory")
+genesis_fault_entry genesis.BadJson = (1, codes "BadJson")
+genesis_fault_entry genesis.BadShape = (2, codes "BadShape")
+genesis_fault_entry genesis.BadCount = (3, codes "BadCount")
+genesis_fault_entry genesis.BadFaults = (4, codes "BadFaults")
+genesis_fault_entry genesis.BadOpening = (5, codes "BadOpening")
+genesis_fault_entry genesis.BadTotal = (6, codes "BadTotal")
+
 abbrev pub genesis_fault_number : GenesisFault → ℕ
-genesis_fault_number genesis.Memory = 0
-genesis_fault_number genesis.BadJson = 1
-genesis_fault_number genesis.BadShape = 2
-genesis_fault_number genesis.BadCount = 3
-genesis_fault_number genesis.BadFaults = 4
-genesis_fault_number genesis.BadOpening = 5
-genesis_fault_number genesis.BadTotal = 6
+genesis_fault_number fault = (genesis_fault_entry fault).0
 
 abbrev pub genesis_fault_name : GenesisFault → List ℕ
-genesis_fault_name genesis.Memory = codes "Memory"
-genesis_fault_name genesis.BadJson = codes "BadJson"
-genesis_fault_name genesis.BadShape = codes "BadShape"
-genesis_fault_name genesis.BadCount = codes "BadCount"
-genesis_fault_name genesis.BadFaults = codes "BadFaults"
-genesis_fault_name genesis.BadOpening = codes "BadOpening"
-genesis_fault_name genesis.BadTotal = codes "BadTotal"
+genesis_fault_name fault = (genesis_fault_entry fault).1
+
+abbrev pub keys_fault_entry : KeysFault → ℕ × List ℕ
+keys_fault_entry keys.Memory = (0, codes "Memory")
+keys_fault_entry keys.BadJson = (1, codes "BadJson")
+keys_fault_entry keys.BadShape = (2, codes "BadShape")
+keys_fault_entry keys.BadOwn = (3, codes "BadOwn")
+keys_fault_entry keys.BadKeyCount = (4, codes "BadKeyCount")
+keys_fault_entry (keys.BadKey place) = (5, codes "BadKey")
 
 abbrev pub keys_fault_number : KeysFault → ℕ
-keys_fault_number keys.Memory = 0
-keys_fault_number keys.BadJson = 1
-keys_fault_number keys.BadShape = 2
-keys_fault_number keys.BadOwn = 3
-keys_fault_number keys.BadKeyCount = 4
-keys_fault_number (keys.BadKey place) = 5
+keys_fault_number fault = (keys_fault_entry fault).0
 
 abbrev pub keys_fault_name : KeysFault → List ℕ
-keys_fault_name keys.Memory = codes "Memory"
-keys_fault_name keys.BadJson = codes "BadJson"
-keys_fault_name keys.BadShape = codes "BadShape"
-keys_fault_name keys.BadOwn = codes "BadOwn"
-keys_fault_name keys.BadKeyCount = codes "BadKeyCount"
-keys_fault_name (keys.BadKey place) = codes "BadKey"
+keys_fault_name fault = (keys_fault_entry fault).1
+
+abbrev pub link_fault_entry : LinkFault → ℕ × List ℕ
+link_fault_entry link.NotForMe = (1, codes "NotForMe")
+link_fault_entry link.UnknownSender = (2, codes "UnknownSender")
+link_fault_entry link.UnknownOwner = (3, codes "UnknownOwner")
+link_fault_entry link.BadTag = (4, codes "BadTag")
+link_fault_entry (link.Repeat next) = (5, codes "Repeat")
+link_fault_entry (link.Gap next) = (6, codes "Gap")
 
 abbrev pub link_fault_number : LinkFault → ℕ
-link_fault_number link.NotForMe = 1
-link_fault_number link.UnknownSender = 2
-link_fault_number link.UnknownOwner = 3
-link_fault_number link.BadTag = 4
-link_fault_number (link.Repeat next) = 5
-link_fault_number (link.Gap next) = 6
+link_fault_number fault = (link_fault_entry fault).0
 
 abbrev pub link_fault_name : LinkFault → List ℕ
-link_fault_name link.NotForMe = codes "NotForMe"
-link_fault_name link.UnknownSender = codes "UnknownSender"
-link_fault_name link.UnknownOwner = codes "UnknownOwner"
-link_fault_name link.BadTag = codes "BadTag"
-link_fault_name (link.Repeat next) = codes "Repeat"
-link_fault_name (link.Gap next) = codes "Gap"
+link_fault_name fault = (link_fault_entry fault).1

@@ -1,5 +1,5 @@
--- What files of JSON say of a ledger: a genesis, and one member's keys. The definitions are of the value that bytes
--- are read as; which bytes have one is RFC 8259's matter.
+-- What files of JSON say of a ledger: a genesis, and one member's keys. The definitions are of the
+-- value that bytes are read as; which bytes have one is RFC 8259's matter.
 use Rattle.std.specs.Prelude.{ℕ, ◌≡◌, ◌+◌, ◌<◌, ◌==◌, List, [], ◌∷◌, IsSome, codes, length, slice_index_or, Option, Some, None, ok_or, option_and_then, option_map, Result, Ok, Err, if◌then◌else◌}
 use Rattle.std.specs.Option.{option_map_or}
 use Rattle.pay_json.specs.File.{Data, number_at, numbers_at, texts_at, value_in}
@@ -22,7 +22,8 @@ abbrev pub genesis_said : Data → Option GenesisFields
 genesis_said d =
     option_and_then (λ members. option_and_then (λ faults. option_map (λ opening.
     record { members = members; faults = faults; opening = opening })
-    (numbers_at (codes "opening") d)) (number_at (codes "faults") d)) (number_at (codes "members") d)
+    (numbers_at (codes "opening") d)) (number_at (codes "faults") d))
+    (number_at (codes "members") d)
 
 -- the genesis of a file, or the first of its faults
 abbrev pub genesis_in : List ℕ → Result GenesisFields GenesisFault
@@ -42,9 +43,11 @@ keys_said d =
     option_and_then (λ own. option_map (λ texts. record { own = own; texts = texts })
     (texts_at (codes "keys") d)) (number_at (codes "own") d)
 
--- what the text at a place says: the key for another member, and nothing at the own place, where no key is kept
+-- what the text at a place says: the key for another member, and nothing at the own place, where no
+-- key is kept
 abbrev pub key_at : ℕ → ℕ → List ℕ → Option (List ℕ)
-key_at own place text = if place == own then (if length text == 0 then Some no_key else None) else key_in text
+key_at own place text =
+    if place == own then (if length text == 0 then Some no_key else None) else key_in text
 
 -- the keys of the texts from a place on, or the first place whose text says none
 abbrev pub keys_from : ℕ → ℕ → List (List ℕ) → Result (List (List ℕ)) KeysFault
@@ -62,7 +65,8 @@ all_keys said = do
 
 -- the keys that these texts say for one of so many members, or the first of their faults
 abbrev pub keys_judged : ℕ → KeysSaid → Result KeyFields KeysFault
-keys_judged members said = option_map_or Err (place_fault members said.own (length said.texts)) (all_keys said)
+keys_judged members said =
+    option_map_or Err (place_fault members said.own (length said.texts)) (all_keys said)
 
 -- the text at a place
 abbrev pub text_at : KeysSaid → ℕ → List ℕ
@@ -78,7 +82,8 @@ pub record IsLeastBad (said : KeysSaid) (place : ℕ) : Type 0 where
 pub record SaysKeys (said : KeysSaid) (k : KeyFields) : Type 0 where
   pub own : k.own ≡ said.own
   pub count : length k.keys ≡ length said.texts
-  pub each : (p : ℕ) → p < length said.texts → key_at said.own p (text_at said p) ≡ Some (key_for k p)
+  pub each :
+      (p : ℕ) → p < length said.texts → key_at said.own p (text_at said p) ≡ Some (key_for k p)
 
 -- the keys of a file for a genesis of so many members, or the first of its faults
 abbrev pub keys_in : ℕ → List ℕ → Result KeyFields KeysFault

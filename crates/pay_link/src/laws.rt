@@ -59,9 +59,9 @@ pub fn keys_causes()
         ↔ ((k.own < members) × (length k.keys ≢ members)) }
 {}
 
-/// A file of keys isn't JSON exactly where it has no value, and of a wrong shape exactly where its value
-/// says no keys. Behind whose they are and how many, the least place without a key is named; where there
-/// is none, the keys are those that the texts say.
+/// A file of keys isn't JSON exactly where it has no value, and of a wrong shape exactly where its
+/// value says no keys. Behind whose they are and how many, the least place without a key is named;
+/// where there is none, the keys are those that the texts say.
 pub fn keys_file_faults()
     ensures json { (members : ℕ) (bytes : List ℕ) → (keys_in members bytes ≡ Err KeysFault.BadJson)
         ↔ (value_in bytes ≡ None) }

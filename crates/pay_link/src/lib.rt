@@ -1,5 +1,5 @@
-//! Links: what a ledger begins with, the keys of its members, and frames that are rightly tagged and
-//! for the member that opens them.
+//! Links: what a ledger begins with, the keys of its members, and frames that are rightly tagged
+//! and for the member that opens them.
 #![tactic(auto)]
 
 mod checked;

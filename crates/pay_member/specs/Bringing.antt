@@ -32,7 +32,9 @@ is_want kind.Want = true
 -- the opened frame, or what came of one that doesn't open or is a WANT
 abbrev pub judged : Result OpenedFields LinkFault → Result OpenedFields Outcome
 judged (Ok opened) =
-    if is_want opened.frame.body.kind then Err (Wanted opened.frame.from opened.frame.number) else Ok opened
+    if is_want opened.frame.body.kind
+    then Err (Wanted opened.frame.from opened.frame.number)
+    else Ok opened
 judged (Err fault) = Err (Link fault)
 
 -- the same of what bytes read as
@@ -41,7 +43,8 @@ opening k (Ok f) = judged (judgement k f)
 opening k (Err fault) = Err (Frame fault)
 
 -- what bytes are to the member with these keys, by the one reading that they have
-pub record IsOpening (k : KeyFields) (bytes : List ℕ) (answer : Result OpenedFields Outcome) : Type 0 where
+pub record IsOpening (k : KeyFields) (bytes : List ℕ) (answer : Result OpenedFields Outcome)
+    : Type 0 where
   pub reading : Result FrameFields FrameFault
   pub reads : IsOneReading bytes reading
   pub is : answer ≡ opening k reading
@@ -58,33 +61,39 @@ opened_in k bytes = option_and_then (λ f. unless_want (judgement k f)) (one_fra
 
 -- what a frame is to a channel, where its number is the next from its sender
 abbrev pub event_of : List channel.Event → FrameFields → Option channel.Event
-event_of before f = if f.number == next f.from before then Some (channel.From f.from f.body) else None
+event_of before f =
+    if f.number == next f.from before then Some (channel.From f.from f.body) else None
 
--- what bytes are to the channel of the member with these keys, behind these events: nothing, or one event
+-- what bytes are to the channel of the member with these keys, behind these events: nothing, or one
+-- event
 unfoldable pub event_in : KeyFields → List channel.Event → List ℕ → Option channel.Event
 event_in k before bytes = option_and_then (event_of before) (opened_in k bytes)
 
 -- ---- the answer
 
 -- to a frame that opened: it is taken where its number is the next one
-abbrev pub answered : GenesisFields → ℕ → List channel.Event → FrameFields → Result ⊤ LinkFault → Outcome
+abbrev pub answered :
+    GenesisFields → ℕ → List channel.Event → FrameFields → Result ⊤ LinkFault → Outcome
 answered g own before f (Ok _) = Took (took_by g own before (channel.From f.from f.body))
 answered g own before f (Err fault) = Link fault
 
 unfoldable pub answer_to : GenesisFields → ℕ → List channel.Event → FrameFields → Outcome
 answer_to g own before f = answered g own before f (turn (next f.from before) f.number)
 
-abbrev pub outcome_of : GenesisFields → ℕ → List channel.Event → Result OpenedFields Outcome → Outcome
+abbrev pub outcome_of :
+    GenesisFields → ℕ → List channel.Event → Result OpenedFields Outcome → Outcome
 outcome_of g own before (Ok opened) = answer_to g own before opened.frame
 outcome_of g own before (Err outcome) = outcome
 
 -- to bytes, by the one reading that they have
-pub record IsOutcome (g : GenesisFields) (k : KeyFields) (before : List channel.Event) (bytes : List ℕ) (outcome : Outcome) : Type 0 where
+pub record IsOutcome (g : GenesisFields) (k : KeyFields) (before : List channel.Event)
+    (bytes : List ℕ) (outcome : Outcome) : Type 0 where
   pub reading : Result FrameFields FrameFault
   pub reads : IsOneReading bytes reading
   pub is : outcome ≡ outcome_of g k.own before (opening k reading)
 
--- the WANT that goes with it, where a frame opened that is none: for what is next behind these events
+-- the WANT that goes with it, where a frame opened that is none: for what is next behind these
+-- events
 abbrev pub want_for : KeyFields → List channel.Event → FrameFields → List ℕ
 want_for k after f = frame_bytes (wanted k f.from (next f.from after))
 
@@ -99,7 +108,8 @@ checked_with k f = record { frame = f; key = key_for k f.from }
 
 -- one entry more where it was taken, else as it was
 abbrev pub with_taken : MemberFields → ℕ → CheckedFields → Outcome → MemberFields
-with_taken m stamp c (Took took) = with_entry m (record { stamp = stamp; event = Taken c; reply = reply.Took took })
+with_taken m stamp c (Took took) =
+    with_entry m (record { stamp = stamp; event = Taken c; reply = reply.Took took })
 with_taken m stamp c (Wanted from number) = m
 with_taken m stamp c (Frame fault) = m
 with_taken m stamp c (Link fault) = m

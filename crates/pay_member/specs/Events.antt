@@ -6,7 +6,8 @@ use Rattle.pay_member.specs.declared.event.Event.{Event}
 use Rattle.pay_member.specs.declared.event.Event.TheVariants.{Ask, Taken, Query}
 use Rattle.pay_member.specs.declared.entry.HistoryEntry.{HistoryEntry}
 
--- what the channel takes by an event: a value of its own, a body from another member, or nothing by a query
+-- what the channel takes by an event: a value of its own, a body from another member, or nothing by
+-- a query
 abbrev pub channel_event : Event → Option channel.Event
 channel_event (Ask v) = Some (channel.Ask v)
 channel_event (Taken c) = Some (channel.From c.frame.from c.frame.body)

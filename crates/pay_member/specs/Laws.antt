@@ -1,5 +1,5 @@
--- What holds of histories that a member can have, and of what is brought to it, as statements. Each is proved as
--- a public law.
+-- What holds of histories that a member can have, and of what is brought to it, as statements. Each
+-- is proved as a public law.
 use Rattle.std.specs.Prelude.{◌≡◌, ◌≢◌, ◌↔◌, ℕ, ◌<◌, ◌≤◌, pos, ◌≤ℤ◌, List, [], ◌∷◌, ◌++◌, length, slice_index, sum, All, Some}
 use Rattle.pay_frame.specs.declared.kind.Kind.TheVariants.{Want}
 use Rattle.pay_frame.specs.Frame.{FrameFields}
@@ -41,23 +41,28 @@ PrefixIsLegal =
 -- what a member takes may come to its group's channel
 abbrev pub LegalEventsMayCome : Type 0
 LegalEventsMayCome =
-    (g : GenesisFields) (k : KeyFields) (history : List HistoryEntry) → IsKeysOf g k → Legal g k history
-    → All (IsEvent (group_in g k.own)) (events history)
+    (g : GenesisFields) (k : KeyFields) (history : List HistoryEntry)
+    → IsKeysOf g k → Legal g k history → All (IsEvent (group_in g k.own)) (events history)
 
 -- ---- longer histories
 
 abbrev pub EventsGrow : Type 0
-EventsGrow = (history more : List HistoryEntry) → events (history ++ more) ≡ events history ++ events more
+EventsGrow =
+    (history more : List HistoryEntry) → events (history ++ more) ≡ events history ++ events more
 
 abbrev pub SentGrows : Type 0
 SentGrows =
     (g : GenesisFields) (own : ℕ) (history more : List HistoryEntry)
-    → IsPrefix (out (group_in g own) (events history)) (out (group_in g own) (events (history ++ more)))
+    → IsPrefix
+    (out (group_in g own) (events history))
+    (out (group_in g own) (events (history ++ more)))
 
 abbrev pub ListsOfHistoryGrow : Type 0
 ListsOfHistoryGrow =
     (g : GenesisFields) (own : ℕ) (history more : List HistoryEntry) (a : ℕ)
-    → IsPrefix (list_of (group_in g own) (events history) a) (list_of (group_in g own) (events (history ++ more)) a)
+    → IsPrefix
+    (list_of (group_in g own) (events history) a)
+    (list_of (group_in g own) (events (history ++ more)) a)
 
 -- nothing that settled at a member is ever taken back
 abbrev pub SettledStays : Type 0
@@ -90,13 +95,15 @@ TotalIsKept =
 abbrev pub NobodyOwes : Type 0
 NobodyOwes =
     (g : GenesisFields) (own : ℕ) (events : List channel.Event) (a : ℕ)
-    → pos 0 ≤ℤ balance_at g.opening (entries_of (length g.opening) (list_of (group_in g own) events))
+    → pos 0
+    ≤ℤ balance_at g.opening (entries_of (length g.opening) (list_of (group_in g own) events))
     (slice_index (book_after g own events).front) a
 
 abbrev pub EqualListsEqualBooksAfter : Type 0
 EqualListsEqualBooksAfter =
     (g : GenesisFields) (own other : ℕ) (events others : List channel.Event)
-    → ((a : ℕ) → a < length g.opening → list_of (group_in g own) events a ≡ list_of (group_in g other) others a)
+    → ((a : ℕ) → a < length g.opening
+    → list_of (group_in g own) events a ≡ list_of (group_in g other) others a)
     → book_after g own events ≡ book_after g other others
 
 -- ---- what is brought
@@ -112,9 +119,11 @@ abbrev pub EventIn : Type 0
 EventIn =
     (k : KeyFields) (before : List channel.Event) (bytes : List ℕ) (e : channel.Event)
     → (event_in k before bytes ≡ Some e)
-    ↔ ((f : FrameFields) × (opened_in k bytes ≡ Some f) × (f.number ≡ next f.from before) × (e ≡ channel.From f.from f.body))
+    ↔ ((f : FrameFields) × (opened_in k bytes ≡ Some f) × (f.number ≡ next f.from before)
+    × (e ≡ channel.From f.from f.body))
 
 abbrev pub BroughtMayCome : Type 0
 BroughtMayCome =
-    (g : GenesisFields) (k : KeyFields) (before : List channel.Event) (bytes : List ℕ) (e : channel.Event)
+    (g : GenesisFields) (k : KeyFields) (before : List channel.Event) (bytes : List ℕ)
+    (e : channel.Event)
     → IsKeysOf g k → event_in k before bytes ≡ Some e → IsEvent (group_in g k.own) e

@@ -13,14 +13,16 @@ pub record LedgerFields : Type 0 where
   pub channel : State
   pub book : Standing
 
--- there is an account for each of the members, which aren't too many, and all is settled that the lists allow
+-- there is an account for each of the members, which aren't too many, and all is settled that the
+-- lists allow
 pub record IsLedger (l : LedgerFields) : Type 0 where
   pub few : l.channel.group.members ≤ MOST_MEMBERS
   pub accounts : length l.book.opening ≡ l.channel.group.members
   pub settled : IsSettled (lists_of l.channel) l.book
 
 -- It is what these events make of the ledger of member `own` of this genesis.
-pub record Tracks (g : GenesisFields) (own : ℕ) (events : List channel.Event) (l : LedgerFields) : Type 0 where
+pub record Tracks (g : GenesisFields) (own : ℕ) (events : List channel.Event) (l : LedgerFields)
+    : Type 0 where
   pub group : l.channel.group ≡ group_in g own
   pub follows : Follows l.channel events
   pub opening : l.book.opening ≡ g.opening
@@ -33,7 +35,9 @@ pub record Grows (old new : LedgerFields) (e : channel.Event) (took : Took) : Ty
   pub sound : IsLedger new
   pub takes : Takes old.channel new.channel e
   pub grown : ℕ
-  pub applied : IsApplied old.channel new.channel e (record { echo = took.echo; ready = took.ready; deliver = took.deliver; grown = grown })
+  pub applied :
+      IsApplied old.channel new.channel e
+      (record { echo = took.echo; ready = took.ready; deliver = took.deliver; grown = grown })
   pub settled : sum old.book.front + took.settled ≡ sum new.book.front
 
 -- nothing that can be seen changed

@@ -17,7 +17,8 @@ pub record MemberFields : Type 0 where
 abbrev pub with_entry : MemberFields → HistoryEntry → MemberFields
 with_entry m e = record m { history = m.history ++ e ∷ [] }
 
--- What is true of every member: its history is one that it can have, and what it keeps beside it follows from it.
+-- What is true of every member: its history is one that it can have, and what it keeps beside it
+-- follows from it.
 pub record IsMember (m : MemberFields) (ledger : LedgerFields) (fronts : List ℕ) : Type 0 where
   pub genesis : IsGenesis m.genesis
   pub keys : IsKeysOf m.genesis m.keys

@@ -14,4 +14,6 @@ pub record OpensFrom (k : KeyFields) (bytes : List ℕ) (f : FrameFields) : Type
   pub other : f.body.kind ≢ Want
 
 abbrev pub WhatOpens : Type 0
-WhatOpens = (k : KeyFields) (bytes : List ℕ) (f : FrameFields) → opened_in k bytes ≡ Some f → OpensFrom k bytes f
+WhatOpens =
+    (k : KeyFields) (bytes : List ℕ) (f : FrameFields)
+    → opened_in k bytes ≡ Some f → OpensFrom k bytes f

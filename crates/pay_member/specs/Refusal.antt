@@ -22,7 +22,9 @@ is_for k c =
 -- a number that is not the next one
 abbrev pub turn_refusal : ℕ → ℕ → Option MemberFault
 turn_refusal next number =
-    if nat_lt number next then Some (Repeat next) else if nat_lt next number then Some (Gap next) else None
+    if nat_lt number next then Some (Repeat next)
+    else if nat_lt next number then Some (Gap next)
+    else None
 
 abbrev pub refusal : GenesisFields → KeyFields → List channel.Event → Event → Option MemberFault
 refusal g k before (Ask v) =

@@ -14,14 +14,20 @@ use Rattle.pay_member.specs.declared.reply.Reply.TheVariants as reply
 use Rattle.pay_member.specs.Group.{group_in}
 use Rattle.pay_member.specs.Book.{book_after}
 
--- in the broadcast s of account a: what became known by one event more, and how many entries settled in all
+-- in the broadcast s of account a: what became known by one event more, and how many entries
+-- settled in all
 abbrev pub took_at : GenesisFields → ℕ → List channel.Event → channel.Event → ℕ → ℕ → Took
 took_at g own before e a s =
     record {
       echo = became (echoed (votes own a s before)) (echoed (votes own a s (before ++ e ∷ [])));
-      ready = became (readied (group_in g own) (votes own a s before)) (readied (group_in g own) (votes own a s (before ++ e ∷ [])));
-      deliver = became (delivered_at (group_in g own) before a s) (delivered_at (group_in g own) (before ++ e ∷ []) a s);
-      settled = sum (book_after g own (before ++ e ∷ [])).front - sum (book_after g own before).front;
+      ready = became
+          (readied (group_in g own) (votes own a s before))
+          (readied (group_in g own) (votes own a s (before ++ e ∷ [])));
+      deliver = became
+          (delivered_at (group_in g own) before a s)
+          (delivered_at (group_in g own) (before ++ e ∷ []) a s);
+      settled =
+          sum (book_after g own (before ++ e ∷ [])).front - sum (book_after g own before).front;
     }
 
 -- in the event's own broadcast
@@ -39,5 +45,6 @@ told_of g own events a =
 
 abbrev pub reply_to : GenesisFields → ℕ → List channel.Event → Event → Reply
 reply_to g own before (Ask v) = reply.Asked (asks before)
-reply_to g own before (Taken c) = reply.Took (took_by g own before (channel.From c.frame.from c.frame.body))
+reply_to g own before (Taken c) =
+    reply.Took (took_by g own before (channel.From c.frame.from c.frame.body))
 reply_to g own before (Query a) = reply.Told (told_of g own before a)

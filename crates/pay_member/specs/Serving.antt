@@ -1,4 +1,5 @@
--- How a member is fed from a peer's stream: each frame is brought to it, and the WANTs of its answers go out.
+-- How a member is fed from a peer's stream: each frame is brought to it, and the WANTs of its
+-- answers go out.
 use Rattle.std.specs.Prelude.{ℕ, List, [], Option, Some, None, option_map}
 use Rattle.pay_frame.specs.Frame.{FrameFields, frame_bytes}
 use Rattle.pay_engine.specs.Handling.{Handling}
@@ -16,11 +17,15 @@ first_want m peer = frame_bytes (wanted m.keys peer (next peer (events m.history
 -- the member behind a frame that was brought to it under a stamp
 unfoldable pub after_frame : ℕ → MemberFields → FrameFields → MemberFields
 after_frame stamp m f =
-    with_brought m stamp (outcome_of m.genesis m.keys.own (events m.history) (judged (judgement m.keys f))) (unless_want (judgement m.keys f))
+    with_brought m stamp
+    (outcome_of m.genesis m.keys.own (events m.history) (judged (judgement m.keys f)))
+    (unless_want (judgement m.keys f))
 
 -- the WANT of its answer, if the frame opened and is none
 unfoldable pub want_of : ℕ → MemberFields → FrameFields → Option (List ℕ)
-want_of stamp m f = option_map (want_for m.keys (events (after_frame stamp m f).history)) (unless_want (judgement m.keys f))
+want_of stamp m f =
+    option_map (want_for m.keys (events (after_frame stamp m f).history))
+    (unless_want (judgement m.keys f))
 
 abbrev pub bytes_of : Option (List ℕ) → List ℕ
 bytes_of None = []

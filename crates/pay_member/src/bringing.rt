@@ -10,7 +10,8 @@ use pay_frame::{FrameRef, Kind, read_one};
 use pay_hmac::Tagger;
 use pay_link::{Keys, Opened, open};
 
-/// The frame that bytes are to the member with these keys, or what came of them where that is none or a WANT.
+/// The frame that bytes are to the member with these keys, or what came of them where that is none
+/// or a WANT.
 pub(crate) fn open_bytes<'a, T: Tagger>(
     tagger: &T,
     keys: &Keys,

@@ -1,5 +1,5 @@
-//! Laws of the definitions: of the histories that a member can have, and of what is brought to it. Each function's
-//! contract is the law; its body only names the laws below that it stands on.
+//! Laws of the definitions: of the histories that a member can have, and of what is brought to it.
+//! Each function's contract is the law; its body only names the laws below that it stands on.
 
 ghost use Rattle.pay_member.specs.EventLaws.{NoEventsAtFirst, EventsByOneMore};
 ghost use Rattle.pay_member.specs.Laws.{NoneIsLegal, LegalByOneMore, PrefixIsLegal, LegalEventsMayCome, EventsGrow, SentGrows, ListsOfHistoryGrow, SettledStays, FrontsGrow, BookIsSettled, TotalIsKept, NobodyOwes, EqualListsEqualBooksAfter, OpenedIn, EventIn, BroughtMayCome};
@@ -13,8 +13,8 @@ use pay_channel::laws::{grow_at_the_end, lists_grow};
 use pay_frame::one_frame_is;
 use pay_link::laws::opened;
 
-/// The frame that opens from bytes is all of them; it is for the member, from a peer, about a member's broadcast
-/// and rightly tagged, and it is no WANT.
+/// The frame that opens from bytes is all of them; it is for the member, from a peer, about a
+/// member's broadcast and rightly tagged, and it is no WANT.
 pub fn what_opens()
     ensures { WhatOpens }
 {
@@ -28,8 +28,8 @@ pub fn events_in_order()
     ensures one_more { EventsByOneMore }
 {}
 
-/// A history that a member can have stays one with an owed entry more, and so does each beginning of one. What
-/// it holds may come to the channel of the member's group.
+/// A history that a member can have stays one with an owed entry more, and so does each beginning
+/// of one. What it holds may come to the channel of the member's group.
 pub fn legal_histories()
     ensures none { NoneIsLegal }
     ensures more { LegalByOneMore }
@@ -37,8 +37,9 @@ pub fn legal_histories()
     ensures may_come { LegalEventsMayCome }
 {}
 
-/// As a history grows, so do its events, the sent list, each account's list and its settled entries, all at
-/// their ends alone, and no front moves back: nothing that settled at a member is ever taken back.
+/// As a history grows, so do its events, the sent list, each account's list and its settled
+/// entries, all at their ends alone, and no front moves back: nothing that settled at a member is
+/// ever taken back.
 pub fn histories_grow()
     ensures events { EventsGrow }
     ensures sent { SentGrows }
@@ -52,8 +53,8 @@ pub fn histories_grow()
     largest_grows();
 }
 
-/// The book of any events has settled all that their lists allow. Its balances sum to what all accounts opened
-/// with, nobody owes, and equal lists have equal books.
+/// The book of any events has settled all that their lists allow. Its balances sum to what all
+/// accounts opened with, nobody owes, and equal lists have equal books.
 pub fn book_of_events()
     ensures settled { BookIsSettled }
     ensures total { TotalIsKept }
@@ -66,9 +67,9 @@ pub fn book_of_events()
     equal_lists_equal_books();
 }
 
-/// What opens of bytes is the one frame that they are, where it opens with the member's keys and is no WANT.
-/// It is an event exactly where its number is the next one, and that event may come to the channel of the
-/// member's group.
+/// What opens of bytes is the one frame that they are, where it opens with the member's keys and is
+/// no WANT. It is an event exactly where its number is the next one, and that event may come to the
+/// channel of the member's group.
 pub fn what_is_brought()
     ensures opened { OpenedIn }
     ensures event { EventIn }

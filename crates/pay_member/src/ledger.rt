@@ -156,7 +156,8 @@ impl<I: Instance + Drop, B: Settle + Drop> Ledger<I, B> {
         requires accounts { accounts ≡ length self.now.book.opening }
         requires account { account < accounts }
         ensures { IfOk result (λ lines. lines.items
-            ≡ statement_of accounts (lists_of self.now.channel) (slice_index self.now.book.front) account) }
+            ≡ statement_of accounts (lists_of self.now.channel)
+            (slice_index self.now.book.front) account) }
     {
         statement(alloc, &self.channel, &self.book, accounts, account)
     }

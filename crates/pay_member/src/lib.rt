@@ -1,7 +1,7 @@
 //! One member, from the bytes that reach it to its book.
 //!
-//! [`Member`] is the object that a node locks, a simulator drives and an auditor replays: all that it shows is a
-//! function of its genesis, its keys and its stored history.
+//! [`Member`] is the object that a node locks, a simulator drives and an auditor replays: all that
+//! it shows is a function of its genesis, its keys and its stored history.
 #![tactic(auto)]
 
 mod bringing;

@@ -43,9 +43,11 @@ use std::marker::Model;
 /// How many bodies one `fetch` gives at most.
 pub const MOST_FETCHED: usize = 16;
 
-/// One member: its group, its keys, what it took and replied, and its broadcasts and book as they follow from that.
+/// One member: its group, its keys, what it took and replied, and its broadcasts and book as they
+/// follow from that.
 ///
-/// Its type keeps that the history is one that a member can have, and that all that it shows follows from it.
+/// Its type keeps that the history is one that a member can have, and that all that it shows
+/// follows from it.
 #[derive(Drop)]
 pub struct Member<I: Instance + Drop, B: Settle + Drop> {
     genesis: Genesis,
@@ -62,7 +64,9 @@ impl<I: Instance + Drop, B: Settle + Drop> Model for Member<I, B> {
 
     ghost view = { λ m. record { genesis = m.genesis; keys = m.keys; history = m.history.items } };
 
-    ghost invariant = { λ m. IsMember (record { genesis = m.genesis; keys = m.keys; history = m.history.items }) m.ledger m.fronts };
+    ghost invariant = { λ m. IsMember
+        (record { genesis = m.genesis; keys = m.keys; history = m.history.items })
+        m.ledger m.fronts };
 }
 
 impl<I: Instance + Drop, B: Settle + Drop> Member<I, B> {
@@ -86,8 +90,8 @@ impl<I: Instance + Drop, B: Settle + Drop> Member<I, B> {
 
     /// Broadcasts a value of the member's own, and returns the number that it got.
     ///
-    /// Refuses a value of more than 1,024 bytes (`TooLong`) and one behind 65,536 others (`Spent`). A refused
-    /// value is dropped, and the member is unchanged.
+    /// Refuses a value of more than 1,024 bytes (`TooLong`) and one behind 65,536 others (`Spent`).
+    /// A refused value is dropped, and the member is unchanged.
     pub fn ask(&mut self, alloc: Global, stamp: u16, value: Bytes) -> Result<u32, MemberFault>
         ensures refused { MatchOption
             (refusal self.old.genesis self.old.keys (events self.old.history) (Event.Ask value))
@@ -122,9 +126,9 @@ impl<I: Instance + Drop, B: Settle + Drop> Member<I, B> {
 
     /// Takes a frame of another member, and returns what followed from it.
     ///
-    /// Refuses one that isn't for this member or was opened under another key (`WrongKey`), and then one whose
-    /// number isn't the next from its sender (`Repeat`, `Gap`). A refused frame is dropped, and the member is
-    /// unchanged.
+    /// Refuses one that isn't for this member or was opened under another key (`WrongKey`), and
+    /// then one whose number isn't the next from its sender (`Repeat`, `Gap`). A refused frame is
+    /// dropped, and the member is unchanged.
     pub fn take(&mut self, alloc: Global, stamp: u16, checked: Checked) -> Result<Took, MemberFault>
         ensures refused { MatchOption
             (refusal self.old.genesis self.old.keys (events self.old.history) (Event.Taken checked))
@@ -162,7 +166,8 @@ impl<I: Instance + Drop, B: Settle + Drop> Member<I, B> {
             event: Event::Taken(checked),
             reply: Reply::Took(took),
         });
-        // as many frames came from one member as there are entries at most, and these can be counted
+        // as many frames came from one member as there are entries at most, and these can be
+        // counted
         let entries = self.history.len();
         prove!(entries > 0);
         self.fronts.advance(from);
@@ -171,8 +176,8 @@ impl<I: Instance + Drop, B: Settle + Drop> Member<I, B> {
 
     /// Reads and opens bytes, and takes the frame that they are.
     ///
-    /// Where a frame opened that is no WANT, the answer has the WANT to its sender for what is next after the
-    /// call. Memory can be refused only there, and leaves the member unchanged.
+    /// Where a frame opened that is no WANT, the answer has the WANT to its sender for what is next
+    /// after the call. Memory can be refused only there, and leaves the member unchanged.
     pub fn bring<T: Tagger>(
         &mut self,
         alloc: Global,
@@ -281,7 +286,8 @@ impl<I: Instance + Drop, B: Settle + Drop> Member<I, B> {
         }
     }
 
-    /// Tells the state of an account, and notes that it was asked for. Refuses an account that isn't there.
+    /// Tells the state of an account, and notes that it was asked for. Refuses an account that
+    /// isn't there.
     pub fn query(&mut self, _alloc: Global, stamp: u16, account: u16) -> Result<Told, MemberFault>
         ensures refused { MatchOption
             (refusal self.old.genesis self.old.keys (events self.old.history) (Event.Query account))
@@ -352,7 +358,8 @@ impl<I: Instance + Drop, B: Settle + Drop> Member<I, B> {
         self.ledger.sent(place as usize)
     }
 
-    /// Copies of the bodies that the member sent to all, from a place on: at most `max`, and at most 16.
+    /// Copies of the bodies that the member sent to all, from a place on: at most `max`, and at
+    /// most 16.
     pub fn fetch(&self, alloc: Global, from: usize, max: usize) -> Result<Vec<Body>, AllocError>
         ensures { IfOk result (λ bodies. bodies.items
             ≡ fetched self.now.genesis self.now.keys.own (events self.now.history)

@@ -13,7 +13,7 @@ pub enum Outcome {
     Frame(FrameFault),
     /// They are a frame that doesn't open, or whose number isn't the next from its sender.
     Link(LinkFault),
-    /// They are a frame that opened with other keys than those of the member that was to take it. `Member::bring`
-    /// never answers this, since it opens frames with the member's own.
+    /// They are a frame that opened with other keys than those of the member that was to take it.
+    /// `Member::bring` never answers this, since it opens frames with the member's own.
     WrongKey,
 }

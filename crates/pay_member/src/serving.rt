@@ -58,11 +58,11 @@ impl<I: Instance + Drop, B: Settle + Drop, T: Tagger> Handler<Member<I, B>> for 
     }
 }
 
-/// Feeds a member from a peer's stream: writes the WANT for what is next from the peer, then brings each frame
-/// that is read, and writes the WANT of the answer, if any.
+/// Feeds a member from a peer's stream: writes the WANT for what is next from the peer, then brings
+/// each frame that is read, and writes the WANT of the answer, if any.
 ///
-/// A fault in the frames ends it, and is answered. After another fault what was written is a prefix of the text,
-/// and the member took a prefix of the frames.
+/// A fault in the frames ends it, and is answered. After another fault what was written is a prefix
+/// of the text, and the member took a prefix of the frames.
 pub fn serve<I, B, T, R, W>(
     alloc: Global,
     member: &mut Member<I, B>,

@@ -75,7 +75,8 @@ IsBrought m bytes Ignored = ⊥
 abbrev pub IsReplyOf : MemberFields → WorldEvent → Reply → Type 0
 IsReplyOf m (Ask i v) reply =
     reply
-    ≡ answer_to_ask (refusal m.genesis m.keys (events m.history) (entry.Ask v)) (asks (events m.history))
+    ≡ answer_to_ask (refusal m.genesis m.keys (events m.history) (entry.Ask v))
+    (asks (events m.history))
 IsReplyOf m (Bring i bytes) reply = IsBrought m bytes reply
 
 -- the member's own, if it is there

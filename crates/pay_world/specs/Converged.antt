@@ -46,4 +46,5 @@ pub record DeliveredAsked (w : WorldFields) : Type 0 where
 -- all have the same front and the same balances
 pub record BooksAlike (w : WorldFields) : Type 0 where
   pub each :
-      (i j : ℕ) → IsCorrect (setting_in w) i → IsCorrect (setting_in w) j → book_in w i ≡ book_in w j
+      (i j : ℕ) → IsCorrect (setting_in w) i → IsCorrect (setting_in w) j
+      → book_in w i ≡ book_in w j

@@ -19,7 +19,8 @@ HistoryByOneMore =
 
 abbrev pub HistoriesGrow : Type 0
 HistoriesGrow =
-    (w : Setting) (deeds more : List Deed) → Grow (history_by w deeds) (history_by w (deeds ++ more))
+    (w : Setting) (deeds more : List Deed)
+    → Grow (history_by w deeds) (history_by w (deeds ++ more))
 
 -- ---- genuine deeds
 
@@ -33,7 +34,8 @@ GenuineByOneMore =
 
 abbrev pub PrefixIsGenuine : Type 0
 PrefixIsGenuine =
-    (w : Setting) (one deeds : List Deed) → IsPrefix one deeds → AreGenuine w deeds → AreGenuine w one
+    (w : Setting) (one deeds : List Deed)
+    → IsPrefix one deeds → AreGenuine w deeds → AreGenuine w one
 
 abbrev pub GenuineByPlace : Type 0
 GenuineByPlace = (w : Setting) (deeds : List Deed) → AreGenuine w deeds ↔ AreGenuineByPlace w deeds

@@ -36,7 +36,8 @@ is_want Want = true
 -- them.
 abbrev pub may_come : Setting → ℕ → ℕ → BodyFields → Bool
 may_come w k from body =
-    nat_lt from w.members && not (from == k) && nat_lt body.owner w.members && not (is_want body.kind)
+    nat_lt from w.members && not (from == k) && nat_lt body.owner w.members
+    && not (is_want body.kind)
 
 -- Whether a member with this history takes it: a value within the limits, a frame whose number is
 -- the next from its sender.

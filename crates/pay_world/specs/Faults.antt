@@ -5,22 +5,24 @@ use Rattle.pay_world.specs.declared.liar_fault.LiarFault.TheVariants as liar
 use Rattle.pay_world.specs.declared.fault.WorldFault.{WorldFault}
 use Rattle.pay_world.specs.declared.fault.WorldFault.TheVariants as world
 
+abbrev pub liar_fault_entry : LiarFault → ℕ × List ℕ
+liar_fault_entry liar.Memory = (0, codes "Memory")
+liar_fault_entry liar.Unknown = (1, codes "Unknown")
+liar_fault_entry liar.Twice = (2, codes "Twice")
+liar_fault_entry liar.TooMany = (3, codes "TooMany")
+
 abbrev pub liar_fault_number : LiarFault → ℕ
-liar_fault_number liar.Memory = 0
-liar_fault_number liar.Unknown = 1
-liar_fault_number liar.Twice = 2
-liar_fault_number liar.TooMany = 3
+liar_fault_number fault = (liar_fault_entry fault).0
 
 abbrev pub liar_fault_name : LiarFault → List ℕ
-liar_fault_name liar.Memory = codes "Memory"
-liar_fault_name liar.Unknown = codes "Unknown"
-liar_fault_name liar.Twice = codes "Twice"
-liar_fault_name liar.TooMany = codes "TooMany"
+liar_fault_name fault = (liar_fault_entry fault).1
+
+abbrev pub world_fault_entry : WorldFault → ℕ × List ℕ
+world_fault_entry world.Memory = (0, codes "Memory")
+world_fault_entry (world.Forged k) = (1, codes "Forged")
 
 abbrev pub world_fault_number : WorldFault → ℕ
-world_fault_number world.Memory = 0
-world_fault_number (world.Forged k) = 1
+world_fault_number fault = (world_fault_entry fault).0
 
 abbrev pub world_fault_name : WorldFault → List ℕ
-world_fault_name world.Memory = codes "Memory"
-world_fault_name (world.Forged k) = codes "Forged"
+world_fault_name fault = (world_fault_entry fault).1

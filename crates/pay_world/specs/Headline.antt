@@ -38,7 +38,8 @@ pub record IsBookOf (opening : List ℕ) (lists : ℕ → List (List ℕ)) (book
   pub balances :
       AreBalances opening (entries_of (length opening) lists) (slice_index book.front) book.balances
   pub nobody_owes :
-      (a : ℕ) → pos 0 ≤ℤ balance_at opening (entries_of (length opening) lists) (slice_index book.front) a
+      (a : ℕ) → pos 0
+      ≤ℤ balance_at opening (entries_of (length opening) lists) (slice_index book.front) a
   pub total : sum book.balances ≡ sum opening
 
 -- ---- between correct members

@@ -28,7 +28,8 @@ StandsByDeed =
 
 abbrev pub GenuineStands : Type 0
 GenuineStands =
-    (w : Setting) (deeds : List Deed) → HasFewFaulty w → AreGenuine w deeds → Stands w (history_by w deeds)
+    (w : Setting) (deeds : List Deed)
+    → HasFewFaulty w → AreGenuine w deeds → Stands w (history_by w deeds)
 
 -- ---- two correct members, each at a moment of its own
 

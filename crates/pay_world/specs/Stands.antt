@@ -12,7 +12,8 @@ abbrev pub votes_at : (ℕ → List Event) → ℕ → ℕ → ℕ → List Vote
 votes_at histories i a s = votes i a s (histories i)
 
 -- Some correct member has a quorum of ECHOs for the value.
-pub record HasQuorum (w : Setting) (histories : ℕ → List Event) (a s : ℕ) (v : List ℕ) : Type 0 where
+pub record HasQuorum (w : Setting) (histories : ℕ → List Event) (a s : ℕ) (v : List ℕ)
+    : Type 0 where
   pub holder : ℕ
   pub correct : IsCorrect w holder
   pub quorum :

@@ -23,7 +23,8 @@ impl Model for Liars {
 
     ghost view = { λ l. record { members = l.members; faults = l.faults; liars = l.liars.items } };
 
-    ghost invariant = { λ l. AreLiars (record { members = l.members; faults = l.faults; liars = l.liars.items }) };
+    ghost invariant = { λ l. AreLiars
+        (record { members = l.members; faults = l.faults; liars = l.liars.items }) };
 }
 
 impl Liars {

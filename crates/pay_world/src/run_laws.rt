@@ -1,5 +1,5 @@
-//! What holds of worlds that take events one by one. The function's contract is the law; its body only
-//! names the laws that it stands on.
+//! What holds of worlds that take events one by one. The function's contract is the law; its body
+//! only names the laws that it stands on.
 
 ghost use Rattle.pay_world.specs.RunLaws.{NoEventsMakeFresh, WorldByOneMore};
 

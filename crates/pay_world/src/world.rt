@@ -46,9 +46,11 @@ impl<I: Instance + Drop, B: Settle + Drop> Model for World<I, B> {
 
     ghost Value = { WorldFields };
 
-    ghost view = { λ w. record { genesis = w.genesis; liars = w.liars; members = w.members.items; answered = w.answered } };
+    ghost view = { λ w. record
+        { genesis = w.genesis; liars = w.liars; members = w.members.items; answered = w.answered } };
 
-    ghost invariant = { λ w. IsWorld (record { genesis = w.genesis; liars = w.liars; members = w.members.items; answered = w.answered }) };
+    ghost invariant = { λ w. IsWorld (record
+        { genesis = w.genesis; liars = w.liars; members = w.members.items; answered = w.answered }) };
 }
 
 impl<I: Instance + Drop, B: Settle + Drop> World<I, B> {
@@ -172,8 +174,8 @@ impl<I: Instance + Drop, B: Settle + Drop> World<I, B> {
         bring_place(&mut self.members[place], alloc, tagger, bytes)
     }
 
-    // Whether bytes are a frame that opens at a correct member, in the name of a correct member that
-    // didn't send it under this number.
+    // Whether bytes are a frame that opens at a correct member, in the name of a correct member
+    // that didn't send it under this number.
     fn is_forged<T: Tagger>(&self, tagger: &T, member: u16, bytes: &[u8]) -> bool
         ensures { result ≡ is_forged_at self.now (WorldEvent.Bring member bytes.now) }
     {
@@ -258,7 +260,8 @@ fn is_sent<I: Instance + Drop, B: Settle + Drop>(
     frame: &FrameRef<'_>,
 ) -> bool
     ensures { result ≡ is_body (fields_of frame.now).body
-        (slice_get (out (group_in sender.now.genesis sender.now.keys.own) (events sender.now.history))
+        (slice_get
+        (out (group_in sender.now.genesis sender.now.keys.own) (events sender.now.history))
         (fields_of frame.now).number) }
 {
     match sender.sent(frame.number()) {
