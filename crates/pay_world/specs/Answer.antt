@@ -1,9 +1,9 @@
 -- What a world answers to an event, and what becomes of its members.
-use Rattle.std.specs.Prelude.{◌≡◌, ◌≢◌, ℕ, ◌+◌, ◌-◌, ◌^◌, min, Bool, false, List, [], ◌++◌, Option, Some, None, option_map, option_and_then, MatchOption, if◌then◌else◌}
+use Rattle.std.specs.Prelude.{◌≡◌, ◌≢◌, ℕ, ◌+◌, ◌-◌, ◌^◌, min, Bool, false, not, ◌&&◌, List, [], ◌++◌, slice_get, Option, Some, None, option_map, option_and_then, MatchOption, if◌then◌else◌}
 use Rattle.std.specs.Option.{option_map_or, option_to_list}
 use Rattle.std.specs.List.{filter_map}
 use Rattle.pay_frame.specs.Frame.{FrameFields}
-use Rattle.pay_channel.specs.History.{Event, asks}
+use Rattle.pay_channel.specs.History.{Event, asks, out}
 use Rattle.pay_link.specs.Keys.{KeyFields}
 use Rattle.pay_member.specs.declared.event.Event.TheVariants as entry
 use Rattle.pay_member.specs.declared.fault.MemberFault.{MemberFault}
@@ -19,7 +19,8 @@ use Rattle.pay_world.specs.declared.fault.WorldFault.TheVariants.{Forged}
 use Rattle.pay_world.specs.declared.reply.Reply.{Reply}
 use Rattle.pay_world.specs.declared.reply.Reply.TheVariants.{Asked, Refused, Brought, Ignored}
 use Rattle.pay_world.specs.Deeds.{Deed, Asks, Brings, adds}
-use Rattle.pay_world.specs.Genuine.{is_forged_in}
+use Rattle.pay_world.specs.Setting.{group_at, is_correct}
+use Rattle.pay_world.specs.Genuine.{is_body, is_forged_in}
 use Rattle.pay_world.specs.World.{WorldFields, setting_in, member_in, history_in, keys_in}
 
 -- to which member it happens
@@ -44,6 +45,13 @@ deed_of keys e = option_and_then (λ k. deed_with k e) (keys (receiver e))
 
 abbrev pub deeds_of : (ℕ → Option KeyFields) → List WorldEvent → List Deed
 deeds_of keys events = filter_map (deed_of keys) events
+
+-- Whether a frame names a correct member that didn't send its body under its number.
+abbrev pub is_unsent : WorldFields → FrameFields → Bool
+is_unsent w f =
+    is_correct (setting_in w) f.from
+    && not (is_body f.body
+    (slice_get (out (group_at (setting_in w) f.from) (history_in w f.from)) f.number))
 
 -- Whether it brings a frame that the correct member which it names didn't send.
 abbrev pub is_forged_at : WorldFields → WorldEvent → Bool

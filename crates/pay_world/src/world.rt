@@ -1,6 +1,8 @@
 ghost use Rattle.std.specs.Prelude.{◌≡◌, ℕ, slice_get, Some, IfOk, IsOkUnless, MatchOption, OnOk, OnErr};
 ghost use Rattle.std.specs.Option.{option_copied, option_map};
+ghost use Rattle.pay_frame.specs.Frame.{FrameFields};
 ghost use Rattle.pay_frame.specs.Lent.{fields_of};
+ghost use Rattle.pay_frame.specs.OneFrame.{IsOneFrame};
 ghost use Rattle.pay_channel.specs.History.{out};
 ghost use Rattle.pay_channel.specs.Prefix.{IsPrefix};
 ghost use Rattle.pay_link.specs.Keys.{IsKeysOf};
@@ -9,7 +11,7 @@ ghost use Rattle.pay_member.specs.Events.{events};
 ghost use Rattle.pay_world.specs.Genuine.{is_body};
 ghost use Rattle.pay_world.specs.Liars.{AreLiarsOf};
 ghost use Rattle.pay_world.specs.World.{AreKeysOf, IsWorld, fresh_place, fresh_world, history_in, member_in};
-ghost use Rattle.pay_world.specs.Answer.{Answers, IsGrownBy, IsReplyFrom, forgery, is_forged_at, member_after, one_more};
+ghost use Rattle.pay_world.specs.Answer.{Answers, IsGrownBy, IsReplyFrom, forgery, is_forged_at, is_unsent, member_after, one_more};
 
 use crate::event::WorldEvent;
 use crate::fault::WorldFault;
@@ -19,7 +21,7 @@ use crate::reply::Reply;
 use pay_book::Settle;
 use pay_echo::Instance;
 use pay_echo::laws::sizes_of_sets;
-use pay_frame::{Body, Bytes, FrameRef};
+use pay_frame::{Body, Bytes, FrameRef, one_answer, read_one};
 use pay_hmac::Tagger;
 use pay_link::{Genesis, Keys};
 use pay_member::laws::{events_in_order, what_opens};
@@ -175,18 +177,35 @@ impl<I: Instance + Drop, B: Settle + Drop> World<I, B> {
     }
 
     // Whether bytes are a frame that opens at a correct member, in the name of a correct member
-    // that didn't send it under this number.
+    // that didn't send it under this number. What was sent is looked at first: it takes no tag.
     fn is_forged<T: Tagger>(&self, tagger: &T, member: u16, bytes: &[u8]) -> bool
         ensures { result ≡ is_forged_at self.now (WorldEvent.Bring member bytes.now) }
     {
+        what_opens();
         let Some(receiver) = self.member(member) else {
             return false;
         };
-        let Some(opened) = receiver.opens(tagger, bytes) else {
-            return false;
-        };
-        match self.member(opened.frame().from()) {
-            Some(sender) => !is_sent(sender, opened.frame()),
+        self.are_unsent(bytes) && receiver.opens(tagger, bytes).is_some()
+    }
+
+    // Whether bytes, where they are a frame, name a correct member that didn't send it under this
+    // number, whatever its tag.
+    fn are_unsent(&self, bytes: &[u8]) -> bool
+        ensures { (f : FrameFields) → IsOneFrame bytes.now f → result ≡ is_unsent self.now f }
+    {
+        one_answer();
+        match read_one(bytes) {
+            Ok(frame) => self.is_unsent(&frame),
+            Err(_) => false,
+        }
+    }
+
+    // The same of a frame.
+    fn is_unsent(&self, frame: &FrameRef<'_>) -> bool
+        ensures { result ≡ is_unsent self.now (fields_of frame.now) }
+    {
+        match self.member(frame.from()) {
+            Some(sender) => !is_sent(sender, frame),
             None => false,
         }
     }
