@@ -18,8 +18,8 @@ IsKept (Taken c) = IsChecked c
 IsKept (Query a) = ⊤
 
 -- behind these events nothing refuses the entry's event, and its reply is the one owed
-pub record IsOwed (g : GenesisFields) (k : KeyFields) (before : List channel.Event) (e : HistoryEntry)
-    : Type 0 where
+pub record IsOwed (g : GenesisFields) (k : KeyFields) (before : List channel.Event)
+    (e : HistoryEntry) : Type 0 where
   pub kept : IsKept e.event
   pub taken : refusal g k before e.event ≡ None
   pub reply : e.reply ≡ reply_to g k.own before e.event

@@ -48,11 +48,19 @@ impl<I: Instance + Drop, B: Settle + Drop> Model for World<I, B> {
 
     ghost Value = { WorldFields };
 
-    ghost view = { λ w. record
-        { genesis = w.genesis; liars = w.liars; members = w.members.items; answered = w.answered } };
+    ghost view = { λ w. record {
+      genesis = w.genesis;
+      liars = w.liars;
+      members = w.members.items;
+      answered = w.answered;
+    } };
 
-    ghost invariant = { λ w. IsWorld (record
-        { genesis = w.genesis; liars = w.liars; members = w.members.items; answered = w.answered }) };
+    ghost invariant = { λ w. IsWorld (record {
+      genesis = w.genesis;
+      liars = w.liars;
+      members = w.members.items;
+      answered = w.answered;
+    }) };
 }
 
 impl<I: Instance + Drop, B: Settle + Drop> World<I, B> {
