@@ -1,3 +1,4 @@
+mod Judging
 mod Numbers
 mod Pushing
 mod Showing

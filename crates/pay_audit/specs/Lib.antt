@@ -3,3 +3,4 @@ pub mod Export
 pub mod Exporting
 pub mod Replay
 pub mod Verdict
+pub mod Laws

@@ -6,6 +6,7 @@ mod auditing;
 mod export_fault;
 mod exported;
 mod exporting;
+pub mod laws;
 mod owner_list;
 mod parts;
 mod reading;

@@ -1,0 +1,30 @@
+-- What a verdict's parts say of an export, in the words of the book: which fronts steps reach, and which balances are
+-- there. Each is proved as a public law.
+use Rattle.std.specs.Prelude.{◌≡◌, ◌↔◌, ℕ, List, length, slice_index, None}
+use Rattle.pay_book.specs.Payment.{entries_of}
+use Rattle.pay_book.specs.Balance.{AreBalances}
+use Rattle.pay_book.specs.Front.{IsLargest}
+use Rattle.pay_book.specs.declared.payment.Entry.{Entry}
+use Rattle.pay_audit.specs.Export.{ExportFields, IsExport, lists_of}
+use Rattle.pay_audit.specs.Verdict.{wrong_balance_of, wrong_front_of}
+
+-- the accounts' entries in an export's own lists
+abbrev pub logs_of : ExportFields → ℕ → List Entry
+logs_of e = entries_of (length e.genesis.opening) (lists_of e)
+
+-- its front is the largest that steps reach over its own lists
+abbrev pub HasRightFront : ExportFields → Type 0
+HasRightFront e = IsLargest e.genesis.opening (logs_of e) (slice_index e.front)
+
+-- its balances are those at its own front
+abbrev pub HasRightBalances : ExportFields → Type 0
+HasRightBalances e = AreBalances e.genesis.opening (logs_of e) (slice_index e.front) e.balances
+
+-- no account is named where the front is right, and only there
+abbrev pub FrontIsJudged : Type 0
+FrontIsJudged = (e : ExportFields) → IsExport e → (wrong_front_of e ≡ None) ↔ HasRightFront e
+
+-- behind a right front, no account is named where the balances are right
+abbrev pub BalancesAreJudged : Type 0
+BalancesAreJudged =
+    (e : ExportFields) → IsExport e → wrong_front_of e ≡ None → (wrong_balance_of e ≡ None) ↔ HasRightBalances e

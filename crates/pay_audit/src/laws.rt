@@ -1,0 +1,22 @@
+//! Laws of the definitions: what a verdict's parts say of an export. Each function's contract is the law; its body only
+//! names the laws below that it stands on.
+
+ghost use Rattle.pay_audit.specs.Laws.{BalancesAreJudged, FrontIsJudged};
+
+use pay_book::laws::{largest_is_computed, largest_is_one, settled_book_exists};
+
+/// No account's front is named exactly where the export's front is the largest that steps reach over its own lists.
+pub fn front_is_judged()
+    ensures { FrontIsJudged }
+{
+    largest_is_computed();
+    largest_is_one();
+}
+
+/// Where the front is right, no account's balance is named exactly where the balances are those at that front.
+pub fn balances_are_judged()
+    ensures { BalancesAreJudged }
+{
+    largest_is_computed();
+    settled_book_exists();
+}
