@@ -1,7 +1,8 @@
 """A slow model of a group of members that plays scripts of `payd sim`.
 
 It is written from docs/DEFINITIONS.md and asks its questions of whole histories, as the definitions do. All that
-it keeps beside them is what each event sent, so as not to ask for that again. It shares no code with the crates.
+it keeps beside them are answers that it gave: what each event sent, and what the same votes made known. It shares
+no code with the crates.
 """
 
 import inspect
@@ -29,6 +30,7 @@ class Member:
         self.opening = opening
         self.history = []  # ("ask", value) or ("from", member, kind, owner, seq, value)
         self.said = []  # what each event sent to all
+        self.told = {}  # what votes made known
 
     # ---- one broadcast
 
@@ -88,8 +90,10 @@ class Member:
         return self.first_known(votes, may)
 
     def known(self, owner, seq, history):
-        votes = self.votes(owner, seq, history)
-        return self.echoed(votes), self.readied(votes), self.delivered(votes)
+        votes = tuple(self.votes(owner, seq, history))
+        if votes not in self.told:
+            self.told[votes] = self.echoed(votes), self.readied(votes), self.delivered(votes)
+        return self.told[votes]
 
     # ---- the channel
 
@@ -351,7 +355,7 @@ class World:
         return [self.bring(number_in(receiver, 128), bytes_in(stream))]
 
     def command_all(self):
-        return [self.bring_all()]
+        return [self.bring_all(), *(["converged"] if self.all_taken() else [])]
 
     def command_show(self):
         return self.show()

@@ -39,10 +39,10 @@ def run_on(stdin, stdout):
     return done.returncode, (done.stdout or b"").decode("ascii"), done.stderr.decode()
 
 
-def run_byte_by_byte(stream):
+def run_byte_by_byte(stream, words=()):
     """As run, with each byte written by itself and a pause behind it."""
     child = subprocess.Popen(
-        [PAYD], stdin=subprocess.PIPE, stdout=subprocess.PIPE, stderr=subprocess.PIPE, bufsize=0
+        [PAYD, *words], stdin=subprocess.PIPE, stdout=subprocess.PIPE, stderr=subprocess.PIPE, bufsize=0
     )
     watchdog = threading.Timer(SECONDS, child.kill)
     watchdog.start()

@@ -1,5 +1,5 @@
 -- The lines that a script prints.
-use Rattle.std.specs.Prelude.{ℕ, Bool, ◌==◌, List, [], ◌++◌, decimal, codes, slice_index, if◌then◌else◌}
+use Rattle.std.specs.Prelude.{ℕ, Bool, ◌==◌, List, [], ◌∷◌, ◌++◌, decimal, codes, slice_index, if◌then◌else◌}
 use Rattle.std.specs.List.{flat_map, range_with_len}
 use Rattle.pay_frame.specs.Fault.{number_of, name_of}
 use Rattle.pay_link.specs.declared.link_fault.LinkFault.{LinkFault}
@@ -14,6 +14,9 @@ use Rattle.pay_member.specs.Book.{book_after}
 use Rattle.pay_member.specs.Events.{events}
 use Rattle.pay_member.specs.Member.{MemberFields}
 use Rattle.pay_member.specs.Faults.{member_fault_number, member_fault_name}
+use Rattle.pay_text.specs.Lines.{line_feed}
+use Rattle.pay_world.specs.declared.reply.Reply.{Reply}
+use Rattle.pay_world.specs.declared.reply.Reply.TheVariants as reply
 
 -- ` refused WHERE C NAME`
 unfoldable pub refused_words : List ℕ → ℕ → List ℕ → List ℕ
@@ -55,6 +58,17 @@ outcome_words (Frame fault) = refused_words (codes "frame") (number_of fault) (n
 outcome_words (Link fault) = link_words fault
 outcome_words WrongKey =
     refused_words (codes "member") (member_fault_number member.WrongKey) (member_fault_name member.WrongKey)
+
+-- what member i replied: `asked I seq S`, `refused member C NAME`, what came of bytes, or `ignored`
+unfoldable pub reply_words : ℕ → Reply → List ℕ
+reply_words i (reply.Asked number) = codes "asked " ++ decimal i ++ codes " seq " ++ decimal number
+reply_words i (reply.Refused fault) =
+    refused_words (codes "member") (member_fault_number fault) (member_fault_name fault)
+reply_words i (reply.Brought outcome) = outcome_words outcome
+reply_words i reply.Ignored = codes "ignored"
+
+unfoldable pub reply_line : ℕ → Reply → List ℕ
+reply_line i r = reply_words i r ++ line_feed ∷ []
 
 -- the book that a member shows
 abbrev pub book_of : MemberFields → Standing

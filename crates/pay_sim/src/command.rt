@@ -11,27 +11,27 @@ pub const ACCOUNTS: u32 = 65_536;
 pub enum Command {
     /// A member is asked to pay.
     Ask {
-        member: u16,
+        member: u8,
         payee: u16,
         amount: u64,
     },
     /// The frame at a place of a member's sent list is brought to another.
     Bring {
-        from: u16,
-        to: u16,
+        from: u8,
+        to: u8,
         number: u64,
     },
     /// A frame is sealed under the test key of two members and brought to one of them. Without a number it has
     /// the one that its receiver would take next.
     Lie {
-        from: u16,
-        to: u16,
+        from: u8,
+        to: u8,
         number: Option<u64>,
         body: Body,
     },
     /// Bytes are brought to a member.
     Raw {
-        to: u16,
+        to: u8,
         bytes: Bytes,
     },
     /// All that correct members sent one another and didn't take yet is brought.

@@ -37,7 +37,7 @@ pub fn read_command(alloc: Global, line: &[u8]) -> Result<Option<Command>, Alloc
 fn read_ask(words: &mut Words) -> Option<Command>
     ensures { result ≡ ask_in words.old }
 {
-    let member = next_below(words, MEMBERS)?;
+    let member = next_member(words)?;
     let payee = next_below(words, ACCOUNTS)?;
     let amount = words.next_number()?;
     if_last(
@@ -54,8 +54,8 @@ fn read_ask(words: &mut Words) -> Option<Command>
 fn read_bring(words: &mut Words) -> Option<Command>
     ensures { result ≡ bring_in words.old }
 {
-    let from = next_below(words, MEMBERS)?;
-    let to = next_below(words, MEMBERS)?;
+    let from = next_member(words)?;
+    let to = next_member(words)?;
     let number = words.next_number()?;
     if_last(words, Command::Bring { from, to, number })
 }
@@ -65,8 +65,8 @@ fn read_lie(alloc: Global, words: &mut Words) -> Result<Option<Command>, AllocEr
     ensures { IfOk result (λ command. command ≡ lie_in words.old) }
 {
     let (Some(from), Some(to), Some(number)) = (
-        next_below(words, MEMBERS),
-        next_below(words, MEMBERS),
+        next_member(words),
+        next_member(words),
         next_turn(words),
     ) else {
         return Ok(None);
@@ -106,7 +106,7 @@ fn read_body(alloc: Global, words: &mut Words) -> Result<Option<Body>, AllocErro
 fn read_raw(alloc: Global, words: &mut Words) -> Result<Option<Command>, AllocError>
     ensures { IfOk result (λ command. command ≡ raw_in words.old) }
 {
-    let Some(to) = next_below(words, MEMBERS) else {
+    let Some(to) = next_member(words) else {
         return Ok(None);
     };
     let Some(bytes) = next_bytes(alloc, words)? else {
@@ -197,6 +197,19 @@ fn is_word(word: &[u8], name: &str) -> bool
     ensures { result ≡ bytes_eq word.now name.now }
 {
     word == name.as_bytes()
+}
+
+// Takes the number of a member.
+fn next_member(words: &mut Words) -> Option<u8>
+    ensures number { result ≡ below MEMBERS words.old }
+    ensures rest { words.new ≡ drop 1 words.old }
+{
+    let number = words.next_number()?;
+    if number < u64::from(MEMBERS) {
+        u8::try_from(number).ok()
+    } else {
+        None
+    }
 }
 
 // Takes a number below a bound of at most 16 bits.

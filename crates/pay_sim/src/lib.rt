@@ -4,9 +4,19 @@
 mod book_words;
 mod command;
 mod command_reading;
+mod game;
+mod group;
+mod play;
 mod reply_words;
+mod run;
+mod sim_end;
+mod stop;
+mod test_frames;
 
 pub use book_words::push_book;
 pub use command::{ACCOUNTS, Command, MEMBERS};
 pub use command_reading::read_command;
+pub use game::MOST_EVENTS;
 pub use reply_words::push_outcome;
+pub use run::{LONGEST_LINE, run_sim};
+pub use sim_end::SimEnd;

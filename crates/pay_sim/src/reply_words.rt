@@ -1,12 +1,44 @@
 //! What a script prints of replies, written behind what is written already.
 
 ghost use Rattle.std.specs.Prelude.{◌≡◌, ◌++◌, OnOk, codes, decimal};
-ghost use Rattle.pay_sim.specs.Words.{if_so, link_words, next_words, outcome_words, refused_words, settle_words, took_words};
+ghost use Rattle.pay_sim.specs.Words.{if_so, link_words, next_words, outcome_words, refused_words, reply_line, reply_words, settle_words, took_words};
 
 use pay_link::LinkFault;
 use pay_member::{MemberFault, Outcome, Took};
 use pay_text::{push_number, push_word};
+use pay_world::Reply;
 use std::alloc::AllocError;
+
+/// The line of what a member replied.
+#[tactic(auto, unfolding(crate::specs::Words::reply_line))]
+pub(crate) fn push_reply(out: &mut Vec<u8>, member: u16, reply: Reply) -> Result<(), AllocError>
+    ensures { OnOk result (out.new.items ≡ out.old.items ++ reply_line member reply) }
+{
+    push_reply_words(out, member, reply)?;
+    push_word(out, "\n")
+}
+
+#[tactic(auto, unfolding(crate::specs::Words::reply_words))]
+fn push_reply_words(out: &mut Vec<u8>, member: u16, reply: Reply) -> Result<(), AllocError>
+    ensures { OnOk result (out.new.items ≡ out.old.items ++ reply_words member reply) }
+{
+    match reply {
+        Reply::Asked(seq) => push_asked(out, member, seq),
+        Reply::Refused(fault) => push_refused(out, "member", fault.number(), fault.name()),
+        Reply::Brought(outcome) => push_outcome(out, &outcome),
+        Reply::Ignored => push_word(out, "ignored"),
+    }
+}
+
+fn push_asked(out: &mut Vec<u8>, member: u16, seq: u32) -> Result<(), AllocError>
+    ensures { OnOk result (out.new.items
+        ≡ out.old.items ++ codes "asked " ++ decimal member ++ codes " seq " ++ decimal seq) }
+{
+    push_word(out, "asked ")?;
+    push_number(out, u64::from(member))?;
+    push_word(out, " seq ")?;
+    push_number(out, u64::from(seq))
+}
 
 /// What came of bytes that were brought to a member.
 #[tactic(auto, unfolding(crate::specs::Words::outcome_words))]

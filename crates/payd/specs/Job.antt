@@ -8,7 +8,7 @@ use Rattle.clap.specs.declared.builder.action.ArgAction.TheVariants.{Append}
 use Rattle.clap.specs.declared.builder.Command.{Command}
 use Rattle.clap.specs.declared.builder.command.Command.TheViews.{out-Command}
 use Rattle.payd.specs.declared.words.Job.{Job}
-use Rattle.payd.specs.declared.words.Job.TheVariants.{Check, Desk, Audit}
+use Rattle.payd.specs.declared.words.Job.TheVariants.{Check, Desk, Audit, Sim}
 
 -- an option that takes the name of a file
 abbrev pub file_rule : Text → Rule
@@ -34,6 +34,10 @@ files_rule = record (new_rule (codes "files")) { required = true; action = Some 
 abbrev pub audit_app : App
 audit_app = with_rule (new_app (codes "audit")) files_rule
 
+-- `sim`, which takes nothing
+abbrev pub sim_app : App
+sim_app = new_app (codes "sim")
+
 -- the program without its commands: it has a version, and no command for help
 abbrev pub payd_alone : App
 payd_alone = record (new_app (codes "payd")) {
@@ -42,7 +46,10 @@ payd_alone = record (new_app (codes "payd")) {
 
 -- the program
 abbrev pub payd_app : App
-payd_app = with_subcommand (with_subcommand (with_subcommand payd_alone check_app.top) desk_app.top) audit_app.top
+payd_app =
+    with_subcommand
+    (with_subcommand (with_subcommand (with_subcommand payd_alone check_app.top) desk_app.top) audit_app.top)
+    sim_app.top
 
 -- a command as these definitions have it, without an option for all commands
 pub record IsCommand (c : Command) (a : App) : Type 0 where
@@ -59,12 +66,14 @@ pub data Asked : Type 0 where
   check : Option Text → Option Text → Asked
   desk : Text → Text → Asked
   audit : List Text → Asked
+  sim : Asked
 
 -- what a job is, by the texts that it lends
 abbrev pub asked : Job → Asked
 asked (Check genesis keys) = check (option_map (λ name. name.now) genesis) (option_map (λ name. name.now) keys)
 asked (Desk genesis keys) = desk genesis.now keys.now
 asked (Audit files) = audit (map (λ name. name.now) files.items)
+asked Sim = sim
 
 -- what the words of a command ask for
 abbrev pub check_asked : List Row → Asked
@@ -87,6 +96,7 @@ abbrev pub asked_of : Text → List Row → Asked
 asked_of name rows =
     if bytes_eq name (codes "desk") then desk_asked rows
     else if bytes_eq name (codes "audit") then audit_asked rows
+    else if bytes_eq name (codes "sim") then sim
     else check_asked rows
 
 -- what the command that was met asks for; without one it is `check`

@@ -16,6 +16,7 @@ use pay_frame::{EngineFault, Reader, Writer};
 use pay_hmac::PreparedHmac;
 use pay_link::Keys;
 use pay_member::Member;
+use pay_sim::{SimEnd, run_sim};
 use std::alloc::{AllocError, Global};
 use std::process::ExitCode;
 use std::rt::Files;
@@ -42,6 +43,7 @@ fn main(rt: HostRuntime) -> ExitCode {
             status_of(&rt, serve_desk(rt.alloc(), &rt, genesis, keys))
         }
         Ok(Job::Audit { files }) => status_of_audit(&rt, audit(rt.alloc(), &rt, files.as_slice())),
+        Ok(Job::Sim) => status_of_sim(&rt, sim(rt.alloc(), &rt)),
         Err(answer) => status_of_answer(&rt, &answer),
     }
 }
@@ -89,6 +91,13 @@ fn audit<'a>(
     let verdict = pay_audit::audit(alloc, exports.as_slice())?;
     println!(rt; "{verdict}").map_err(|_| EngineFault::Write)?;
     Ok(verdict)
+}
+
+/// Plays the script on standard input.
+fn sim(alloc: Global, rt: &(impl Input + Print)) -> Result<SimEnd, EngineFault> {
+    let mut reader = Reader::new(rt.reader());
+    let mut writer = Writer::new(io::writer(rt));
+    run_sim::<PlainInstance, PlainBook, _, _>(alloc, &mut reader, &mut writer)
 }
 
 /// Tags with the keys of all peers prepared.
@@ -143,4 +152,15 @@ fn status_of_answer(rt: &(impl Print + Eprint), answer: &clap::Error) -> ExitCod
         return status_of(rt, Err(Stop::Engine(EngineFault::Write)));
     }
     ExitCode::from(if answer.use_stderr() { 2 } else { 0 })
+}
+
+/// A script that ends before its input does has its last line already; a fault is named on standard error.
+fn status_of_sim(rt: &impl Eprint, ended: Result<SimEnd, EngineFault>) -> ExitCode {
+    match ended {
+        Ok(SimEnd::Done) => ExitCode::SUCCESS,
+        Ok(SimEnd::Forged) => ExitCode::from(1),
+        Ok(SimEnd::BadLine) => ExitCode::from(2),
+        Ok(SimEnd::Limit) => ExitCode::from(3),
+        Err(fault) => status_of(rt, Err(Stop::Engine(fault))),
+    }
 }

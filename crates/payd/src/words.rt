@@ -24,6 +24,8 @@ pub(crate) enum Job<'a> {
     Audit {
         files: Vec<&'a str>,
     },
+    /// Play the script on standard input.
+    Sim,
 }
 
 /// What is said where a word isn't UTF-8, which `clap` never sees.
@@ -98,6 +100,32 @@ the write fails.
 
 Example: payd audit member-0.json member-1.json";
 
+const SIM_ABOUT: &str =
+    "Plays the script of a group's day on standard input, and writes what each command prints";
+
+const SIM_HELP: &str = "\
+Input: a first line that says the group, as JSON with members, faults, opening and liars, and then a
+command a line, 4,096 bytes at most. An empty line is none.
+  ask I PAYEE AMOUNT                   member I is asked to pay
+  bring FROM TO M                      frame M of FROM's list is brought to TO
+  lie FROM TO M KIND OWNER SEQ VALUE   that frame is tagged and brought to TO; M may be next
+  raw TO HEX                           bytes are brought to TO; - is none
+  all                                  all that is untaken between correct members is brought
+  show                                 the book of each correct member
+
+Output: what came of each command.
+  asked I seq S
+  took, took echo ready deliver settle K, wanted P M, ignored, absent
+  refused WHERE C NAME                 a member, a frame or a link refuses it
+  brought COUNT, converged             converged: each took all that the others sent
+  member I fronts F0 F1 .. balances B0 B1 ..
+  forged K, bad line L, limit          the last line of a run that ends there
+
+Status: 0 at the input's end, 1 after a forged frame, 2 for words or a line that can't be read, 3 where
+memory, a read or a write fails, after 1,000,000 reads, or before the 1,000,001st event.
+
+Example: payd sim < examples/honest-day.txt";
+
 /// What the words ask for, the program's name the first of them; or help, the version, or what is
 /// wrong with them. Without a command it is `check`.
 pub(crate) fn job_of<'a>(alloc: Global, words: &'a [String]) -> Result<Job<'a>, Error>
@@ -143,6 +171,8 @@ fn command_job<'a>(
         Ok(desk_job(command))
     } else if name == "audit" {
         audit_job(alloc, command)
+    } else if name == "sim" {
+        Ok(Job::Sim)
     } else {
         Ok(check_job(command))
     }
@@ -202,7 +232,8 @@ fn payd<'a>(alloc: Global) -> Result<Command<'a>, AllocError>
     payd_alone(alloc)
         .subcommand(check(alloc)?)?
         .subcommand(desk(alloc)?)?
-        .subcommand(audit(alloc)?)
+        .subcommand(audit(alloc)?)?
+        .subcommand(titled(alloc, "sim", SIM_ABOUT, SIM_HELP))
 }
 
 fn payd_alone<'a>(alloc: Global) -> Command<'a>

@@ -13,7 +13,10 @@ returns c =
     let second = c.in_ok-subcommand-2.ensures in
     let one = first.shape check.globals ∙ ap₂ with_subcommand alone.app (ap (λ (a : App). a.top) check.app) in
     let two = second.shape desk.globals ∙ ap₂ with_subcommand one (ap (λ (a : App). a.top) desk.app) in
-    IfOk-weaker c.subcommand-3.result _ _ (λ r h. record {
-      app = h.shape audit.globals ∙ ap₂ with_subcommand two (ap (λ (a : App). a.top) audit.app);
-      globals = rw (h.globals, second.globals, first.globals, alone.globals, check.globals, desk.globals, audit.globals) refl;
-    }) c.subcommand-3.ensures
+    let third = c.in_ok-subcommand-3.ensures in
+    let three = third.shape audit.globals ∙ ap₂ with_subcommand two (ap (λ (a : App). a.top) audit.app) in
+    let sim = c.titled.ensures in
+    IfOk-weaker c.subcommand-4.result _ _ (λ r h. record {
+      app = h.shape sim.globals ∙ ap₂ with_subcommand three (ap (λ (a : App). a.top) sim.app);
+      globals = rw (h.globals, third.globals, second.globals, first.globals, alone.globals, check.globals, desk.globals, audit.globals, sim.globals) refl;
+    }) c.subcommand-4.ensures

@@ -1,0 +1,155 @@
+-- A world behind one event more.
+use Rattle.std.proofs.Common.{MatchOption, IsOkUnless, Result, Ok, Err, ◌≡◌, ◌≢◌, ◌⊎◌, inl, inr, ℕ, ◌+◌, ◌<◌, Bool, true, false, cond, List, [], ◌∷◌, ◌++◌, length, Option, None, Some, option_map, refl, sym, ap, ◌∙◌, subst, arith, length-append}
+use Rattle.std.specs.Option.{option_map_or}
+use Rattle.std.proofs.lemmas.Bool.{cases_eq}
+use Rattle.pay_channel.specs.History.{Event}
+use Rattle.pay_frame.specs.Frame.{FrameFields}
+use Rattle.pay_link.specs.Genesis.{GenesisFields}
+use Rattle.pay_link.specs.Keys.{KeyFields}
+use Rattle.pay_member.specs.declared.outcome.Outcome.{Outcome}
+use Rattle.pay_member.specs.declared.outcome.Outcome.TheVariants.{Took, Wanted, Frame, Link, WrongKey}
+use Rattle.pay_member.specs.Bringing.{with_brought}
+use Rattle.pay_member.specs.Events.{events}
+use Rattle.pay_member.specs.Member.{MemberFields}
+use Rattle.pay_world.specs.declared.event.WorldEvent.{WorldEvent}
+use Rattle.pay_world.specs.declared.event.WorldEvent.TheVariants.{Ask, Bring}
+use Rattle.pay_world.specs.declared.fault.WorldFault.{WorldFault}
+use Rattle.pay_world.specs.declared.fault.WorldFault.TheVariants.{Memory, Forged}
+use Rattle.pay_world.specs.declared.reply.Reply.{Reply}
+use Rattle.pay_world.specs.declared.reply.Reply.TheVariants.{Asked, Refused, Brought, Ignored}
+use Rattle.pay_world.specs.Genuine.{is_forged_in}
+use Rattle.pay_world.specs.Liars.{LiarFields, setting_of}
+use Rattle.pay_world.specs.World.{WorldFields, member_in, history_in, keys_in}
+use Rattle.pay_world.specs.Answer.{Answers, IsReply, IsReplyOf, deed_of, forgery, is_forged_at, member_after, one_more, receiver}
+use Rattle.pay_world.specs.RunLaws.{WorldByOneMore}
+use Rattle.pay_world.specs.GroupKeys.{group_test_keys}
+use Rattle.pay_sim.specs.declared.group.Group.{Group}
+use Rattle.pay_sim.specs.declared.game.TheConstants.{MOST_EVENTS}
+use Rattle.pay_sim.specs.Made.{IsReplyBehind, IsReplyTo, Makes, history_at, is_forged_by, keys_at}
+use Rattle.pay_sim.specs.Playing.{GameFields, IsBehind}
+
+-- ---- what a world's answer says
+
+ok_err : {A E : Type 0} (x : A) (e : E) → ◌≡◌ {A = Result A E} (Ok x) (Err e) → ⊥
+ok_err x e same = cc
+
+err_is : {A E : Type 0} (d e : E) → ◌≡◌ {A = Result A E} (Err d) (Err e) → d ≡ e
+err_is d e same = cc
+
+forged_no_memory : (k : ℕ) → Forged k ≡ Memory → ⊥
+forged_no_memory k same = cc
+
+forged_same : (k n : ℕ) → Forged k ≡ Forged n → k ≡ n
+forged_same k n same = cc
+
+answered_unforged :
+    (w : WorldFields) (e : WorldEvent) (reply : Reply)
+    → MatchOption (forgery w e) (IsOkUnless {T = Reply} (Ok reply) Memory) (λ fault. ◌≡◌ {A = Result Reply WorldFault} (Ok reply) (Err fault))
+    → is_forged_at w e ≡ false
+answered_unforged w e reply refused = go (is_forged_at w e) refused where
+  go : (b : Bool) → MatchOption (cond b (Some (Forged w.answered)) None) (IsOkUnless {T = Reply} (Ok reply) Memory) (λ fault. ◌≡◌ {A = Result Reply WorldFault} (Ok reply) (Err fault)) → b ≡ false
+  go true is = absurd (ok_err reply (Forged w.answered) is)
+  go false is = refl
+
+refused_forged :
+    (w : WorldFields) (e : WorldEvent) (k : ℕ)
+    → MatchOption (forgery w e) (IsOkUnless {T = Reply} (Err (Forged k)) Memory) (λ fault. ◌≡◌ {A = Result Reply WorldFault} (Err (Forged k)) (Err fault))
+    → (is_forged_at w e ≡ true) × (k ≡ w.answered)
+refused_forged w e k refused = go (is_forged_at w e) refused where
+  go : (b : Bool) → MatchOption (cond b (Some (Forged w.answered)) None) (IsOkUnless {T = Reply} (Err (Forged k)) Memory) (λ fault. ◌≡◌ {A = Result Reply WorldFault} (Err (Forged k)) (Err fault)) → (b ≡ true) × (k ≡ w.answered)
+  go true is = (refl, forged_same k w.answered (err_is {A = Reply} (Forged k) (Forged w.answered) is))
+  go false is = absurd (forged_no_memory k is)
+
+-- ---- an event changes no member's genesis
+
+brought_keeps : (m : MemberFields) (outcome : Outcome) (o : Option FrameFields) → (with_brought m 0 outcome o).genesis ≡ m.genesis
+brought_keeps m outcome None = refl
+brought_keeps m (Took t) (Some f) = refl
+brought_keeps m (Wanted from number) (Some f) = refl
+brought_keeps m (Frame fault) (Some f) = refl
+brought_keeps m (Link fault) (Some f) = refl
+brought_keeps m WrongKey (Some f) = refl
+
+genesis_kept : (e : WorldEvent) (reply : Reply) (m : MemberFields) → (member_after e reply m).genesis ≡ m.genesis
+genesis_kept (Ask i v) (Asked number) m = refl
+genesis_kept (Ask i v) (Refused fault) m = refl
+genesis_kept (Ask i v) (Brought outcome) m = refl
+genesis_kept (Ask i v) Ignored m = refl
+genesis_kept (Bring i bytes) (Asked number) m = refl
+genesis_kept (Bring i bytes) (Refused fault) m = refl
+genesis_kept (Bring i bytes) (Brought outcome) m = brought_keeps m outcome _
+genesis_kept (Bring i bytes) Ignored m = refl
+
+-- ---- the reply
+
+as_behind : (m : MemberFields) (e : WorldEvent) (reply : Reply) → IsReplyOf m e reply → IsReplyBehind m.genesis m.keys (events m.history) e reply
+as_behind m (Ask i v) reply said = said
+as_behind m (Bring i bytes) (Asked number) said = said
+as_behind m (Bring i bytes) (Refused fault) said = said
+as_behind m (Bring i bytes) (Brought outcome) said = said
+as_behind m (Bring i bytes) Ignored said = said
+
+module _ (c : Group) (es : List WorldEvent) (g : GameFields) (b : IsBehind c es g) where
+  reply_is : (e : WorldEvent) (reply : Reply) → IsReply g.world e reply → IsReplyTo c es e reply
+  reply_is e reply said = go (member_in g.world (receiver e)) refl said where
+    To : Option KeyFields → Type 0
+    To o = MatchOption o (reply ≡ Ignored) (λ k. IsReplyBehind c.genesis k (history_at c es (receiver e)) e reply)
+
+    go : (o : Option MemberFields) → member_in g.world (receiver e) ≡ o → MatchOption o (reply ≡ Ignored) (λ m. IsReplyOf m e reply) → To (keys_at c (receiver e))
+    go None is said = subst To (sym (ap (option_map (λ (m : MemberFields). m.keys)) is) ∙ b.after.known (receiver e)) said
+    go (Some m) is said =
+        subst To (sym (ap (option_map (λ (x : MemberFields). x.keys)) is) ∙ b.after.known (receiver e))
+        (subst (λ (h : List Event). IsReplyBehind c.genesis m.keys h e reply)
+        (sym (ap (λ (o : Option MemberFields). option_map_or (λ (x : MemberFields). events x.history) o []) is) ∙ b.after.histories (receiver e))
+        (subst (λ (x : GenesisFields). IsReplyBehind x m.keys (events m.history) e reply) (b.each (receiver e) m is) (as_behind m e reply said)))
+
+  forged_is : (e : WorldEvent) → is_forged_at g.world e ≡ is_forged_by c es e
+  unfolding is_forged_by
+  forged_is e =
+      ap (λ (l : LiarFields). option_map_or (is_forged_in (setting_of l) (history_in g.world)) (deed_of (keys_in g.world) e) false) b.after.liars
+      ∙ ap (λ (h : ℕ → List Event). option_map_or (is_forged_in (setting_of c.liars) h) (deed_of (keys_in g.world) e) false) (λ t i. b.after.histories i t)
+      ∙ ap (λ (k : ℕ → Option KeyFields). option_map_or (is_forged_in (setting_of c.liars) (history_at c es)) (deed_of k e) false) (λ t i. b.after.known i t)
+
+  -- ---- an event that is made
+
+  each_kept : (new : WorldFields) (e : WorldEvent) (reply : Reply) → Answers g.world new e reply → (i : ℕ) (m : MemberFields) → member_in new i ≡ Some m → m.genesis ≡ c.genesis
+  each_kept new e reply answers i m is = go (cases_eq i (receiver e)) where
+    some_is : (x y : MemberFields) → Some x ≡ Some y → x ≡ y
+    some_is x y same = cc
+
+    none_is : (x : MemberFields) → None ≡ Some x → ⊥
+    none_is x same = cc
+
+    here : (o : Option MemberFields) → member_in g.world (receiver e) ≡ o → option_map (member_after e reply) o ≡ Some m → m.genesis ≡ c.genesis
+    here None at same = absurd (none_is m same)
+    here (Some old) at same =
+        sym (ap (λ (x : MemberFields). x.genesis) (some_is (member_after e reply old) m same)) ∙ genesis_kept e reply old ∙ b.each (receiver e) old at
+
+    go : ((i ≡ receiver e) ⊎ (i ≢ receiver e)) → m.genesis ≡ c.genesis
+    go (inl same) = here (member_in g.world (receiver e)) refl (sym answers.here ∙ ap (member_in new) (sym same) ∙ is)
+    go (inr other) = b.each i m (sym (answers.others i other) ∙ is)
+
+  pub makes_one :
+      WorldByOneMore → (new : GameFields) (e : WorldEvent) (reply : Reply) → length es < MOST_EVENTS
+      → MatchOption (forgery g.world e) (IsOkUnless {T = Reply} (Ok reply) Memory) (λ fault. ◌≡◌ {A = Result Reply WorldFault} (Ok reply) (Err fault))
+      → Answers g.world new.world e reply → new.world.answered ≡ one_more g.world.answered → new.members ≡ g.members → new.made ≡ g.made + 1
+      → Makes c es e (Ok reply) × IsBehind c (es ++ e ∷ []) new
+  makes_one by_one new e reply room refused answers counted members made =
+      let unforged = answered_unforged g.world e reply refused in (
+        (room, sym (forged_is e) ∙ unforged, reply_is e reply answers.said),
+        record {
+          after = by_one c.genesis (group_test_keys c.genesis.members) c.liars es g.world new.world e reply b.after answers unforged counted;
+          each = each_kept new.world e reply answers;
+          members = members ∙ b.members;
+          few = b.few;
+          made = (let long = length-append es (e ∷ []) in let was = b.made in omega arith);
+        },
+      )
+
+  pub stops_forged :
+      (e : WorldEvent) (k : ℕ) → length es < MOST_EVENTS
+      → MatchOption (forgery g.world e) (IsOkUnless {T = Reply} (Err (Forged k)) Memory) (λ fault. ◌≡◌ {A = Result Reply WorldFault} (Err (Forged k)) (Err fault))
+      → (length es < MOST_EVENTS) × (is_forged_by c es e ≡ true) × (k ≡ length es)
+  stops_forged e k room refused =
+      let told = refused_forged g.world e k refused in
+      (room, sym (forged_is e) ∙ told.0, (let n = told.1 in let count = b.after.count in omega arith))

@@ -1,0 +1,33 @@
+-- The group of a script: its first line says it.
+use Rattle.std.specs.Prelude.{ℕ, nat_lt, ◌^◌, List, codes, Option, Some, None, option_and_then, if◌then◌else◌}
+use Rattle.std.specs.List.{list_all}
+use Rattle.std.specs.Option.{option_map_or}
+use Rattle.std.specs.Result.{result_ok}
+use Rattle.pay_json.specs.File.{numbers_at, value_in}
+use Rattle.pay_link.specs.Genesis.{GenesisFields}
+use Rattle.pay_link.specs.Files.{genesis_in}
+use Rattle.pay_world.specs.Liars.{liar_fault, liars_in}
+use Rattle.pay_sim.specs.declared.group.Group.{Group}
+
+-- the liars that a file of JSON says
+unfoldable pub liars_said : List ℕ → Option (List ℕ)
+liars_said bytes = option_and_then (numbers_at (codes "liars")) (value_in bytes)
+
+-- these numbers, if each has at most 16 bits
+unfoldable pub if_short : List ℕ → Option (List ℕ)
+if_short numbers = if list_all (λ n. nat_lt n (2 ^ 16)) numbers then Some numbers else None
+
+-- what is said of liars, if it is so short; a longer number is no member's
+abbrev pub fitting : Option (List ℕ) → Option (List ℕ)
+fitting said = option_and_then if_short said
+
+-- the group with these liars, if they have no fault
+unfoldable pub with_liars : GenesisFields → List ℕ → Option Group
+with_liars g liars =
+    option_map_or (λ fault. None) (liar_fault (liars_in g liars))
+    (Some (record { genesis = g; liars = liars_in g liars }))
+
+-- the group that a file says, if its genesis and its liars have no fault
+unfoldable pub group_in : List ℕ → Option Group
+group_in bytes =
+    option_and_then (λ g. option_and_then (with_liars g) (fitting (liars_said bytes))) (result_ok (genesis_in bytes))

@@ -1,0 +1,106 @@
+-- What holds while a script is played: the world is that behind the events that were made.
+use Rattle.std.specs.Prelude.{◌≡◌, ℕ, ◌<◌, Bool, true, false, List, [], ◌∷◌, ◌++◌, length, Option, Some, None, Result, Ok, Err, ⊤}
+use Rattle.pay_member.specs.Member.{MemberFields}
+use Rattle.pay_world.specs.declared.event.WorldEvent.{WorldEvent}
+use Rattle.pay_world.specs.declared.reply.Reply.{Reply}
+use Rattle.pay_world.specs.World.{WorldFields, member_in}
+use Rattle.pay_world.specs.Run.{IsWorldAfter}
+use Rattle.pay_world.specs.GroupKeys.{group_test_keys}
+use Rattle.pay_sim.specs.declared.group.Group.{Group}
+use Rattle.pay_sim.specs.declared.stop.Halt.{Halt}
+use Rattle.pay_sim.specs.declared.stop.Halt.TheVariants as halt
+use Rattle.pay_sim.specs.declared.stop.Stop.{Stop}
+use Rattle.pay_sim.specs.declared.stop.Stop.TheVariants.{BadLine}
+use Rattle.pay_sim.specs.Group.{group_in}
+use Rattle.pay_sim.specs.Made.{Makes}
+use Rattle.pay_sim.specs.Script.{Told, Prints, Stops, Moment, Does, Reads}
+
+-- ---- in a world
+
+-- a world, how many members its group has, and how many events were made
+pub record GameFields : Type 0 where
+  pub world : WorldFields
+  pub members : ℕ
+  pub made : ℕ
+
+-- It is the world of this group behind these events.
+pub record IsBehind (c : Group) (es : List WorldEvent) (g : GameFields) : Type 0 where
+  pub after : IsWorldAfter c.genesis (group_test_keys c.genesis.members) c.liars es g.world
+  pub each : (i : ℕ) (m : MemberFields) → member_in g.world i ≡ Some m → m.genesis ≡ c.genesis
+  pub members : g.members ≡ c.genesis.members
+  pub few : c.genesis.members < 256
+  pub made : g.made ≡ length es
+
+-- an event more was made, or not
+abbrev pub IsMade : Group → List WorldEvent → WorldEvent → GameFields → Result Reply Halt → Type 0
+IsMade c es e new (Ok reply) = Makes c es e (Ok reply) × IsBehind c (es ++ e ∷ []) new
+IsMade c es e new (Err (halt.Stop stop)) = Makes c es e (Err stop)
+IsMade c es e new (Err halt.Memory) = Unit {0}
+
+-- a command was done, and its text is written behind what stands there
+abbrev pub IsDone : (Told → Type 0) → Group → List ℕ → List ℕ → GameFields → Result ⊤ Halt → Type 0
+IsDone does c before after new (Ok _) =
+    (text : List ℕ) × (last : List WorldEvent) × does (Prints text last) × (after ≡ before ++ text)
+    × IsBehind c last new
+IsDone does c before after new (Err (halt.Stop stop)) = does (Stops stop)
+IsDone does c before after new (Err halt.Memory) = Unit {0}
+
+-- frames were brought
+abbrev pub IsBrought : (List WorldEvent → Option Stop → Type 0) → Group → GameFields → Result ⊤ Halt → Type 0
+IsBrought does c new (Ok _) = (last : List WorldEvent) × does last None × IsBehind c last new
+IsBrought does c new (Err (halt.Stop stop)) = (last : List WorldEvent) × does last (Some stop)
+IsBrought does c new (Err halt.Memory) = Unit {0}
+
+-- what the one relation says from the events of this moment on, the other says
+abbrev pub Leads : Group → GameFields → (List WorldEvent → List WorldEvent → Option Stop → Type 0) → (List WorldEvent → Option Stop → Type 0) → Type 0
+Leads c now rest whole =
+    (mid : List WorldEvent) × IsBehind c mid now
+    × ((last : List WorldEvent) (stop : Option Stop) → rest mid last stop → whole last stop)
+
+-- ---- line by line
+
+pub record PlayFields : Type 0 where
+  pub lines : ℕ
+  pub game : Option GameFields
+  pub stop : Option Stop
+
+abbrev pub IsGameAt : Option GameFields → Option Group → List WorldEvent → Type 0
+IsGameAt None None es = es ≡ []
+IsGameAt None (Some c) es = ⊥
+IsGameAt (Some g) None es = ⊥
+IsGameAt (Some g) (Some c) es = IsBehind c es g
+
+-- a script that goes on has come so far
+pub record IsGoing (p : PlayFields) (m : Moment) : Type 0 where
+  pub lines : p.lines ≡ m.lines
+  pub stop : p.stop ≡ m.stopped
+  pub game : IsGameAt p.game m.group m.events
+
+-- and one that is stopped
+pub record IsStopped (p : PlayFields) (m : Moment) : Type 0 where
+  pub lines : p.lines ≡ m.lines
+  pub stop : p.stop ≡ m.stopped
+
+abbrev pub IsAt : Bool → PlayFields → Moment → Type 0
+IsAt true p m = IsGoing p m
+IsAt false p m = IsStopped p m
+
+-- the world that a script's first line says, before any event
+abbrev pub IsFounded : List ℕ → Result GameFields Halt → Type 0
+IsFounded line (Ok g) = (c : Group) × (group_in line ≡ Some c) × IsBehind c [] g
+IsFounded line (Err (halt.Stop stop)) = (stop ≡ BadLine) × (group_in line ≡ None)
+IsFounded line (Err halt.Memory) = Unit {0}
+
+-- what a line does where the script has come to this group and these events
+abbrev pub IsRead : Option Group → List WorldEvent → Option (List ℕ) → List ℕ → List ℕ → Option GameFields → Result ⊤ Halt → Type 0
+IsRead group es line before after new (Ok _) =
+    (text : List ℕ) × (then : Option Group) × (last : List WorldEvent)
+    × Does group es line then (Prints text last) × (after ≡ before ++ text) × IsGameAt new then last
+IsRead group es line before after new (Err (halt.Stop stop)) =
+    (then : Option Group) × Does group es line then (Stops stop)
+IsRead group es line before after new (Err halt.Memory) = Unit {0}
+
+-- A line is answered as a script's is, however far it has come.
+abbrev pub IsAnswer : PlayFields → Option (List ℕ) → List ℕ → Bool → PlayFields → Type 0
+IsAnswer old line text on new =
+    (m : Moment) → IsGoing old m → (n : Moment) × Reads m line text on n × IsAt on new n

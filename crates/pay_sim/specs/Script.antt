@@ -1,0 +1,188 @@
+-- What a script's lines do, and the text that they print.
+use Rattle.std.specs.Prelude.{◌≡◌, ◌⊎◌, ℕ, ◌-◌, Bool, true, false, List, [], ◌∷◌, ◌++◌, length, codes, decimal, Option, Some, None, Ok, Err, Result, IfSome, if◌then◌else◌}
+use Rattle.std.specs.List.{flat_map, range_with_len}
+use Rattle.std.specs.Io.KnownBytes.{Appends, IsAtEnd}
+use Rattle.pay_frame.specs.declared.engine_fault.EngineFault.{EngineFault}
+use Rattle.pay_frame.specs.Device.{WroteBeginning}
+use Rattle.pay_frame.specs.Frame.{BodyFields}
+use Rattle.pay_book.specs.Payment.{payment_value}
+use Rattle.pay_member.specs.Book.{book_after}
+use Rattle.pay_text.specs.Answers.{Answers}
+use Rattle.pay_text.specs.Engine.{AnswersFirst}
+use Rattle.pay_text.specs.Lines.{line_feed, lines_within}
+use Rattle.pay_world.specs.declared.event.WorldEvent.{WorldEvent}
+use Rattle.pay_world.specs.declared.event.WorldEvent.TheVariants as event
+use Rattle.pay_world.specs.declared.reply.Reply.{Reply}
+use Rattle.pay_world.specs.Answer.{one_more, receiver}
+use Rattle.pay_world.specs.Convergence.{AllTaken}
+use Rattle.pay_world.specs.Liars.{setting_of}
+use Rattle.pay_sim.specs.declared.command.Command.{Command}
+use Rattle.pay_sim.specs.declared.command.Command.TheVariants.{Ask, Bring, Lie, Raw, All, Show}
+use Rattle.pay_sim.specs.declared.group.Group.{Group}
+use Rattle.pay_sim.specs.declared.run.TheConstants.{LONGEST_LINE}
+use Rattle.pay_sim.specs.declared.sim_end.SimEnd.{SimEnd}
+use Rattle.pay_sim.specs.declared.sim_end.SimEnd.TheVariants as end
+use Rattle.pay_sim.specs.declared.stop.Stop.{Stop}
+use Rattle.pay_sim.specs.declared.stop.Stop.TheVariants.{BadLine, Forged, Limit}
+use Rattle.pay_sim.specs.Commands.{command_in}
+use Rattle.pay_sim.specs.Words.{book_words, reply_line}
+use Rattle.pay_sim.specs.TestFrames.{test_frame}
+use Rattle.pay_sim.specs.Group.{group_in}
+use Rattle.pay_sim.specs.Made.{Makes, frame_for, history_at, is_there, next_number}
+use Rattle.pay_sim.specs.All.{BringsAll}
+
+abbrev pub with_feed : List ℕ → List ℕ
+with_feed words = words ++ line_feed ∷ []
+
+-- ---- what a command does
+
+-- What a line does: it prints this, and all events are then these; or it stops the run.
+pub data Told : Type 0 where
+  Prints : List ℕ → List WorldEvent → Told
+  Stops : Stop → Told
+
+-- an event is made, and its reply printed
+abbrev pub Tells : Group → List WorldEvent → WorldEvent → Told → Type 0
+Tells c es e (Prints text last) =
+    (reply : Reply) × Makes c es e (Ok reply) × (text ≡ reply_line (receiver e) reply)
+    × (last ≡ es ++ e ∷ [])
+Tells c es e (Stops stop) = Makes c es e (Err stop)
+
+-- the frame at that place is brought, if it is there
+abbrev pub TellsSent : Group → List WorldEvent → ℕ → Option (List ℕ) → Told → Type 0
+TellsSent c es to None told = told ≡ Prints (with_feed (codes "absent")) es
+TellsSent c es to (Some frame) told = Tells c es (event.Bring to frame) told
+
+-- to a liar, and where there is no member, no bytes are brought
+abbrev pub TellsBring : Group → List WorldEvent → ℕ → ℕ → ℕ → Told → Type 0
+TellsBring c es from to number told = TellsSent c es to (frame_for c es from to number) told
+
+-- the number that a lie says, or the next one
+abbrev pub lie_number : Group → List WorldEvent → ℕ → ℕ → Option ℕ → ℕ
+lie_number c es from to (Some number) = number
+lie_number c es from to None = next_number c es from to
+
+abbrev pub lie_frame : Group → List WorldEvent → ℕ → ℕ → Option ℕ → BodyFields → List ℕ
+lie_frame c es from to number body = test_frame from to (lie_number c es from to number) body
+
+-- a line more, where each member that doesn't lie took all that the others sent
+abbrev pub IsConverged : Group → List WorldEvent → List ℕ → Type 0
+IsConverged c es words =
+    (AllTaken (setting_of c.liars) (history_at c es) × (words ≡ with_feed (codes "converged")))
+    ⊎ (¬ (AllTaken (setting_of c.liars) (history_at c es)) × (words ≡ []))
+
+-- all is brought, and how many frames that were is printed
+abbrev pub TellsAll : Group → List WorldEvent → Told → Type 0
+TellsAll c es (Prints text last) =
+    BringsAll c es last None
+    × ((words : List ℕ) × IsConverged c last words
+    × (text ≡ codes "brought " ++ with_feed (decimal (length last - length es)) ++ words))
+TellsAll c es (Stops stop) = (last : List WorldEvent) × BringsAll c es last (Some stop)
+
+-- the book of a member that is there
+abbrev pub shown : Group → List WorldEvent → ℕ → List ℕ
+shown c es i =
+    if is_there c i
+    then with_feed (book_words c.genesis.members i (book_after c.genesis i (history_at c es i)))
+    else []
+
+-- those of all members, in the order of their numbers
+unfoldable pub show_text : Group → List WorldEvent → List ℕ
+show_text c es = flat_map (shown c es) (range_with_len 0 c.genesis.members)
+
+abbrev pub Obeys : Group → List WorldEvent → Command → Told → Type 0
+Obeys c es (Ask member payee amount) told =
+    Tells c es (event.Ask member (payment_value payee amount)) told
+Obeys c es (Bring from to number) told = TellsBring c es from to number told
+Obeys c es (Lie from to number body) told =
+    Tells c es (event.Bring to (lie_frame c es from to number body)) told
+Obeys c es (Raw to bytes) told = Tells c es (event.Bring to bytes) told
+Obeys c es All told = TellsAll c es told
+Obeys c es Show told = told ≡ Prints (show_text c es) es
+
+abbrev pub CommandTells : Group → List WorldEvent → Option Command → Told → Type 0
+CommandTells c es None told = told ≡ Stops BadLine
+CommandTells c es (Some command) told = Obeys c es command told
+
+-- a command's line; an empty one does nothing
+abbrev pub LineTells : Group → List WorldEvent → List ℕ → Told → Type 0
+LineTells c es [] told = told ≡ Prints [] es
+LineTells c es (b ∷ line) told = CommandTells c es (command_in (b ∷ line)) told
+
+-- ---- how far a script has come
+
+-- So many lines were read; the first said this group; these events were made; and this stopped the run, if
+-- anything did.
+pub record Moment : Type 0 where
+  pub lines : ℕ
+  pub group : Option Group
+  pub events : List WorldEvent
+  pub stopped : Option Stop
+
+abbrev pub start : Moment
+start = record { lines = 0; group = None; events = []; stopped = None }
+
+-- how a run ends
+abbrev pub end_of : Option Stop → SimEnd
+end_of None = end.Done
+end_of (Some BadLine) = end.BadLine
+end_of (Some (Forged k)) = end.Forged
+end_of (Some Limit) = end.Limit
+
+-- the last line of one that is stopped
+abbrev pub last_words : Stop → ℕ → List ℕ
+last_words BadLine line = codes "bad line " ++ decimal line
+last_words (Forged k) line = codes "forged " ++ decimal k
+last_words Limit line = codes "limit"
+
+-- What a line does, and the group that the script then has: the first line says it, and each other one is a
+-- command. A line over the bound is neither.
+
+abbrev pub Founds : List WorldEvent → Option Group → Option Group → Told → Type 0
+Founds es None after told = (told ≡ Stops BadLine) × (after ≡ None)
+Founds es (Some c) after told = (told ≡ Prints [] es) × (after ≡ Some c)
+
+abbrev pub Does : Option Group → List WorldEvent → Option (List ℕ) → Option Group → Told → Type 0
+Does group es None after told = (told ≡ Stops BadLine) × (after ≡ group)
+Does None es (Some line) after told = Founds es (group_in line) after told
+Does (Some c) es (Some line) after told = LineTells c es line told × (after ≡ Some c)
+
+-- It prints this text, a line may follow or not, and so far the script has come then.
+abbrev pub Follows : Moment → Option Group → Told → List ℕ → Bool → Moment → Type 0
+Follows old group (Prints words last) text on new =
+    (text ≡ words) × (on ≡ true)
+    × (new ≡ record old { lines = one_more old.lines; group = group; events = last })
+Follows old group (Stops stop) text on new =
+    (text ≡ with_feed (last_words stop (one_more old.lines))) × (on ≡ false)
+    × (new ≡ record old { lines = one_more old.lines; group = group; stopped = Some stop })
+
+abbrev pub Reads : Moment → Option (List ℕ) → List ℕ → Bool → Moment → Type 0
+Reads old line text on new =
+    (group : Option Group) × (told : Told) × Does old.group old.events line group told
+    × Follows old group told text on new
+
+-- ---- the whole run
+
+-- A script without any line has a bad first one.
+abbrev pub no_line : List ℕ
+no_line = with_feed (codes "bad line 1")
+
+-- The run of a script prints this text, and ends so.
+abbrev pub IsRun : List ℕ → List ℕ → SimEnd → Type 0
+IsRun [] text ended = (text ≡ no_line) × (ended ≡ end.BadLine)
+IsRun (b ∷ script) text ended =
+    (on : Bool) × (last : Moment) × Answers Reads start (lines_within LONGEST_LINE (b ∷ script)) text on last
+    × (ended ≡ end_of last.stopped)
+
+-- It was broken off: what was written is a beginning of the text that a script's first lines print.
+abbrev pub IsRunBegun : List ℕ → Option (List ℕ) → Option (List ℕ) → Type 0
+IsRunBegun [] before after = WroteBeginning before after no_line
+IsRunBegun (b ∷ script) before after =
+    AnswersFirst Reads start (lines_within LONGEST_LINE (b ∷ script)) before after
+
+-- What the engine writes, where its input is known. It ends as done only at the input's end.
+abbrev pub WritesRun : Option (List ℕ) → Option (List ℕ) → Option (List ℕ) → Option (List ℕ) → Result SimEnd EngineFault → Type 0
+WritesRun input left before after (Ok ended) =
+    IfSome input (λ script. (text : List ℕ) × IsRun script text ended × Appends before after text
+    × (ended ≡ end.Done → IsAtEnd left))
+WritesRun input left before after (Err fault) = IfSome input (λ script. IsRunBegun script before after)

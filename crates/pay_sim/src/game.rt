@@ -1,0 +1,403 @@
+//! A script's world, and what its commands do there.
+
+ghost use Rattle.std.specs.Prelude.{◌≡◌, ◌+◌, ◌++◌, ◌<◌, ◌≤◌, ℕ, List, [], IfOk, OnOk};
+ghost use Rattle.pay_world.specs.declared.event.WorldEvent.{WorldEvent};
+ghost use Rattle.pay_world.specs.Answer.{receiver};
+ghost use Rattle.pay_world.specs.Liars.{AreLiarsOf};
+ghost use Rattle.pay_book.specs.Payment.{payment_value};
+ghost use Rattle.pay_sim.specs.declared.group.Group.{Group};
+ghost use Rattle.pay_sim.specs.Made.{frame_for, next_number, sent_frame, untaken};
+ghost use Rattle.pay_sim.specs.All.{BringsAll, Draws, Feeds, Passes};
+ghost use Rattle.pay_sim.specs.Script.{IsConverged, Obeys, Tells, TellsAll, TellsBring, lie_frame, lie_number, show_text, shown};
+ghost use Rattle.pay_sim.specs.Playing.{IsBehind, IsBrought, IsDone, IsMade};
+
+use crate::book_words::push_book;
+use crate::command::Command;
+use crate::group::Group;
+use crate::reply_words::push_reply;
+use crate::stop::{Halt, Stop};
+use crate::test_frames::{PairTagger, test_frame};
+use pay_book::{Settle, payment_value};
+use pay_echo::Instance;
+use pay_frame::{Body, Bytes};
+use pay_text::{push_number, push_word};
+use pay_world::{
+    Reply, World, WorldEvent, WorldFault, all_taken, group_test_keys, world_by_events,
+};
+use std::alloc::{AllocError, Global};
+use std::marker::Model;
+
+/// How many events a script makes at most.
+pub const MOST_EVENTS: u32 = 1_000_000;
+
+/// The world of a script, and how many events were made in it.
+#[derive(Drop)]
+pub(crate) struct Game<I: Instance + Drop, B: Settle + Drop> {
+    world: World<I, B>,
+    tagger: PairTagger,
+    members: u16,
+    made: u32,
+}
+
+impl<I: Instance + Drop, B: Settle + Drop> Model for Game<I, B> {
+    ghost use Rattle.std.specs.Prelude.{◌<◌, ◌≤◌};
+    ghost use Rattle.pay_sim.specs.declared.game.TheConstants.{MOST_EVENTS};
+    ghost use Rattle.pay_sim.specs.Playing.{GameFields};
+
+    ghost Value = { GameFields };
+
+    ghost view = { λ g. record { world = g.world; members = g.members; made = g.made } };
+
+    ghost invariant = { λ g. (g.made ≤ MOST_EVENTS) × (g.members < 256) };
+}
+
+impl<I: Instance + Drop, B: Settle + Drop> Game<I, B> {
+    /// The world of a group before any event.
+    pub(crate) fn new(alloc: Global, group: &Group) -> Result<Game<I, B>, AllocError>
+        requires { AreLiarsOf group.now.genesis group.now.liars }
+        ensures { IfOk result (λ game. IsBehind group.now [] game) }
+    {
+        world_by_events();
+        let members = group.genesis.members();
+        let keys = group_test_keys(alloc, &group.genesis)?;
+        let world = World::new(alloc, &group.genesis, keys.as_slice(), &group.liars)?;
+        Ok(Game {
+            world,
+            tagger: PairTagger::new(alloc, members)?,
+            members,
+            made: 0,
+        })
+    }
+
+    /// Does what a command says, and writes its lines.
+    pub(crate) fn obey(
+        &mut self,
+        alloc: Global,
+        command: Command,
+        out: &mut Vec<u8>,
+    ) -> Result<(), Halt>
+        ensures { (c : Group) (es : List WorldEvent) → IsBehind c es self.old
+            → IsDone (Obeys c es command) c out.old.items out.new.items self.new result }
+    {
+        match command {
+            Command::Ask {
+                member,
+                payee,
+                amount,
+            } => self.ask(alloc, u16::from(member), payee, amount, out),
+            Command::Bring { from, to, number } => {
+                self.bring(alloc, u16::from(from), u16::from(to), number, out)
+            }
+            Command::Lie {
+                from,
+                to,
+                number,
+                body,
+            } => self.lie(alloc, u16::from(from), u16::from(to), number, &body, out),
+            Command::Raw { to, bytes } => {
+                self.tell(alloc, WorldEvent::Bring(u16::from(to), bytes), out)
+            }
+            Command::All => self.all(alloc, out),
+            Command::Show => {
+                self.show(out)?;
+                Ok(())
+            }
+        }
+    }
+
+    /// How many events were made.
+    fn made(&self) -> u32
+        ensures value { result ≡ self.now.made }
+        ensures limit { self.now.made ≤ MOST_EVENTS }
+    {
+        self.made
+    }
+
+    /// Makes an event, unless there were as many as there may be.
+    fn make(&mut self, alloc: Global, event: WorldEvent) -> Result<Reply, Halt>
+        ensures made { (c : Group) (es : List WorldEvent) → IsBehind c es self.old
+            → IsMade c es event self.new result }
+        ensures count { OnOk result ((self.old.made < MOST_EVENTS)
+            × (self.new.made ≡ self.old.made + 1)) }
+    {
+        world_by_events();
+        if self.made >= MOST_EVENTS {
+            return Err(Halt::Stop(Stop::Limit));
+        }
+        match self.world.apply(alloc, &self.tagger, event) {
+            Ok(reply) => {
+                self.made += 1;
+                Ok(reply)
+            }
+            Err(WorldFault::Memory) => Err(Halt::Memory),
+            Err(WorldFault::Forged(place)) => Err(Halt::Stop(Stop::Forged(place))),
+        }
+    }
+
+    /// Makes an event, and writes what its member replied.
+    fn tell(&mut self, alloc: Global, event: WorldEvent, out: &mut Vec<u8>) -> Result<(), Halt>
+        ensures { (c : Group) (es : List WorldEvent) → IsBehind c es self.old
+            → IsDone (Tells c es event) c out.old.items out.new.items self.new result }
+    {
+        let member = receiver(&event);
+        let reply = self.make(alloc, event)?;
+        push_reply(out, member, reply)?;
+        Ok(())
+    }
+
+    fn ask(
+        &mut self,
+        alloc: Global,
+        member: u16,
+        payee: u16,
+        amount: u64,
+        out: &mut Vec<u8>,
+    ) -> Result<(), Halt>
+        ensures { (c : Group) (es : List WorldEvent) → IsBehind c es self.old
+            → IsDone (Tells c es (WorldEvent.Ask member (payment_value payee amount))) c
+            out.old.items out.new.items self.new result }
+    {
+        let value = Bytes::from_slice(alloc, &payment_value(payee, amount))?;
+        self.tell(alloc, WorldEvent::Ask(member, value), out)
+    }
+
+    fn bring(
+        &mut self,
+        alloc: Global,
+        from: u16,
+        to: u16,
+        number: u64,
+        out: &mut Vec<u8>,
+    ) -> Result<(), Halt>
+        requires from { from < 256 }
+        requires to { to < 256 }
+        ensures { (c : Group) (es : List WorldEvent) → IsBehind c es self.old
+            → IsDone (TellsBring c es from to number) c out.old.items out.new.items self.new result }
+    {
+        let frame = self.frame_for(alloc, from, to, number)?;
+        match frame {
+            Some(bytes) => self.tell(alloc, WorldEvent::Bring(to, bytes), out),
+            None => {
+                push_word(out, "absent\n")?;
+                Ok(())
+            }
+        }
+    }
+
+    fn lie(
+        &mut self,
+        alloc: Global,
+        from: u16,
+        to: u16,
+        number: Option<u64>,
+        body: &Body,
+        out: &mut Vec<u8>,
+    ) -> Result<(), Halt>
+        requires from { from < 256 }
+        requires to { to < 256 }
+        ensures { (c : Group) (es : List WorldEvent) → IsBehind c es self.old
+            → IsDone (Tells c es (WorldEvent.Bring to (lie_frame c es from to number body.now))) c
+            out.old.items out.new.items self.new result }
+    {
+        let number = self.lie_number(from, to, number);
+        let bytes = test_frame(alloc, &self.tagger, from, to, number, body)?;
+        self.tell(alloc, WorldEvent::Bring(to, bytes), out)
+    }
+
+    fn lie_number(&self, from: u16, to: u16, number: Option<u64>) -> u64
+        ensures { (c : Group) (es : List WorldEvent) → IsBehind c es self.now
+            → result ≡ lie_number c es from to number }
+    {
+        match number {
+            Some(number) => number,
+            None => self.next(from, to),
+        }
+    }
+
+    /// Brings all that is untaken between correct members, and writes how many frames that were.
+    fn all(&mut self, alloc: Global, out: &mut Vec<u8>) -> Result<(), Halt>
+        ensures { (c : Group) (es : List WorldEvent) → IsBehind c es self.old
+            → IsDone (TellsAll c es) c out.old.items out.new.items self.new result }
+    {
+        let before = self.made();
+        self.bring_all(alloc)?;
+        let count = self.made() - before;
+        push_word(out, "brought ")?;
+        push_number(out, u64::from(count))?;
+        push_word(out, "\n")?;
+        self.push_converged(out)?;
+        Ok(())
+    }
+
+    /// Writes whether each correct member took all that the others sent.
+    fn push_converged(&self, out: &mut Vec<u8>) -> Result<(), AllocError>
+        ensures { OnOk result ((c : Group) (es : List WorldEvent) → IsBehind c es self.now
+            → (words : List ℕ) × IsConverged c es words × (out.new.items ≡ out.old.items ++ words)) }
+    {
+        if all_taken(&self.world) {
+            push_word(out, "converged\n")
+        } else {
+            Ok(())
+        }
+    }
+
+    /// Lets each member take what it didn't yet of the others, again and again, until nothing is left.
+    fn bring_all(&mut self, alloc: Global) -> Result<(), Halt>
+        ensures brought { (c : Group) (es : List WorldEvent) → IsBehind c es self.old
+            → IsBrought (BringsAll c es) c self.new result }
+        ensures count { OnOk result (self.old.made ≤ self.new.made) }
+    {
+        'passes: loop {
+            let before = self.made();
+            self.pass(alloc)?;
+            if self.made() == before {
+                return Ok(());
+            }
+        }
+    }
+
+    /// Lets each member take what it didn't yet of the others.
+    fn pass(&mut self, alloc: Global) -> Result<(), Halt>
+        ensures brought { (c : Group) (es : List WorldEvent) → IsBehind c es self.old
+            → IsBrought (Passes c es) c self.new result }
+        ensures count { OnOk result (self.old.made ≤ self.new.made) }
+    {
+        for to in 0..self.members {
+            self.feed(alloc, to)?;
+        }
+        Ok(())
+    }
+
+    /// Lets a member take what it didn't yet of the others.
+    fn feed(&mut self, alloc: Global, to: u16) -> Result<(), Halt>
+        requires { to < 256 }
+        ensures brought { (c : Group) (es : List WorldEvent) → IsBehind c es self.old
+            → IsBrought (Feeds c to es) c self.new result }
+        ensures count { OnOk result (self.old.made ≤ self.new.made) }
+    {
+        for from in 0..self.members {
+            self.draw(alloc, from, to)?;
+        }
+        Ok(())
+    }
+
+    /// Lets a member take what it didn't yet of another.
+    fn draw(&mut self, alloc: Global, from: u16, to: u16) -> Result<(), Halt>
+        requires from { from < 256 }
+        requires to { to < 256 }
+        ensures brought { (c : Group) (es : List WorldEvent) → IsBehind c es self.old
+            → IsBrought (Draws c from to es) c self.new result }
+        ensures count { OnOk result (self.old.made ≤ self.new.made) }
+    {
+        'frames: loop {
+            let Some(bytes) = self.untaken(alloc, from, to)? else {
+                return Ok(());
+            };
+            self.make(alloc, WorldEvent::Bring(to, bytes))?;
+        }
+    }
+
+    /// The frame that a member takes next of another's list, if the list has it.
+    fn untaken(&self, alloc: Global, from: u16, to: u16) -> Result<Option<Bytes>, AllocError>
+        requires from { from < 256 }
+        requires to { to < 256 }
+        ensures { IfOk result (λ frame. (c : Group) (es : List WorldEvent) → IsBehind c es self.now
+            → frame ≡ untaken c es from to) }
+    {
+        match self.world.member(to) {
+            Some(_) => self.sent(alloc, from, to, self.next(from, to)),
+            None => Ok(None),
+        }
+    }
+
+    /// The frame at a place of a correct member's list, sealed for another; where that one is no
+    /// correct member, no bytes.
+    fn frame_for(
+        &self,
+        alloc: Global,
+        from: u16,
+        to: u16,
+        number: u64,
+    ) -> Result<Option<Bytes>, AllocError>
+        requires from { from < 256 }
+        requires to { to < 256 }
+        ensures { IfOk result (λ frame. (c : Group) (es : List WorldEvent) → IsBehind c es self.now
+            → frame ≡ frame_for c es from to number) }
+    {
+        match self.world.member(to) {
+            Some(_) => self.sent(alloc, from, to, number),
+            None => Ok(Some(Bytes::new(Vec::new(alloc)))),
+        }
+    }
+
+    /// The frame at a place of a correct member's list, sealed for another.
+    fn sent(
+        &self,
+        alloc: Global,
+        from: u16,
+        to: u16,
+        number: u64,
+    ) -> Result<Option<Bytes>, AllocError>
+        requires from { from < 256 }
+        requires to { to < 256 }
+        ensures { IfOk result (λ frame. (c : Group) (es : List WorldEvent) → IsBehind c es self.now
+            → frame ≡ sent_frame c es from to number) }
+    {
+        if from == to {
+            return Ok(None);
+        }
+        let Some(sender) = self.world.member(from) else {
+            return Ok(None);
+        };
+        match sender.sent(number) {
+            Some(body) => Ok(Some(test_frame(alloc, &self.tagger, from, to, number, body)?)),
+            None => Ok(None),
+        }
+    }
+
+    /// The number that a correct member takes next from another, or 0 where there is no such link.
+    fn next(&self, from: u16, to: u16) -> u64
+        ensures { (c : Group) (es : List WorldEvent) → IsBehind c es self.now
+            → result ≡ next_number c es from to }
+    {
+        let Some(receiver) = self.world.member(to) else {
+            return 0;
+        };
+        if from >= receiver.genesis().members() || from == to {
+            return 0;
+        }
+        receiver.next(from)
+    }
+
+    /// Writes the book of each correct member.
+    fn show(&self, out: &mut Vec<u8>) -> Result<(), AllocError>
+        ensures { OnOk result ((c : Group) (es : List WorldEvent) → IsBehind c es self.now
+            → out.new.items ≡ out.old.items ++ show_text c es) }
+    {
+        for number in 0..self.members {
+            self.push_shown(out, number)?;
+        }
+        Ok(())
+    }
+
+    /// Writes the book of a member, if it is correct.
+    fn push_shown(&self, out: &mut Vec<u8>, number: u16) -> Result<(), AllocError>
+        ensures { OnOk result ((c : Group) (es : List WorldEvent) → IsBehind c es self.now
+            → out.new.items ≡ out.old.items ++ shown c es number) }
+    {
+        let Some(member) = self.world.member(number) else {
+            return Ok(());
+        };
+        push_book(out, number, member)?;
+        push_word(out, "\n")
+    }
+}
+
+fn receiver(event: &WorldEvent) -> u16
+    ensures { result ≡ receiver event.now }
+{
+    match event {
+        WorldEvent::Ask(member, _) => *member,
+        WorldEvent::Bring(member, _) => *member,
+    }
+}

@@ -1,0 +1,68 @@
+//! The first line of a script: a group, and who of it lies.
+
+ghost use Rattle.std.specs.Prelude.{◌≡◌, IfOk, IfSome, option_map};
+ghost use Rattle.pay_world.specs.Liars.{AreLiarsOf};
+ghost use Rattle.pay_sim.specs.Group.{fitting, group_in, if_short, liars_said};
+
+use pay_json::{numbers_at, value_in};
+use pay_link::{Genesis, GenesisFault};
+use pay_world::{LiarFault, Liars};
+use std::alloc::{AllocError, Global};
+
+/// The group of a script.
+#[derive(Debug, Drop)]
+pub(crate) struct Group {
+    pub(crate) genesis: Genesis,
+    pub(crate) liars: Liars,
+}
+
+/// The group that a file of JSON says, or `None` where it says none.
+#[tactic(auto, unfolding(crate::specs::Group::group_in, crate::specs::Group::with_liars))]
+pub(crate) fn read_group(alloc: Global, bytes: &[u8]) -> Result<Option<Group>, AllocError>
+    ensures value { IfOk result (λ group. group ≡ group_in bytes.now) }
+    ensures liars { IfOk result (λ group. IfSome group (λ g. AreLiarsOf g.genesis g.liars)) }
+{
+    let genesis = match Genesis::read(alloc, bytes) {
+        Ok(genesis) => genesis,
+        Err(GenesisFault::Memory) => return Err(AllocError),
+        Err(_) => return Ok(None),
+    };
+    let Some(numbers) = liars_said(alloc, bytes)? else {
+        return Ok(None);
+    };
+    match Liars::new(alloc, &genesis, numbers.as_slice()) {
+        Ok(liars) => Ok(Some(Group { genesis, liars })),
+        Err(LiarFault::Memory) => Err(AllocError),
+        Err(_) => Ok(None),
+    }
+}
+
+/// The liars that a file of JSON says, where each could be a member's number.
+#[tactic(auto, unfolding(crate::specs::Group::liars_said))]
+fn liars_said(alloc: Global, bytes: &[u8]) -> Result<Option<Vec<u16>>, AllocError>
+    ensures { IfOk result (λ said. option_map (λ liars. liars.items) said
+        ≡ fitting (liars_said bytes.now)) }
+{
+    let Some(value) = value_in(alloc, bytes)? else {
+        return Ok(None);
+    };
+    let Some(numbers) = numbers_at(alloc, &value, "liars")? else {
+        return Ok(None);
+    };
+    as_members(alloc, numbers.as_slice())
+}
+
+/// The same numbers in 16 bits, where they fit.
+fn as_members(alloc: Global, numbers: &[u64]) -> Result<Option<Vec<u16>>, AllocError>
+    ensures { IfOk result (λ members. option_map (λ members. members.items) members
+        ≡ if_short numbers.now) }
+{
+    let mut members = Vec::new(alloc);
+    for number in numbers {
+        let Ok(member) = u16::try_from(*number) else {
+            return Ok(None);
+        };
+        members.push(member)?;
+    }
+    Ok(Some(members))
+}

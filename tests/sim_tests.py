@@ -1,0 +1,117 @@
+"""Black-box tests of scripts that `payd sim` plays."""
+
+import os
+import random
+
+from model import play
+from runs import TOP, run, run_byte_by_byte, same, shows, test
+from scripts import FOUR_ONE_LIAR, WORKED, RandomScripts, script_of
+
+LIMIT = 1_000_000
+
+
+def sim(script, of):
+    """A script that is played prints what the model prints, and nothing on standard error."""
+    text, status = play(script)
+    shows(run(["sim"], script), status, text, of=of)
+
+
+def text_of(lines):
+    return "".join(f"{line}\n" for line in lines)
+
+
+@test
+def worked_scripts_are_played():
+    for name, world, commands, lines, status in WORKED:
+        shows(run(["sim"], script_of(world, commands)), status, text_of(lines), of=name)
+
+
+@test
+def model_plays_worked_scripts():
+    for name, world, commands, lines, status in WORKED:
+        same(play(script_of(world, commands)), (text_of(lines), status), name)
+
+
+@test
+def random_scripts_as_the_model_plays_them():
+    for seed in range(150):
+        sim(RandomScripts(seed).script(), of=f"random script {seed}")
+
+
+@test
+def examples_of_scripts():
+    for name, status in (("honest-day", 0), ("split-votes", 1), ("circular-debts", 0)):
+        with open(os.path.join(TOP, "examples", f"{name}.txt"), "rb") as script:
+            lines = script.read()
+        with open(os.path.join(TOP, "examples", f"{name}-answers.txt"), encoding="ascii") as answers:
+            text = answers.read()
+        shows(run(["sim"], lines), status, text, of=name)
+        same(play(lines), (text, status), f"the model of {name}")
+
+
+@test
+def script_in_pieces():
+    script = script_of(FOUR_ONE_LIAR, ["ask 0 1 30", "", "all", "show"])
+    wanted = run(["sim"], script)
+    same(run_byte_by_byte(script, ["sim"]), wanted, "byte by byte")
+    same(run(["sim"], script[:-1]), wanted, "the last line without its end")
+
+
+@test
+def script_cut_at_every_place():
+    script = script_of(FOUR_ONE_LIAR, ["ask 0 1 30", "bring 0 1 0", "raw 1 00"])
+    for size in range(len(script)):
+        sim(script[:size], of=f"the first {size} bytes")
+
+
+@test
+def script_with_one_byte_changed():
+    script = script_of(FOUR_ONE_LIAR, ["ask 0 1 30", "bring 0 1 0", "all", "show"])
+    seeded = random.Random(17)
+    for place in range(0, len(script), 2):
+        changed = bytearray(script)
+        changed[place] = seeded.choice(b" 0129\n\r-{}[],:\"ask\x00\xff")
+        sim(bytes(changed), of=f"byte {place} is {changed[place]}")
+
+
+@test
+def lines_of_the_bound():
+    # JSON takes blanks behind the group, so that its line can be of any length
+    for size in (4095, 4096, 4097, 8192, 70000):
+        sim(FOUR_ONE_LIAR.encode().ljust(size) + b"\nshow\n", of=f"a first line of {size} bytes")
+        for line in (b"raw 0 " + b"00" * 4096, b"show", b""):
+            sim(FOUR_ONE_LIAR.encode() + b"\n" + line[:size].ljust(size, b"0"), of=f"a line of {size} bytes")
+
+
+@test
+def no_more_than_a_million_events():
+    script = script_of(FOUR_ONE_LIAR, ["raw 9 -"] * LIMIT + ["show", "bring 0 1 0", "", "all"])
+    shown = text_of(f"member {it} fronts 0 0 0 0 balances 100 0 0 50" for it in range(3))
+    text = LIMIT * "ignored\n" + shown + "absent\nbrought 0\nconverged\n"
+    shows(run(["sim"], script), 0, text, of="a million events")
+    for line, last, status in (
+        ("raw 9 -", "limit", 3),
+        ("lie 0 1 next send 0 0 -", "limit", 3),
+        ("ask 0 1 30", "limit", 3),
+        ("raw 9", f"bad line {LIMIT + 6}", 2),
+    ):
+        shows(run(["sim"], script + f"{line}\n".encode()), status, f"{text}{last}\n", of=line)
+
+
+@test
+def all_that_meets_the_limit():
+    script = script_of(FOUR_ONE_LIAR, ["ask 0 1 30", *["raw 9 -"] * (LIMIT - 14), "all", "show"])
+    text = text_of(["asked 0 seq 0", *["ignored"] * (LIMIT - 14), "limit"])
+    shows(run(["sim"], script), 3, text, of="a frame too many")
+    script = script_of(FOUR_ONE_LIAR, ["ask 0 1 30", *["raw 9 -"] * (LIMIT - 15), "all"])
+    text = text_of(["asked 0 seq 0", *["ignored"] * (LIMIT - 15), "brought 14", "converged"])
+    shows(run(["sim"], script), 0, text, of="just as many frames")
+
+
+@test
+def words_of_scripts():
+    status, output, errors = run(["sim", "--help"])
+    same((status, errors, "converged" in output), (0, "", True), "help")
+    for words in (["sim", "fly"], ["sim", "--genesis", "g"], ["sims"]):
+        status, output, errors = run(words)
+        same((status, output, errors != ""), (2, "", True), f"{words}")
