@@ -22,7 +22,8 @@ use std::alloc::{AllocError, Global};
 /// How many bytes a number of an answer takes at most in a front, with the blank before it.
 const MOST_NUMBER: usize = 11;
 
-/// A desk: a teller, how many accounts there are and which one is the own, and all payments that were asked for.
+/// A desk: a teller, how many accounts there are and which one is the own, and all payments that
+/// were asked for.
 #[derive(Drop)]
 pub struct Desk<T> {
     teller: T,
@@ -81,7 +82,8 @@ impl<T: Teller> Desk<T> {
     // An id that is kept has its answer; another one is looked at.
     fn pay(&mut self, alloc: Global, order: Order) -> Result<Vec<u8>, AllocError>
         ensures text { IfOk result (λ text.
-            AnswersPay T.says (kept_under order.id self.old.kept) order self.old text.items self.new) }
+            AnswersPay T.says (kept_under order.id self.old.kept) order
+            self.old text.items self.new) }
         ensures err { OnErr result (self.new ≡ self.old) }
     {
         match self.kept.find(order.id) {

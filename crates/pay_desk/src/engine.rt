@@ -56,8 +56,8 @@ fn memory_text() -> Text
     Text::Fixed(MEMORY)
 }
 
-/// Answers the lines that are read, to the input's end. A line over the bound is refused as a whole; where memory is
-/// refused the answer says so, and it goes on.
+/// Answers the lines that are read, to the input's end. A line over the bound is refused as a
+/// whole; where memory is refused the answer says so, and it goes on.
 ///
 /// After a fault what was written is a prefix of the answers.
 pub fn run_desk<T: Teller, R: Input, W: Output>(

@@ -57,8 +57,8 @@ impl KeptOrders {
         kept_at(self.kept.as_slice(), place)
     }
 
-    /// Has a teller broadcast the value of a payment, and keeps that it was asked for. Memory is refused before the
-    /// teller is asked, or by it. A refused payment isn't kept.
+    /// Has a teller broadcast the value of a payment, and keeps that it was asked for. Memory is
+    /// refused before the teller is asked, or by it. A refused payment isn't kept.
     pub fn ask<T: Teller>(
         &mut self,
         alloc: Global,
@@ -85,8 +85,8 @@ fn kept_at(kept: &[Kept], place: usize) -> Option<Kept>
     kept.get(place).copied()
 }
 
-// Makes room for a place under an id that has none, and has a teller broadcast a value. Where it isn't broadcast the
-// places are as before.
+// Makes room for a place under an id that has none, and has a teller broadcast a value. Where it
+// isn't broadcast the places are as before.
 fn ask_with_place<T: Teller>(
     places: &mut HashMap<u64, usize>,
     place: usize,

@@ -1,7 +1,8 @@
-//! What the owner of an account types: commands to pay and to look, each answered by a line or more.
+//! What the owner of an account types: commands to pay and to look, each answered by a line or
+//! more.
 //!
-//! A [`Desk`] stands over any [`Teller`], as over a member that is its own. It keeps each payment that it asked for
-//! under the id that its owner gave it, so that a line may be given again.
+//! A [`Desk`] stands over any [`Teller`], as over a member that is its own. It keeps each payment
+//! that it asked for under the id that its owner gave it, so that a line may be given again.
 #![tactic(auto)]
 
 mod command;

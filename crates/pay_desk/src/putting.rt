@@ -1,5 +1,5 @@
-//! Answers of one line each, put into room that was made before: so nothing stands between a teller's reply and the
-//! answer that tells it.
+//! Answers of one line each, put into room that was made before: so nothing stands between a
+//! teller's reply and the answer that tells it.
 
 ghost use Rattle.std.specs.Prelude.{◌≡◌, ◌+◌, ◌++◌, ◌≤◌, [], IfOk, decimal, length, vec_capacity, vec_len};
 ghost use Rattle.pay_desk.specs.Answers.{kept_words};

@@ -10,8 +10,8 @@ use std::alloc::Global;
 
 /// Whom a desk asks: a member, or a node that holds one under its lock.
 ///
-/// What is said of a call is what it replied, and the values that it broadcast. Of the member behind a teller nothing
-/// is said between two calls.
+/// What is said of a call is what it replied, and the values that it broadcast. Of the member
+/// behind a teller nothing is said between two calls.
 pub trait Teller {
     // What becomes of a teller by a call: who it was, the call, the reply, and who it is then.
     ghost says: { Self → Call → Reply → Self → Type 0 };
@@ -19,8 +19,8 @@ pub trait Teller {
     // The values that were broadcast through it, oldest first.
     ghost asked: { Self → List (List ℕ) };
 
-    /// Broadcasts a value of the account's own, of at most 1,024 bytes, and returns the number that it got, or
-    /// `Spent`.
+    /// Broadcasts a value of the account's own, of at most 1,024 bytes, and returns the number that
+    /// it got, or `Spent`.
     fn ask(&mut self, alloc: Global, value: Bytes) -> Result<u32, TellerFault>
         requires { length value ≤ GREATEST_VALUE }
         ensures { Replies says self.old (call.Ask value) call.Asked result self.new };

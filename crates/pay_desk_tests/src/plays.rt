@@ -1,7 +1,7 @@
 //! Rows played on a desk.
 //!
-//! They also hold where an allocation fails, as under `rt try --test --fail-alloc N`: a line that got no memory has its
-//! answer when it is given again.
+//! They also hold where an allocation fails, as under `rt try --test --fail-alloc N`: a line that
+//! got no memory has its answer when it is given again.
 
 use crate::rows::{ANSWERED, PRINTED, ROWS, Row, TYPED};
 use crate::trial::{Own, answers, behind, desk_of, fresh};

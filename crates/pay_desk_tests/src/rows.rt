@@ -12,7 +12,8 @@ pub(crate) struct Vote {
     pub(crate) value: &'static [u8],
 }
 
-/// A member of four that broadcast these values and took these votes, and lines to its desk with their answers.
+/// A member of four that broadcast these values and took these votes, and lines to its desk with
+/// their answers.
 pub(crate) struct Row {
     pub(crate) name: &'static str,
     pub(crate) asked: &'static [&'static [u8]],
