@@ -27,7 +27,8 @@ impl Model for Beginning {
 
     ghost Value = { GenesisFields };
 
-    ghost view = { λ b. record { members = b.members; faults = b.faults; opening = b.opening.items } };
+    ghost view = { λ b.
+        record { members = b.members; faults = b.faults; opening = b.opening.items } };
 }
 
 /// What an object says of an export, whatever its sizes.
