@@ -12,15 +12,15 @@ use Rattle.pay_audit.specs.Laws.{HasRightBalances, HasRightFront, logs_of}
 
 -- ---- no number differs
 
-first_same : (b : Bool) (place : ℕ) (rest : Option ℕ) → option_or (if b then None else Some place) rest ≡ None → b ≡ true
+pub first_same : (b : Bool) (place : ℕ) (rest : Option ℕ) → option_or (if b then None else Some place) rest ≡ None → b ≡ true
 first_same true place rest h = refl
 first_same false place rest h = absurd cc
 
-rest_none : (b : Bool) (place : ℕ) (rest : Option ℕ) → option_or (if b then None else Some place) rest ≡ None → rest ≡ None
+pub rest_none : (b : Bool) (place : ℕ) (rest : Option ℕ) → option_or (if b then None else Some place) rest ≡ None → rest ≡ None
 rest_none true place rest h = h
 rest_none false place rest h = absurd cc
 
-both_none : (b : Bool) (place : ℕ) (rest : Option ℕ) → b ≡ true → rest ≡ None → option_or (if b then None else Some place) rest ≡ None
+pub both_none : (b : Bool) (place : ℕ) (rest : Option ℕ) → b ≡ true → rest ≡ None → option_or (if b then None else Some place) rest ≡ None
 both_none true place rest e h = h
 both_none false place rest e h = absurd cc
 

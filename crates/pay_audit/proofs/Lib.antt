@@ -1,3 +1,4 @@
+mod Forking
 mod Judging
 mod Numbers
 mod Pushing

@@ -1,12 +1,12 @@
 -- What a verdict's parts say of an export, in the words of the book: which fronts steps reach, and which balances are
 -- there. Each is proved as a public law.
-use Rattle.std.specs.Prelude.{◌≡◌, ◌↔◌, ℕ, List, length, slice_index, None}
+use Rattle.std.specs.Prelude.{◌≡◌, ◌↔◌, ℕ, List, length, slice_get, slice_index, Some, None}
 use Rattle.pay_book.specs.Payment.{entries_of}
 use Rattle.pay_book.specs.Balance.{AreBalances}
 use Rattle.pay_book.specs.Front.{IsLargest}
 use Rattle.pay_book.specs.declared.payment.Entry.{Entry}
 use Rattle.pay_audit.specs.Export.{ExportFields, IsExport, lists_of}
-use Rattle.pay_audit.specs.Verdict.{wrong_balance_of, wrong_front_of}
+use Rattle.pay_audit.specs.Verdict.{fork_between, wrong_balance_of, wrong_front_of}
 
 -- the accounts' entries in an export's own lists
 abbrev pub logs_of : ExportFields → ℕ → List Entry
@@ -28,3 +28,16 @@ FrontIsJudged = (e : ExportFields) → IsExport e → (wrong_front_of e ≡ None
 abbrev pub BalancesAreJudged : Type 0
 BalancesAreJudged =
     (e : ExportFields) → IsExport e → wrong_front_of e ≡ None → (wrong_balance_of e ≡ None) ↔ HasRightBalances e
+
+-- no place that both lists have has two values
+abbrev pub Agreeing : List (List ℕ) → List (List ℕ) → Type 0
+Agreeing one other =
+    (s : ℕ) (v w : List ℕ) → slice_get one s ≡ Some v → slice_get other s ≡ Some w → v ≡ w
+
+abbrev pub AgreeWith : ExportFields → ExportFields → Type 0
+AgreeWith one other = (a : ℕ) → Agreeing (lists_of one a) (lists_of other a)
+
+-- two exports have no fork where all their lists agree, and only there
+abbrev pub ForkIsJudged : Type 0
+ForkIsJudged =
+    (x y : ℕ) (one other : ExportFields) → (fork_between x one y other ≡ None) ↔ AgreeWith one other

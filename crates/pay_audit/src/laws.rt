@@ -1,7 +1,7 @@
 //! Laws of the definitions: what a verdict's parts say of an export. Each function's contract is the law; its body only
 //! names the laws below that it stands on.
 
-ghost use Rattle.pay_audit.specs.Laws.{BalancesAreJudged, FrontIsJudged};
+ghost use Rattle.pay_audit.specs.Laws.{BalancesAreJudged, ForkIsJudged, FrontIsJudged};
 
 use pay_book::laws::{largest_is_computed, largest_is_one, settled_book_exists};
 
@@ -20,3 +20,8 @@ pub fn balances_are_judged()
     largest_is_computed();
     settled_book_exists();
 }
+
+/// Two exports have no fork exactly where their lists of each account agree at every place that both have.
+pub fn fork_is_judged()
+    ensures { ForkIsJudged }
+{}
