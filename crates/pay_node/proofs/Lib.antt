@@ -1,5 +1,7 @@
 pub mod Counted
+pub mod Feedings
 pub mod Fresh
+pub mod Growings
 pub mod Judged
 pub mod Openings
 pub mod Replays

@@ -2,6 +2,8 @@ pub mod Shown
 pub mod Receipts
 pub mod Seats
 pub mod Nodes
+pub mod Feeding
+pub mod Growing
 pub mod Judging
 pub mod Faults
 pub mod Closing

@@ -6,11 +6,13 @@
 
 mod close_fault;
 mod closing;
+mod feeding;
 mod gate;
 mod judging;
 mod node;
 mod opening;
 mod question;
+mod readers;
 mod receipt;
 mod replaying;
 mod same;
@@ -20,9 +22,11 @@ mod shown;
 mod stopped;
 
 pub use close_fault::CloseFault;
+pub use feeding::read_peer;
 pub use gate::{Gate, OpenGate};
 pub use node::{MOST_SEATS, Node};
 pub use question::Question;
+pub use readers::{Dial, Dialed, MOST_IDLE, run_readers};
 pub use receipt::{Call, Receipt};
 pub use seat::Seat;
 pub use shown::{Bodies, Fronts, Shown, Statement};

@@ -1,13 +1,16 @@
 ghost use Rattle.std.specs.Prelude.{◌≡◌, ◌≢◌, ◌+◌, ◌<◌, ◌≤◌, ◌^◌, [], IfOk, IfErr, OnErr};
+ghost use Rattle.pay_frame.specs.Lent.{fields_of};
 ghost use Rattle.pay_link.specs.Keys.{IsPeer};
+ghost use Rattle.pay_link.specs.Opening.{judgement};
+ghost use Rattle.pay_member.specs.Bringing.{judged};
 ghost use Rattle.pay_member.specs.Legal.{Legal};
 ghost use Rattle.pay_node.specs.Closing.{AllSettled, IsFault};
 ghost use Rattle.pay_node.specs.Receipts.{HadMemory, LackedMemory};
-ghost use Rattle.pay_node.specs.Nodes.{AreFresh, HasNext, IsAnswered, IsBrought, IsShown, IsTaken, asked, outcome_of, taken, told, want_of};
+ghost use Rattle.pay_node.specs.Nodes.{AreFresh, HasNext, IsAnswered, IsAnsweredAs, IsBrought, IsShown, IsTaken, asked, outcome_of, taken, told, want_of};
 
 use crate::close_fault::CloseFault;
 use crate::gate::{Gate, OpenGate};
-use crate::opening::open_bytes;
+use crate::opening::{open_bytes, open_frame};
 use crate::question::Question;
 use crate::seat::Seat;
 use crate::showing::copy_of;
@@ -16,7 +19,7 @@ use crate::stopped::Stopped;
 use pay_book::Settle;
 use pay_channel::laws::taken_in_order;
 use pay_echo::Instance;
-use pay_frame::{Body, Bytes, Kind};
+use pay_frame::{Body, Bytes, FrameRef, Kind};
 use pay_hmac::Tagger;
 use pay_link::{Checked, Keys, LinkFault, Opened, want};
 use pay_member::{Brought, Event, Member, MemberFault, Outcome, PaymentState, Reply, Told, Took};
@@ -250,6 +253,29 @@ impl<I: Instance + Drop, B: Settle + Drop> Node<I, B> {
         ensures back { IfErr result (λ back. back.1.node ≡ self) }
     {
         self.stop().close(alloc, seats)
+    }
+
+    // Brings a frame that was read already.
+    pub(crate) fn bring_frame<R: Wait, T: Tagger, G: Gate>(
+        &self,
+        rt: &R,
+        alloc: Global,
+        seat: &mut Seat,
+        tagger: &T,
+        gate: &G,
+        frame: FrameRef<'_>,
+    ) -> Result<Brought, AllocError>
+        ensures brought { IfOk result (λ brought. IsAnsweredAs self.now.keys seat.old seat.new
+            (judged (judgement self.now.keys (fields_of frame.entry))) brought) }
+        ensures err { OnErr result (seat.new ≡ seat.old) }
+    {
+        match open_frame(tagger, &self.keys, frame) {
+            Ok(opened) => self.take_opened(rt, alloc, seat, tagger, gate, &opened),
+            Err(outcome) => Ok(Brought {
+                outcome,
+                want: None,
+            }),
+        }
     }
 
     // Takes a frame that opened, and answers with the WANT for what is next.

@@ -28,10 +28,17 @@ pub(crate) const FOUR: Group = Group {
 
 /// A SEND of member 0 to member 1, number 0, about its first broadcast, with an empty value. It and the frames
 /// below are tagged by another program.
-const SEND: [u8; 56] = [
+pub(crate) const SEND: [u8; 56] = [
     0, 54, 1, 1, 0, 0, 0, 1, 0, 0, 0, 0, 0, 0, 0, 0, 0, 0, 0, 0, 0, 0, 0, 0, 95, 18, 216, 156, 232,
     199, 171, 234, 104, 63, 10, 5, 239, 51, 203, 236, 225, 46, 12, 222, 29, 67, 48, 187, 155, 99,
     95, 28, 6, 226, 59, 98,
+];
+
+/// A SEND of member 2 to member 1, number 0, about its own first broadcast.
+pub(crate) const SEND_OF_2: [u8; 56] = [
+    0, 54, 1, 1, 0, 2, 0, 1, 0, 0, 0, 0, 0, 0, 0, 0, 0, 2, 0, 0, 0, 0, 0, 0, 231, 22, 134, 156, 37,
+    150, 246, 81, 208, 114, 247, 104, 241, 88, 172, 110, 111, 209, 112, 126, 41, 224, 207, 97, 218,
+    161, 179, 71, 229, 227, 115, 75,
 ];
 
 /// One of number 5, about its second broadcast.

@@ -1,0 +1,45 @@
+-- A fed seat has its receipts still, and some more behind them.
+use Rattle.std.specs.Prelude.{⊤}
+use Rattle.std.proofs.Common.{◌≡◌, List, [], ◌∷◌, ◌++◌, Option, Result, Ok, Err, ℕ, sym, ap, ◌∙◌, append-nil, append_assoc}
+use Rattle.pay_frame.specs.declared.engine_fault.EngineFault.{EngineFault}
+use Rattle.pay_frame.specs.declared.engine_fault.EngineFault.TheVariants.{Memory, Frame, Read, Write, Bound}
+use Rattle.pay_frame.specs.Frame.{FrameFields}
+use Rattle.pay_link.specs.Keys.{KeyFields}
+use Rattle.pay_link.specs.Opening.{OpenedFields, judgement}
+use Rattle.pay_member.specs.declared.brought.Brought.{Brought}
+use Rattle.pay_member.specs.declared.outcome.Outcome.{Outcome}
+use Rattle.pay_member.specs.Bringing.{judged}
+use Rattle.pay_node.specs.declared.receipt.Receipt.{Receipt}
+use Rattle.pay_node.specs.Nodes.{IsAnsweredAs}
+use Rattle.pay_node.specs.Seats.{SeatFields, with_receipts}
+use Rattle.pay_node.specs.Feeding.{AreFed, Run, HasFed}
+use Rattle.pay_node.specs.Growing.{Grows}
+
+pub grows_not : (seat : SeatFields) → Grows seat seat
+grows_not seat = record { more = []; is = ap (λ (l : List Receipt). record seat { receipts = l }) (sym (append-nil seat.receipts)) }
+
+pub grows_on : (a b c : SeatFields) → Grows a b → Grows b c → Grows a c
+grows_on a b c one two = record {
+  more = one.more ++ two.more;
+  is = two.is ∙ ap (λ (s : SeatFields). with_receipts s two.more) one.is ∙ ap (λ (l : List Receipt). record a { receipts = l }) (append_assoc a.receipts one.more two.more);
+}
+
+same_grows : (a b : SeatFields) → b ≡ a → Grows a b
+same_grows a b same = record { more = []; is = same ∙ ap (λ (l : List Receipt). record a { receipts = l }) (sym (append-nil a.receipts)) }
+
+answered_grows : (k : KeyFields) (before after : SeatFields) (r : Result OpenedFields Outcome) (b : Brought) → IsAnsweredAs k before after r b → Grows before after
+answered_grows k before after (Ok opened) b is = record { more = _; is = is.answered.receipt }
+answered_grows k before after (Err o) b is = same_grows before after is.2
+
+fed_grows : (k : KeyFields) (before after : SeatFields) (fs : List FrameFields) (text : List ℕ) → AreFed k before after fs text → Grows before after
+fed_grows k before after [] text are = same_grows before after are.0
+fed_grows k before after (f ∷ fs) text are =
+    grows_on before are.0 after (answered_grows k before are.0 (judged (judgement k f)) are.3.brought are.3.is) (fed_grows k are.0 after fs are.2 are.4)
+
+pub run_grows : (run : Run) (seat : SeatFields) (left after : Option (List ℕ)) (r : Result ⊤ EngineFault) → HasFed run seat left after r → Grows run.seat seat
+run_grows run seat left after (Ok _) is = fed_grows run.keys run.seat seat is.0.frames is.0.text is.0.fed
+run_grows run seat left after (Err (Frame fault)) is = fed_grows run.keys run.seat seat is.frames is.text is.fed
+run_grows run seat left after (Err Memory) is = fed_grows run.keys run.seat seat is.frames is.text is.fed
+run_grows run seat left after (Err Read) is = fed_grows run.keys run.seat seat is.frames is.text is.fed
+run_grows run seat left after (Err Write) is = fed_grows run.keys run.seat seat is.frames is.text is.fed
+run_grows run seat left after (Err Bound) is = fed_grows run.keys run.seat seat is.frames is.text is.fed

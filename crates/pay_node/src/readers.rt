@@ -1,0 +1,153 @@
+//! Workers that read from peers, each in a thread of its own.
+
+ghost use Rattle.std.specs.Prelude.{◌≡◌};
+ghost use Rattle.pay_node.specs.Growing.{EachGrows, Grows, HasGrown};
+
+use crate::feeding::read_peer;
+use crate::gate::Gate;
+use crate::node::Node;
+use crate::seat::Seat;
+use pay_book::Settle;
+use pay_echo::Instance;
+use pay_frame::{Input, Output};
+use pay_hmac::Tagger;
+use std::alloc::Global;
+use std::sync::Wait;
+use std::thread;
+use std::thread::Threads;
+use std::time::{Clock, Duration};
+
+/// How often a worker dials in a row without a frame that opened.
+pub const MOST_IDLE: u32 = 1_000;
+
+/// How long a worker sleeps before it dials again.
+const PAUSE_MILLIS: u64 = 10;
+
+/// How a worker gets its streams.
+pub trait Dial<In, Out> {
+    fn dial(&self, peer: u16) -> Dialed<In, Out>;
+}
+
+/// What came of dialing.
+#[derive(Drop)]
+pub enum Dialed<In, Out> {
+    Streams(In, Out),
+    Failed,
+    /// The worker has to end.
+    Stop,
+}
+
+/// Runs a worker for each peer and its seat, which dials and feeds the node from what it gets, again and again,
+/// until it is told to stop. Returns once all have ended.
+pub fn run_readers<H, I, B, T, G, D, In, Out>(
+    rt: &H,
+    alloc: Global,
+    node: &Node<I, B>,
+    tagger: &T,
+    gate: &G,
+    dial: &D,
+    pairs: &mut [(u16, Seat)],
+)
+where
+    H: Threads + Wait + Clock + Sync,
+    I: Instance + Drop + Send,
+    B: Settle + Drop + Send,
+    T: Tagger + Sync,
+    G: Gate + Sync,
+    D: Dial<In, Out> + Sync,
+    In: Input + Drop + Send,
+    Out: Output + Drop + Send,
+    ensures { EachGrows pairs.old pairs.new }
+{
+    let threads = pairs.len().max(1);
+    thread::for_each_mut(
+        rt,
+        pairs,
+        threads,
+        &|_, pair: &mut (u16, Seat)|
+            ensures { HasGrown pair.entry.now pair.exit.now }
+        { keep_reading(rt, alloc, node, tagger, gate, dial, pair.0, &mut pair.1) },
+    );
+}
+
+// One worker.
+fn keep_reading<H, I, B, T, G, D, In, Out>(
+    rt: &H,
+    alloc: Global,
+    node: &Node<I, B>,
+    tagger: &T,
+    gate: &G,
+    dial: &D,
+    peer: u16,
+    seat: &mut Seat,
+)
+where
+    H: Wait + Clock,
+    I: Instance + Drop,
+    B: Settle + Drop,
+    T: Tagger,
+    G: Gate,
+    D: Dial<In, Out>,
+    In: Input + Drop,
+    Out: Output + Drop,
+    ensures { Grows seat.old seat.new }
+{
+    let mut idle = 0;
+    for _ in rt.forever() {
+        if idle >= MOST_IDLE {
+            return;
+        }
+        match dial.dial(peer) {
+            Dialed::Stop => return,
+            Dialed::Failed => idle += 1,
+            Dialed::Streams(reader, writer) => {
+                let met = feed(rt, alloc, node, tagger, gate, peer, seat, reader, writer);
+                idle = if met { 0 } else { idle + 1 };
+            }
+        }
+        thread::sleep(rt, Duration::from_millis(PAUSE_MILLIS));
+    }
+    unreachable!()
+}
+
+// Feeds the node from one connection. Answers whether a frame came that opened.
+fn feed<H, I, B, T, G, In, Out>(
+    rt: &H,
+    alloc: Global,
+    node: &Node<I, B>,
+    tagger: &T,
+    gate: &G,
+    peer: u16,
+    seat: &mut Seat,
+    reader: In,
+    writer: Out,
+) -> bool
+where
+    H: Wait,
+    I: Instance + Drop,
+    B: Settle + Drop,
+    T: Tagger,
+    G: Gate,
+    In: Input + Drop,
+    Out: Output + Drop,
+    ensures { Grows seat.old seat.new }
+{
+    if !node.keys().is_peer(peer) {
+        return false;
+    }
+    let mut reader = reader;
+    let mut writer = writer;
+    let before = seat.receipts().len();
+    let _ = read_peer(
+        rt,
+        alloc,
+        node,
+        seat,
+        tagger,
+        gate,
+        peer,
+        &mut reader,
+        &mut writer,
+    );
+    seat.receipts().len() > before
+}
