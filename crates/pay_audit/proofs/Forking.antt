@@ -13,7 +13,7 @@ use Rattle.pay_audit.proofs.Judging.{both_none, first_same, rest_none}
 
 -- ---- two lists
 
-agree_at : (k : ℕ) (vs ws : List (List ℕ)) → first_from if_differ k (zip vs ws) ≡ None → Agreeing vs ws
+pub agree_at : (k : ℕ) (vs ws : List (List ℕ)) → first_from if_differ k (zip vs ws) ≡ None → Agreeing vs ws
 agree_at k [] ws h s v w hv hw = absurd cc
 agree_at k (x ∷ vs) [] h s v w hv hw = absurd cc
 agree_at k (x ∷ vs) (y ∷ ws) h zero v w hv hw =
@@ -42,7 +42,7 @@ none_here : (v : Option Verdict) (rest : Option Verdict) → v ≡ None → rest
 none_here None rest e h = h
 none_here (Some v) rest e h = absurd cc
 
-unmapped : (f : ℕ → Verdict) (o : Option ℕ) → option_map f o ≡ None → o ≡ None
+pub unmapped : (f : ℕ → Verdict) (o : Option ℕ) → option_map f o ≡ None → o ≡ None
 unmapped f None h = refl
 unmapped f (Some x) h = absurd cc
 

@@ -51,7 +51,7 @@ none_of_same right ns e = at_none right 0 ns (λ i below. ap (λ (l : List ℕ).
 
 -- ---- fronts
 
-front_is : LargestIsComputed → (e : ExportFields) → IsExport e → wrong_front_of e ≡ None → e.front ≡ (book_of e).front
+pub front_is : LargestIsComputed → (e : ExportFields) → IsExport e → wrong_front_of e ≡ None → e.front ≡ (book_of e).front
 unfolding wrong_front_of
 front_is computed e x h =
     same_list (book_of e).front e.front (x.front ∙ sym (x.genesis.opening) ∙ sym (computed e.genesis.opening (logs_of e)).0) h
@@ -67,7 +67,7 @@ right_front computed one e x = (
 
 -- ---- balances
 
-pos_is : (a b : ℕ) → pos a ≡ pos b → a ≡ b
+pub pos_is : (a b : ℕ) → pos a ≡ pos b → a ≡ b
 pos_is a b h = cc
 
 pub right_balances : LargestIsComputed → SettledBookExists → (e : ExportFields) → IsExport e → wrong_front_of e ≡ None

@@ -1,5 +1,9 @@
+mod Firsts
 mod Forking
+mod Forks
 mod Judging
 mod Numbers
 mod Pushing
+mod Saying
 mod Showing
+mod Verdicts

@@ -4,3 +4,4 @@ pub mod Exporting
 pub mod Replay
 pub mod Verdict
 pub mod Laws
+pub mod Said

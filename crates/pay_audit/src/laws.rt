@@ -2,6 +2,7 @@
 //! names the laws below that it stands on.
 
 ghost use Rattle.pay_audit.specs.Laws.{BalancesAreJudged, ForkIsJudged, FrontIsJudged};
+ghost use Rattle.pay_audit.specs.Said.{CleanIsJudged, VerdictIsSaid};
 
 use pay_book::laws::{largest_is_computed, largest_is_one, settled_book_exists};
 
@@ -25,3 +26,14 @@ pub fn balances_are_judged()
 pub fn fork_is_judged()
     ensures { ForkIsJudged }
 {}
+
+/// What the verdict of exports says is so: nothing is wrong, or the case that it names is the first of the first kind that
+/// there is. It is Clean exactly where nothing is wrong.
+pub fn verdict_is_judged()
+    ensures said { VerdictIsSaid }
+    ensures clean { CleanIsJudged }
+{
+    largest_is_computed();
+    largest_is_one();
+    settled_book_exists();
+}
