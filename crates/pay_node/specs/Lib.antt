@@ -7,3 +7,5 @@ pub mod Growing
 pub mod Judging
 pub mod Faults
 pub mod Closing
+pub mod Telling
+pub mod SeatAsks

@@ -20,6 +20,7 @@ mod seat;
 mod showing;
 mod shown;
 mod stopped;
+mod teller;
 
 pub use close_fault::CloseFault;
 pub use feeding::read_peer;
@@ -31,3 +32,4 @@ pub use receipt::{Call, Receipt};
 pub use seat::Seat;
 pub use shown::{Bodies, Fronts, Shown, Statement};
 pub use stopped::Stopped;
+pub use teller::NodeTeller;

@@ -94,6 +94,13 @@ impl Statement {
         self.balance
     }
 
+    pub fn into_parts(self) -> (Vec<Line>, u64)
+        ensures lines { result.0.items ≡ self.lines }
+        ensures balance { result.1 ≡ self.balance }
+    {
+        (self.lines, self.balance)
+    }
+
     pub fn copy(&self, alloc: Global) -> Result<Statement, AllocError>
         ensures { IfOk result (λ copy. copy ≡ self.now) }
     {

@@ -184,3 +184,15 @@ pub(crate) const PRINTED: [(CloseFault, &str); 2] = [
     (CloseFault::Memory, "0 Memory"),
     (CloseFault::Mismatch(7), "1 Mismatch"),
 ];
+
+/// Lines to the desk of member 1 of four, each with its answer.
+pub(crate) const LINES: [(&str, &str); 8] = [
+    ("BALANCE 3", "balance 3 50\n"),
+    ("FRONT", "front 0 0 0 0\n"),
+    ("STATEMENT 3", "end 3 balance 50\n"),
+    ("BALANCE 4", "refused 2 NoAccount\n"),
+    ("STATE 4 0", "refused 2 NoAccount\n"),
+    ("PAY 9 0 30", "asked 9 seq 0\n"),
+    ("PAY 9 0 30", "asked 9 seq 0\n"),
+    ("STATE 1 0", "state 1 0 asked\n"),
+];

@@ -1,0 +1,66 @@
+ghost use Rattle.std.specs.Prelude.{◌≡◌};
+ghost use Rattle.pay_node.specs.Telling.{SeatSays, values_told};
+
+use crate::node::Node;
+use crate::seat::Seat;
+use pay_book::{Line, Settle};
+use pay_desk::{Teller, TellerFault};
+use pay_echo::Instance;
+use pay_frame::Bytes;
+use pay_member::{MemberFault, PaymentState, Told};
+use std::alloc::Global;
+use std::sync::Wait;
+
+/// A node as a desk's teller, which calls it from a seat of its own.
+#[derive(Drop)]
+pub struct NodeTeller<'a, R, I: Instance + Drop, B: Settle + Drop> {
+    pub rt: &'a R,
+    pub node: &'a Node<I, B>,
+    pub seat: Seat,
+}
+
+impl<R: Wait, I: Instance + Drop, B: Settle + Drop> Teller for NodeTeller<'_, R, I, B> {
+    ghost says = { λ old called reply new. SeatSays old.seat called reply new.seat };
+
+    ghost asked = { λ t. values_told t.seat.receipts };
+
+    fn ask(&mut self, alloc: Global, value: Bytes) -> Result<u32, TellerFault> {
+        match self.node.ask(self.rt, alloc, &mut self.seat, value) {
+            Ok(seq) => Ok(seq),
+            Err(MemberFault::Spent) => Err(TellerFault::Spent),
+            Err(_) => Err(TellerFault::Memory),
+        }
+    }
+
+    fn query(&mut self, alloc: Global, account: u16) -> Result<Told, TellerFault> {
+        match self.node.query(self.rt, alloc, &mut self.seat, account) {
+            Ok(told) => Ok(told),
+            Err(MemberFault::NoAccount) => Err(TellerFault::NoAccount),
+            Err(_) => Err(TellerFault::Memory),
+        }
+    }
+
+    fn state(&mut self, alloc: Global, owner: u16, seq: u32) -> Result<PaymentState, TellerFault> {
+        match self.node.state(self.rt, alloc, &mut self.seat, owner, seq) {
+            Ok(state) => Ok(state),
+            Err(MemberFault::NoAccount) => Err(TellerFault::NoAccount),
+            Err(_) => Err(TellerFault::Memory),
+        }
+    }
+
+    fn statement(&mut self, alloc: Global, account: u16) -> Result<(Vec<Line>, u64), TellerFault> {
+        match self.node.statement(self.rt, alloc, &mut self.seat, account) {
+            Ok(statement) => Ok(statement.into_parts()),
+            Err(MemberFault::NoAccount) => Err(TellerFault::NoAccount),
+            Err(_) => Err(TellerFault::Memory),
+        }
+    }
+
+    fn fronts(&mut self, alloc: Global) -> Result<Vec<u32>, TellerFault> {
+        Ok(self.node.fronts(self.rt, alloc, &mut self.seat)?)
+    }
+
+    ghost use Rattle.pay_node.specs.SeatAsks.{seat_asks};
+
+    ghost only_asks = { λ old new called reply said. seat_asks old.seat new.seat called reply said };
+}
