@@ -1,3 +1,4 @@
+mod Backward
 mod Firsts
 mod Forking
 mod Forks

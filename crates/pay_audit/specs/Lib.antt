@@ -5,3 +5,4 @@ pub mod Replay
 pub mod Verdict
 pub mod Laws
 pub mod Said
+pub mod ReadBack

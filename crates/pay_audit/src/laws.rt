@@ -2,9 +2,11 @@
 //! names the laws below that it stands on.
 
 ghost use Rattle.pay_audit.specs.Laws.{BalancesAreJudged, ForkIsJudged, FrontIsJudged};
+ghost use Rattle.pay_audit.specs.ReadBack.{ExportReadsBack};
 ghost use Rattle.pay_audit.specs.Said.{CleanIsJudged, VerdictIsSaid};
 
 use pay_book::laws::{largest_is_computed, largest_is_one, settled_book_exists};
+use pay_link::laws::genesis_limits;
 
 /// No account's front is named exactly where the export's front is the largest that steps reach over its own lists.
 pub fn front_is_judged()
@@ -36,4 +38,11 @@ pub fn verdict_is_judged()
     largest_is_computed();
     largest_is_one();
     settled_book_exists();
+}
+
+/// An export whose values a frame has room for is read back from each text that has the value which is written for it.
+pub fn export_reads_back()
+    ensures { ExportReadsBack }
+{
+    genesis_limits();
 }

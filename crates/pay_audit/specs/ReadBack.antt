@@ -1,0 +1,22 @@
+-- What is read of an export that was written.
+use Rattle.std.specs.Prelude.{◌≡◌, ℕ, ◌≤◌, List, length, slice_get, Some, Ok}
+use Rattle.hex.specs.Hex.{IsBytes}
+use Rattle.pay_frame.specs.declared.limits.TheConstants.{GREATEST_VALUE}
+use Rattle.pay_json.specs.File.{value_in}
+use Rattle.pay_audit.specs.Export.{ExportFields, IsExport, export_in, lists_of}
+use Rattle.pay_audit.specs.Exporting.{export_data}
+
+-- bytes that a frame has room for
+pub record IsValue (v : List ℕ) : Type 0 where
+  pub bytes : IsBytes v
+  pub size : length v ≤ GREATEST_VALUE
+
+-- all that the lists have is such
+abbrev pub HasValues : ExportFields → Type 0
+HasValues e = (a s : ℕ) (v : List ℕ) → slice_get (lists_of e a) s ≡ Some v → IsValue v
+
+-- whatever text has the value that is written for an export: that export is read from it
+abbrev pub ExportReadsBack : Type 0
+ExportReadsBack =
+    (e : ExportFields) (text : List ℕ) → IsExport e → HasValues e
+    → value_in text ≡ Some (export_data e) → export_in text ≡ Ok e
