@@ -9,3 +9,4 @@ pub mod Faults
 pub mod Closing
 pub mod Telling
 pub mod SeatAsks
+pub mod Answering

@@ -1,9 +1,10 @@
-ghost use Rattle.std.specs.Prelude.{◌≡◌, ◌≢◌, ◌+◌, ◌<◌, ◌≤◌, ◌^◌, [], IfOk, IfErr, OnErr};
+ghost use Rattle.std.specs.Prelude.{◌≡◌, ◌≢◌, ◌+◌, ◌<◌, ◌≤◌, ◌^◌, [], IfOk, IfErr, IfSome, OnErr, option_map};
 ghost use Rattle.pay_frame.specs.Lent.{fields_of};
 ghost use Rattle.pay_link.specs.Keys.{IsPeer};
 ghost use Rattle.pay_link.specs.Opening.{judgement};
 ghost use Rattle.pay_member.specs.Bringing.{judged};
 ghost use Rattle.pay_member.specs.Legal.{Legal};
+ghost use Rattle.pay_node.specs.Answering.{IsReplyTo, IsSentTo};
 ghost use Rattle.pay_node.specs.Closing.{AllSettled, IsFault};
 ghost use Rattle.pay_node.specs.Receipts.{HadMemory, LackedMemory};
 ghost use Rattle.pay_node.specs.Nodes.{AreFresh, HasNext, IsAnswered, IsAnsweredAs, IsBrought, IsShown, IsTaken, asked, outcome_of, taken, told, want_of};
@@ -21,10 +22,11 @@ use pay_channel::laws::taken_in_order;
 use pay_echo::Instance;
 use pay_frame::{Body, Bytes, FrameRef, Kind};
 use pay_hmac::Tagger;
-use pay_link::{Checked, Keys, LinkFault, Opened, want};
+use pay_link::{Checked, Keys, LinkFault, Opened, seal, want};
 use pay_member::{Brought, Event, Member, MemberFault, Outcome, PaymentState, Reply, Told, Took};
 use std::alloc::{AllocError, Global};
 use std::marker::Model;
+use std::sync::atomic::{AtomicBool, Ordering};
 use std::sync::{Condvar, Mutex, Wait};
 
 /// How many seats a node has at most.
@@ -227,6 +229,98 @@ impl<I: Instance + Drop, B: Settle + Drop> Node<I, B> {
         }
     }
 
+    /// The frame that a peer's WANT asks for, once the member sent it to all. Waits until then, or until it is told
+    /// to stop, which it answers by no frame.
+    ///
+    /// The body is fetched from the sender's seat among those lent, which is locked for that fetch alone. A frame
+    /// that doesn't open, or is no WANT, has no answer, nor has one from a sender without a seat.
+    pub fn answer<R: Wait, T: Tagger>(
+        &self,
+        rt: &R,
+        alloc: Global,
+        seats: &[(u16, Mutex<Seat>)],
+        tagger: &T,
+        stop: &AtomicBool,
+        frame: FrameRef<'_>,
+    ) -> Result<Option<Vec<u8>>, AllocError>
+        ensures reply { IfOk result (λ reply. IsReplyTo self.now.keys
+            (judged (judgement self.now.keys (fields_of frame.entry)))
+            (option_map (λ bytes. bytes.items) reply)) }
+    {
+        match open_frame(tagger, self.keys(), frame) {
+            Err(Outcome::Wanted { from, number }) => {
+                self.answer_want(rt, alloc, seats, tagger, stop, from, number)
+            }
+            Err(Outcome::Took(_) | Outcome::Frame(_) | Outcome::Link(_) | Outcome::WrongKey)
+            | Ok(_) => Ok(None),
+        }
+    }
+
+    // The frame of a number for a peer, once its body is sent.
+    fn answer_want<R: Wait, T: Tagger>(
+        &self,
+        rt: &R,
+        alloc: Global,
+        seats: &[(u16, Mutex<Seat>)],
+        tagger: &T,
+        stop: &AtomicBool,
+        from: u16,
+        number: u64,
+    ) -> Result<Option<Vec<u8>>, AllocError>
+        ensures { IfOk result (λ reply. IfSome reply (λ bytes.
+            IsSentTo self.now.keys from number bytes.items)) }
+    {
+        let Some(seat) = seat_of(seats, from) else {
+            return Ok(None);
+        };
+        if !self.keys().is_peer(from) {
+            return Ok(None);
+        }
+        if !self.waited_for(rt, number, stop) {
+            return Ok(None);
+        }
+        self.sealed_for(rt, alloc, seat, tagger, from, number)
+    }
+
+    /// Tells those to stop who wait for what the member has still to send.
+    pub fn stop_waiting<R: Wait>(&self, rt: &R, stop: &AtomicBool) {
+        let member = self.member.lock(rt);
+        stop.store(true, Ordering::SeqCst);
+        drop(member);
+        self.changed.notify_all();
+    }
+
+    // Waits until a place is sent, or until it is told to stop. Answers whether the place is sent.
+    fn waited_for<R: Wait>(&self, rt: &R, place: u64, stop: &AtomicBool) -> bool {
+        let member = self.changed.wait_while(rt, self.member.lock(rt), |member| {
+            member.sent(place).is_none() && !stop.load(Ordering::SeqCst)
+        });
+        member.sent(place).is_some()
+    }
+
+    // The frame to a peer with the body at a place of what was sent, if it is there.
+    fn sealed_for<R: Wait, T: Tagger>(
+        &self,
+        rt: &R,
+        alloc: Global,
+        seat: &Mutex<Seat>,
+        tagger: &T,
+        to: u16,
+        number: u64,
+    ) -> Result<Option<Vec<u8>>, AllocError>
+        requires { IsPeer self.now.keys to }
+        ensures { IfOk result (λ reply. IfSome reply (λ bytes.
+            IsSentTo self.now.keys to number bytes.items)) }
+    {
+        let mut seat = seat.lock(rt);
+        let bodies = self.fetch(rt, alloc, &mut *seat, number as usize, 1)?;
+        drop(seat);
+        match bodies.first() {
+            Some(body) => Ok(Some(seal(alloc, tagger, self.keys(), to, number, body)?)),
+            None => Ok(None),
+        }
+    }
+
     /// Takes the member out of the lock, once no thread calls the node any more.
     pub fn stop(self) -> Stopped<I, B>
         ensures node { result.node ≡ self }
@@ -382,6 +476,16 @@ impl<I: Instance + Drop, B: Settle + Drop> Node<I, B> {
         let member = self.member.lock(rt);
         seat.ask_of(alloc, &*member, question)
     }
+}
+
+// The seat of a peer.
+fn seat_of(seats: &[(u16, Mutex<Seat>)], peer: u16) -> Option<&Mutex<Seat>> {
+    for (of, seat) in seats {
+        if *of == peer {
+            return Some(seat);
+        }
+    }
+    None
 }
 
 // A copy of the member's keys, and the seats.

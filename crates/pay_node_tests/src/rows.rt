@@ -8,7 +8,7 @@ use pay_member::{MemberFault, Outcome, PaymentState, Told, Took};
 use pay_node::CloseFault;
 
 /// A payment of 5 to account 0.
-const PAYMENT: &[u8] = &[1, 0, 0, 0, 0, 0, 0, 0, 0, 0, 5];
+pub(crate) const PAYMENT: &[u8] = &[1, 0, 0, 0, 0, 0, 0, 0, 0, 0, 5];
 
 /// A member alone, with one seat.
 const ALONE: Group = Group {
@@ -49,7 +49,7 @@ const AHEAD: [u8; 56] = [
 ];
 
 /// A WANT of member 0 from number 3 on.
-const WANT: [u8; 56] = [
+pub(crate) const WANT: [u8; 56] = [
     0, 54, 1, 4, 0, 0, 0, 1, 0, 0, 0, 0, 0, 0, 0, 3, 0, 0, 0, 0, 0, 0, 0, 0, 107, 67, 18, 56, 16,
     162, 117, 244, 60, 139, 106, 198, 94, 143, 73, 94, 51, 151, 61, 117, 137, 165, 219, 246, 199,
     49, 4, 49, 7, 55, 237, 238,

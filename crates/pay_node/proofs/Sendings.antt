@@ -1,0 +1,46 @@
+-- What was fetched of a place stands there.
+use Rattle.std.proofs.Common.{◌≡◌, ℕ, zero, suc, min, List, [], ◌∷◌, take, drop, slice_get, Some, ap, subst}
+use Rattle.pay_frame.specs.Frame.{BodyFields, frame_bytes}
+use Rattle.pay_link.specs.Keys.{KeyFields}
+use Rattle.pay_link.specs.Sealing.{sealed}
+use Rattle.pay_member.specs.declared.member.TheConstants.{MOST_FETCHED}
+use Rattle.pay_member.specs.Events.{events}
+use Rattle.pay_member.specs.Member.{MemberFields}
+use Rattle.pay_member.specs.Reading.{fetched}
+use Rattle.pay_node.specs.declared.question.Question.TheVariants as question
+use Rattle.pay_node.specs.declared.shown.Shown.{Shown}
+use Rattle.pay_node.specs.declared.shown.Shown.TheVariants as shown
+use Rattle.pay_node.specs.Answering.{IsSentTo, sent_by}
+use Rattle.pay_node.specs.Nodes.{IsShown}
+use Rattle.pay_node.specs.Seats.{SeatFields}
+
+first_behind : (xs : List BodyFields) (n : ℕ) (x : BodyFields) → slice_get (take 1 (drop n xs)) 0 ≡ Some x → slice_get xs n ≡ Some x
+first_behind [] zero x is = is
+first_behind [] (suc n) x is = is
+first_behind (y ∷ ys) zero x is = is
+first_behind (y ∷ ys) (suc n) x is = first_behind ys n x is
+
+-- the bodies that were shown
+bodies_in : Shown → List BodyFields
+bodies_in (shown.Sent bodies) = bodies
+bodies_in (shown.State answer) = []
+bodies_in (shown.Statement answer) = []
+bodies_in (shown.Fronts fronts) = []
+
+first_fetched : (m : MemberFields) (n : ℕ) (x : BodyFields) → slice_get (fetched m.genesis m.keys.own (events m.history) n (min 1 MOST_FETCHED)) 0 ≡ Some x → slice_get (sent_by m) n ≡ Some x
+unfolding fetched
+first_fetched m n x is = first_behind (sent_by m) n x is
+
+pub is_sent :
+    (k : KeyFields) (to number : ℕ) (before after : SeatFields) (bodies : List BodyFields) (body : BodyFields) (bytes : List ℕ)
+    → IsShown before after (question.Sent number 1) (shown.Sent bodies) → slice_get bodies 0 ≡ Some body
+    → bytes ≡ frame_bytes (sealed k to number body) → IsSentTo k to number bytes
+unfolding bodies_in
+is_sent k to number before after bodies body bytes told first is =
+    record {
+      member = told.member;
+      legal = told.legal;
+      body = body;
+      place = first_fetched told.member number body (subst (λ (xs : List BodyFields). slice_get xs 0 ≡ Some body) (ap bodies_in told.is) first);
+      is = is;
+    }
