@@ -7,4 +7,5 @@ mod Numbers
 mod Pushing
 mod Saying
 mod Showing
+mod Text
 mod Verdicts

@@ -1,12 +1,18 @@
 //! A member's own export.
 
-ghost use Rattle.std.specs.Prelude.{◌≡◌, IfOk};
+ghost use Rattle.std.specs.Prelude.{◌≡◌, IfOk, Ok};
+ghost use Rattle.std.specs.String.{string_bytes};
 ghost use Rattle.serde_json.specs.View.{view};
+ghost use Rattle.serde_json.specs.Written.{compact_text};
+ghost use Rattle.pay_audit.specs.Export.{export_in};
 ghost use Rattle.pay_audit.specs.Exporting.{export_data, exported, list_data, lists_data, numbers_data, value_data};
+ghost use Rattle.pay_audit.specs.ReadBack.{HasValues};
 
+use crate::laws::export_reads_back;
 use hex::encode;
 use pay_book::Settle;
 use pay_channel::Source;
+use pay_channel::laws::lists_are_delivered;
 use pay_echo::Instance;
 use pay_link::Genesis;
 use pay_member::Member;
@@ -37,6 +43,27 @@ pub fn export<I: Instance + Drop, B: Settle + Drop>(
         "members": u64::from(genesis.members()),
         "opening": opening
     })
+}
+
+/// The text of a member's own export, without spaces. `read_export` reads it as that export, where all values of the
+/// lists are such that a frame has room for them.
+pub fn export_text<I: Instance + Drop, B: Settle + Drop>(
+    alloc: Global,
+    member: &Member<I, B>,
+) -> Result<String, AllocError>
+    ensures text { IfOk result
+        (λ text. string_bytes text ≡ compact_text (export_data (exported member.now))) }
+    ensures reads_back { IfOk result (λ text. HasValues (exported member.now)
+        → export_in (string_bytes text) ≡ Ok (exported member.now)) }
+{
+    book_of_events();
+    lists_are_delivered();
+    export_reads_back();
+    member.genesis();
+    member.keys().own();
+    let value = export(alloc, member)?;
+    let text = value.to_string(alloc)?;
+    Ok(text)
 }
 
 fn opening_of(alloc: Global, genesis: &Genesis) -> Result<Value, AllocError>

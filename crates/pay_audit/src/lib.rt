@@ -18,7 +18,7 @@ mod verdict;
 pub use auditing::audit;
 pub use export_fault::ExportFault;
 pub use exported::Export;
-pub use exporting::export;
+pub use exporting::{export, export_text};
 pub use reading::read_export;
 pub use replay_fault::ReplayFault;
 pub use replaying::replay;

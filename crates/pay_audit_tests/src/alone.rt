@@ -1,6 +1,6 @@
 //! A member alone, which settles each of its payments in the ask.
 
-use pay_audit::{ExportFault, ReplayFault, Verdict, audit, export, read_export, replay};
+use pay_audit::{ExportFault, ReplayFault, Verdict, audit, export_text, read_export, replay};
 use pay_book::PlainBook;
 use pay_echo::PlainInstance;
 use pay_frame::Bytes;
@@ -35,7 +35,7 @@ fn asked(alloc: Global) -> Option<Alone> {
 }
 
 fn text_of(alloc: Global, member: &Alone) -> Option<String> {
-    export(alloc, member).ok()?.to_string(alloc).ok()
+    export_text(alloc, member).ok()
 }
 
 fn verdict_of(alloc: Global, text: &str) -> Option<Verdict> {
