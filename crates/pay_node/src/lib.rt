@@ -21,6 +21,7 @@ mod showing;
 mod shown;
 mod stopped;
 mod teller;
+mod writing;
 
 pub use close_fault::CloseFault;
 pub use feeding::read_peer;
@@ -33,3 +34,4 @@ pub use seat::Seat;
 pub use shown::{Bodies, Fronts, Shown, Statement};
 pub use stopped::Stopped;
 pub use teller::NodeTeller;
+pub use writing::write_peer;
