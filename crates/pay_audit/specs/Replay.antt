@@ -1,17 +1,10 @@
 -- A history replayed: whether a member can have it, and else the first entry that it can't have.
-use Rattle.std.specs.Prelude.{◌≡◌, ◌≢◌, ℕ, List, take, slice_get, Some, None, Result, Ok, Err, ⊤}
+use Rattle.std.specs.Prelude.{◌≡◌, ℕ, List, take, slice_get, Some, ⊤}
 use Rattle.pay_link.specs.Genesis.{GenesisFields}
 use Rattle.pay_link.specs.Keys.{KeyFields}
 use Rattle.pay_member.specs.declared.entry.HistoryEntry.{HistoryEntry}
-use Rattle.pay_member.specs.declared.event.Event.{Event}
-use Rattle.pay_member.specs.declared.fault.MemberFault.{MemberFault}
-use Rattle.pay_member.specs.declared.fault.MemberFault.TheVariants as member
-use Rattle.pay_member.specs.declared.reply.Reply.{Reply}
 use Rattle.pay_member.specs.Events.{events}
 use Rattle.pay_member.specs.Legal.{IsOwed, Legal}
-use Rattle.pay_member.specs.Member.{MemberFields}
-use Rattle.pay_member.specs.Refusal.{refusal}
-use Rattle.pay_member.specs.Reply.{reply_to}
 use Rattle.pay_audit.specs.declared.replay_fault.ReplayFault.{ReplayFault}
 use Rattle.pay_audit.specs.declared.replay_fault.ReplayFault.TheVariants as replay
 
@@ -26,11 +19,3 @@ pub record IsFirstIllegal (g : GenesisFields) (k : KeyFields) (history : List Hi
 abbrev pub IsCause : GenesisFields → KeyFields → List HistoryEntry → ReplayFault → Type 0
 IsCause g k history replay.Memory = ⊤
 IsCause g k history (replay.Illegal place) = IsFirstIllegal g k history place
-
--- what an event calls for, memory aside: its refusal, if there is one, else its reply
-abbrev pub IsAnswer : MemberFields → Event → Result Reply MemberFault → Type 0
-IsAnswer m event (Ok reply) =
-    (refusal m.genesis m.keys (events m.history) event ≡ None)
-    × (reply ≡ reply_to m.genesis m.keys.own (events m.history) event)
-IsAnswer m event (Err fault) =
-    fault ≢ member.Memory → refusal m.genesis m.keys (events m.history) event ≡ Some fault

@@ -1,19 +1,19 @@
 //! A history taken once more, entry by entry.
 
-ghost use Rattle.std.specs.Prelude.{◌≡◌, ◌↔◌, IfErr, IfOk, IsTrue, OnErr, OnOk};
+ghost use Rattle.std.specs.Prelude.{◌≡◌, ◌↔◌, IfErr, IfOk, IsTrue, OnOk};
 ghost use Rattle.std.specs.Bool.{OnTrue};
 ghost use Rattle.pay_link.specs.Keys.{IsKeysOf};
 ghost use Rattle.pay_member.specs.Events.{events};
-ghost use Rattle.pay_member.specs.Legal.{IsKept, IsOwed, Legal};
+ghost use Rattle.pay_member.specs.Legal.{IsOwed, Legal};
 ghost use Rattle.pay_member.specs.Member.{with_entry};
-ghost use Rattle.pay_audit.specs.Replay.{IsAnswer, IsCause};
+ghost use Rattle.pay_audit.specs.Replay.{IsCause};
 
 use crate::replay_fault::ReplayFault;
 use pay_book::Settle;
 use pay_echo::Instance;
 use pay_link::{Genesis, Keys};
 use pay_member::laws::legal_histories;
-use pay_member::{Event, HistoryEntry, Member, MemberFault, Reply};
+use pay_member::{HistoryEntry, Member, MemberFault};
 use std::alloc::{AllocError, Global};
 
 /// The member that has this history, if one can have it. The keys are one member's of that genesis.
@@ -50,41 +50,10 @@ fn take_again<I: Instance + Drop, B: Settle + Drop>(
     ensures taken { IfOk result (λ owed. OnTrue owed
         (member.new ≡ with_entry member.old entry.now)) }
 {
-    let event = copy_of(alloc, &entry.event)?;
-    match hand(alloc, member, entry.stamp, event) {
+    let event = entry.event.copy(alloc)?;
+    match member.hand_in(alloc, entry.stamp, event) {
         Ok(reply) => Ok(reply == entry.reply),
         Err(MemberFault::Memory) => Err(AllocError),
         Err(_) => Ok(false),
-    }
-}
-
-/// Hands an event to a member.
-fn hand<I: Instance + Drop, B: Settle + Drop>(
-    alloc: Global,
-    member: &mut Member<I, B>,
-    stamp: u16,
-    event: Event,
-) -> Result<Reply, MemberFault>
-    ensures answer { IsAnswer member.old event result }
-    ensures entry { IfOk result (λ reply. member.new ≡ with_entry member.old
-        (record { stamp = stamp; event = event; reply = reply })) }
-    ensures err { OnErr result (member.new ≡ member.old) }
-{
-    match event {
-        Event::Ask(value) => Ok(Reply::Asked(member.ask(alloc, stamp, value)?)),
-        Event::Taken(checked) => Ok(Reply::Took(member.take(alloc, stamp, checked)?)),
-        Event::Query(account) => Ok(Reply::Told(member.query(alloc, stamp, account)?)),
-    }
-}
-
-/// An equal event.
-fn copy_of(alloc: Global, event: &Event) -> Result<Event, AllocError>
-    ensures value { IfOk result (λ copy. copy ≡ event.now) }
-    ensures kept { OnOk result (IsKept event.now) }
-{
-    match event {
-        Event::Ask(value) => Ok(Event::Ask(value.copy(alloc)?)),
-        Event::Taken(checked) => Ok(Event::Taken(checked.copy(alloc)?)),
-        Event::Query(account) => Ok(Event::Query(*account)),
     }
 }

@@ -18,3 +18,4 @@ pub mod Places
 pub mod Longer
 pub mod Asking
 pub mod ChannelLists
+mod Came

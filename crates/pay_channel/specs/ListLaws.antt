@@ -1,10 +1,10 @@
 -- What holds of deliveries and of the accounts' lists, as statements. Each is proved as a public
 -- law.
-use Rattle.std.specs.Prelude.{◌≡◌, ◌≢◌, ℕ, ◌<◌, ◌≤◌, ◌↔◌, ◌⊎◌, List, [], ◌∷◌, ◌++◌, length, slice_get, Option, Some, None}
+use Rattle.std.specs.Prelude.{◌≡◌, ◌≢◌, ℕ, ◌<◌, ◌≤◌, ◌↔◌, ◌⊎◌, List, [], ◌∷◌, ◌++◌, length, slice_get, Contains, Option, Some, None}
 use Rattle.pay_echo.specs.Broadcast.{Group, delivered}
 use Rattle.pay_channel.specs.Prefix.{IsPrefix}
 use Rattle.pay_channel.specs.Source.{GrowsOnly}
-use Rattle.pay_channel.specs.History.{Event, owner_of, votes, seqs, listed, delivered_at, list_of}
+use Rattle.pay_channel.specs.History.{Event, Ask, From, owner_of, votes, seqs, listed, delivered_at, list_of}
 
 -- ---- what is delivered
 
@@ -20,6 +20,17 @@ abbrev pub DeliveryStays : Type 0
 DeliveryStays =
     (g : Group) (history more : List Event) (a s : ℕ) (v : List ℕ)
     → delivered_at g history a s ≡ Some v → delivered_at g (history ++ more) a s ≡ Some v
+
+-- the value that an event brings
+abbrev pub value_in : Event → List ℕ
+value_in (Ask v) = v
+value_in (From p body) = body.value
+
+-- what is delivered came by an event: it was asked for, or a body had it
+abbrev pub DeliveredCame : Type 0
+DeliveredCame =
+    (g : Group) (history : List Event) (a s : ℕ) (v : List ℕ) → delivered_at g history a s ≡ Some v
+    → (e : Event) × Contains history e × (value_in e ≡ v)
 
 -- ---- an account's list, place by place
 

@@ -4,7 +4,7 @@
 ghost use Rattle.pay_channel.specs.VoteLaws.{NoVotesAtFirst, NoAsksAtFirst, VotesByOneMore, AsksByOneMore, OthersUntouched, VotesGrow, EchoIsTaken, ReadyIsTaken, SendIsTaken};
 ghost use Rattle.pay_channel.specs.TakenLaws.{NothingTakenAtFirst, TakenByOneMore, TakenFromHere, TakenFromElsewhere, TakenGrows, TakenIsFrom, NextIsCount, NextByOneMore};
 ghost use Rattle.pay_channel.specs.SentLaws.{NothingSentAtFirst, OutByOneMore, OutGrows, EchoInOut, ReadyInOut, EchoIsSaid, ReadyIsSaid, SentMayCome, NothingAskedAtFirst, AskedByOneMore, AskedGrows, AsksAreCounted, SendsAreAsks, SendInOut, SentIsAsked, OwnEchoIsAsk};
-ghost use Rattle.pay_channel.specs.ListLaws.{DeliveredIs, NothingDeliveredAtFirst, DeliveryStays, PlaceIsValue, PlaceIsDelivered, ListedIsDelivered, ListIsShort, ListReaches, ListEnds, EmptyAtFirst, EmptyOfNobody, ListIsValues, ListBeginsValues, ListsAlike, ListsCompare, ListsGrow, OneListGrows};
+ghost use Rattle.pay_channel.specs.ListLaws.{DeliveredIs, NothingDeliveredAtFirst, DeliveryStays, DeliveredCame, PlaceIsValue, PlaceIsDelivered, ListedIsDelivered, ListIsShort, ListReaches, ListEnds, EmptyAtFirst, EmptyOfNobody, ListIsValues, ListBeginsValues, ListsAlike, ListsCompare, ListsGrow, OneListGrows};
 ghost use Rattle.pay_channel.specs.FollowLaws.{ChannelFollows, UnchangedFollows, ValuesFollow, ListsFollow, AnswersFollow, FollowersAreAlike, ListsOfAreShort, UnchangedLists};
 
 use pay_echo::laws::{known_stays, nothing_known_at_first, one_vote_more};
@@ -85,12 +85,16 @@ pub fn sends_are_asks()
     one_vote_more();
 }
 
-/// What is delivered in a broadcast is what its votes deliver, and stays so as the history grows.
+/// What is delivered in a broadcast is what its votes deliver, and stays so as the history grows. It
+/// is the value of an event that was taken.
 pub fn delivered_for_good()
     ensures is { DeliveredIs }
     ensures stays { DeliveryStays }
+    ensures came { DeliveredCame }
 {
     known_stays();
+    nothing_known_at_first();
+    one_vote_more();
 }
 
 /// An account's list in words of what is delivered: it has a place exactly where all numbers up to

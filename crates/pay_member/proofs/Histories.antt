@@ -2,14 +2,14 @@
 use Rattle.std.proofs.Common.{◌≡◌, ◌⊎◌, inl, inr, ℕ, ◌<◌, ◌≤◌, eqb, ltb, true, false, Option, Some, None, List, [], ◌∷◌, ◌++◌, length, refl, sym, ap, ◌∙◌, subst, append_assoc}
 use Rattle.std.specs.List.{All, filter_map}
 use Rattle.std.specs.Str.{bytes_eq}
-use Rattle.std.proofs.lemmas.List.Elements.{filter_map-append, All-nil, All-cons}
+use Rattle.std.proofs.lemmas.List.Elements.{filter_map-append, All-nil, All-cons, All-contains}
 use Rattle.std.proofs.lemmas.Bool.{and_parts, ltb-true, ltb-false, eq-eqb, not_from_true, false≢true, cases_Bool, cond-true, cond-false}
 use Rattle.pay_frame.specs.declared.limits.TheConstants.{GREATEST_VALUE}
 use Rattle.pay_channel.specs.History as channel
 use Rattle.pay_channel.specs.History.{IsEvent, out, list_of}
 use Rattle.pay_channel.specs.Prefix.{IsPrefix}
 use Rattle.pay_channel.specs.SentLaws.{OutGrows}
-use Rattle.pay_channel.specs.ListLaws.{ListsGrow}
+use Rattle.pay_channel.specs.ListLaws.{DeliveredCame, ListsGrow, value_in}
 use Rattle.pay_link.specs.Genesis.{GenesisFields}
 use Rattle.pay_link.specs.Keys.{KeyFields, IsKeysOf, is_peer, key_for}
 use Rattle.pay_link.specs.Checked.{CheckedFields, IsChecked}
@@ -22,8 +22,8 @@ use Rattle.pay_member.specs.Group.{group_in}
 use Rattle.pay_member.specs.Events.{channel_event, events}
 use Rattle.pay_member.specs.Book.{book_after}
 use Rattle.pay_member.specs.Refusal.{refusal, is_for}
-use Rattle.pay_member.specs.Legal.{IsKept, IsOwed}
-use Rattle.pay_member.specs.Laws.{PrefixIsLegal, LegalEventsMayCome, EventsGrow, SentGrows, ListsOfHistoryGrow, SettledStays, FrontsGrow, BookIsSettled, TotalIsKept, NobodyOwes, EqualListsEqualBooksAfter}
+use Rattle.pay_member.specs.Legal.{IsKept, IsOwed, IsValue}
+use Rattle.pay_member.specs.Laws.{PrefixIsLegal, LegalEventsMayCome, DeliveredAreValues, EventsGrow, SentGrows, ListsOfHistoryGrow, SettledStays, FrontsGrow, BookIsSettled, TotalIsKept, NobodyOwes, EqualListsEqualBooksAfter}
 
 pub prefix_is_legal : PrefixIsLegal
 prefix_is_legal g k history more legal =
@@ -137,9 +137,31 @@ owed_may_come g k members before y owed e is = go y.event owed.kept owed.taken i
   go : (x : Event) → IsKept x → refusal g k before x ≡ None → channel_event x ≡ Some e → IsEvent (group_in g k.own) e
   go (Ask v) kept taken is = subst (IsEvent (group_in g k.own)) (some_is _ _ is) (ask_may_come g k before v taken)
   go (Taken c) kept taken is =
-      subst (IsEvent (group_in g k.own)) (some_is _ _ is) (frame_may_come g k c members kept (taken_is_for g k before c taken))
+      subst (IsEvent (group_in g k.own)) (some_is _ _ is) (frame_may_come g k c members kept.0 (taken_is_for g k before c taken))
   go (Query a) kept taken is = absurd (none_some e is)
 
 pub events_may_come : LegalEventsMayCome
 events_may_come g k history members legal =
     events_all (IsEvent (group_in g k.own)) history (λ before y after is. owed_may_come g k members (events before) y (legal.each before y after is))
+
+-- ---- what is delivered
+
+owed_value :
+    (g : GenesisFields) (k : KeyFields) (before : List channel.Event) (y : HistoryEntry) → IsOwed g k before y
+    → (e : channel.Event) → channel_event y.event ≡ Some e → IsValue (value_in e)
+owed_value g k before y owed e is = go y.event owed.kept owed.taken is where
+  go : (x : Event) → IsKept x → refusal g k before x ≡ None → channel_event x ≡ Some e → IsValue (value_in e)
+  go (Ask v) kept taken is =
+      let value : IsValue v = record { bytes = kept; size = ask_may_come g k before v taken } in
+      subst (λ (y : channel.Event). IsValue (value_in y)) (some_is _ _ is) value
+  go (Taken c) kept taken is =
+      let value : IsValue c.frame.body.value = record { bytes = kept.1; size = kept.0.frame.body.value } in
+      subst (λ (y : channel.Event). IsValue (value_in y)) (some_is _ _ is) value
+  go (Query a) kept taken is = absurd (none_some e is)
+
+pub delivered_are_values : DeliveredCame → DeliveredAreValues
+delivered_are_values came g k history a s v legal is =
+    let Value : channel.Event → Type 0 = λ x. IsValue (value_in x) in
+    let all = events_all Value history (λ before y after at. owed_value g k (events before) y (legal.each before y after at)) in
+    let from = came (group_in g k.own) (events history) a s v is in
+    subst IsValue from.2 (All-contains Value (events history) from.0 all from.1)

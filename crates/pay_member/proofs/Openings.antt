@@ -8,7 +8,7 @@ use Rattle.pay_frame.specs.declared.kind.Kind.{Kind}
 use Rattle.pay_frame.specs.declared.kind.Kind.TheVariants.{Send, Echo, Ready, Want}
 use Rattle.pay_frame.specs.Frame.{FrameFields, IsFrame}
 use Rattle.pay_frame.specs.OneFrame.{IsOneFrame, IsOneReading, one_frame}
-use Rattle.pay_link.specs.Keys.{KeyFields}
+use Rattle.pay_link.specs.Keys.{KeyFields, IsPeer}
 use Rattle.pay_link.specs.Checked.{IsChecked, IsFor, checked_fields}
 use Rattle.pay_link.specs.Opening.{OpenedFields, Opens, judgement, opened_fields}
 use Rattle.pay_link.specs.declared.link_fault.LinkFault.{LinkFault}
@@ -57,11 +57,18 @@ none_is x same = cc
 some_is : {X : Type 0} (x y : X) → Some x ≡ Some y → x ≡ y
 some_is x y same = cc
 
-wants_not : (of : Kind) → is_want of ≡ false → of ≢ Want
+pub wants_not : (of : Kind) → is_want of ≡ false → of ≢ Want
 wants_not Send other same = cc
 wants_not Echo other same = cc
 wants_not Ready other same = cc
 wants_not Want other same = cc
+
+pub opened_from_peer :
+    ((k : KeyFields) (f : FrameFields) (o : OpenedFields) → (judgement k f ≡ Ok o) ↔ (Opens k f × (o ≡ opened_fields k f)))
+    → (k : KeyFields) (f : FrameFields) (o : OpenedFields) → Ok o ≡ judgement k f → IsPeer k o.frame.from
+opened_from_peer law k f o is =
+    let known = (law k f o).0 (sym is) in
+    subst (λ (x : OpenedFields). IsPeer k x.frame.from) (sym known.1) known.0.sender
 
 -- ---- which frame opened, if any
 

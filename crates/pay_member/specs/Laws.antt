@@ -5,7 +5,7 @@ use Rattle.pay_frame.specs.declared.kind.Kind.TheVariants.{Want}
 use Rattle.pay_frame.specs.Frame.{FrameFields}
 use Rattle.pay_frame.specs.OneFrame.{IsOneFrame}
 use Rattle.pay_channel.specs.History as channel
-use Rattle.pay_channel.specs.History.{IsEvent, out, list_of}
+use Rattle.pay_channel.specs.History.{IsEvent, out, delivered_at, list_of}
 use Rattle.pay_channel.specs.Prefix.{IsPrefix}
 use Rattle.pay_channel.specs.Taken.{next}
 use Rattle.pay_link.specs.Genesis.{GenesisFields}
@@ -19,7 +19,7 @@ use Rattle.pay_member.specs.declared.entry.HistoryEntry.{HistoryEntry}
 use Rattle.pay_member.specs.Group.{group_in}
 use Rattle.pay_member.specs.Events.{events}
 use Rattle.pay_member.specs.Book.{book_after}
-use Rattle.pay_member.specs.Legal.{IsOwed, Legal}
+use Rattle.pay_member.specs.Legal.{IsOwed, IsValue, Legal}
 use Rattle.pay_member.specs.Bringing.{opened_in, event_in}
 
 -- ---- which histories there are
@@ -43,6 +43,13 @@ abbrev pub LegalEventsMayCome : Type 0
 LegalEventsMayCome =
     (g : GenesisFields) (k : KeyFields) (history : List HistoryEntry)
     → IsKeysOf g k → Legal g k history → All (IsEvent (group_in g k.own)) (events history)
+
+-- what is delivered in it, and so all that the accounts' lists have, is bytes that a frame has room
+-- for
+abbrev pub DeliveredAreValues : Type 0
+DeliveredAreValues =
+    (g : GenesisFields) (k : KeyFields) (history : List HistoryEntry) (a s : ℕ) (v : List ℕ)
+    → Legal g k history → delivered_at (group_in g k.own) (events history) a s ≡ Some v → IsValue v
 
 -- ---- longer histories
 

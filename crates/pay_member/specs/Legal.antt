@@ -1,5 +1,7 @@
 -- Histories that a member can have.
-use Rattle.std.specs.Prelude.{◌≡◌, List, ◌∷◌, ◌++◌, None, ⊤}
+use Rattle.std.specs.Prelude.{◌≡◌, ℕ, ◌≤◌, List, ◌∷◌, ◌++◌, length, None, ⊤}
+use Rattle.pay_frame.specs.declared.limits.TheConstants.{GREATEST_VALUE}
+use Rattle.pay_frame.specs.Stream.{IsBytes}
 use Rattle.pay_channel.specs.History as channel
 use Rattle.pay_link.specs.Genesis.{GenesisFields}
 use Rattle.pay_link.specs.Keys.{KeyFields}
@@ -11,10 +13,11 @@ use Rattle.pay_member.specs.Events.{events}
 use Rattle.pay_member.specs.Reply.{reply_to}
 use Rattle.pay_member.specs.Refusal.{refusal}
 
--- a frame in it is within its limits, rightly tagged under its key, and no WANT
+-- values in it are bytes, and a frame is within its limits, rightly tagged under its key, and no
+-- WANT
 abbrev pub IsKept : Event → Type 0
-IsKept (Ask v) = ⊤
-IsKept (Taken c) = IsChecked c
+IsKept (Ask v) = IsBytes v
+IsKept (Taken c) = IsChecked c × IsBytes c.frame.body.value
 IsKept (Query a) = ⊤
 
 -- behind these events nothing refuses the entry's event, and its reply is the one owed
@@ -29,3 +32,8 @@ pub record Legal (g : GenesisFields) (k : KeyFields) (history : List HistoryEntr
   pub each :
       (before : List HistoryEntry) (e : HistoryEntry) (after : List HistoryEntry)
       → history ≡ before ++ e ∷ after → IsOwed g k (events before) e
+
+-- bytes that a frame has room for
+pub record IsValue (v : List ℕ) : Type 0 where
+  pub bytes : IsBytes v
+  pub size : length v ≤ GREATEST_VALUE

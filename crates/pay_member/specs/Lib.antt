@@ -7,6 +7,7 @@ pub mod Faults
 pub mod Legal
 pub mod Ledger
 pub mod Member
+pub mod Answer
 pub mod Reading
 pub mod Bringing
 pub mod OpeningLaws

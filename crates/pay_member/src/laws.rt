@@ -2,14 +2,14 @@
 //! Each function's contract is the law; its body only names the laws below that it stands on.
 
 ghost use Rattle.pay_member.specs.EventLaws.{NoEventsAtFirst, EventsByOneMore};
-ghost use Rattle.pay_member.specs.Laws.{NoneIsLegal, LegalByOneMore, PrefixIsLegal, LegalEventsMayCome, EventsGrow, SentGrows, ListsOfHistoryGrow, SettledStays, FrontsGrow, BookIsSettled, TotalIsKept, NobodyOwes, EqualListsEqualBooksAfter, OpenedIn, EventIn, BroughtMayCome};
+ghost use Rattle.pay_member.specs.Laws.{NoneIsLegal, LegalByOneMore, PrefixIsLegal, LegalEventsMayCome, DeliveredAreValues, EventsGrow, SentGrows, ListsOfHistoryGrow, SettledStays, FrontsGrow, BookIsSettled, TotalIsKept, NobodyOwes, EqualListsEqualBooksAfter, OpenedIn, EventIn, BroughtMayCome};
 ghost use Rattle.pay_member.specs.OpeningLaws.{WhatOpens};
 
 use pay_book::laws::{
     book_keeps_total, equal_lists_equal_books, largest_grows, nobody_owes_once_settled,
     settled_book_exists, settled_entries_grow,
 };
-use pay_channel::laws::{grow_at_the_end, lists_grow};
+use pay_channel::laws::{delivered_for_good, grow_at_the_end, lists_grow};
 use pay_frame::one_frame_is;
 use pay_link::laws::opened;
 
@@ -29,13 +29,17 @@ pub fn events_in_order()
 {}
 
 /// A history that a member can have stays one with an owed entry more, and so does each beginning
-/// of one. What it holds may come to the channel of the member's group.
+/// of one. What it holds may come to the channel of the member's group, and what is delivered are
+/// values that a frame has room for.
 pub fn legal_histories()
     ensures none { NoneIsLegal }
     ensures more { LegalByOneMore }
     ensures shorter { PrefixIsLegal }
     ensures may_come { LegalEventsMayCome }
-{}
+    ensures values { DeliveredAreValues }
+{
+    delivered_for_good();
+}
 
 /// As a history grows, so do its events, the sent list, each account's list and its settled
 /// entries, all at their ends alone, and no front moves back: nothing that settled at a member is

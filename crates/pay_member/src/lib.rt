@@ -20,6 +20,7 @@ mod standing;
 mod told;
 mod took;
 
+pub use bringing::{open_bytes, open_frame};
 pub use brought::Brought;
 pub use entry::HistoryEntry;
 pub use event::Event;

@@ -12,6 +12,7 @@ ghost use Rattle.pay_member.specs.Events.{events};
 ghost use Rattle.pay_member.specs.Book.{book_after};
 ghost use Rattle.pay_member.specs.Reply.{took_by, told_of};
 ghost use Rattle.pay_member.specs.Refusal.{refusal};
+ghost use Rattle.pay_member.specs.Answer.{IsAnswer};
 ghost use Rattle.pay_member.specs.Reading.{state_of, fetched};
 ghost use Rattle.pay_member.specs.Legal.{Legal};
 ghost use Rattle.pay_member.specs.Member.{with_entry};
@@ -21,7 +22,7 @@ ghost use Rattle.pay_member.specs.Serving.{after_frame, want_of};
 use crate::bringing::{open_bytes, open_frame};
 use crate::brought::Brought;
 use crate::entry::HistoryEntry;
-use crate::event::Event;
+use crate::event::{Event, asked_is_kept, taken_is_kept};
 use crate::fault::MemberFault;
 use crate::ledger::Ledger;
 use crate::outcome::Outcome;
@@ -116,6 +117,7 @@ impl<I: Instance + Drop, B: Settle + Drop> Member<I, B> {
         self.history.reserve(1)?;
         self.ledger
             .apply(alloc, EventRef::Ask(value.as_slice()), self.keys.own())?;
+        asked_is_kept(&value);
         self.history.push_reserved(HistoryEntry {
             stamp,
             event: Event::Ask(value),
@@ -157,6 +159,7 @@ impl<I: Instance + Drop, B: Settle + Drop> Member<I, B> {
             return Err(MemberFault::Gap(next));
         }
         self.history.reserve(1)?;
+        taken_is_kept(&checked);
         let body = checked.body();
         let took = self
             .ledger
@@ -234,8 +237,9 @@ impl<I: Instance + Drop, B: Settle + Drop> Member<I, B> {
         }
     }
 
-    // Takes a frame that opened for this member, and answers with the WANT for what is next.
-    fn take_opened<T: Tagger>(
+    /// Takes a frame that opened for this member and is no WANT, and answers with the WANT for what
+    /// is next. Where memory is refused, the member is unchanged.
+    pub fn take_opened<T: Tagger>(
         &mut self,
         alloc: Global,
         stamp: u16,
@@ -316,6 +320,21 @@ impl<I: Instance + Drop, B: Settle + Drop> Member<I, B> {
             reply: Reply::Told(told),
         });
         Ok(told)
+    }
+
+    /// Hands an event in: asks, takes or queries. A refused event is dropped, and the member is
+    /// unchanged.
+    pub fn hand_in(&mut self, alloc: Global, stamp: u16, event: Event) -> Result<Reply, MemberFault>
+        ensures answer { IsAnswer self.old event result }
+        ensures entry { IfOk result (λ reply. self.new ≡ with_entry self.old
+            (record { stamp = stamp; event = event; reply = reply })) }
+        ensures err { OnErr result (self.new ≡ self.old) }
+    {
+        match event {
+            Event::Ask(value) => Ok(Reply::Asked(self.ask(alloc, stamp, value)?)),
+            Event::Taken(checked) => Ok(Reply::Took(self.take(alloc, stamp, checked)?)),
+            Event::Query(account) => Ok(Reply::Told(self.query(alloc, stamp, account)?)),
+        }
     }
 
     /// What the ledger began with.

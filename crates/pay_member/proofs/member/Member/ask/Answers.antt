@@ -26,6 +26,6 @@ invariant_of-self-2 g c =
     subst At (sym items)
     (member_more c.a_channel_follows.ensures.event m c.self.inside.ledger c.apply.new.self c.self.inside.fronts c.self.inside.fronts x (channel.Ask c.args.value) c.in_ok-apply.field-0
     c.self.invariant grows refl
-    (record { kept = tt; taken = ask_taken m.genesis m.keys (events h) c.args.value fits left; reply = ap Asked asked })
+    (record { kept = c.asked_is_kept.ensures; taken = ask_taken m.genesis m.keys (events h) c.args.value fits left; reply = ap Asked asked })
     c.self.invariant.one_for_each
     (turns_asked c.taken_in_order.ensures.next m c.self.inside.ledger c.self.inside.fronts c.args.value c.self.invariant))

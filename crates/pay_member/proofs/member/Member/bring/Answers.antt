@@ -16,24 +16,24 @@ use Rattle.pay_member.proofs.member.Member.bring.Goals as goal
 
 pub returns-in-Err-clause-own_key : goal.returns-in-Err-clause-own_key
 returns-in-Err-clause-own_key g c =
-    let is = subst (λ (k : KeyFields). IsOpening k c.args.bytes.now (Err c.in-Err.outcome)) c.keys.ensures.value c.in-Err.ensures in
+    let is = subst (λ (k : KeyFields). IsOpening k c.args.bytes.now (Err c.in-Err.outcome)) c.keys.ensures.value c.in-Err.ensures.opening in
     key_unnamed c.args.self.now.keys c.args.bytes.now c.in-Err.outcome is
 
 pub returns-in-Err-clause-want : goal.returns-in-Err-clause-want
 returns-in-Err-clause-want g c =
-    let is = subst (λ (k : KeyFields). IsOpening k c.args.bytes.now (Err c.in-Err.outcome)) c.keys.ensures.value c.in-Err.ensures in
+    let is = subst (λ (k : KeyFields). IsOpening k c.args.bytes.now (Err c.in-Err.outcome)) c.keys.ensures.value c.in-Err.ensures.opening in
     let none = none_opened c.one_frame_is.ensures.law c.one_frame_is.ensures.none c.args.self.now.keys c.args.bytes.now c.in-Err.outcome is in
     sym (none_wanted c.args.self.now.keys (events c.args.self.now.history) c.args.bytes.now none)
 
 pub returns-in-Err-clause-entry : goal.returns-in-Err-clause-entry
 returns-in-Err-clause-entry g c =
-    let is = subst (λ (k : KeyFields). IsOpening k c.args.bytes.now (Err c.in-Err.outcome)) c.keys.ensures.value c.in-Err.ensures in
+    let is = subst (λ (k : KeyFields). IsOpening k c.args.bytes.now (Err c.in-Err.outcome)) c.keys.ensures.value c.in-Err.ensures.opening in
     let none = none_opened c.one_frame_is.ensures.law c.one_frame_is.ensures.none c.args.self.now.keys c.args.bytes.now c.in-Err.outcome is in
     sym (ap (with_brought c.args.self.now c.args.stamp c.in-Err.outcome) none)
 
 pub returns-in-Err-clause-events : goal.returns-in-Err-clause-events
 returns-in-Err-clause-events g c =
-    let is = subst (λ (k : KeyFields). IsOpening k c.args.bytes.now (Err c.in-Err.outcome)) c.keys.ensures.value c.in-Err.ensures in
+    let is = subst (λ (k : KeyFields). IsOpening k c.args.bytes.now (Err c.in-Err.outcome)) c.keys.ensures.value c.in-Err.ensures.opening in
     let none = none_opened c.one_frame_is.ensures.law c.one_frame_is.ensures.none c.args.self.now.keys c.args.bytes.now c.in-Err.outcome is in
     none_taken c.args.self.now.keys (events c.args.self.now.history) c.args.bytes.now none
 
@@ -42,7 +42,7 @@ returns-in-Err-clause-events g c =
 pub take_opened-requires : goal.take_opened-requires
 take_opened-requires g c =
     let o = c.in-Ok.opened in
-    let has = subst (λ (k : KeyFields). HasOpened k c.args.bytes.now o) c.keys.ensures.value (has_opened c.keys.result.now c.args.bytes.now o c.in-Ok.ensures) in
+    let has = subst (λ (k : KeyFields). HasOpened k c.args.bytes.now o) c.keys.ensures.value (has_opened c.keys.result.now c.args.bytes.now o c.in-Ok.ensures.opening) in
     record {
       mine = opened_is_for c.opened.ensures c.owned.ensures.kept c.args.self.now.keys c.args.bytes.now o has;
       kind = no_want_opened c.args.self.now.keys c.args.bytes.now o has;
@@ -51,7 +51,7 @@ take_opened-requires g c =
 pub returns-in-Ok-clause-outcome : goal.returns-in-Ok-clause-outcome
 returns-in-Ok-clause-outcome g c =
     let m = c.args.self.now in
-    let is = subst (λ (k : KeyFields). IsOpening k c.args.bytes.now (Ok c.in-Ok.opened)) c.keys.ensures.value c.in-Ok.ensures in
+    let is = subst (λ (k : KeyFields). IsOpening k c.args.bytes.now (Ok c.in-Ok.opened)) c.keys.ensures.value c.in-Ok.ensures.opening in
     if_ok c.take_opened.result
     (λ x outcome. record { reading = is.reading; reads = is.reads; is = outcome ∙ ap (outcome_of m.genesis m.keys.own (events m.history)) is.is })
     c.take_opened.ensures.outcome
@@ -68,7 +68,7 @@ returns-in-Ok-clause-want g c =
     let o = c.in-Ok.opened in
     let k = c.args.self.now.keys in
     let after = events c.take_opened.new.self.history in
-    let has = subst (λ (k : KeyFields). HasOpened k c.args.bytes.now o) c.keys.ensures.value (has_opened c.keys.result.now c.args.bytes.now o c.in-Ok.ensures) in
+    let has = subst (λ (k : KeyFields). HasOpened k c.args.bytes.now o) c.keys.ensures.value (has_opened c.keys.result.now c.args.bytes.now o c.in-Ok.ensures.opening) in
     let some = some_opened c.one_frame_is.ensures.law k c.args.bytes.now o has in
     if_ok c.take_opened.result
     (λ x want. want ∙ some_wanted k after c.args.bytes.now o.frame (want_for k after o.frame) some refl)
@@ -78,7 +78,7 @@ pub returns-in-Ok-clause-entry : goal.returns-in-Ok-clause-entry
 returns-in-Ok-clause-entry g c =
     let m = c.args.self.now in
     let o = c.in-Ok.opened in
-    let has = subst (λ (k : KeyFields). HasOpened k c.args.bytes.now o) c.keys.ensures.value (has_opened c.keys.result.now c.args.bytes.now o c.in-Ok.ensures) in
+    let has = subst (λ (k : KeyFields). HasOpened k c.args.bytes.now o) c.keys.ensures.value (has_opened c.keys.result.now c.args.bytes.now o c.in-Ok.ensures.opening) in
     let some = some_opened c.one_frame_is.ensures.law m.keys c.args.bytes.now o has in
     let checked = opened_checked c.opened.ensures m.keys c.args.bytes.now o has in
     if_ok c.take_opened.result
@@ -89,7 +89,7 @@ pub returns-in-Ok-clause-events : goal.returns-in-Ok-clause-events
 returns-in-Ok-clause-events g c =
     let m = c.args.self.now in
     let o = c.in-Ok.opened in
-    let has = subst (λ (k : KeyFields). HasOpened k c.args.bytes.now o) c.keys.ensures.value (has_opened c.keys.result.now c.args.bytes.now o c.in-Ok.ensures) in
+    let has = subst (λ (k : KeyFields). HasOpened k c.args.bytes.now o) c.keys.ensures.value (has_opened c.keys.result.now c.args.bytes.now o c.in-Ok.ensures.opening) in
     let some = some_opened c.one_frame_is.ensures.law m.keys c.args.bytes.now o has in
     if_ok_both c.take_opened.result
     (λ x outcome entry. ap (λ (y : MemberFields). events y.history) (entry ∙ ap (with_taken m c.args.stamp (checked_fields o)) outcome)
@@ -100,6 +100,6 @@ returns-in-Ok-clause-events g c =
 pub returns-in-Ok-clause-memory : goal.returns-in-Ok-clause-memory
 returns-in-Ok-clause-memory g c =
     let o = c.in-Ok.opened in
-    let has = subst (λ (k : KeyFields). HasOpened k c.args.bytes.now o) c.keys.ensures.value (has_opened c.keys.result.now c.args.bytes.now o c.in-Ok.ensures) in
+    let has = subst (λ (k : KeyFields). HasOpened k c.args.bytes.now o) c.keys.ensures.value (has_opened c.keys.result.now c.args.bytes.now o c.in-Ok.ensures.opening) in
     let some = some_opened c.one_frame_is.ensures.law c.args.self.now.keys c.args.bytes.now o has in
     on_err c.take_opened.result (some_not_none c.args.self.now.keys c.args.bytes.now o.frame some)

@@ -48,7 +48,7 @@ invariant_of-self-2 g c =
     (member_more c.a_channel_follows.ensures.event m c.self.inside.ledger c.apply.new.self c.self.inside.fronts c.advance.new.self x (channel.From from body) c.in_ok-took.took
     c.self.invariant grows refl
     (record {
-      kept = c.body-body.ensures.limits;
+      kept = c.taken_is_kept.ensures;
       taken = frame_taken m.genesis m.keys (events h) c.args.checked c.next-next.result for_me now above below;
       reply = ap reply.Took
           (took_is c.a_channel_follows.ensures.event c.a_channel_follows.ensures.lists c.a_channel_follows.ensures.answers c.settled_book_is_one.ensures
