@@ -6,3 +6,10 @@ mod Showing
 mod Short
 mod Reading
 mod Whole
+mod OneText
+mod Limits
+mod Sealed
+mod AllTaken
+mod GroupLimits
+mod Fitting
+mod Existing

@@ -5,4 +5,5 @@ pub mod Group
 pub mod Made
 pub mod All
 pub mod Script
+pub mod RunLaws
 pub mod Playing

@@ -6,6 +6,7 @@ mod command;
 mod command_reading;
 mod game;
 mod group;
+pub mod laws;
 mod play;
 mod reply_words;
 mod run;
