@@ -9,9 +9,10 @@ use Rattle.pay_frame.specs.declared.limits.TheConstants.{GREATEST_VALUE, SEQS}
 use Rattle.pay_json.specs.File.{number_at, numbers_at, numbers_in}
 use Rattle.pay_link.specs.Genesis.{GenesisFields, IsGenesis, genesis_fault}
 use Rattle.pay_link.specs.Files.{genesis_said}
+use Rattle.pay_member.specs.Legal.{IsValue}
 use Rattle.pay_audit.specs.Export.{AreShort, ExportFields, IsExport, decoded, if_short, is_sized, list_in, list_said, lists_in, lists_said, parts_in, value_of, values_said}
 use Rattle.pay_audit.specs.Exporting.{export_data, list_data, number_data, value_data}
-use Rattle.pay_audit.specs.ReadBack.{ExportReadsBack, HasValues, IsValue}
+use Rattle.pay_audit.specs.ReadBack.{ExportReadsBack, HasValues}
 
 -- ---- lists
 
@@ -25,7 +26,7 @@ short_back most xs short = ap (λ b. if b then Some xs else None) (le-leb (lengt
 value_back : (v : List ℕ) → IsValue v → value_of (encode_lower v) ≡ Some v
 unfolding value_of
 value_back v is =
-    ap (λ r. option_and_then (if_short GREATEST_VALUE) (decoded r)) (decode_of-encode_lower v is.bytes)
+    ap (λ r. option_and_then (if_short GREATEST_VALUE) (decoded r)) (decode_of-encode_lower v is.bytes.fits)
     ∙ short_back GREATEST_VALUE v is.size
 
 values_back : (vs : List (List ℕ)) → ((s : ℕ) (v : List ℕ) → slice_get vs s ≡ Some v → IsValue v)

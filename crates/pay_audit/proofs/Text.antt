@@ -1,5 +1,5 @@
 -- The text of a member's export.
-use Rattle.std.proofs.Common.{◌≡◌, ℕ, suc, ◌<◌, ◌≤◌, ◌||◌, max, List, [], ◌∷◌, map, length, Bool, false, Some, None, Ok, if◌then◌else◌, refl, ap, ap₂, ◌∙◌, arith}
+use Rattle.std.proofs.Common.{◌≡◌, ℕ, zero, suc, ◌<◌, ◌≤◌, ◌||◌, max, List, [], ◌∷◌, map, length, slice_get, Bool, false, Some, None, Ok, if◌then◌else◌, refl, ap, ap₂, ◌∙◌, arith}
 use Rattle.std.specs.List.{range_with_len}
 use Rattle.std.specs.Str.{IsUtf8}
 use Rattle.std.proofs.Math.Nat.{max-le}
@@ -12,14 +12,15 @@ use Rattle.serde_json.specs.Read.{max_depth, read}
 use Rattle.serde_json.specs.View.{items_of}
 use Rattle.serde_json.specs.Written.{has_float, items_have_float}
 use Rattle.pay_channel.specs.History.{seqs}
-use Rattle.pay_channel.specs.ListLaws.{ListIsShort}
+use Rattle.pay_channel.specs.ListLaws.{ListedIsDelivered, ListIsShort}
 use Rattle.pay_json.specs.File.{value_in}
 use Rattle.pay_link.specs.Genesis.{IsGenesis}
 use Rattle.pay_member.specs.Events.{events}
 use Rattle.pay_member.specs.Group.{group_in}
-use Rattle.pay_member.specs.Laws.{BookIsSettled}
+use Rattle.pay_member.specs.Laws.{BookIsSettled, DeliveredAreValues}
+use Rattle.pay_member.specs.Legal.{IsValue, Legal}
 use Rattle.pay_member.specs.Member.{MemberFields}
-use Rattle.pay_audit.specs.Export.{AreShort, ExportFields, IsExport, export_in}
+use Rattle.pay_audit.specs.Export.{AreShort, ExportFields, IsExport, export_in, list_in}
 use Rattle.pay_audit.specs.Exporting.{export_data, exported, list_data, lists_by, number_data, value_data}
 use Rattle.pay_audit.specs.ReadBack.{ExportReadsBack, HasValues}
 use Rattle.pay_audit.proofs.Pushing.{balances, fronts}
@@ -96,6 +97,21 @@ exported_sound book short m genesis known = record {
   balances = balances book m.genesis m.keys.own (events m.history) genesis;
   short = all_short (lists_by m) (short (group_in m.genesis m.keys.own) (events m.history)) (range_with_len 0 m.genesis.members);
 }
+
+-- what holds of the values of each owner holds of those of a list for each
+listed_values :
+    (f : ℕ → List (List ℕ)) → ((a s : ℕ) (v : List ℕ) → slice_get (f a) s ≡ Some v → IsValue v) → (ns : List ℕ)
+    → (a s : ℕ) (v : List ℕ) → slice_get (list_in (map f ns) a) s ≡ Some v → IsValue v
+listed_values f are [] a s v at = absurd cc
+listed_values f are (n ∷ ns) zero s v at = are n s v at
+listed_values f are (n ∷ ns) (suc a) s v at = listed_values f are ns a s v at
+
+pub exported_values :
+    ListedIsDelivered → DeliveredAreValues → (m : MemberFields) → Legal m.genesis m.keys m.history → HasValues (exported m)
+exported_values listed values m legal a s v at =
+    listed_values (lists_by m)
+    (λ b t w there. values m.genesis m.keys m.history b t w legal (listed (group_in m.genesis m.keys.own) (events m.history) b t w there))
+    (range_with_len 0 m.genesis.members) a s v at
 
 value_from : (text : List ℕ) (d : Data) → IsUtf8 text → read text ≡ Some d → value_in text ≡ Some d
 unfolding value_in

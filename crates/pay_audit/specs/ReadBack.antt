@@ -1,17 +1,11 @@
 -- What is read of an export that was written.
-use Rattle.std.specs.Prelude.{◌≡◌, ℕ, ◌≤◌, List, length, slice_get, Some, Ok}
-use Rattle.hex.specs.Hex.{IsBytes}
-use Rattle.pay_frame.specs.declared.limits.TheConstants.{GREATEST_VALUE}
+use Rattle.std.specs.Prelude.{◌≡◌, ℕ, List, slice_get, Some, Ok}
 use Rattle.pay_json.specs.File.{value_in}
+use Rattle.pay_member.specs.Legal.{IsValue}
 use Rattle.pay_audit.specs.Export.{ExportFields, IsExport, export_in, lists_of}
 use Rattle.pay_audit.specs.Exporting.{export_data}
 
--- bytes that a frame has room for
-pub record IsValue (v : List ℕ) : Type 0 where
-  pub bytes : IsBytes v
-  pub size : length v ≤ GREATEST_VALUE
-
--- all that the lists have is such
+-- all that the lists have is bytes that a frame has room for
 abbrev pub HasValues : ExportFields → Type 0
 HasValues e = (a s : ℕ) (v : List ℕ) → slice_get (lists_of e a) s ≡ Some v → IsValue v
 

@@ -6,7 +6,6 @@ ghost use Rattle.serde_json.specs.View.{view};
 ghost use Rattle.serde_json.specs.Written.{compact_text};
 ghost use Rattle.pay_audit.specs.Export.{export_in};
 ghost use Rattle.pay_audit.specs.Exporting.{export_data, exported, list_data, lists_data, numbers_data, value_data};
-ghost use Rattle.pay_audit.specs.ReadBack.{HasValues};
 
 use crate::laws::export_reads_back;
 use hex::encode;
@@ -16,7 +15,7 @@ use pay_channel::laws::lists_are_delivered;
 use pay_echo::Instance;
 use pay_link::Genesis;
 use pay_member::Member;
-use pay_member::laws::book_of_events;
+use pay_member::laws::{book_of_events, legal_histories};
 use serde_json::{Value, json};
 use std::alloc::{AllocError, Global};
 
@@ -30,8 +29,7 @@ pub fn export<I: Instance + Drop, B: Settle + Drop>(
     ensures { IfOk result (λ value. view value ≡ export_data (exported member.now)) }
 {
     let genesis = member.genesis();
-    let balances = balances_of(alloc, member)?;
-    let front = front_of(alloc, member)?;
+    let (front, balances) = standing_of(alloc, member)?;
     let lists = lists_of(alloc, member)?;
     let opening = opening_of(alloc, genesis)?;
     json!(in alloc; {
@@ -45,22 +43,23 @@ pub fn export<I: Instance + Drop, B: Settle + Drop>(
     })
 }
 
-/// The text of a member's own export, without spaces. `read_export` reads it as that export, where all values of the
-/// lists are such that a frame has room for them.
+/// The text of a member's own export, without spaces. `read_export` reads it as that export.
 pub fn export_text<I: Instance + Drop, B: Settle + Drop>(
     alloc: Global,
     member: &Member<I, B>,
 ) -> Result<String, AllocError>
     ensures text { IfOk result
         (λ text. string_bytes text ≡ compact_text (export_data (exported member.now))) }
-    ensures reads_back { IfOk result (λ text. HasValues (exported member.now)
-        → export_in (string_bytes text) ≡ Ok (exported member.now)) }
+    ensures reads_back { IfOk result (λ text.
+        export_in (string_bytes text) ≡ Ok (exported member.now)) }
 {
     book_of_events();
     lists_are_delivered();
+    legal_histories();
     export_reads_back();
     member.genesis();
     member.keys().own();
+    member.history();
     let value = export(alloc, member)?;
     let text = value.to_string(alloc)?;
     Ok(text)
@@ -76,32 +75,24 @@ fn opening_of(alloc: Global, genesis: &Genesis) -> Result<Value, AllocError>
     Ok(Value::Array(numbers))
 }
 
-fn front_of<I: Instance + Drop, B: Settle + Drop>(
+/// How many entries are settled of each account, and all balances.
+fn standing_of<I: Instance + Drop, B: Settle + Drop>(
     alloc: Global,
     member: &Member<I, B>,
-) -> Result<Value, AllocError>
-    ensures { IfOk result (λ value. view value ≡ numbers_data (exported member.now).front) }
+) -> Result<(Value, Value), AllocError>
+    ensures front { IfOk result (λ standing.
+        view standing.0 ≡ numbers_data (exported member.now).front) }
+    ensures balances { IfOk result (λ standing.
+        view standing.1 ≡ numbers_data (exported member.now).balances) }
 {
     book_of_events();
-    let mut numbers = Vec::new(alloc);
+    let mut front = Vec::new(alloc);
+    let mut balances = Vec::new(alloc);
     for account in 0..member.genesis().members() {
-        numbers.push(Value::from(u64::from(member.front(account))))?;
+        front.push(Value::from(u64::from(member.front(account))))?;
+        balances.push(Value::from(member.balance(account)))?;
     }
-    Ok(Value::Array(numbers))
-}
-
-fn balances_of<I: Instance + Drop, B: Settle + Drop>(
-    alloc: Global,
-    member: &Member<I, B>,
-) -> Result<Value, AllocError>
-    ensures { IfOk result (λ value. view value ≡ numbers_data (exported member.now).balances) }
-{
-    book_of_events();
-    let mut numbers = Vec::new(alloc);
-    for account in 0..member.genesis().members() {
-        numbers.push(Value::from(member.balance(account)))?;
-    }
-    Ok(Value::Array(numbers))
+    Ok((Value::Array(front), Value::Array(balances)))
 }
 
 fn lists_of<I: Instance + Drop, B: Settle + Drop>(

@@ -5,7 +5,7 @@ use Rattle.serde_json.specs.Read.{max_depth}
 use Rattle.serde_json.specs.Written.{compact_text, has_float}
 use Rattle.pay_link.specs.Keys.{IsKeys}
 use Rattle.pay_audit.specs.Exporting.{exported}
-use Rattle.pay_audit.proofs.Text.{exported_sound, shallow, text_back, whole}
+use Rattle.pay_audit.proofs.Text.{exported_sound, exported_values, shallow, text_back, whole}
 use Rattle.pay_audit.proofs.exporting.export_text.Goals as goal
 
 pub returns-clause-text : goal.returns-clause-text
@@ -23,3 +23,4 @@ returns-clause-reads_back g c =
     let flat = subst (λ d. depth d ≤ max_depth) (sym is) (shallow (exported m)) in
     text_back c.export_reads_back.ensures (exported m) (string_bytes c.in_ok-text.text) sound (IsUtf8-string_bytes c.in_ok-text.text)
     (c.in_ok-text.ensures.reads_back flat ∙ ap (λ d. Some d) is)
+    (exported_values c.lists_are_delivered.ensures.listed c.legal_histories.ensures.values m c.history.ensures.legal)
