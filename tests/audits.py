@@ -1,12 +1,16 @@
-"""A slow model of an audit's verdict, and exports to try it on.
+"""A slow model of an audit's verdict, exports to try it on, and the audits of what runs of `payd sim` leave.
 
 It is written from docs/DEFINITIONS.md: which front is the largest is found among all fronts that steps reach. It
 shares no code with the crates.
 """
 
 import json
+import random
 
 from frames import payment
+from model import Ended, World
+from runs import run, same, shows, test, with_files
+from scripts import RandomScripts
 
 A = payment(payee=0, amount=5).hex()
 B = payment(payee=1, amount=5).hex()
@@ -188,3 +192,66 @@ def random_exports(random):
                 given[name][random.randrange(members)] += random.choice([1, 2])
         exports.append(given)
     return exports
+
+
+# ---- runs audited
+
+
+def audit(exports):
+    """The audit of these exports, each in a file of its own."""
+    files = {f"{place}.json": given for place, given in enumerate(exports)}
+    return with_files(files, ["audit", *files])
+
+
+def played(lines):
+    """The model's world behind the lines of a script, or None where one of them ends the run."""
+    world = World(lines[0])
+    try:
+        for line in lines[1:]:
+            world.run_line(line)
+    except Ended:
+        return None
+    return world
+
+
+def exports_in(world, lines):
+    """What correct members export behind a script that ends with `show`: what is shown, and the model's lists."""
+    status, output, errors = run(["sim"], "".join(f"{line}\n" for line in lines).encode("ascii"))
+    same((status, errors), (0, ""), f"{lines}")
+    exports = []
+    for (number, member), line in zip(world.members.items(), output.splitlines()[-len(world.members) :], strict=True):
+        name, shown, fronts, *words = line.split(" ")
+        same((name, shown, fronts, words[world.count]), ("member", f"{number}", "fronts", "balances"), line)
+        lists = [[value.hex() for value in values] for values in member.lists()]
+        front, balances = map(int, words[: world.count]), map(int, words[world.count + 1 :])
+        exports.append(export(world.opening, lists, [*front], [*balances], member=number, faults=member.faults))
+    return exports
+
+
+@test
+def exports_of_runs():
+    """Members export before the last frames are brought, and behind them; then one value of one list is another."""
+    seeded, clean, others = random.Random(31), 0, set()
+    for seed in range(20):
+        *commands, bring_all, show = RandomScripts(seed).script().decode("ascii").splitlines()
+        world = played(commands)
+        if world is None:
+            continue
+        exports = exports_in(world, [*commands, show])
+        world.run_line(bring_all)
+        exports += exports_in(world, [*commands, bring_all, show])
+        shows(audit(exports), 0, "clean\n", of=f"exports of random script {seed}")
+        clean += 1
+        values = [
+            (place, owner, seq)
+            for place, given in enumerate(exports)
+            for owner, texts in enumerate(given["lists"])
+            for seq in range(len(texts))
+        ]
+        if values:
+            place, owner, seq = seeded.choice(values)
+            exports[place]["lists"][owner][seq] = seeded.choice(["01", payment(payee=1, amount=2).hex()])
+            line = verdict(exports)
+            shows(audit(exports), 0 if line == "clean" else 1, f"{line}\n", of=f"{place} {owner} {seq} of script {seed}")
+            others.add(line[0])
+    same((clean > 10, {"2", "3", "4"} <= others), (True, True), f"{clean} runs, and verdicts {others}")

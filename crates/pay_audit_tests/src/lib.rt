@@ -1,6 +1,8 @@
-//! Tests of `pay_audit`: a member alone whose export is read again and audited, and whose history is replayed; what is
-//! printed of each fault.
+//! Tests of `pay_audit`: a member alone, and three whom a liar told two values: what they export is read again and
+//! audited, and a history replayed; what is printed of each fault.
 #![tactic(auto)]
 
 #[cfg(test)]
 mod alone;
+#[cfg(test)]
+mod split;
