@@ -19,15 +19,18 @@ use Rattle.pay_member.specs.Book.{book_after}
 use Rattle.pay_member.specs.Events.{events}
 use Rattle.pay_member.specs.Group.{group_in}
 use Rattle.pay_member.specs.Member.{MemberFields}
-use Rattle.pay_world.specs.Setting.{IsCorrect}
+use Rattle.pay_world.specs.Setting.{HasFewFaulty, IsCorrect}
 use Rattle.pay_world.specs.Deeds.{Deed, history_by}
+use Rattle.pay_world.specs.Genuine.{AreGenuine}
 use Rattle.pay_world.specs.Headline.{lists_by}
 use Rattle.pay_world.specs.HeadlineLaws.{NoListForks}
 use Rattle.pay_audit.specs.Export.{AreShort, ExportFields, IsExport, list_in, lists_of}
 use Rattle.pay_audit.specs.Exporting.{exported}
 use Rattle.pay_audit.specs.Laws.{AgreeWith, Agreeing, HasRightBalances, HasRightFront, logs_of}
 use Rattle.pay_audit.specs.Said.{CleanIsJudged, Each, EachTwo, IsClean}
-use Rattle.pay_audit_laws.specs.Moments.{ExportsAreClean, IsCorrectMember, setting_by}
+use Rattle.pay_audit.specs.Verdict.{verdict_of}
+use Rattle.pay_audit.specs.declared.verdict.Verdict.TheVariants.{Clean}
+use Rattle.pay_audit_laws.specs.Moments.{IsCorrectMember, setting_by}
 
 -- ---- a list for each account
 
@@ -172,8 +175,14 @@ each_is_of g faulty deeds members are x e got =
       is = sym found.2 ∙ exported_by m g (history_by (setting_by g faulty) c.until m.keys.own) c.genesis c.took;
     }
 
-pub exports_are_clean : CleanIsJudged → EqualListsEqualBooks → LargestIsComputed → SettledBookExists → ListIsShort → NoListForks → ExportsAreClean
-exports_are_clean judged equal computed exists short no_fork g faulty deeds members genesis few genuine are =
+-- the law, premise by premise
+pub clean_exports :
+    CleanIsJudged → EqualListsEqualBooks → LargestIsComputed → SettledBookExists → ListIsShort → NoListForks
+    → (g : GenesisFields) (faulty : ℕ → Bool) (deeds : List Deed) (members : List MemberFields)
+    → IsGenesis g → HasFewFaulty (setting_by g faulty) → AreGenuine (setting_by g faulty) deeds
+    → ((k : ℕ) (m : MemberFields) → slice_get members k ≡ Some m → IsCorrectMember g faulty deeds m)
+    → verdict_of (map exported members) ≡ Clean
+clean_exports judged equal computed exists short no_fork g faulty deeds members genesis few genuine are =
     (judged (map exported members) sound).1 clean where
       of : Each (IsOf g faulty deeds) (map exported members)
       of = each_is_of g faulty deeds members are
