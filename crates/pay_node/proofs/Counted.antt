@@ -8,6 +8,7 @@ use Rattle.pay_channel.specs.History as channel
 use Rattle.pay_channel.specs.Taken.{is_from, next}
 use Rattle.pay_channel.specs.TakenLaws.{NextIsCount}
 use Rattle.pay_link.specs.Checked.{CheckedFields}
+use Rattle.pay_member.specs.Answer.{IsAnswer}
 use Rattle.pay_member.specs.declared.entry.HistoryEntry.{HistoryEntry}
 use Rattle.pay_member.specs.declared.event.Event.{Event}
 use Rattle.pay_member.specs.declared.event.Event.TheVariants.{Ask, Taken, Query}
@@ -16,7 +17,6 @@ use Rattle.pay_member.specs.declared.reply.Reply.{Reply}
 use Rattle.pay_member.specs.Events.{channel_event, events}
 use Rattle.pay_member.specs.Member.{MemberFields, with_entry}
 use Rattle.pay_member.specs.Refusal.{refusal, is_for, turn_refusal}
-use Rattle.pay_node.specs.Receipts.{IsAnswer}
 use Rattle.pay_node.specs.Nodes.{HasNext}
 
 length-events : (history : List HistoryEntry) → length (events history) ≤ length history

@@ -2,9 +2,10 @@ pub mod Counted
 pub mod Feedings
 pub mod Fresh
 pub mod Growings
+pub mod Handlings
 pub mod Judged
-pub mod Openings
 pub mod Replays
 pub mod Rights
 pub mod Verdicts
 pub mod Sendings
+pub mod Wants

@@ -6,6 +6,7 @@ use Rattle.std.proofs.lemmas.List.Quantifiers.{all_pairs_push}
 use Rattle.std.proofs.lemmas.List.Sums.{sum_by_push}
 use Rattle.std.proofs.lemmas.Option.{slice_get_within, slice_get-get_or, get_or_from_slice_get}
 use Rattle.std.proofs.lemmas.Bool.{eq-eqb, ne_eqb}
+use Rattle.pay_member.specs.Answer.{IsAnswer}
 use Rattle.pay_member.specs.declared.entry.HistoryEntry.{HistoryEntry}
 use Rattle.pay_member.specs.declared.event.Event.{Event}
 use Rattle.pay_member.specs.declared.reply.Reply.{Reply}
@@ -19,7 +20,7 @@ use Rattle.pay_node.specs.declared.shown.Shown.{Shown}
 use Rattle.pay_node.specs.declared.receipt.Call.{Call}
 use Rattle.pay_node.specs.declared.receipt.Call.TheVariants.{Handed, Read}
 use Rattle.pay_node.specs.declared.receipt.Receipt.{Receipt}
-use Rattle.pay_node.specs.Receipts.{shown_of, IsBorneOut, IsAnswer, has_entry, entries_after, receipts_of, reading_receipt}
+use Rattle.pay_node.specs.Receipts.{shown_of, IsBorneOut, has_entry, entries_after, receipts_of, reading_receipt}
 use Rattle.pay_node.specs.Seats.{SeatFields, with_receipts, entries_told, entries_under, Right}
 
 -- ---- longer histories

@@ -1,16 +1,19 @@
 -- What the WANT of a peer is answered.
-use Rattle.std.specs.Prelude.{◌≡◌, ℕ, List, slice_get, Option, Some, None, IfSome, Result, Ok, Err}
-use Rattle.pay_frame.specs.Frame.{BodyFields, frame_bytes}
+use Rattle.std.specs.Prelude.{◌≡◌, ◌⊎◌, ℕ, List, [], slice_get, Option, Some, Result, Err, ⊤}
+use Rattle.std.specs.List.{Any}
+use Rattle.pay_frame.specs.declared.engine_fault.EngineFault.{EngineFault}
+use Rattle.pay_frame.specs.Frame.{BodyFields, FrameFields, frame_bytes}
 use Rattle.pay_channel.specs.History.{out}
 use Rattle.pay_link.specs.Keys.{KeyFields}
-use Rattle.pay_link.specs.Opening.{OpenedFields}
+use Rattle.pay_link.specs.Opening.{judgement}
 use Rattle.pay_link.specs.Sealing.{sealed}
-use Rattle.pay_member.specs.declared.outcome.Outcome.{Outcome}
-use Rattle.pay_member.specs.declared.outcome.Outcome.TheVariants as outcome
+use Rattle.pay_member.specs.declared.outcome.Outcome.TheVariants.{Wanted}
+use Rattle.pay_member.specs.Bringing.{judged}
 use Rattle.pay_member.specs.Events.{events}
 use Rattle.pay_member.specs.Group.{group_in}
 use Rattle.pay_member.specs.Legal.{Legal}
 use Rattle.pay_member.specs.Member.{MemberFields}
+use Rattle.pay_node.specs.Handling.{Does, Ends, HasHandled}
 
 -- all bodies that a member sent to all, oldest first
 abbrev pub sent_by : MemberFields → List BodyFields
@@ -24,11 +27,30 @@ pub record IsSentTo (k : KeyFields) (to number : ℕ) (bytes : List ℕ) : Type 
   pub place : slice_get (sent_by member) number ≡ Some body
   pub is : bytes ≡ frame_bytes (sealed k to number body)
 
--- A WANT that opens is answered by the frame of its number alone, if at all; nothing else is.
-abbrev pub IsReplyTo : KeyFields → Result OpenedFields Outcome → Option (List ℕ) → Type 0
-IsReplyTo k (Ok opened) reply = reply ≡ None
-IsReplyTo k (Err (outcome.Wanted from number)) reply = IfSome reply (IsSentTo k from number)
-IsReplyTo k (Err (outcome.Took took)) reply = reply ≡ None
-IsReplyTo k (Err (outcome.Frame fault)) reply = reply ≡ None
-IsReplyTo k (Err (outcome.Link fault)) reply = reply ≡ None
-IsReplyTo k (Err outcome.WrongKey) reply = reply ≡ None
+-- The frame is a WANT that opens, of a peer which has a seat among these.
+pub record IsWant {X : Type 0} (k : KeyFields) (seats : List (ℕ × X)) (f : FrameFields) (from number : ℕ) : Type 0 where
+  pub opens : judged (judgement k f) ≡ Err (Wanted from number)
+  pub seated : Any (λ s. s.0 ≡ from) seats
+
+-- the frame that such a WANT asks for
+pub record IsReplyTo {X : Type 0} (k : KeyFields) (seats : List (ℕ × X)) (f : FrameFields) (bytes : List ℕ) : Type 0 where
+  pub from : ℕ
+  pub number : ℕ
+  pub want : IsWant k seats f from number
+  pub sent : IsSentTo k from number bytes
+
+-- ---- one connection
+
+-- what is written of a frame, whatever came before: the frame that it asks for, or nothing where it is no such WANT
+abbrev pub replies : {X : Type 0} → KeyFields → List (ℕ × X) → Does ⊤
+replies k seats before after f text =
+    IsReplyTo k seats f text ⊎ (((from number : ℕ) → ¬ (IsWant k seats f from number)) × (text ≡ []))
+
+-- it may end behind such a WANT, with no reply to it
+abbrev pub stops : {X : Type 0} → KeyFields → List (ℕ × X) → Ends ⊤
+stops k seats before after f = (from : ℕ) × (number : ℕ) × IsWant k seats f from number
+
+-- The frames of an input are replied to, one after the other, and the replies written behind what was.
+abbrev pub HasAnswered : {X : Type 0} → KeyFields → List (ℕ × X) → Option (List ℕ) → Option (List ℕ) → Option (List ℕ) → Option (List ℕ) → Result ⊤ EngineFault → Type 0
+HasAnswered k seats input left before after =
+    HasHandled (replies k seats) (stops k seats) (record { first = []; state = tt; input = input; before = before }) tt left after

@@ -17,12 +17,13 @@ use Rattle.pay_member.specs.declared.reply.Reply.{Reply}
 use Rattle.pay_member.specs.declared.reply.Reply.TheVariants as reply
 use Rattle.pay_member.specs.declared.took.Took.{Took}
 use Rattle.pay_member.specs.declared.told.Told.{Told}
+use Rattle.pay_member.specs.Answer.{IsAnswer}
 use Rattle.pay_member.specs.Bringing.{IsOpening}
 use Rattle.pay_member.specs.Legal.{Legal}
 use Rattle.pay_member.specs.Member.{MemberFields}
 use Rattle.pay_node.specs.declared.question.Question.{Question}
 use Rattle.pay_node.specs.declared.shown.Shown.{Shown}
-use Rattle.pay_node.specs.Receipts.{IsAnswer, shown_of, receipts_of, reading_receipt}
+use Rattle.pay_node.specs.Receipts.{shown_of, receipts_of, reading_receipt}
 use Rattle.pay_node.specs.Seats.{SeatFields, with_receipts}
 
 -- What is known of a node without its lock: the keys with which it opens frames, and how many seats it has.

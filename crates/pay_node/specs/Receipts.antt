@@ -1,5 +1,5 @@
 -- Receipts of a node's calls, and when a history bears one out.
-use Rattle.std.specs.Prelude.{◌≡◌, ◌≢◌, ℕ, ◌+◌, ◌≤◌, nat_lt, min, Bool, true, false, if◌then◌else◌, List, [], ◌∷◌, take, length, slice_get, slice_index, Some, None, Result, Ok, Err, ⊤}
+use Rattle.std.specs.Prelude.{◌≡◌, ◌≢◌, ℕ, ◌+◌, ◌≤◌, nat_lt, min, Bool, true, false, if◌then◌else◌, List, [], ◌∷◌, take, length, slice_get, slice_index, Some, Result, Ok, Err, ⊤}
 use Rattle.pay_channel.specs.History.{list_of}
 use Rattle.pay_book.specs.Statement.{statement_of}
 use Rattle.pay_member.specs.declared.member.TheConstants.{MOST_FETCHED}
@@ -13,7 +13,6 @@ use Rattle.pay_member.specs.Events.{events}
 use Rattle.pay_member.specs.Book.{book_after}
 use Rattle.pay_member.specs.Reading.{state_of, fetched}
 use Rattle.pay_member.specs.Refusal.{refusal}
-use Rattle.pay_member.specs.Reply.{reply_to}
 use Rattle.pay_member.specs.Member.{MemberFields}
 use Rattle.pay_node.specs.Shown.{StatementFields}
 use Rattle.pay_node.specs.declared.question.Question.{Question}
@@ -84,12 +83,6 @@ has_entry (Read question shown) = false
 -- how many entries the history had once the call was answered
 abbrev pub entries_after : Receipt → ℕ
 entries_after r = if has_entry r.call then r.seen + 1 else r.seen
-
--- the answer that an event calls for, memory aside: its refusal, if there is one, else its reply
-abbrev pub IsAnswer : MemberFields → Event → Result Reply MemberFault → Type 0
-IsAnswer m event (Ok reply) =
-    (refusal m.genesis m.keys (events m.history) event ≡ None) × (reply ≡ reply_to m.genesis m.keys.own (events m.history) event)
-IsAnswer m event (Err fault) = fault ≢ Memory → refusal m.genesis m.keys (events m.history) event ≡ Some fault
 
 -- of an answer one receipt, and none of refused memory
 abbrev pub receipts_of : ℕ → Event → Result Reply MemberFault → List Receipt

@@ -14,7 +14,7 @@ use crate::receipt::{Call, Receipt};
 use crate::replaying::{anew, replay_to};
 use crate::same::{is_same_event, is_same_shown};
 use crate::seat::Seat;
-use crate::showing::{copy_of, hand, show};
+use crate::showing::show;
 use crate::shown::Shown;
 use pay_book::Settle;
 use pay_echo::Instance;
@@ -171,8 +171,8 @@ fn is_refused<I: Instance + Drop, B: Settle + Drop>(
         ≡ Some fault)) }
     ensures same { IfOk result (λ says. IsTrue says → member.new ≡ member.old) }
 {
-    let event = copy_of(alloc, event)?;
-    match hand(alloc, member, 0, event) {
+    let event = event.copy(alloc)?;
+    match member.hand_in(alloc, 0, event) {
         Ok(_) => Ok(false),
         Err(MemberFault::Memory) => Err(AllocError),
         Err(found) => Ok(found == fault),

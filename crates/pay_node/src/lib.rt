@@ -8,9 +8,9 @@ mod close_fault;
 mod closing;
 mod feeding;
 mod gate;
+mod handling;
 mod judging;
 mod node;
-mod opening;
 mod question;
 mod readers;
 mod receipt;
@@ -21,6 +21,7 @@ mod showing;
 mod shown;
 mod stopped;
 mod teller;
+mod wanted;
 mod writing;
 
 pub use close_fault::CloseFault;

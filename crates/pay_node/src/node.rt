@@ -1,4 +1,4 @@
-ghost use Rattle.std.specs.Prelude.{◌≡◌, ◌≢◌, ◌+◌, ◌<◌, ◌≤◌, ◌^◌, [], IfOk, IfErr, IfSome, OnErr, option_map};
+ghost use Rattle.std.specs.Prelude.{◌≡◌, ◌≢◌, ◌+◌, ◌<◌, ◌≤◌, ◌^◌, [], IfOk, IfErr, IfSome, OnErr};
 ghost use Rattle.pay_frame.specs.Lent.{fields_of};
 ghost use Rattle.pay_link.specs.Keys.{IsPeer};
 ghost use Rattle.pay_link.specs.Opening.{judgement};
@@ -11,19 +11,21 @@ ghost use Rattle.pay_node.specs.Nodes.{AreFresh, HasNext, IsAnswered, IsAnswered
 
 use crate::close_fault::CloseFault;
 use crate::gate::{Gate, OpenGate};
-use crate::opening::{open_bytes, open_frame};
 use crate::question::Question;
 use crate::seat::Seat;
-use crate::showing::copy_of;
 use crate::shown::{Shown, Statement};
 use crate::stopped::Stopped;
+use crate::wanted::{Wanted, open_want};
 use pay_book::Settle;
 use pay_channel::laws::taken_in_order;
 use pay_echo::Instance;
 use pay_frame::{Body, Bytes, FrameRef, Kind};
 use pay_hmac::Tagger;
 use pay_link::{Checked, Keys, LinkFault, Opened, seal, want};
-use pay_member::{Brought, Event, Member, MemberFault, Outcome, PaymentState, Reply, Told, Took};
+use pay_member::{
+    Brought, Event, Member, MemberFault, Outcome, PaymentState, Reply, Told, Took, open_bytes,
+    open_frame,
+};
 use std::alloc::{AllocError, Global};
 use std::marker::Model;
 use std::sync::atomic::{AtomicBool, Ordering};
@@ -243,46 +245,36 @@ impl<I: Instance + Drop, B: Settle + Drop> Node<I, B> {
         stop: &AtomicBool,
         frame: FrameRef<'_>,
     ) -> Result<Option<Vec<u8>>, AllocError>
-        ensures reply { IfOk result (λ reply. IsReplyTo self.now.keys
-            (judged (judgement self.now.keys (fields_of frame.entry)))
-            (option_map (λ bytes. bytes.items) reply)) }
+        ensures reply { IfOk result (λ reply. IfSome reply (λ bytes.
+            IsReplyTo self.now.keys seats.now (fields_of frame.entry) bytes.items)) }
     {
-        match open_frame(tagger, self.keys(), frame) {
-            Err(Outcome::Wanted { from, number }) => {
-                self.answer_want(rt, alloc, seats, tagger, stop, from, number)
-            }
-            Err(Outcome::Took(_) | Outcome::Frame(_) | Outcome::Link(_) | Outcome::WrongKey)
-            | Ok(_) => Ok(None),
+        match open_want(tagger, self.keys(), seats, frame) {
+            Some(wanted) => self.answer_want(rt, alloc, tagger, stop, &wanted),
+            None => Ok(None),
         }
     }
 
-    // The frame of a number for a peer, once its body is sent.
-    fn answer_want<R: Wait, T: Tagger>(
+    /// The frame that a WANT asks for, once its body is sent, or none once it is told to stop.
+    pub(crate) fn answer_want<R: Wait, T: Tagger>(
         &self,
         rt: &R,
         alloc: Global,
-        seats: &[(u16, Mutex<Seat>)],
         tagger: &T,
         stop: &AtomicBool,
-        from: u16,
-        number: u64,
+        wanted: &Wanted<'_>,
     ) -> Result<Option<Vec<u8>>, AllocError>
+        requires { IsPeer self.now.keys wanted.now.from }
         ensures { IfOk result (λ reply. IfSome reply (λ bytes.
-            IsSentTo self.now.keys from number bytes.items)) }
+            IsSentTo self.now.keys wanted.now.from wanted.now.number bytes.items)) }
     {
-        let Some(seat) = seat_of(seats, from) else {
-            return Ok(None);
-        };
-        if !self.keys().is_peer(from) {
+        if !self.waited_for(rt, wanted.number, stop) {
             return Ok(None);
         }
-        if !self.waited_for(rt, number, stop) {
-            return Ok(None);
-        }
-        self.sealed_for(rt, alloc, seat, tagger, from, number)
+        self.sealed_for(rt, alloc, wanted.seat, tagger, wanted.from, wanted.number)
     }
 
-    /// Tells those to stop who wait for what the member has still to send.
+    /// Tells those to stop who wait for what the member has still to send: a writer in [`Node::answer`] then has no
+    /// answer. No clause can say so, for none names a flag or what a lock keeps; it is tested.
     pub fn stop_waiting<R: Wait>(&self, rt: &R, stop: &AtomicBool) {
         let member = self.member.lock(rt);
         stop.store(true, Ordering::SeqCst);
@@ -428,7 +420,7 @@ impl<I: Instance + Drop, B: Settle + Drop> Node<I, B> {
         ensures next { IfOk result (λ _. HasNext event) }
         ensures memory { LackedMemory result → seat.new ≡ seat.old }
     {
-        let copy = copy_of(alloc, &event)?;
+        let copy = event.copy(alloc)?;
         seat.make_room()?;
         gate.pass(seat.stamp());
         let answer = self.hand_locked(rt, alloc, seat, event, copy);
@@ -476,16 +468,6 @@ impl<I: Instance + Drop, B: Settle + Drop> Node<I, B> {
         let member = self.member.lock(rt);
         seat.ask_of(alloc, &*member, question)
     }
-}
-
-// The seat of a peer.
-fn seat_of(seats: &[(u16, Mutex<Seat>)], peer: u16) -> Option<&Mutex<Seat>> {
-    for (of, seat) in seats {
-        if *of == peer {
-            return Some(seat);
-        }
-    }
-    None
 }
 
 // A copy of the member's keys, and the seats.

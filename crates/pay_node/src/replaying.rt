@@ -5,7 +5,6 @@ ghost use Rattle.pay_member.specs.Events.{events};
 ghost use Rattle.pay_member.specs.Legal.{IsOwed, Legal};
 ghost use Rattle.pay_member.specs.Member.{with_entry};
 
-use crate::showing::{copy_of, hand};
 use pay_book::Settle;
 use pay_echo::Instance;
 use pay_member::{HistoryEntry, Member};
@@ -51,8 +50,8 @@ fn take_again<I: Instance + Drop, B: Settle + Drop>(
     requires { IsOwed member.old.genesis member.old.keys (events member.old.history) entry.now }
     ensures { OnOk result (member.new ≡ with_entry member.old entry.now) }
 {
-    let event = copy_of(alloc, &entry.event)?;
-    match hand(alloc, member, entry.stamp, event) {
+    let event = entry.event.copy(alloc)?;
+    match member.hand_in(alloc, entry.stamp, event) {
         Ok(_) => Ok(()),
         Err(_) => Err(AllocError),
     }

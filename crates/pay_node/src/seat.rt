@@ -1,12 +1,13 @@
 ghost use Rattle.std.specs.Prelude.{◌≡◌, ◌≢◌, [], IfOk, OnErr, OnOk, length};
+ghost use Rattle.pay_member.specs.Answer.{IsAnswer};
 ghost use Rattle.pay_member.specs.Legal.{Legal};
 ghost use Rattle.pay_member.specs.Member.{with_entry};
-ghost use Rattle.pay_node.specs.Receipts.{HadMemory, IsAnswer, reading_receipt, receipts_of, shown_of};
+ghost use Rattle.pay_node.specs.Receipts.{HadMemory, reading_receipt, receipts_of, shown_of};
 ghost use Rattle.pay_node.specs.Seats.{Right, SeatFields, with_receipts};
 
 use crate::question::Question;
 use crate::receipt::{Call, Receipt};
-use crate::showing::{copy_of_shown, hand, show};
+use crate::showing::{copy_of_shown, show};
 use crate::shown::Shown;
 use pay_book::Settle;
 use pay_echo::Instance;
@@ -84,7 +85,7 @@ impl Seat {
     {
         self.receipts.reserve(1)?;
         let seen = member.history().len();
-        let answer = hand(alloc, member, self.stamp, event);
+        let answer = member.hand_in(alloc, self.stamp, event);
         if answer != Err(MemberFault::Memory) {
             self.receipts.push_reserved(Receipt {
                 seen,

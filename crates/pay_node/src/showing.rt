@@ -1,45 +1,14 @@
-//! What a member answers to each kind of call.
+//! What a member shows to each question.
 
-ghost use Rattle.std.specs.Prelude.{◌≡◌, IfOk, OnErr};
-ghost use Rattle.pay_member.specs.Member.{with_entry};
-ghost use Rattle.pay_node.specs.Receipts.{IsAnswer, shown_of, state_shown, statement_shown};
+ghost use Rattle.std.specs.Prelude.{◌≡◌, IfOk};
+ghost use Rattle.pay_node.specs.Receipts.{shown_of, state_shown, statement_shown};
 
 use crate::question::Question;
 use crate::shown::{Bodies, Fronts, Shown, Statement};
 use pay_book::Settle;
 use pay_echo::Instance;
-use pay_member::{Event, Member, MemberFault, PaymentState, Reply};
+use pay_member::{Member, MemberFault, PaymentState};
 use std::alloc::{AllocError, Global};
-
-/// Hands an event to a member.
-pub(crate) fn hand<I: Instance + Drop, B: Settle + Drop>(
-    alloc: Global,
-    member: &mut Member<I, B>,
-    stamp: u16,
-    event: Event,
-) -> Result<Reply, MemberFault>
-    ensures answer { IsAnswer member.old event result }
-    ensures entry { IfOk result (λ reply. member.new ≡ with_entry member.old
-        (record { stamp = stamp; event = event; reply = reply })) }
-    ensures err { OnErr result (member.new ≡ member.old) }
-{
-    match event {
-        Event::Ask(value) => Ok(Reply::Asked(member.ask(alloc, stamp, value)?)),
-        Event::Taken(checked) => Ok(Reply::Took(member.take(alloc, stamp, checked)?)),
-        Event::Query(account) => Ok(Reply::Told(member.query(alloc, stamp, account)?)),
-    }
-}
-
-/// An equal event.
-pub(crate) fn copy_of(alloc: Global, event: &Event) -> Result<Event, AllocError>
-    ensures { IfOk result (λ copy. copy ≡ event.now) }
-{
-    match event {
-        Event::Ask(value) => Ok(Event::Ask(value.copy(alloc)?)),
-        Event::Taken(checked) => Ok(Event::Taken(checked.copy(alloc)?)),
-        Event::Query(account) => Ok(Event::Query(*account)),
-    }
-}
 
 /// Asks a member a question.
 pub(crate) fn show<I: Instance + Drop, B: Settle + Drop>(

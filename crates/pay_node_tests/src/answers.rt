@@ -13,7 +13,7 @@ use std::test::Fail;
 
 /// What came of bytes that a peer sent.
 #[derive(Clone, Copy, Debug, PartialEq, Eq)]
-enum Came {
+pub(crate) enum Came {
     Nothing,
     /// A frame of this kind and number, about this payment of account 1, which opens at member 0.
     Opened(Kind, u64, u32),
@@ -43,7 +43,7 @@ fn reply_to<R: Wait>(rt: &R, alloc: Global, asks: u32, bytes: &[u8]) -> Result<C
 }
 
 // A frame as member 0 opens it.
-fn opens_as(alloc: Global, bytes: &[u8]) -> Result<Came, Fail> {
+pub(crate) fn opens_as(alloc: Global, bytes: &[u8]) -> Result<Came, Fail> {
     let genesis = Genesis::new(alloc, 4, FOUR.faults, FOUR.opening)
         .ok()
         .ok_or("no genesis")?;

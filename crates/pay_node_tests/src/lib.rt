@@ -15,3 +15,5 @@ mod rows;
 mod step;
 #[cfg(test)]
 mod trial;
+#[cfg(test)]
+mod writers;
