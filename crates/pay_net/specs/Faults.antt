@@ -1,0 +1,14 @@
+-- The number and the name under which each fault of a file of ports is printed.
+use Rattle.std.specs.Prelude.{ℕ, List, codes}
+use Rattle.pay_net.specs.declared.ports_fault.PortsFault.{PortsFault}
+use Rattle.pay_net.specs.declared.ports_fault.PortsFault.TheVariants.{Memory, BadJson, BadShape}
+
+abbrev pub ports_fault_number : PortsFault → ℕ
+ports_fault_number Memory = 0
+ports_fault_number BadJson = 1
+ports_fault_number BadShape = 2
+
+abbrev pub ports_fault_name : PortsFault → List ℕ
+ports_fault_name Memory = codes "Memory"
+ports_fault_name BadJson = codes "BadJson"
+ports_fault_name BadShape = codes "BadShape"

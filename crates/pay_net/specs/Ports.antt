@@ -1,0 +1,26 @@
+-- On which port each member listens, as a file of JSON (RFC 8259) says it.
+use Rattle.std.specs.Prelude.{◌≡◌, ℕ, ◌^◌, ◌<◌, List, length, codes, Some, None}
+use Rattle.std.specs.List.{All}
+use Rattle.pay_json.specs.File.{Data, numbers_at, value_in}
+
+-- a port of TCP (RFC 9293) that can be named: 16 bits, and not 0 (RFC 6335)
+abbrev pub IsPort : ℕ → Type 0
+IsPort port = (0 < port) × (port < 2 ^ 16)
+
+-- an object has a list of ports, one for each of so many members
+pub record SaysPorts (members : ℕ) (d : Data) (ports : List ℕ) : Type 0 where
+  pub listed : numbers_at (codes "ports") d ≡ Some ports
+  pub count : length ports ≡ members
+  pub each : All IsPort ports
+
+-- bytes are a text of JSON with these ports
+pub record HasPorts (members : ℕ) (bytes ports : List ℕ) : Type 0 where
+  pub value : Data
+  pub read : value_in bytes ≡ Some value
+  pub says : SaysPorts members value ports
+
+-- bytes are a text of JSON, but with no such list
+pub record LacksPorts (members : ℕ) (bytes : List ℕ) : Type 0 where
+  pub value : Data
+  pub read : value_in bytes ≡ Some value
+  pub none : (ports : List ℕ) → ¬ (SaysPorts members value ports)

@@ -1,0 +1,114 @@
+use crate::standing::Standing;
+use pay_book::Settle;
+use pay_echo::Instance;
+use pay_frame::{Reader, Writer};
+use pay_hmac::Tagger;
+use pay_node::{Node, Seat, write_peer};
+use std::alloc::Global;
+use std::net::{TcpListener, TcpStream};
+use std::sync::atomic::{AtomicBool, Ordering};
+use std::sync::{Mutex, Wait};
+use std::thread;
+use std::thread::Threads;
+use std::time::{Clock, Duration};
+
+/// How many connections that others dialed may stand at once: of each peer of the largest group two, so that one can
+/// dial again before its old connection is gone. One more is shut at once.
+pub const MOST_CONNECTIONS: u16 = 128;
+
+/// How long an acceptor sleeps after a connection that it couldn't take.
+const PAUSE_MILLIS: u64 = 10;
+
+/// Who answers those that connect.
+pub(crate) trait Serve {
+    /// The place of a connection among those that stand, if it may.
+    fn admit<R: Wait>(&self, rt: &R, stream: &TcpStream) -> Option<usize>;
+
+    /// Answers a connection until it ends, and gives its place back.
+    fn serve<R: Wait>(&self, rt: &R, stream: &TcpStream, place: usize);
+
+    /// Gives back the place of a connection that nobody answers.
+    fn turn_away<R: Wait>(&self, rt: &R, place: usize);
+}
+
+/// What those who answer WANTs share: the node, and a seat for each peer.
+#[derive(Drop)]
+pub(crate) struct Answering<'a, I: Instance + Drop, B: Settle + Drop, T> {
+    pub alloc: Global,
+    pub node: &'a Node<I, B>,
+    pub seats: &'a [(u16, Mutex<Seat>)],
+    pub tagger: &'a T,
+    pub accepted: &'a Standing,
+    pub stop: &'a AtomicBool,
+}
+
+impl<I: Instance + Drop, B: Settle + Drop, T: Tagger> Serve for Answering<'_, I, B, T> {
+    fn admit<R: Wait>(&self, rt: &R, stream: &TcpStream) -> Option<usize> {
+        self.accepted.keep(rt, self.stop, stream)
+    }
+
+    fn serve<R: Wait>(&self, rt: &R, stream: &TcpStream, place: usize) {
+        let _ = stream.set_nodelay(true);
+        let mut reader = Reader::new(stream);
+        let mut writer = Writer::new(stream);
+        let _ = write_peer(
+            rt,
+            self.alloc,
+            self.node,
+            self.seats,
+            self.tagger,
+            self.stop,
+            &mut reader,
+            &mut writer,
+        );
+        self.accepted.shut(rt, place);
+    }
+
+    fn turn_away<R: Wait>(&self, rt: &R, place: usize) {
+        self.accepted.shut(rt, place);
+    }
+}
+
+/// Takes connections and has each answered, in a thread of its own, until the node stops and the listening socket is
+/// shut. Returns once all of these threads have ended.
+pub(crate) fn accept_all<R, S>(rt: &R, server: &S, stop: &AtomicBool, listener: &TcpListener)
+where
+    R: Threads + Wait + Clock + Sync,
+    S: Serve + Sync,
+{
+    thread::scope(thread::scope_env(), rt, |scope| {
+        for _ in rt.forever() {
+            let stream = next_connection(rt, stop, listener);
+            if stop.load(Ordering::SeqCst) {
+                return;
+            }
+            let Some(stream) = stream else {
+                continue;
+            };
+            let Some(place) = server.admit(rt, &stream) else {
+                continue;
+            };
+            let started = scope.spawn(move || server.serve(rt, &stream, place));
+            if started.is_err() {
+                server.turn_away(rt, place);
+            }
+        }
+    });
+}
+
+// Waits for a connection. Where none can be had it pauses, unless the node stops: the next one may fail at once too.
+fn next_connection<R: Clock>(
+    rt: &R,
+    stop: &AtomicBool,
+    listener: &TcpListener,
+) -> Option<TcpStream> {
+    match listener.accept() {
+        Ok((stream, _)) => Some(stream),
+        Err(_) => {
+            if !stop.load(Ordering::SeqCst) {
+                thread::sleep(rt, Duration::from_millis(PAUSE_MILLIS));
+            }
+            None
+        }
+    }
+}

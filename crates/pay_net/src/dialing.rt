@@ -1,0 +1,95 @@
+use crate::ports::Ports;
+use crate::standing::Standing;
+use pay_frame::{Reader, Writer};
+use pay_node::{Dial, Dialed};
+use std::io;
+use std::io::Read;
+use std::net::{IpAddr, Ipv4Addr, Net, SocketAddr, TcpListener, TcpStream};
+use std::sync::Wait;
+use std::sync::atomic::{AtomicBool, Ordering};
+use std::time::Duration;
+
+/// How long one attempt to connect may take, so that a node can stop.
+const DIAL_MILLIS: u64 = 1_000;
+
+/// Connects to peers on this machine, until the node stops.
+#[derive(Drop)]
+pub(crate) struct Dialer<'a, R> {
+    pub rt: &'a R,
+    pub ports: &'a Ports,
+    pub dialed: &'a Standing,
+    pub stop: &'a AtomicBool,
+}
+
+/// A connection that was dialed, and its place among those that stand. Shut where it is dropped.
+pub(crate) struct DialedStream<'a, R: Wait> {
+    rt: &'a R,
+    dialed: &'a Standing,
+    place: usize,
+    stream: TcpStream,
+}
+
+impl<R: Wait> Drop for DialedStream<'_, R> {
+    fn drop(self) {
+        let DialedStream {
+            rt,
+            dialed,
+            place,
+            stream,
+        } = self;
+        dialed.shut(rt, place);
+        drop(stream);
+    }
+}
+
+impl<R: Wait> Read for DialedStream<'_, R> {
+    fn read(&mut self, buffer: &mut [u8]) -> io::Result<usize> {
+        self.stream.read(buffer)
+    }
+}
+
+impl<'a, R> Dial<Reader<DialedStream<'a, R>>, Writer<TcpStream>> for Dialer<'a, R>
+where
+    R: Net<Listener = TcpListener, Stream = TcpStream> + Wait,
+{
+    fn dial(&self, peer: u16) -> Dialed<Reader<DialedStream<'a, R>>, Writer<TcpStream>> {
+        if self.stop.load(Ordering::SeqCst) {
+            return Dialed::Stop;
+        }
+        match self.connect(peer) {
+            Some((reader, writer)) => Dialed::Streams(Reader::new(reader), Writer::new(writer)),
+            None => Dialed::Failed,
+        }
+    }
+}
+
+impl<'a, R: Net<Listener = TcpListener, Stream = TcpStream> + Wait> Dialer<'a, R> {
+    // Both ends of a connection to a peer that is kept among those that stand.
+    fn connect(&self, peer: u16) -> Option<(DialedStream<'a, R>, TcpStream)> {
+        let port = self.ports.of(peer)?;
+        let address = SocketAddr::new(IpAddr::V4(Ipv4Addr::LOCALHOST), port);
+        let wait = Duration::from_millis(DIAL_MILLIS);
+        let stream = TcpStream::connect_timeout(self.rt, &address, wait).ok()?;
+        if is_own_end(&stream, port) {
+            return None;
+        }
+        let _ = stream.set_nodelay(true);
+        let writer = stream.try_clone().ok()?;
+        let place = self.dialed.keep(self.rt, self.stop, &stream)?;
+        let reader = DialedStream {
+            rt: self.rt,
+            dialed: self.dialed,
+            place,
+            stream,
+        };
+        Some((reader, writer))
+    }
+}
+
+// Where nobody listens, the system may give a connection the very port that it goes to.
+fn is_own_end(stream: &TcpStream, port: u16) -> bool {
+    match stream.local_addr() {
+        Ok(address) => address.port() == port,
+        Err(_) => false,
+    }
+}

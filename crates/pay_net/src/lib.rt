@@ -1,0 +1,18 @@
+//! A node among its peers on one machine: the file that says on which port each member listens, the connections of
+//! a node, and the threads that keep it running until its desk's input ends.
+#![tactic(auto)]
+
+mod accepting;
+mod dialing;
+mod listening;
+mod node_fault;
+mod ports;
+mod ports_fault;
+mod running;
+mod standing;
+
+pub use accepting::MOST_CONNECTIONS;
+pub use node_fault::NodeFault;
+pub use ports::Ports;
+pub use ports_fault::PortsFault;
+pub use running::run_node;

@@ -1,0 +1,36 @@
+use pay_frame::EngineFault;
+use pay_node::CloseFault;
+use std::alloc::{AllocError, AllocFailed};
+use thiserror::Error;
+
+/// Why a running node has no member to hand back.
+#[derive(Clone, Copy, Debug, PartialEq, Eq, Error)]
+pub enum NodeFault {
+    /// The own port can't be had.
+    #[error("port {0}")]
+    Port(u16),
+    /// Memory was refused at the start, or the desk ended so.
+    #[error("engine {0}")]
+    Engine(EngineFault),
+    /// The receipts of the seats and the history don't agree, or this couldn't be found out.
+    #[error("close {0}")]
+    Close(CloseFault),
+}
+
+impl From<EngineFault> for NodeFault {
+    fn from(fault: EngineFault) -> NodeFault {
+        NodeFault::Engine(fault)
+    }
+}
+
+impl From<AllocError> for NodeFault {
+    fn from(_: AllocError) -> NodeFault {
+        NodeFault::Engine(EngineFault::Memory)
+    }
+}
+
+impl<T: Drop> From<AllocFailed<T>> for NodeFault {
+    fn from(_: AllocFailed<T>) -> NodeFault {
+        NodeFault::Engine(EngineFault::Memory)
+    }
+}

@@ -1,0 +1,40 @@
+ghost use Rattle.std.specs.Prelude.{◌≡◌};
+ghost use Rattle.pay_net.specs.Faults.{ports_fault_name, ports_fault_number};
+
+use thiserror::Error;
+
+/// Why there are no ports, in the order in which it is tested; memory stands apart.
+#[derive(Clone, Copy, Debug, PartialEq, Eq, Error)]
+#[error("{} {}", self.number(), self.name())]
+pub enum PortsFault {
+    Memory,
+    /// The file isn't JSON.
+    BadJson,
+    /// It has no list of ports with one for each member.
+    BadShape,
+}
+
+impl PortsFault {
+    const fn entry(self) -> (u8, &'static str)
+        ensures number { result.0 ≡ ports_fault_number self }
+        ensures name { result.1.now ≡ ports_fault_name self }
+    {
+        match self {
+            PortsFault::Memory => (0, "Memory"),
+            PortsFault::BadJson => (1, "BadJson"),
+            PortsFault::BadShape => (2, "BadShape"),
+        }
+    }
+
+    pub fn number(self) -> u8
+        ensures value { result ≡ ports_fault_number self }
+    {
+        self.entry().0
+    }
+
+    pub fn name(self) -> &'static str
+        ensures value { result.now ≡ ports_fault_name self }
+    {
+        self.entry().1
+    }
+}

@@ -1,0 +1,262 @@
+ghost use Rattle.std.specs.Prelude.{◌≡◌, ◌+◌, ◌*◌, ◌<◌, [], length};
+
+use crate::accepting::{Answering, MOST_CONNECTIONS, accept_all};
+use crate::dialing::Dialer;
+use crate::listening::Listening;
+use crate::node_fault::NodeFault;
+use crate::ports::Ports;
+use crate::standing::Standing;
+use pay_book::Settle;
+use pay_desk::{Desk, run_desk};
+use pay_echo::Instance;
+use pay_frame::{EngineFault, Input, Output};
+use pay_hmac::Tagger;
+use pay_member::Member;
+use pay_node::{Node, NodeTeller, OpenGate, Seat, run_readers};
+use std::alloc::{AllocError, Global};
+use std::net::{Net, TcpListener, TcpStream};
+use std::sync::atomic::AtomicBool;
+use std::sync::{Mutex, Wait};
+use std::thread;
+use std::thread::Threads;
+use std::time::Clock;
+
+/// The seats of a node: each peer's reader has one of its own, the writers to each peer share one, and the desk has
+/// one.
+#[derive(Drop)]
+struct Seats {
+    readers: Vec<(u16, Seat)>,
+    writers: Vec<(u16, Mutex<Seat>)>,
+    desk: Seat,
+}
+
+/// What the threads of a node share.
+#[derive(Drop)]
+struct Running<'a, H, I: Instance + Drop, B: Settle + Drop, T> {
+    rt: &'a H,
+    alloc: Global,
+    node: &'a Node<I, B>,
+    tagger: &'a T,
+    ports: &'a Ports,
+    listening: &'a Listening,
+    dialed: &'a Standing,
+    accepted: &'a Standing,
+    stop: &'a AtomicBool,
+}
+
+/// Runs a member as a node among its peers until the input of its desk ends, and hands the member back.
+///
+/// It listens on its own port and dials those of all others. A fault of the desk ends it too, and is answered.
+pub fn run_node<H, I, B, T, In, Out>(
+    rt: &H,
+    alloc: Global,
+    member: Member<I, B>,
+    tagger: &T,
+    ports: &Ports,
+    reader: &mut In,
+    writer: &mut Out,
+) -> Result<Member<I, B>, NodeFault>
+where
+    H: Threads + Wait + Clock + Net<Listener = TcpListener, Stream = TcpStream> + Sync,
+    I: Instance + Drop + Send,
+    B: Settle + Drop + Send,
+    T: Tagger + Sync,
+    In: Input,
+    Out: Output,
+    requires fresh { member.history ≡ [] }
+    requires ports { length ports.now ≡ length member.keys.keys }
+{
+    let own = member.keys().own();
+    let members = member.keys().members();
+    let Some(port) = ports.of(own) else {
+        unreachable!()
+    };
+    let Ok(listening) = Listening::on(rt, port) else {
+        return Err(NodeFault::Port(port));
+    };
+    let dialed = Standing::new(alloc, members)?;
+    let accepted = Standing::new(alloc, MOST_CONNECTIONS)?;
+    let Ok((node, seats)) = Node::new(alloc, member, 2 * members - 1) else {
+        return Err(NodeFault::Engine(EngineFault::Memory));
+    };
+    let seats = seated(alloc, own, members, seats)?;
+    let stop = AtomicBool::new(false);
+    let running = Running {
+        rt,
+        alloc,
+        node: &node,
+        tagger,
+        ports,
+        listening: &listening,
+        dialed: &dialed,
+        accepted: &accepted,
+        stop: &stop,
+    };
+    let (seats, ended) = running.run(seats, reader, writer);
+    let seats = gathered(alloc, seats)?;
+    ended?;
+    match node.close(alloc, seats.as_slice()) {
+        Ok(member) => Ok(member),
+        Err((fault, _)) => Err(NodeFault::Close(fault)),
+    }
+}
+
+impl<H, I, B, T> Running<'_, H, I, B, T>
+where
+    H: Threads + Wait + Clock + Net<Listener = TcpListener, Stream = TcpStream> + Sync,
+    I: Instance + Drop + Send,
+    B: Settle + Drop + Send,
+    T: Tagger + Sync,
+{
+    // Answers the lines of the desk while the workers run. Where no thread can be made they run last, and end at once.
+    fn run<In: Input, Out: Output>(
+        &self,
+        seats: Seats,
+        reader: &mut In,
+        writer: &mut Out,
+    ) -> (Seats, Result<(), EngineFault>) {
+        let Seats {
+            readers,
+            writers,
+            desk,
+        } = seats;
+        let ((readers, writers), (desk, ended)) = thread::join(
+            self.rt,
+            || self.work(readers, writers),
+            || self.answer_lines(desk, reader, writer),
+        );
+        let seats = Seats {
+            readers,
+            writers,
+            desk,
+        };
+        (seats, ended)
+    }
+
+    // Answers the lines of the desk, and then stops the workers.
+    fn answer_lines<In: Input, Out: Output>(
+        &self,
+        seat: Seat,
+        reader: &mut In,
+        writer: &mut Out,
+    ) -> (Seat, Result<(), EngineFault>) {
+        let keys = self.node.keys();
+        let teller = NodeTeller {
+            rt: self.rt,
+            node: self.node,
+            seat,
+        };
+        let mut desk = Desk::new(self.alloc, teller, keys.members(), keys.own());
+        let ended = run_desk(self.alloc, &mut desk, reader, writer);
+        self.stop_workers();
+        (desk.into_teller().seat, ended)
+    }
+
+    // Reads from all peers and answers those who connect, until told to stop.
+    fn work(
+        &self,
+        readers: Vec<(u16, Seat)>,
+        writers: Vec<(u16, Mutex<Seat>)>,
+    ) -> (Vec<(u16, Seat)>, Vec<(u16, Mutex<Seat>)>) {
+        let (writers, readers) = thread::join(
+            self.rt,
+            || self.write(writers),
+            || self.read(readers),
+        );
+        (readers, writers)
+    }
+
+    // Reads from all peers, each in a thread of its own.
+    fn read(&self, readers: Vec<(u16, Seat)>) -> Vec<(u16, Seat)> {
+        let mut readers = readers;
+        let dialer = Dialer {
+            rt: self.rt,
+            ports: self.ports,
+            dialed: self.dialed,
+            stop: self.stop,
+        };
+        run_readers(
+            self.rt,
+            self.alloc,
+            self.node,
+            self.tagger,
+            &OpenGate,
+            &dialer,
+            readers.as_mut_slice(),
+        );
+        readers
+    }
+
+    // Answers those who connect, each in a thread of its own.
+    fn write(&self, seats: Vec<(u16, Mutex<Seat>)>) -> Vec<(u16, Mutex<Seat>)> {
+        let answering = Answering {
+            alloc: self.alloc,
+            node: self.node,
+            seats: seats.as_slice(),
+            tagger: self.tagger,
+            accepted: self.accepted,
+            stop: self.stop,
+        };
+        accept_all(self.rt, &answering, self.stop, &self.listening.listener);
+        seats
+    }
+
+    // Ends all that a worker can wait for. The flag is set first: who finds it unset is woken or shut here.
+    fn stop_workers(&self) {
+        self.node.stop_waiting(self.rt, self.stop);
+        self.listening.shut();
+        self.dialed.shut_all(self.rt);
+        self.accepted.shut_all(self.rt);
+    }
+}
+
+// Gives each worker its seat.
+fn seated(alloc: Global, own: u16, members: u16, seats: Vec<Seat>) -> Result<Seats, AllocError>
+    requires own { own < members }
+    requires count { length seats.items + 1 ≡ 2 * members }
+{
+    let mut left = seats;
+    let mut readers = Vec::new(alloc);
+    let mut writers = Vec::new(alloc);
+    for peer in 0..members {
+        if peer != own {
+            readers.push((peer, next_of(&mut left)))?;
+            writers.push((peer, Mutex::new(next_of(&mut left))))?;
+        }
+    }
+    let desk = next_of(&mut left);
+    Ok(Seats {
+        readers,
+        writers,
+        desk,
+    })
+}
+
+// One of the seats that are left.
+fn next_of(left: &mut Vec<Seat>) -> Seat
+    requires { 0 < length left.old.items }
+    ensures { length left.new.items + 1 ≡ length left.old.items }
+{
+    match left.pop() {
+        Some(seat) => seat,
+        None => unreachable!(),
+    }
+}
+
+// All seats in one list.
+fn gathered(alloc: Global, seats: Seats) -> Result<Vec<Seat>, AllocError> {
+    let Seats {
+        readers,
+        writers,
+        desk,
+    } = seats;
+    let mut all = Vec::new(alloc);
+    for (_, seat) in readers {
+        all.push(seat)?;
+    }
+    for (_, seat) in writers {
+        all.push(seat.into_inner())?;
+    }
+    all.push(desk)?;
+    Ok(all)
+}
