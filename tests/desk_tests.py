@@ -152,6 +152,26 @@ def faults_of_a_desks_files():
 
 
 @test
+def files_come_before_lines():
+    with tempfile.TemporaryDirectory() as folder:
+        bad = os.path.join(folder, "bad")
+        with open(bad, "w", encoding="ascii") as file:
+            file.write("{")
+        for words, line in (
+            (["desk", "--genesis", bad, "--keys", example_keys(0)], "genesis 1 BadJson"),
+            (["desk", "--genesis", EXAMPLE_GENESIS, "--keys", bad], "keys 1 BadJson"),
+            (["check", "--genesis", bad], "genesis 1 BadJson"),
+            (["audit", bad], "export 1 BadJson"),
+        ):
+            # nothing is written, and the input stays open
+            source, sink = os.pipe()
+            done = subprocess.run([PAYD, *words], stdin=source, capture_output=True, timeout=SECONDS)
+            os.close(source)
+            os.close(sink)
+            same((done.returncode, done.stdout, done.stderr.decode()), (2, b"", f"payd: {line}\n"), f"{words}")
+
+
+@test
 def words_of_a_desk():
     genesis, keys = ["--genesis", EXAMPLE_GENESIS], ["--keys", example_keys(0)]
     for words in ([*genesis, *keys], [*keys, *genesis], [f"--keys={example_keys(0)}", *genesis]):

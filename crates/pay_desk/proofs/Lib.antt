@@ -1,3 +1,3 @@
-mod Placing
+mod Finding
 mod Running
 mod AskingOnce

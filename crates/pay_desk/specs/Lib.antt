@@ -2,7 +2,6 @@ pub mod Commands
 pub mod Faults
 pub mod Calls
 pub mod Kept
-pub mod Places
 pub mod Words
 pub mod Answers
 pub mod Desk

@@ -1,16 +1,15 @@
-ghost use Rattle.std.specs.Prelude.{◌≡◌, ◌≤◌, ℕ, [], None, length, is_ok, nat_eq, slice_get};
-ghost use Rattle.std.specs.HashMap.{get};
+ghost use Rattle.std.specs.Prelude.{◌≡◌, ◌≤◌, [], None, length};
 ghost use Rattle.pay_desk.specs.Calls as call;
 ghost use Rattle.pay_desk.specs.Calls.{Replies};
 ghost use Rattle.pay_desk.specs.Kept.{kept_after, kept_under};
-ghost use Rattle.pay_desk.specs.Places.{placed_after};
 
+use crate::by_id::ById;
 use crate::command::Order;
 use crate::teller::Teller;
 use crate::teller_fault::TellerFault;
+use indexmap::IndexSet;
 use pay_frame::{Bytes, GREATEST_VALUE};
 use std::alloc::Global;
-use std::collections::HashMap;
 use std::marker::Model;
 
 /// A payment that was asked for, and the number that it got.
@@ -23,20 +22,17 @@ pub struct Kept {
 /// All payments that were asked for, oldest first. One is found by its id in constant time.
 #[derive(Drop)]
 pub struct KeptOrders {
-    kept: Vec<Kept>,
-    places: HashMap<u64, usize>,
+    payments: IndexSet<ById>,
 }
 
 impl Model for KeptOrders {
-    ghost use Rattle.std.specs.Prelude.{List};
+    ghost use Rattle.std.specs.Prelude.{List, map};
+    ghost use Rattle.pay_desk.specs.declared.by_id.ById.{ById};
     ghost use Rattle.pay_desk.specs.declared.kept.Kept.{Kept};
-    ghost use Rattle.pay_desk.specs.Places.{AreFound};
 
     ghost Value = { List Kept };
 
-    ghost view = { λ k. k.kept.items };
-
-    ghost invariant = { λ k. AreFound k.kept.items k.places };
+    ghost view = { λ k. map (λ (p : ById). p.kept) k.payments.keys };
 }
 
 impl KeptOrders {
@@ -44,8 +40,7 @@ impl KeptOrders {
         ensures { result ≡ [] }
     {
         KeptOrders {
-            kept: Vec::new(alloc),
-            places: HashMap::new(alloc),
+            payments: IndexSet::new(alloc),
         }
     }
 
@@ -53,8 +48,8 @@ impl KeptOrders {
     pub fn find(&self, id: u64) -> Option<Kept>
         ensures { result ≡ kept_under id self.now }
     {
-        let place = *self.places.get(&id)?;
-        kept_at(self.kept.as_slice(), place)
+        let payment = self.payments.get(&ById::of_id(id))?;
+        Some(payment.kept)
     }
 
     /// Has a teller broadcast the value of a payment, and keeps that it was asked for. Memory is
@@ -71,40 +66,12 @@ impl KeptOrders {
         ensures replied { Replies T.says teller.old (call.Ask value) call.Asked result teller.new }
         ensures kept { self.new ≡ kept_after self.old order result }
     {
-        self.kept.reserve(1)?;
-        let place = self.kept.len();
-        let seq = ask_with_place(&mut self.places, place, alloc, teller, order.id, value)?;
-        self.kept.push_reserved(Kept { order, seq });
+        self.payments.reserve(1)?;
+        let seq = teller.ask(alloc, value)?;
+        let kept = Kept { order, seq };
+        let Ok(_) = self.payments.insert(ById { kept }) else {
+            unreachable!()
+        };
         Ok(seq)
     }
-}
-
-fn kept_at(kept: &[Kept], place: usize) -> Option<Kept>
-    ensures { result ≡ slice_get kept.now place }
-{
-    kept.get(place).copied()
-}
-
-// Makes room for a place under an id that has none, and has a teller broadcast a value. Where it
-// isn't broadcast the places are as before.
-fn ask_with_place<T: Teller>(
-    places: &mut HashMap<u64, usize>,
-    place: usize,
-    alloc: Global,
-    teller: &mut T,
-    id: u64,
-    value: Bytes,
-) -> Result<u32, TellerFault>
-    requires fresh { get nat_eq places.old id ≡ None }
-    requires short { length value ≤ GREATEST_VALUE }
-    ensures replied { Replies T.says teller.old (call.Ask value) call.Asked result teller.new }
-    ensures placed { (q : ℕ) → get nat_eq places.new q
-        ≡ placed_after (get nat_eq places.old) id place (is_ok result) q }
-{
-    places.reserve(1)?;
-    let seq = teller.ask(alloc, value)?;
-    let Ok(_) = places.insert(id, place) else {
-        unreachable!()
-    };
-    Ok(seq)
 }

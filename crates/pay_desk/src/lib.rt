@@ -5,6 +5,7 @@
 //! that it asked for under the id that its owner gave it, so that a line may be given again.
 #![tactic(auto)]
 
+mod by_id;
 mod command;
 mod command_reading;
 mod desk;

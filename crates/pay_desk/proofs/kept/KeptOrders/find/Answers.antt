@@ -1,17 +1,18 @@
-use Rattle.std.proofs.Common.{ap, sym, ◌∙◌}
-use Rattle.std.specs.List.{slice_get}
+use Rattle.std.proofs.Common.{ℕ, ap, sym, ◌∙◌}
+use Rattle.std.specs.Option.{option_map}
+use Rattle.std.specs.List.{find}
 use Rattle.pay_desk.specs.Kept.{kept_under}
-use Rattle.pay_desk.proofs.Placing.{found, not_found}
+use Rattle.pay_desk.proofs.Finding.{found, has_id, kept_of}
 use Rattle.pay_desk.proofs.kept.KeptOrders.find.Goals as goal
 
-pub returns-in_err-place : goal.returns-in_err-place
-returns-in_err-place c =
-    let none = not_found c.self.inside.kept.items c.self.inside.places c.args.id c.self.invariant (sym c.in_err-place.ensures.value) in
-    c.from_residual.ensures ∙ sym none ∙ ap (kept_under c.args.id) c.self.view_is
+pub returns-in_err-payment : goal.returns-in_err-payment
+returns-in_err-payment c =
+    let payments = c.self.inside.payments.keys in
+    let by_id = ap (λ (id : ℕ). find (has_id id) payments) (sym c.of_id.ensures) ∙ sym c.in_err-payment.ensures.key in
+    c.from_residual.ensures ∙ sym (found c.args.id payments ∙ ap (option_map kept_of) by_id) ∙ ap (kept_under c.args.id) c.self.view_is
 
 pub returns : goal.returns
 returns c =
-    let place = c.in_ok-place.field-0.now in
-    let some = found c.self.inside.kept.items c.self.inside.places c.args.id place c.self.invariant (sym c.in_ok-place.ensures.value) in
-    c.kept_at.ensures ∙ ap (λ kept. slice_get kept place) c.as_slice.ensures.value ∙ sym some
-    ∙ ap (kept_under c.args.id) c.self.view_is
+    let payments = c.self.inside.payments.keys in
+    let by_id = ap (λ (id : ℕ). find (has_id id) payments) (sym c.of_id.ensures) ∙ sym c.in_ok-payment.ensures.key in
+    sym (found c.args.id payments ∙ ap (option_map kept_of) by_id) ∙ ap (kept_under c.args.id) c.self.view_is
