@@ -8,7 +8,7 @@ use Rattle.clap.specs.declared.builder.action.ArgAction.TheVariants.{Append}
 use Rattle.clap.specs.declared.builder.Command.{Command}
 use Rattle.clap.specs.declared.builder.command.Command.TheViews.{out-Command}
 use Rattle.payd.specs.declared.words.Job.{Job}
-use Rattle.payd.specs.declared.words.Job.TheVariants.{Check, Desk, Audit, Sim}
+use Rattle.payd.specs.declared.words.Job.TheVariants.{Check, Desk, Node, Audit, Sim}
 
 -- an option that takes the name of a file
 abbrev pub file_rule : Text → Rule
@@ -25,6 +25,13 @@ check_app = with_rule (with_rule (new_app (codes "check")) (file_rule (codes "ge
 -- `desk`, which needs both
 abbrev pub desk_app : App
 desk_app = with_rule (with_rule (new_app (codes "desk")) (required_rule (codes "genesis"))) (required_rule (codes "keys"))
+
+-- `node`, which needs both, and ports
+abbrev pub node_app : App
+node_app =
+    with_rule
+    (with_rule (with_rule (new_app (codes "node")) (required_rule (codes "genesis"))) (required_rule (codes "keys")))
+    (required_rule (codes "ports"))
 
 -- the names of one or more files
 abbrev pub files_rule : Rule
@@ -48,7 +55,9 @@ payd_alone = record (new_app (codes "payd")) {
 abbrev pub payd_app : App
 payd_app =
     with_subcommand
-    (with_subcommand (with_subcommand (with_subcommand payd_alone check_app.top) desk_app.top) audit_app.top)
+    (with_subcommand
+    (with_subcommand (with_subcommand (with_subcommand payd_alone check_app.top) desk_app.top) node_app.top)
+    audit_app.top)
     sim_app.top
 
 -- a command as these definitions have it, without an option for all commands
@@ -65,6 +74,7 @@ pub record IsArgument (o : Arg) (r : Rule) : Type 0 where
 pub data Asked : Type 0 where
   check : Option Text → Option Text → Asked
   desk : Text → Text → Asked
+  node : Text → Text → Text → Asked
   audit : List Text → Asked
   sim : Asked
 
@@ -72,6 +82,7 @@ pub data Asked : Type 0 where
 abbrev pub asked : Job → Asked
 asked (Check genesis keys) = check (option_map (λ name. name.now) genesis) (option_map (λ name. name.now) keys)
 asked (Desk genesis keys) = desk genesis.now keys.now
+asked (Node genesis keys ports) = node genesis.now keys.now ports.now
 asked (Audit files) = audit (map (λ name. name.now) files.items)
 asked Sim = sim
 
@@ -86,6 +97,9 @@ named option rows = unwrap_or (first_of option rows) []
 abbrev pub desk_asked : List Row → Asked
 desk_asked rows = desk (named (codes "genesis") rows) (named (codes "keys") rows)
 
+abbrev pub node_asked : List Row → Asked
+node_asked rows = node (named (codes "genesis") rows) (named (codes "keys") rows) (named (codes "ports") rows)
+
 abbrev pub files_of : List Row → List Text
 files_of rows = unwrap_or (all_of (codes "files") rows) []
 
@@ -95,6 +109,7 @@ audit_asked rows = audit (files_of rows)
 abbrev pub asked_of : Text → List Row → Asked
 asked_of name rows =
     if bytes_eq name (codes "desk") then desk_asked rows
+    else if bytes_eq name (codes "node") then node_asked rows
     else if bytes_eq name (codes "audit") then audit_asked rows
     else if bytes_eq name (codes "sim") then sim
     else check_asked rows

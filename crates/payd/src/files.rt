@@ -72,7 +72,11 @@ pub(crate) fn exports_of<'a>(
 }
 
 /// All bytes of the file of this name.
-fn bytes_of<'a>(alloc: Global, rt: &impl Files, name: &'a str) -> Result<Vec<u8>, Stop<'a>> {
+pub(crate) fn bytes_of<'a>(
+    alloc: Global,
+    rt: &impl Files,
+    name: &'a str,
+) -> Result<Vec<u8>, Stop<'a>> {
     match read(alloc, rt, name) {
         Ok(bytes) => {
             if bytes.len() as u64 > MOST_BYTES {

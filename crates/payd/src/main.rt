@@ -2,12 +2,13 @@
 #![tactic(auto)]
 
 mod files;
+mod ports;
 mod stop;
 mod words;
 
 use clap::error::ErrorKind;
 use files::{exports_of, genesis_of, keys_of};
-use pay_audit::Verdict;
+use pay_audit::{Verdict, export_text};
 use pay_book::PlainBook;
 use pay_cli::run_check;
 use pay_desk::{Desk, OneMember, run_desk};
@@ -16,10 +17,16 @@ use pay_frame::{EngineFault, Reader, Writer};
 use pay_hmac::PreparedHmac;
 use pay_link::Keys;
 use pay_member::Member;
+use pay_net::run_node;
 use pay_sim::{SimEnd, run_sim};
+use ports::ports_of;
 use std::alloc::{AllocError, Global};
+use std::net::{Net, TcpListener, TcpStream};
 use std::process::ExitCode;
 use std::rt::Files;
+use std::sync::Wait;
+use std::thread::Threads;
+use std::time::Clock;
 use std::{env, io};
 use stop::Stop;
 use words::{Job, NOT_UTF8, job_of};
@@ -42,6 +49,13 @@ fn main(rt: HostRuntime) -> ExitCode {
         Ok(Job::Desk { genesis, keys }) => {
             status_of(&rt, serve_desk(rt.alloc(), &rt, genesis, keys))
         }
+        Ok(
+            Job::Node {
+                genesis,
+                keys,
+                ports,
+            },
+        ) => status_of(&rt, serve_node(rt.alloc(), &rt, genesis, keys, ports)),
         Ok(Job::Audit { files }) => status_of_audit(&rt, audit(rt.alloc(), &rt, files.as_slice())),
         Ok(Job::Sim) => status_of_sim(&rt, sim(rt.alloc(), &rt)),
         Err(answer) => status_of_answer(&rt, &answer),
@@ -79,6 +93,32 @@ fn serve_desk<'a>(
     let mut reader = Reader::new(rt.reader());
     let mut writer = Writer::new(io::writer(rt));
     Ok(run_desk(alloc, &mut desk, &mut reader, &mut writer)?)
+}
+
+/// Answers the lines on standard input, once the files are read, while the member meets its peers; then writes its
+/// export.
+fn serve_node<'a, R>(
+    alloc: Global,
+    rt: &R,
+    genesis: &'a str,
+    keys: &'a str,
+    ports: &'a str,
+) -> Result<(), Stop<'a>>
+where
+    R: Files + Input + Print + Threads + Wait + Clock + Sync,
+    R: Net<Listener = TcpListener, Stream = TcpStream>,
+{
+    let genesis = genesis_of(alloc, rt, Some(genesis))?;
+    let keys = keys_of(alloc, rt, &genesis, Some(keys))?;
+    let ports = ports_of(alloc, rt, &genesis, ports)?;
+    let tagger = tagger_of(alloc, &keys)?;
+    let member: Member<PlainInstance, PlainBook> = Member::new(alloc, genesis, keys)?;
+    let mut reader = Reader::new(rt.reader());
+    let mut writer = Writer::new(io::writer(rt));
+    let member = run_node(rt, alloc, member, &tagger, &ports, &mut reader, &mut writer)?;
+    let text = export_text(alloc, &member)?;
+    println!(rt; "{text}").map_err(|_| EngineFault::Write)?;
+    Ok(())
 }
 
 /// Says what is wrong with the exports in these files, if anything is.

@@ -1,6 +1,8 @@
 use pay_audit::ExportFault;
 use pay_frame::EngineFault;
 use pay_link::{GenesisFault, KeysFault};
+use pay_net::{NodeFault, PortsFault};
+use pay_node::CloseFault;
 use std::alloc::AllocError;
 use thiserror::Error;
 
@@ -13,8 +15,15 @@ pub(crate) enum Stop<'a> {
     Genesis(GenesisFault),
     #[error("keys {0}")]
     Keys(KeysFault),
+    #[error("ports {0}")]
+    Ports(PortsFault),
     #[error("export {0}")]
     Export(ExportFault),
+    #[error("close {0}")]
+    Close(CloseFault),
+    /// The own port can't be had.
+    #[error("port {0}")]
+    Port(u16),
     /// The file of this name can't be read.
     #[error("file {0}")]
     File(&'a str),
@@ -44,6 +53,22 @@ impl<'a> From<ExportFault> for Stop<'a> {
     }
 }
 
+impl<'a> From<PortsFault> for Stop<'a> {
+    fn from(fault: PortsFault) -> Stop<'a> {
+        Stop::Ports(fault)
+    }
+}
+
+impl<'a> From<NodeFault> for Stop<'a> {
+    fn from(fault: NodeFault) -> Stop<'a> {
+        match fault {
+            NodeFault::Port(port) => Stop::Port(port),
+            NodeFault::Engine(fault) => Stop::Engine(fault),
+            NodeFault::Close(fault) => Stop::Close(fault),
+        }
+    }
+}
+
 impl<'a> From<AllocError> for Stop<'a> {
     fn from(_: AllocError) -> Stop<'a> {
         Stop::Engine(EngineFault::Memory)
@@ -54,12 +79,16 @@ impl Stop<'_> {
     /// The status with which the program ends.
     pub(crate) fn status(&self) -> u8 {
         match self {
-            Stop::Engine(EngineFault::Frame(_)) => 1,
+            Stop::Engine(EngineFault::Frame(_)) | Stop::Close(CloseFault::Mismatch(_)) => 1,
             Stop::Engine(_)
             | Stop::Genesis(GenesisFault::Memory)
             | Stop::Keys(KeysFault::Memory)
-            | Stop::Export(ExportFault::Memory) => 3,
-            Stop::Genesis(_) | Stop::Keys(_) | Stop::Export(_) | Stop::File(_) => 2,
+            | Stop::Ports(PortsFault::Memory)
+            | Stop::Export(ExportFault::Memory)
+            | Stop::Close(CloseFault::Memory)
+            | Stop::Port(_) => 3,
+            Stop::Genesis(_) | Stop::Keys(_) | Stop::Ports(_) | Stop::Export(_) | Stop::File(_) =>
+                2,
         }
     }
 }

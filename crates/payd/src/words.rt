@@ -1,6 +1,6 @@
 ghost use Rattle.std.specs.Prelude.{◌≡◌, IfOk, map, string_bytes};
 ghost use Rattle.clap.specs.Words.{FailsBy, fault_of, found_of, new_app, rows_of, subcommand_of, subcommand_rows_of};
-ghost use Rattle.payd.specs.Job.{IsArgument, IsCommand, asked, asked_by, asked_in, asked_of, audit_app, audit_asked, check_app, check_asked, desk_app, desk_asked, file_rule, files_of, files_rule, named, payd_alone, payd_app, required_rule};
+ghost use Rattle.payd.specs.Job.{IsArgument, IsCommand, asked, asked_by, asked_in, asked_of, audit_app, audit_asked, check_app, check_asked, desk_app, desk_asked, file_rule, files_of, files_rule, named, node_app, node_asked, payd_alone, payd_app, required_rule};
 
 use clap::{Arg, ArgAction, ArgMatches, Command, Error};
 use std::alloc::{AllocError, Global};
@@ -19,6 +19,13 @@ pub(crate) enum Job<'a> {
     Desk {
         genesis: &'a str,
         keys: &'a str,
+    },
+    /// Answer these lines over a node of that member among its peers, each on the port that the file of
+    /// this name says.
+    Node {
+        genesis: &'a str,
+        keys: &'a str,
+        ports: &'a str,
     },
     /// Say what is wrong with the exports in the files of these names, if anything is.
     Audit {
@@ -81,6 +88,24 @@ Status: 0 at the input's end, 2 for words or a file that can't be read, 3 where 
 write fails, or after 1,000,000 reads.
 
 Example: payd desk --genesis examples/genesis.json --keys examples/keys-0.json < examples/desk.txt";
+
+const NODE_ABOUT: &str =
+    "Answers an account's owner as desk does, over a member that meets its peers on this machine";
+
+const NODE_HELP: &str = "\
+Input and output: as those of payd desk. At the end of the input the node stops, and its export is one
+line more, which payd audit reads.
+
+The member listens on its own port of 127.0.0.1 and dials those of all others, a thousand times some
+10 milliseconds apart and again after each connection that brought a frame. So a group's nodes are
+started within a few seconds. Ports below those that the system gives out by itself, mostly 32768 and
+more, are best.
+
+Status: 0 at the input's end, 1 where what was told isn't borne out by the member's history, 2 for words
+or a file that can't be read, 3 where memory, a read, a write or the own port fails, or after 1,000,000
+reads.
+
+Example: payd node --genesis examples/genesis.json --keys examples/keys-0.json --ports examples/ports.json";
 
 const AUDIT_ABOUT: &str =
     "Reads exports of members and says what is wrong with them, if anything is";
@@ -169,6 +194,8 @@ fn command_job<'a>(
 {
     if name == "desk" {
         Ok(desk_job(command))
+    } else if name == "node" {
+        Ok(node_job(command))
     } else if name == "audit" {
         audit_job(alloc, command)
     } else if name == "sim" {
@@ -195,6 +222,17 @@ fn desk_job<'a>(desk: &ArgMatches<'a>) -> Job<'a>
     Job::Desk {
         genesis: named(desk, "genesis"),
         keys: named(desk, "keys"),
+    }
+}
+
+/// The job of `node` with these options.
+fn node_job<'a>(node: &ArgMatches<'a>) -> Job<'a>
+    ensures { asked result ≡ node_asked (rows_of (found_of node.now)) }
+{
+    Job::Node {
+        genesis: named(node, "genesis"),
+        keys: named(node, "keys"),
+        ports: named(node, "ports"),
     }
 }
 
@@ -232,6 +270,7 @@ fn payd<'a>(alloc: Global) -> Result<Command<'a>, AllocError>
     payd_alone(alloc)
         .subcommand(check(alloc)?)?
         .subcommand(desk(alloc)?)?
+        .subcommand(node(alloc)?)?
         .subcommand(audit(alloc)?)?
         .subcommand(titled(alloc, "sim", SIM_ABOUT, SIM_HELP))
 }
@@ -263,6 +302,21 @@ fn desk<'a>(alloc: Global) -> Result<Command<'a>, AllocError>
     let genesis = required_file(alloc, "genesis", "A file of JSON with the genesis");
     let keys = required_file(alloc, "keys", "A file of JSON with the keys of one member");
     command.arg(genesis)?.arg(keys)
+}
+
+/// The command `node` and its options.
+fn node<'a>(alloc: Global) -> Result<Command<'a>, AllocError>
+    ensures { IfOk result (λ command. IsCommand command node_app) }
+{
+    let command = titled(alloc, "node", NODE_ABOUT, NODE_HELP);
+    let genesis = required_file(alloc, "genesis", "A file of JSON with the genesis");
+    let keys = required_file(alloc, "keys", "A file of JSON with the keys of the member");
+    let ports = required_file(
+        alloc,
+        "ports",
+        "A file of JSON with the port of each member",
+    );
+    command.arg(genesis)?.arg(keys)?.arg(ports)
 }
 
 /// The command `audit` and its files.

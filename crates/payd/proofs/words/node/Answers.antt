@@ -1,0 +1,19 @@
+use Rattle.std.proofs.Common.{ap₂, refl, ◌∙◌}
+use Rattle.std.proofs.lemmas.Result.{IfOk-weaker}
+use Rattle.clap.specs.Words.{with_rule}
+use Rattle.payd.proofs.words.node.Goals as goal
+
+pub returns : goal.returns
+returns c =
+    let titled = c.titled-command.ensures in
+    let genesis = c.required_file-genesis.ensures in
+    let keys = c.required_file-keys.ensures in
+    let ports = c.required_file-ports.ensures in
+    let first = c.in_ok-arg.ensures in
+    let second = c.in_ok-arg-2.ensures in
+    let one = first.shape genesis.global ∙ ap₂ with_rule titled.app genesis.rule in
+    let two = second.shape keys.global ∙ ap₂ with_rule one keys.rule in
+    IfOk-weaker c.arg-3.result _ _ (λ r h. record {
+      app = h.shape ports.global ∙ ap₂ with_rule two ports.rule;
+      globals = rw (h.globals, second.globals, first.globals, titled.globals, genesis.global, keys.global, ports.global) refl;
+    }) c.arg-3.ensures

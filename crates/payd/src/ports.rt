@@ -1,0 +1,23 @@
+//! The file that says on which port each member listens.
+
+ghost use Rattle.std.specs.Prelude.{◌≡◌, IfOk, length};
+
+use crate::files::bytes_of;
+use crate::stop::Stop;
+use pay_link::Genesis;
+use pay_net::Ports;
+use std::alloc::Global;
+use std::rt::Files;
+
+/// The ports in the file of this name.
+pub(crate) fn ports_of<'a>(
+    alloc: Global,
+    rt: &impl Files,
+    genesis: &Genesis,
+    name: &'a str,
+) -> Result<Ports, Stop<'a>>
+    ensures { IfOk result (λ ports. length ports ≡ genesis.now.members) }
+{
+    let bytes = bytes_of(alloc, rt, name)?;
+    Ok(Ports::read(alloc, genesis, bytes.as_slice())?)
+}
