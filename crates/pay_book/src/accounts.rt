@@ -1,6 +1,7 @@
 //! A book's accounts, which move by one settled entry at a time.
 
 ghost use Rattle.std.specs.Prelude.{◌≡◌, ◌+◌, ◌<◌, ◌≤◌, ◌^◌, ◌↔◌, length, sum, slice_get, slice_index, slice_set, IsTrue, IfOk, OnSome, IfNone, IfSome};
+ghost use Rattle.std.specs.Bool.{OnTrue, OnFalse};
 ghost use Rattle.pay_book.specs.Balance.{amount_of, PayWithin, Moves};
 ghost use Rattle.pay_book.specs.Book.{fresh, entries_for, MaySettle, IsBook, IsStep};
 
@@ -92,6 +93,19 @@ impl Accounts {
             Some(decode_payment(source.at(account, place), account, self.count()))
         } else {
             None
+        }
+    }
+
+    /// Whether an account may settle its next entry: whether there is one and its balance covers it.
+    pub fn may_step<S: Source>(&self, source: &S, account: u16) -> bool
+        requires book { IsBook (S.lists source.now) self.now }
+        requires account { account < length self.now.opening }
+        ensures allowed { OnTrue result (MaySettle (S.lists source.now) self.now account) }
+        ensures not_allowed { OnFalse result (MaySettle (S.lists source.now) self.now account → ⊥) }
+    {
+        match self.next_entry(source, account) {
+            Some(entry) => is_covered(entry, self.balance(account)),
+            None => false,
         }
     }
 

@@ -1,4 +1,4 @@
-//! The plain book: after each step it looks at all accounts again.
+//! The plain book: once the owner may settle an entry, it looks at all accounts again after each step.
 
 ghost use Rattle.std.specs.Prelude.{◌≡◌, ◌+◌, sum};
 ghost use Rattle.pay_book.specs.Book.{IsStuck, IsBook};
@@ -45,8 +45,12 @@ impl Settle for PlainBook {
         })
     }
 
-    fn settle<S: Source>(&mut self, source: &S, _owner: u16) -> u32 {
+    fn settle<S: Source>(&mut self, source: &S, owner: u16) -> u32 {
         let mut settled = 0;
+        // nobody but the owner may have an entry to settle
+        if !self.accounts.may_step(source, owner) {
+            return settled;
+        }
         while self.step(source) {
             settled += 1;
         }

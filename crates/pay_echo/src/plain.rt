@@ -195,10 +195,24 @@ fn count_for(values: &[Bytes], places: &[Option<usize>], value: &[u8]) -> usize
     ensures count { result ≡ count_by (is_for value.now) (votes_at values.now places.now) }
     ensures few { result ≤ length places.now }
 {
+    let known = place_of(values, value);
     places
         .iter()
-        .filter(|place| is_for(values, **place, value))
+        .filter(|place| is_at(values, known, **place, value))
         .count()
+}
+
+// The same as `is_for`, where a place of the value may be known. Most votes stand at one place, and
+// so few values are compared.
+#[tactic(auto, unfolding(crate::specs::Broadcast::is_for))]
+fn is_at(values: &[Bytes], known: Option<usize>, place: Option<usize>, value: &[u8]) -> bool
+    requires { IfSome known (λ k. slice_get values.now k ≡ Some value.now) }
+    ensures { result ≡ is_for value.now (value_at values.now place) }
+{
+    match (place, known) {
+        (Some(place), Some(known)) if place == known => true,
+        _ => is_for(values, place, value),
+    }
 }
 
 // The place of a value, if it is there.

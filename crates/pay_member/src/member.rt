@@ -212,6 +212,51 @@ impl<I: Instance + Drop, B: Settle + Drop> Member<I, B> {
         }
     }
 
+    /// The same without the WANT, for whoever would send none: that spares its tag.
+    pub fn bring_unanswered<T: Tagger>(
+        &mut self,
+        alloc: Global,
+        stamp: u16,
+        tagger: &T,
+        bytes: &[u8],
+    ) -> Result<Outcome, AllocError>
+        ensures outcome { IfOk result (IsOutcome self.old.genesis self.old.keys
+            (events self.old.history) bytes.now) }
+        ensures entry { IfOk result (λ outcome. self.new
+            ≡ with_brought self.old stamp outcome (opened_in self.old.keys bytes.now)) }
+        ensures events { IfOk result (λ _. events self.new.history ≡ events self.old.history
+            ++ option_to_list (event_in self.old.keys (events self.old.history) bytes.now)) }
+        ensures err { OnErr result (self.new ≡ self.old) }
+    {
+        one_frame_is();
+        laws::opened();
+        laws::owned();
+        match open_bytes(tagger, self.keys(), bytes) {
+            Ok(opened) => self.take_unanswered(alloc, stamp, &opened),
+            Err(outcome) => Ok(outcome),
+        }
+    }
+
+    // Takes a frame that opened for this member and is no WANT.
+    fn take_unanswered(
+        &mut self,
+        alloc: Global,
+        stamp: u16,
+        opened: &Opened<'_>,
+    ) -> Result<Outcome, AllocError>
+        requires mine { IsFor self.old.keys (checked_fields opened.now) }
+        requires kind { opened.now.frame.body.kind ≢ Kind.Want }
+        ensures outcome { IfOk result (λ outcome. outcome
+            ≡ answer_to self.old.genesis self.old.keys.own (events self.old.history)
+            opened.now.frame) }
+        ensures entry { IfOk result (λ outcome. self.new
+            ≡ with_taken self.old stamp (checked_fields opened.now) outcome) }
+        ensures err { OnErr result (self.new ≡ self.old) }
+    {
+        let checked = opened.own(alloc)?;
+        self.take_mine(alloc, stamp, checked)
+    }
+
     // Takes a frame that was read already.
     pub(crate) fn bring_frame<T: Tagger>(
         &mut self,
@@ -258,8 +303,7 @@ impl<I: Instance + Drop, B: Settle + Drop> Member<I, B> {
         ensures err { OnErr result (self.new ≡ self.old) }
     {
         let from = opened.frame().from();
-        let checked = opened.own(alloc)?;
-        let outcome = self.take_mine(alloc, stamp, checked)?;
+        let outcome = self.take_unanswered(alloc, stamp, opened)?;
         Ok(Brought {
             outcome,
             want: Some(want(tagger, self.keys(), from, self.next(from))),

@@ -1,12 +1,14 @@
 -- What holds of worlds behind lists of events, as statements. Each is proved as a public law.
-use Rattle.std.specs.Prelude.{◌≡◌, false, List, [], ◌∷◌, ◌++◌}
+use Rattle.std.specs.Prelude.{◌≡◌, ℕ, true, false, List, [], ◌∷◌, ◌++◌, Result, Ok, Err, IsOkUnless, MatchOption}
 use Rattle.pay_link.specs.Genesis.{GenesisFields}
 use Rattle.pay_link.specs.Keys.{KeyFields}
 use Rattle.pay_world.specs.declared.event.WorldEvent.{WorldEvent}
+use Rattle.pay_world.specs.declared.fault.WorldFault.{WorldFault}
+use Rattle.pay_world.specs.declared.fault.WorldFault.TheVariants.{Memory, Forged}
 use Rattle.pay_world.specs.declared.reply.Reply.{Reply}
 use Rattle.pay_world.specs.Liars.{LiarFields}
 use Rattle.pay_world.specs.World.{WorldFields, AreKeysOf, fresh_world}
-use Rattle.pay_world.specs.Answer.{Answers, is_forged_at, one_more}
+use Rattle.pay_world.specs.Answer.{Answers, forgery, is_forged_at, one_more}
 use Rattle.pay_world.specs.Run.{IsWorldAfter}
 
 -- a new world is behind none
@@ -22,3 +24,20 @@ WorldByOneMore =
     (old new : WorldFields) (e : WorldEvent) (reply : Reply)
     → IsWorldAfter g keys l events old → Answers old new e reply → is_forged_at old e ≡ false
     → new.answered ≡ one_more old.answered → IsWorldAfter g keys l (events ++ e ∷ []) new
+
+-- what a world says to an event: that it is forged, or anything else but that
+abbrev pub IsSaidTo : WorldFields → WorldEvent → Result Reply WorldFault → Type 0
+IsSaidTo w e said =
+    MatchOption (forgery w e) (IsOkUnless said Memory) (λ fault. said ≡ Err fault)
+
+-- so an event that is answered isn't forged
+abbrev pub AnsweredIsUnforged : Type 0
+AnsweredIsUnforged =
+    (w : WorldFields) (e : WorldEvent) (reply : Reply) → IsSaidTo w e (Ok reply)
+    → is_forged_at w e ≡ false
+
+-- and one that is said to be forged is, under the count of those answered before
+abbrev pub SaidIsForged : Type 0
+SaidIsForged =
+    (w : WorldFields) (e : WorldEvent) (k : ℕ) → IsSaidTo w e (Err (Forged k))
+    → (is_forged_at w e ≡ true) × (k ≡ w.answered)

@@ -25,5 +25,5 @@ pub use liar_laws::liar_causes;
 pub use liars::Liars;
 pub use reply::Reply;
 pub use run::run_world;
-pub use run_laws::world_by_events;
+pub use run_laws::{what_is_forged, world_by_events};
 pub use world::World;

@@ -1,7 +1,7 @@
 //! What holds of worlds that take events one by one. The function's contract is the law; its body
 //! only names the laws that it stands on.
 
-ghost use Rattle.pay_world.specs.RunLaws.{NoEventsMakeFresh, WorldByOneMore};
+ghost use Rattle.pay_world.specs.RunLaws.{AnsweredIsUnforged, NoEventsMakeFresh, SaidIsForged, WorldByOneMore};
 
 use crate::laws::{forged_is_told, genuine_deeds, histories_by_deeds};
 
@@ -15,3 +15,10 @@ pub fn world_by_events()
     genuine_deeds();
     forged_is_told();
 }
+
+/// An event that a world answers isn't forged, and one that it says to be forged is, under the count
+/// of those that it answered before.
+pub fn what_is_forged()
+    ensures answered { AnsweredIsUnforged }
+    ensures said { SaidIsForged }
+{}

@@ -277,8 +277,8 @@ fn bring_place<I: Instance + Drop, B: Settle + Drop, T: Tagger>(
     let Some(member) = place else {
         return Ok(Reply::Ignored);
     };
-    let brought = member.bring(alloc, 0, tagger, bytes)?;
-    Ok(Reply::Brought(brought.outcome))
+    let outcome = member.bring_unanswered(alloc, 0, tagger, bytes)?;
+    Ok(Reply::Brought(outcome))
 }
 
 // Whether the member sent this body under this number.

@@ -1,8 +1,20 @@
-use Rattle.std.proofs.Common.{◌<◌, ◌^◌, ℕ, List, length, ap, sym, subst, ◌∙◌, arith}
+use Rattle.std.proofs.Common.{◌<◌, ◌^◌, ℕ, List, length, ap, sym, subst, ◌∙◌, ⊎_elim, arith}
+use Rattle.std.specs.Bool.{OnFalse}
+use Rattle.std.proofs.lemmas.Bool.{cases_eq}
+use Rattle.pay_book.specs.Book.{MaySettle}
 use Rattle.pay_book.specs.Payment.{entries_of}
 use Rattle.pay_book.specs.Front.{entry_count}
 use Rattle.pay_book.proofs.Settling.{sum_front-le, settled_from_stuck}
 use Rattle.pay_book.proofs.plain.PlainBookSettle.settle.Goals as goal
+
+pub returns-then-not-may_step-clause-settled : goal.returns-then-not-may_step-clause-settled
+returns-then-not-may_step-clause-settled g c =
+    let lists = g.S.Source.lists c.args.source.now in
+    let book = c.args.self.now.accounts in
+    let owner_waits : MaySettle lists book c.args.owner → ⊥ =
+    subst (λ b. OnFalse b (MaySettle lists book c.args.owner → ⊥)) c.if-not-may_step.true c.may_step.ensures.not_allowed in
+    settled_from_stuck lists book c.requires.is
+    (λ a may. ⊎_elim (λ same. owner_waits (subst (MaySettle lists book) same may)) (λ other. c.requires.only_owner a other may) (cases_eq a c.args.owner))
 
 pub overflow_add-settled : goal.overflow_add-settled
 overflow_add-settled g c =
