@@ -4,7 +4,7 @@
 use pay_audit::{Export, ReplayFault, Verdict, audit, export_text, read_export, replay};
 use pay_book::PlainBook;
 use pay_echo::PlainInstance;
-use pay_frame::{Body, Bytes, Kind};
+use pay_frame::{Body, Bytes, GREATEST_VALUE, Kind};
 use pay_hmac::HmacSha256;
 use pay_link::{Genesis, seal, test_keys};
 use pay_member::{HistoryEntry, Member, Reply, Took};
@@ -90,7 +90,7 @@ fn four(alloc: Global) -> Option<Vec<Plain>> {
 }
 
 fn body_of(alloc: Global, lie: &Lie) -> Option<Body> {
-    if lie.kind == Kind::Want || lie.value.len() > 1024 {
+    if lie.kind == Kind::Want || lie.value.len() > usize::from(GREATEST_VALUE) {
         return None;
     }
     let value = Bytes::from_slice(alloc, lie.value).ok()?;
