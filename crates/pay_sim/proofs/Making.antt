@@ -21,44 +21,12 @@ use Rattle.pay_world.specs.Genuine.{is_forged_in}
 use Rattle.pay_world.specs.Liars.{LiarFields, setting_of}
 use Rattle.pay_world.specs.World.{WorldFields, member_in, history_in, keys_in}
 use Rattle.pay_world.specs.Answer.{Answers, IsReply, IsReplyOf, deed_of, forgery, is_forged_at, member_after, one_more, receiver}
-use Rattle.pay_world.specs.RunLaws.{WorldByOneMore}
+use Rattle.pay_world.specs.RunLaws.{AnsweredIsUnforged, IsSaidTo, SaidIsForged, WorldByOneMore}
 use Rattle.pay_world.specs.GroupKeys.{group_test_keys}
 use Rattle.pay_sim.specs.declared.group.Group.{Group}
 use Rattle.pay_sim.specs.declared.game.TheConstants.{MOST_EVENTS}
 use Rattle.pay_sim.specs.Made.{IsReplyBehind, IsReplyTo, Makes, history_at, is_forged_by, keys_at}
 use Rattle.pay_sim.specs.Playing.{GameFields, IsBehind}
-
--- ---- what a world's answer says
-
-ok_err : {A E : Type 0} (x : A) (e : E) → ◌≡◌ {A = Result A E} (Ok x) (Err e) → ⊥
-ok_err x e same = cc
-
-err_is : {A E : Type 0} (d e : E) → ◌≡◌ {A = Result A E} (Err d) (Err e) → d ≡ e
-err_is d e same = cc
-
-forged_no_memory : (k : ℕ) → Forged k ≡ Memory → ⊥
-forged_no_memory k same = cc
-
-forged_same : (k n : ℕ) → Forged k ≡ Forged n → k ≡ n
-forged_same k n same = cc
-
-answered_unforged :
-    (w : WorldFields) (e : WorldEvent) (reply : Reply)
-    → MatchOption (forgery w e) (IsOkUnless {T = Reply} (Ok reply) Memory) (λ fault. ◌≡◌ {A = Result Reply WorldFault} (Ok reply) (Err fault))
-    → is_forged_at w e ≡ false
-answered_unforged w e reply refused = go (is_forged_at w e) refused where
-  go : (b : Bool) → MatchOption (cond b (Some (Forged w.answered)) None) (IsOkUnless {T = Reply} (Ok reply) Memory) (λ fault. ◌≡◌ {A = Result Reply WorldFault} (Ok reply) (Err fault)) → b ≡ false
-  go true is = absurd (ok_err reply (Forged w.answered) is)
-  go false is = refl
-
-refused_forged :
-    (w : WorldFields) (e : WorldEvent) (k : ℕ)
-    → MatchOption (forgery w e) (IsOkUnless {T = Reply} (Err (Forged k)) Memory) (λ fault. ◌≡◌ {A = Result Reply WorldFault} (Err (Forged k)) (Err fault))
-    → (is_forged_at w e ≡ true) × (k ≡ w.answered)
-refused_forged w e k refused = go (is_forged_at w e) refused where
-  go : (b : Bool) → MatchOption (cond b (Some (Forged w.answered)) None) (IsOkUnless {T = Reply} (Err (Forged k)) Memory) (λ fault. ◌≡◌ {A = Result Reply WorldFault} (Err (Forged k)) (Err fault)) → (b ≡ true) × (k ≡ w.answered)
-  go true is = (refl, forged_same k w.answered (err_is {A = Reply} (Forged k) (Forged w.answered) is))
-  go false is = absurd (forged_no_memory k is)
 
 -- ---- an event changes no member's genesis
 
@@ -130,12 +98,12 @@ module _ (c : Group) (es : List WorldEvent) (g : GameFields) (b : IsBehind c es 
     go (inr other) = b.each i m (sym (answers.others i other) ∙ is)
 
   pub makes_one :
-      WorldByOneMore → (new : GameFields) (e : WorldEvent) (reply : Reply) → length es < MOST_EVENTS
-      → MatchOption (forgery g.world e) (IsOkUnless {T = Reply} (Ok reply) Memory) (λ fault. ◌≡◌ {A = Result Reply WorldFault} (Ok reply) (Err fault))
+      WorldByOneMore → AnsweredIsUnforged → (new : GameFields) (e : WorldEvent) (reply : Reply) → length es < MOST_EVENTS
+      → IsSaidTo g.world e (Ok reply)
       → Answers g.world new.world e reply → new.world.answered ≡ one_more g.world.answered → new.members ≡ g.members → new.made ≡ g.made + 1
       → Makes c es e (Ok reply) × IsBehind c (es ++ e ∷ []) new
-  makes_one by_one new e reply room refused answers counted members made =
-      let unforged = answered_unforged g.world e reply refused in (
+  makes_one by_one answered new e reply room refused answers counted members made =
+      let unforged = answered g.world e reply refused in (
         (room, sym (forged_is e) ∙ unforged, reply_is e reply answers.said),
         record {
           after = by_one c.genesis (group_test_keys c.genesis.members) c.liars es g.world new.world e reply b.after answers unforged counted;
@@ -147,9 +115,8 @@ module _ (c : Group) (es : List WorldEvent) (g : GameFields) (b : IsBehind c es 
       )
 
   pub stops_forged :
-      (e : WorldEvent) (k : ℕ) → length es < MOST_EVENTS
-      → MatchOption (forgery g.world e) (IsOkUnless {T = Reply} (Err (Forged k)) Memory) (λ fault. ◌≡◌ {A = Result Reply WorldFault} (Err (Forged k)) (Err fault))
+      SaidIsForged → (e : WorldEvent) (k : ℕ) → length es < MOST_EVENTS → IsSaidTo g.world e (Err (Forged k))
       → (length es < MOST_EVENTS) × (is_forged_by c es e ≡ true) × (k ≡ length es)
-  stops_forged e k room refused =
-      let told = refused_forged g.world e k refused in
+  stops_forged forged e k room refused =
+      let told = forged g.world e k refused in
       (room, sym (forged_is e) ∙ told.0, (let n = told.1 in let count = b.after.count in omega arith))

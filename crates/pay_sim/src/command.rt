@@ -21,8 +21,8 @@ pub enum Command {
         to: u8,
         number: u64,
     },
-    /// A frame is sealed under the test key of two members and brought to one of them. Without a number it has
-    /// the one that its receiver would take next.
+    /// A frame is sealed under the test key of two members and brought to one of them. Without a
+    /// number it has the one that its receiver would take next.
     Lie {
         from: u8,
         to: u8,

@@ -131,7 +131,8 @@ fn read_alone(name: &[u8], words: &Words) -> Option<Command>
 
 // Whether these parts are within a frame's limits.
 fn is_body(kind: Kind, owner: u16, seq: u16, value: &Bytes) -> bool
-    ensures { result ≡ is_body (record { kind = kind; owner = owner; seq = seq; value = value.now }) }
+    ensures { result
+        ≡ is_body (record { kind = kind; owner = owner; seq = seq; value = value.now }) }
 {
     value.len() <= usize::from(GREATEST_VALUE)
         && (kind != Kind::Want || (owner == 0 && seq == 0 && value.is_empty()))

@@ -22,7 +22,8 @@ use pay_echo::Instance;
 use pay_frame::{Body, Bytes};
 use pay_text::{push_number, push_word};
 use pay_world::{
-    Reply, World, WorldEvent, WorldFault, all_taken, group_test_keys, world_by_events,
+    Reply, World, WorldEvent, WorldFault, all_taken, group_test_keys, what_is_forged,
+    world_by_events,
 };
 use std::alloc::{AllocError, Global};
 use std::marker::Model;
@@ -121,6 +122,7 @@ impl<I: Instance + Drop, B: Settle + Drop> Game<I, B> {
             × (self.new.made ≡ self.old.made + 1)) }
     {
         world_by_events();
+        what_is_forged();
         if self.made >= MOST_EVENTS {
             return Err(Halt::Stop(Stop::Limit));
         }
@@ -172,7 +174,8 @@ impl<I: Instance + Drop, B: Settle + Drop> Game<I, B> {
         requires from { from < 256 }
         requires to { to < 256 }
         ensures { (c : Group) (es : List WorldEvent) → IsBehind c es self.old
-            → IsDone (TellsBring c es from to number) c out.old.items out.new.items self.new result }
+            → IsDone (TellsBring c es from to number) c
+            out.old.items out.new.items self.new result }
     {
         let frame = self.frame_for(alloc, from, to, number)?;
         match frame {
@@ -232,7 +235,8 @@ impl<I: Instance + Drop, B: Settle + Drop> Game<I, B> {
     /// Writes whether each correct member took all that the others sent.
     fn push_converged(&self, out: &mut Vec<u8>) -> Result<(), AllocError>
         ensures { OnOk result ((c : Group) (es : List WorldEvent) → IsBehind c es self.now
-            → (words : List ℕ) × IsConverged c es words × (out.new.items ≡ out.old.items ++ words)) }
+            → (words : List ℕ) × IsConverged c es words
+            × (out.new.items ≡ out.old.items ++ words)) }
     {
         if all_taken(&self.world) {
             push_word(out, "converged\n")
@@ -241,7 +245,8 @@ impl<I: Instance + Drop, B: Settle + Drop> Game<I, B> {
         }
     }
 
-    /// Lets each member take what it didn't yet of the others, again and again, until nothing is left.
+    /// Lets each member take what it didn't yet of the others, again and again, until nothing is
+    /// left.
     fn bring_all(&mut self, alloc: Global) -> Result<(), Halt>
         ensures brought { (c : Group) (es : List WorldEvent) → IsBehind c es self.old
             → IsBrought (BringsAll c es) c self.new result }

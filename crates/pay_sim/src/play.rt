@@ -59,7 +59,8 @@ impl<I: Instance + Drop, B: Settle + Drop> Play<I, B> {
 
     /// Does what a line says, and writes what it prints.
     fn obey(&mut self, alloc: Global, line: Option<&[u8]>, out: &mut Vec<u8>) -> Result<(), Halt>
-        ensures read { (group : Option Group) (es : List WorldEvent) → IsGameAt self.old.game group es
+        ensures read { (group : Option Group) (es : List WorldEvent)
+            → IsGameAt self.old.game group es
             → IsRead group es (option_copied line.entry) out.old.items out.new.items self.new.game
             result }
         ensures lines { self.new.lines ≡ self.old.lines }

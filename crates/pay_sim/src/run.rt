@@ -17,11 +17,11 @@ use std::alloc::Global;
 /// The longest line of a script in bytes, its line feed not counted.
 pub const LONGEST_LINE: usize = 4096;
 
-/// Plays the script that is read: a first line that says a group, and commands behind it. Writes what they print,
-/// as a function of the script and of the histories that its events make.
+/// Plays the script that is read: a first line that says a group, and commands behind it. Writes
+/// what they print, as a function of the script and of the histories that its events make.
 ///
-/// The last line tells of a forged frame, of a line that is none, and of an event more than there may be, and so
-/// does the answer. After a fault of a device what was written is a prefix of the text.
+/// The last line tells of a forged frame, of a line that is none, and of an event more than there
+/// may be, and so does the answer. After a fault of a device what was written is a prefix of the text.
 pub fn run_sim<I, B, R, W>(
     alloc: Global,
     reader: &mut R,
@@ -61,7 +61,8 @@ fn write_no_line<W: Output>(writer: &mut W) -> Result<(), EngineFault>
     ensures err { IfErr result (λ fault. fault ≡ EngineFault.Write) }
     ensures beginning { OnErr result
         (WroteBeginning (W.contents writer.old) (W.contents writer.new) no_line) }
-    ensures failed { OnErr result (W.failure_count writer.new ≡ counted (W.failure_count writer.old)) }
+    ensures failed { OnErr result
+        (W.failure_count writer.new ≡ counted (W.failure_count writer.old)) }
 {
     if write_all(writer, b"bad line 1\n").is_err() {
         return Err(EngineFault::Write);
