@@ -1,6 +1,5 @@
 ghost use Rattle.std.specs.Prelude.{◌+◌, ◌≤◌, IsErrOf};
-ghost use Rattle.pay_frame.specs.Device.{RoseBy};
-ghost use Rattle.pay_engine.specs.Engine.{Gave};
+ghost use Rattle.pay_frame.specs.Device.{Gave, RoseBy};
 ghost use Rattle.pay_link.specs.Keys.{IsKeysOf};
 ghost use Rattle.pay_cli.specs.CheckText.{checking};
 ghost use Rattle.pay_cli.specs.Engine.{HasRoom, Writes};

@@ -1,8 +1,7 @@
 ghost use Rattle.std.specs.Prelude.{◌≡◌, ◌+◌, ◌≤◌, IsErrOf, MatchResult};
 ghost use Rattle.pay_frame.specs.declared.fault.FrameFault.{FrameFault};
-ghost use Rattle.pay_frame.specs.Device.{RoseBy};
+ghost use Rattle.pay_frame.specs.Device.{Gave, RoseBy};
 ghost use Rattle.pay_text.specs.Answers.{bytes_of};
-ghost use Rattle.pay_text.specs.Engine.{Gave};
 ghost use Rattle.pay_desk.specs.Desk.{DeskSays, WritesAnswers};
 ghost use Rattle.pay_desk.specs.Words.{refused_words};
 

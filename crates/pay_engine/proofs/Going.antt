@@ -9,11 +9,11 @@ use Rattle.pay_frame.specs.declared.engine_fault.EngineFault.{EngineFault}
 use Rattle.pay_frame.specs.declared.engine_fault.EngineFault.TheVariants.{Memory, Frame, Read, Write, Bound}
 use Rattle.pay_frame.specs.declared.fault.FrameFault.{FrameFault}
 use Rattle.pay_frame.specs.declared.limits.TheConstants.{GREATEST_PIECE}
-use Rattle.pay_frame.specs.Device.{WroteBeginning}
+use Rattle.pay_frame.specs.Device.{Gave, WroteBeginning}
 use Rattle.pay_frame.specs.Frame.{FrameFields}
 use Rattle.pay_frame.specs.Stream.{IsBytes, IsFramesThen, IsStream, EveryStream, Joins, Parts}
 use Rattle.pay_engine.specs.Handling.{Handling, IsText, state_after, texts_from, text_from, text_to}
-use Rattle.pay_engine.specs.Engine.{Writes, WritesText, WritesBeginning, BeginsText, WritesOut, Pushes, PushesEnd, Advances, Takes, IsGoing, Gave}
+use Rattle.pay_engine.specs.Engine.{Writes, WritesText, WritesBeginning, BeginsText, WritesOut, Pushes, PushesEnd, Advances, Takes, IsGoing}
 use Rattle.pay_engine.proofs.Texts.{state_after-append, text_to-append, text_from-append}
 
 -- what was said of frames in front of some bytes when more bytes come behind these

@@ -58,10 +58,6 @@ pub record Takes {S : Type 0} (h : Handling S) (old new : S) (input : Option (Li
   pub begins : IfSome input (λ bytes. (rest : List ℕ) × IsFramesThen bytes frames rest)
   pub state : new ≡ state_after h old frames
 
--- at least so many bytes were taken from an input
-abbrev pub Gave : ℕ → Option (List ℕ) → Option (List ℕ) → Type 0
-Gave count before after = (bytes : List ℕ) × Consumes before after bytes × (count ≤ length bytes)
-
 -- ---- what its parts do
 
 -- Frames in front of some bytes are handled, and their texts written behind what stood there.

@@ -1,7 +1,7 @@
 ghost use Rattle.std.specs.Prelude.{◌≡◌, ◌+◌, ◌++◌, ◌<◌, ◌≤◌, ◌^◌, ℕ, List, Option, length, IfOk, IfSome, IfNone, OnOk, IsErrOf, IsTrue};
-ghost use Rattle.pay_frame.specs.Device.{RoseBy, counted};
+ghost use Rattle.pay_frame.specs.Device.{Gave, RoseBy, counted};
 ghost use Rattle.pay_frame.specs.Reading.{IsProperBeginning, IsFault};
-ghost use Rattle.pay_engine.specs.Engine.{Advances, Gave, Goes, IsGoing, Pushes, PushesEnd, Takes, Writes, WritesOut};
+ghost use Rattle.pay_engine.specs.Engine.{Advances, Goes, IsGoing, Pushes, PushesEnd, Takes, Writes, WritesOut};
 
 use crate::handler::Handler;
 use pay_frame::{

@@ -1,6 +1,6 @@
 -- Counts that devices keep, and what went out of them.
 use Rattle.std.specs.Prelude.{◌≡◌, ℕ, ◌+◌, ◌-◌, ◌^◌, ◌≤◌, ◌⊎◌, List, length, min, take, is_ok, if◌then◌else◌, Option, Result}
-use Rattle.std.specs.Io.KnownBytes.{Appends}
+use Rattle.std.specs.Io.KnownBytes.{Appends, Consumes}
 
 -- the greatest count, at which a count stays
 abbrev pub greatest_count : ℕ
@@ -16,6 +16,10 @@ failures_after n r = if is_ok r then n else counted n
 -- A count has risen by so many; one at the greatest value passes as risen.
 abbrev pub RoseBy : ℕ → ℕ → ℕ → Type 0
 RoseBy n old new = (old + n ≤ new) ⊎ (new ≡ greatest_count)
+
+-- at least so many bytes were taken from an input
+abbrev pub Gave : ℕ → Option (List ℕ) → Option (List ℕ) → Type 0
+Gave count before after = (bytes : List ℕ) × Consumes before after bytes × (count ≤ length bytes)
 
 -- what was written, where it is known: a beginning of the text
 pub record WroteBeginning (old new : Option (List ℕ)) (text : List ℕ) : Type 0 where

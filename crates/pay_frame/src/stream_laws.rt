@@ -66,8 +66,9 @@ pub fn cutter_follows_stream()
     ensures feed { (old new : Held) (piece read : List ℕ) (taken : ℕ) (frames : List FrameFields)
         → Feeds old new piece taken → IsFramesThen read frames old.bytes
         → IsFramesThen (read ++ take taken piece) frames new.bytes }
-    ensures next { (old new : Held) (answer : Result (Option FrameFields) Fault) (read : List ℕ)
-        (frames : List FrameFields) → HandsOut old answer new → IsFramesThen read frames old.bytes
+    ensures next { (old new : Held) (answer : Result (Option FrameFields) Fault)
+        (read : List ℕ) (frames : List FrameFields)
+        → HandsOut old answer new → IsFramesThen read frames old.bytes
         → IsFramesThen read (frames ++ frame_in answer) new.bytes }
     ensures fault { (old new : Held) (fault : Fault)
         → old.met ≡ None → HandsOut old (Err fault) new → IsFault new.bytes fault }
@@ -81,8 +82,10 @@ pub fn cutter_follows_stream()
 pub fn frame_sizes()
     ensures frame { (f : FrameFields) → IsFrame f
         → length (frame_bytes f) ≡ 2 + LEAST_LENGTH + length f.body.value }
-    ensures greatest { (f : FrameFields) → IsFrame f → length (frame_bytes f) ≤ GREATEST_FRAME }
-    ensures beginning { (bytes : List ℕ) → IsProperBeginning bytes → length bytes < GREATEST_FRAME }
+    ensures greatest { (f : FrameFields) → IsFrame f
+        → length (frame_bytes f) ≤ GREATEST_FRAME }
+    ensures beginning { (bytes : List ℕ) → IsProperBeginning bytes
+        → length bytes < GREATEST_FRAME }
     ensures count { (bytes rest : List ℕ) (frames : List FrameFields)
         → IsFramesThen bytes frames rest
         → (2 + LEAST_LENGTH) * length frames + length rest ≤ length bytes }

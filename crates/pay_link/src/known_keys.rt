@@ -34,7 +34,8 @@ fn test_key(own: u16, place: u16) -> [u8; 32]
     }
 }
 
-fn pair_key(x: u16, y: u16) -> [u8; 32]
+/// The test key that two members share: 30 zeros, the lesser of their numbers and the greater.
+pub fn pair_key(x: u16, y: u16) -> [u8; 32]
     requires one_byte { x < 256 }
     requires other_byte { y < 256 }
     ensures { result ≡ pair_key x y }

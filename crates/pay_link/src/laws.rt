@@ -52,7 +52,8 @@ pub fn genesis_file_faults()
 pub fn keys_causes()
     ensures none { (members : ℕ) (k : KeyFields) → (keys_fault members k ≡ None)
         ↔ ((k.own < members) × (length k.keys ≡ members)) }
-    ensures own { (members : ℕ) (k : KeyFields) → (keys_fault members k ≡ Some KeysFault.BadOwn)
+    ensures own { (members : ℕ) (k : KeyFields)
+        → (keys_fault members k ≡ Some KeysFault.BadOwn)
         ↔ (members ≤ k.own) }
     ensures count { (members : ℕ) (k : KeyFields)
         → (keys_fault members k ≡ Some KeysFault.BadKeyCount)
@@ -63,7 +64,8 @@ pub fn keys_causes()
 /// value says no keys. Behind whose they are and how many, the least place without a key is named;
 /// where there is none, the keys are those that the texts say.
 pub fn keys_file_faults()
-    ensures json { (members : ℕ) (bytes : List ℕ) → (keys_in members bytes ≡ Err KeysFault.BadJson)
+    ensures json { (members : ℕ) (bytes : List ℕ)
+        → (keys_in members bytes ≡ Err KeysFault.BadJson)
         ↔ (value_in bytes ≡ None) }
     ensures shape { (members : ℕ) (bytes : List ℕ)
         → (keys_in members bytes ≡ Err KeysFault.BadShape)
@@ -79,7 +81,8 @@ pub fn keys_file_faults()
 /// The keys that are kept of a member's are those for its peers, and none for itself.
 pub fn peers_keys_are_kept()
     ensures members { (k : KeyFields) → length (kept_keys k).keys ≡ length k.keys }
-    ensures peer { (k : KeyFields) (p : ℕ) → IsPeer k p → key_for (kept_keys k) p ≡ key_for k p }
+    ensures peer { (k : KeyFields) (p : ℕ) → IsPeer k p
+        → key_for (kept_keys k) p ≡ key_for k p }
     ensures own { (k : KeyFields) → key_for (kept_keys k) k.own ≡ no_key }
 {}
 

@@ -21,7 +21,7 @@ pub use genesis::Genesis;
 pub use genesis_fault::GenesisFault;
 pub use keys::Keys;
 pub use keys_fault::KeysFault;
-pub use known_keys::test_keys;
+pub use known_keys::{pair_key, test_keys};
 pub use limits::{GREATEST_TOTAL, WANT_LEN};
 pub use link_fault::LinkFault;
 pub use opened::{Opened, open};

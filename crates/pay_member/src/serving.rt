@@ -1,9 +1,9 @@
 //! How a member is fed from a peer's stream.
 
 ghost use Rattle.std.specs.Prelude.{◌≡◌, ◌+◌, ◌≤◌, ℕ, IsErrOf};
-ghost use Rattle.pay_frame.specs.Device.{RoseBy};
+ghost use Rattle.pay_frame.specs.Device.{Gave, RoseBy};
 ghost use Rattle.pay_link.specs.Keys.{IsPeer};
-ghost use Rattle.pay_engine.specs.Engine.{Gave, Takes, Writes};
+ghost use Rattle.pay_engine.specs.Engine.{Takes, Writes};
 ghost use Rattle.pay_member.specs.Serving.{first_want, serving};
 
 use crate::member::Member;

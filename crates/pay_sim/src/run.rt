@@ -1,8 +1,7 @@
 ghost use Rattle.std.specs.Prelude.{◌≡◌, ◌+◌, ◌≤◌, IfErr, IsErrOf, OnErr, OnOk};
 ghost use Rattle.pay_frame.specs.declared.fault.FrameFault.{FrameFault};
-ghost use Rattle.pay_frame.specs.Device.{RoseBy, WroteBeginning, counted};
+ghost use Rattle.pay_frame.specs.Device.{Gave, RoseBy, WroteBeginning, counted};
 ghost use Rattle.std.specs.Io.KnownBytes.{Appends};
-ghost use Rattle.pay_text.specs.Engine.{Gave};
 ghost use Rattle.pay_sim.specs.Script.{WritesRun, end_of, no_line};
 
 use crate::play::Play;

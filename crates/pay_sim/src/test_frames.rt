@@ -1,11 +1,11 @@
 //! Frames under the test keys, which anyone can name.
 
 ghost use Rattle.std.specs.Prelude.{◌≡◌, ◌<◌, IfOk};
-ghost use Rattle.pay_link.specs.TestKeys.{pair_key};
 ghost use Rattle.pay_sim.specs.TestFrames.{test_frame, test_tag};
 
 use pay_frame::{Body, Bytes, HEAD_LEN, TAG_LEN, head_into, write};
 use pay_hmac::{HmacSha256, PreparedKey, Tagger};
+use pay_link::pair_key;
 use std::alloc::{AllocError, Global};
 
 /// Tags as `HmacSha256` does, and keeps the test keys of all pairs of a group prepared.
@@ -66,15 +66,4 @@ fn test_tag<T: Tagger>(tagger: &T, from: u16, to: u16, number: u64, body: &Body)
     let mut head = [0; HEAD_LEN];
     head_into(&mut head, from, to, number, body);
     tagger.tag(&pair_key(from, to), &head, body.value())
-}
-
-fn pair_key(x: u16, y: u16) -> [u8; 32]
-    requires one_byte { x < 256 }
-    requires other_byte { y < 256 }
-    ensures { result ≡ pair_key x y }
-{
-    let mut key = [0; 32];
-    key[30] = x.min(y) as u8;
-    key[31] = x.max(y) as u8;
-    key
 }

@@ -4,9 +4,10 @@ use Rattle.std.specs.Prelude.{Option, Result, IfSome}
 use Rattle.std.specs.Io.KnownBytes.{Consumes, IsAtEnd}
 use Rattle.std.proofs.KnownBytes.{Consumes-nil, Consumes-trans}
 use Rattle.pay_frame.specs.declared.engine_fault.EngineFault.{EngineFault}
+use Rattle.pay_frame.specs.Device.{Gave}
 use Rattle.pay_text.specs.Lines.{lines_within}
 use Rattle.pay_text.specs.Cutting.{is_nothing, last_line, lines_after}
-use Rattle.pay_text.specs.Engine.{AnswersAll, AnswersFirst, Went, Goes, IsGoing, Gave, Writes, lines_left}
+use Rattle.pay_text.specs.Engine.{AnswersAll, AnswersFirst, Went, Goes, IsGoing, Writes, lines_left}
 use Rattle.pay_text.proofs.Answering.{went_nowhere, goes_further, all_further, first_further, broken_off, nothing_left}
 use Rattle.pay_text.proofs.Following.{lines_from_start}
 

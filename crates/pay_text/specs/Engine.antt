@@ -34,10 +34,6 @@ Writes says bound old new input left before after (Ok on) =
 Writes says bound old new input left before after (Err fault) =
     IfSome input (λ bytes. AnswersFirst says old (lines_within bound bytes) before after)
 
--- at least so many bytes were taken from an input
-abbrev pub Gave : ℕ → Option (List ℕ) → Option (List ℕ) → Type 0
-Gave count before after = (bytes : List ℕ) × Consumes before after bytes × (count ≤ length bytes)
-
 -- ---- what its parts do
 
 -- Of the lines to come these are left, and the others are answered and the answers written.

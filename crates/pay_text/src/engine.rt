@@ -1,9 +1,9 @@
 ghost use Rattle.std.specs.Prelude.{◌≡◌, ◌+◌, ◌++◌, ◌∷◌, ◌≤◌, ℕ, List, Option, Some, Err, [], IfErr, OnErr, OnOk, IsErrOf};
 ghost use Rattle.std.specs.Io.KnownBytes.{Appends};
 ghost use Rattle.pay_frame.specs.declared.fault.FrameFault.{FrameFault};
-ghost use Rattle.pay_frame.specs.Device.{RoseBy, WroteBeginning, counted};
+ghost use Rattle.pay_frame.specs.Device.{Gave, RoseBy, WroteBeginning, counted};
 ghost use Rattle.pay_text.specs.Cutting.{lines_after};
-ghost use Rattle.pay_text.specs.Engine.{Gave, Goes, IsGoing, Reads, Writes};
+ghost use Rattle.pay_text.specs.Engine.{Goes, IsGoing, Reads, Writes};
 
 use crate::answerer::{Answer, Answerer};
 use crate::cutter::LineCutter;
