@@ -1,4 +1,4 @@
-use crate::standing::Standing;
+use crate::guests::{Admission, Guests};
 use pay_book::Settle;
 use pay_echo::Instance;
 use pay_frame::{Reader, Writer};
@@ -13,16 +13,20 @@ use std::thread::Threads;
 use std::time::{Clock, Duration};
 
 /// How many connections that others dialed may stand at once: of each peer of the largest group two, so that one can
-/// dial again before its old connection is gone. One more is shut at once.
+/// dial again before its old connection is gone. For one more the oldest is given up.
 pub const MOST_CONNECTIONS: u16 = 128;
 
 /// How long an acceptor sleeps after a connection that it couldn't take.
 const PAUSE_MILLIS: u64 = 10;
 
+/// How long it sleeps where a connection was given up, before it looks for its place.
+const LEAVE_MILLIS: u64 = 1;
+
 /// Who answers those that connect.
 pub(crate) trait Serve {
-    /// The place of a connection among those that stand, if it may.
-    fn admit<R: Wait>(&self, rt: &R, stream: &TcpStream) -> Option<usize>;
+    /// The place of a connection among those that stand, if it may. Where all are taken, waits until the oldest
+    /// connection is given up.
+    fn admit<R: Wait + Clock>(&self, rt: &R, stream: &TcpStream) -> Option<usize>;
 
     /// Answers a connection until it ends, and gives its place back.
     fn serve<R: Wait>(&self, rt: &R, stream: &TcpStream, place: usize);
@@ -38,34 +42,55 @@ pub(crate) struct Answering<'a, I: Instance + Drop, B: Settle + Drop, T> {
     pub node: &'a Node<I, B>,
     pub seats: &'a [(u16, Mutex<Seat>)],
     pub tagger: &'a T,
-    pub accepted: &'a Standing,
+    pub guests: &'a Guests,
     pub stop: &'a AtomicBool,
 }
 
 impl<I: Instance + Drop, B: Settle + Drop, T: Tagger> Serve for Answering<'_, I, B, T> {
-    fn admit<R: Wait>(&self, rt: &R, stream: &TcpStream) -> Option<usize> {
-        self.accepted.keep(rt, self.stop, stream)
+    fn admit<R: Wait + Clock>(&self, rt: &R, stream: &TcpStream) -> Option<usize> {
+        for _ in rt.forever() {
+            match self.guests.admit(rt, self.stop, stream) {
+                Admission::At(place) => return Some(place),
+                Admission::Refused => return None,
+                Admission::Full => self.give_up_oldest(rt),
+            }
+            thread::sleep(rt, Duration::from_millis(LEAVE_MILLIS));
+        }
+        unreachable!()
     }
 
     fn serve<R: Wait>(&self, rt: &R, stream: &TcpStream, place: usize) {
-        let _ = stream.set_nodelay(true);
-        let mut reader = Reader::new(stream);
-        let mut writer = Writer::new(stream);
-        let _ = write_peer(
-            rt,
-            self.alloc,
-            self.node,
-            self.seats,
-            self.tagger,
-            self.stop,
-            &mut reader,
-            &mut writer,
-        );
-        self.accepted.shut(rt, place);
+        if let Some(leave) = self.guests.leave(place) {
+            let _ = stream.set_nodelay(true);
+            let mut reader = Reader::new(stream);
+            let mut writer = Writer::new(stream);
+            let _ = write_peer(
+                rt,
+                self.alloc,
+                self.node,
+                self.seats,
+                self.tagger,
+                leave,
+                &mut reader,
+                &mut writer,
+            );
+        }
+        self.guests.shut(rt, place);
     }
 
     fn turn_away<R: Wait>(&self, rt: &R, place: usize) {
-        self.accepted.shut(rt, place);
+        self.guests.shut(rt, place);
+    }
+}
+
+impl<I: Instance + Drop, B: Settle + Drop, T> Answering<'_, I, B, T> {
+    // Ends whatever the thread of the oldest connection waits for: then it gives its place back.
+    fn give_up_oldest<R: Wait>(&self, rt: &R) {
+        if let Some(place) = self.guests.shut_oldest(rt) {
+            if let Some(leave) = self.guests.leave(place) {
+                self.node.stop_waiting(rt, leave);
+            }
+        }
     }
 }
 

@@ -4,6 +4,7 @@
 
 mod accepting;
 mod dialing;
+mod guests;
 mod listening;
 mod node_fault;
 mod ports;

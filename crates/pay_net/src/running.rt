@@ -2,6 +2,7 @@ ghost use Rattle.std.specs.Prelude.{◌≡◌, ◌+◌, ◌*◌, ◌<◌, [], le
 
 use crate::accepting::{Answering, MOST_CONNECTIONS, accept_all};
 use crate::dialing::Dialer;
+use crate::guests::Guests;
 use crate::listening::Listening;
 use crate::node_fault::NodeFault;
 use crate::ports::Ports;
@@ -15,7 +16,7 @@ use pay_member::Member;
 use pay_node::{Node, NodeTeller, OpenGate, Seat, run_readers};
 use std::alloc::{AllocError, Global};
 use std::net::{Net, TcpListener, TcpStream};
-use std::sync::atomic::AtomicBool;
+use std::sync::atomic::{AtomicBool, Ordering};
 use std::sync::{Mutex, Wait};
 use std::thread;
 use std::thread::Threads;
@@ -40,7 +41,7 @@ struct Running<'a, H, I: Instance + Drop, B: Settle + Drop, T> {
     ports: &'a Ports,
     listening: &'a Listening,
     dialed: &'a Standing,
-    accepted: &'a Standing,
+    guests: &'a Guests,
     stop: &'a AtomicBool,
 }
 
@@ -75,7 +76,7 @@ where
         return Err(NodeFault::Port(port));
     };
     let dialed = Standing::new(alloc, members)?;
-    let accepted = Standing::new(alloc, MOST_CONNECTIONS)?;
+    let guests = Guests::new(alloc, MOST_CONNECTIONS)?;
     let Ok((node, seats)) = Node::new(alloc, member, 2 * members - 1) else {
         return Err(NodeFault::Engine(EngineFault::Memory));
     };
@@ -89,7 +90,7 @@ where
         ports,
         listening: &listening,
         dialed: &dialed,
-        accepted: &accepted,
+        guests: &guests,
         stop: &stop,
     };
     let (seats, ended) = running.run(seats, reader, writer);
@@ -194,19 +195,22 @@ where
             node: self.node,
             seats: seats.as_slice(),
             tagger: self.tagger,
-            accepted: self.accepted,
+            guests: self.guests,
             stop: self.stop,
         };
         accept_all(self.rt, &answering, self.stop, &self.listening.listener);
         seats
     }
 
-    // Ends all that a worker can wait for. The flag is set first: who finds it unset is woken or shut here.
+    // Ends all that a worker can wait for. The flag is set first: who finds it unset is shut or woken here.
     fn stop_workers(&self) {
-        self.node.stop_waiting(self.rt, self.stop);
+        self.stop.store(true, Ordering::SeqCst);
         self.listening.shut();
         self.dialed.shut_all(self.rt);
-        self.accepted.shut_all(self.rt);
+        self.guests.shut_all(self.rt);
+        for leave in self.guests.all_leave() {
+            self.node.stop_waiting(self.rt, leave);
+        }
     }
 }
 
