@@ -18,6 +18,11 @@ OPENING = GENESIS["opening"]
 A, B = payment(payee=0, amount=5), payment(payee=1, amount=5)
 FRESH = [[], [], [], []]
 
+# How many connections that others dialed stand at a node at once, and what threads it has beside theirs: its desk's,
+# that of each reader, and three round them.
+MOST_CONNECTIONS = 128
+OTHER_THREADS = 10
+
 # ---- a group
 
 
@@ -489,6 +494,25 @@ def hostile_peers_stop_nobody():
         finally:
             for one in strangers:
                 one.__exit__()
+
+
+@test
+def strangers_that_came_first_turn_nobody_away():
+    """Member 3 takes more connections of member 0 than there may be, before the others dial it."""
+    with Group([1000, 1000, 1000, 0], running=[0]) as group:
+        node = group.nodes[0]
+        with Strangers(3, 0, group.ports[0]) as strangers:
+            strangers.crowd(150)
+            strangers.wait_for_ever(150)
+            for own in (1, 2):
+                group.start(own)
+            for seq in range(3):
+                paid_round(group, seq)
+            strangers.wait_for_ever(300)
+            paid_round(group, 3)
+            until(lambda: node.threads() <= MOST_CONNECTIONS + OTHER_THREADS, True, of="threads are bounded")
+        paid_round(group, 4)
+        group.stop()
 
 
 def paid_round(group, seq):
