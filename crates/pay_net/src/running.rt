@@ -1,4 +1,5 @@
-ghost use Rattle.std.specs.Prelude.{◌≡◌, ◌+◌, ◌*◌, ◌<◌, [], length};
+ghost use Rattle.std.specs.Prelude.{◌≡◌, ◌+◌, ◌-◌, ◌*◌, ◌<◌, [], IfOk, length};
+ghost use Rattle.pay_net.specs.Running.{IsClosed};
 
 use crate::accepting::{Answering, MOST_CONNECTIONS, accept_all};
 use crate::dialing::Dialer;
@@ -66,6 +67,7 @@ where
     Out: Output,
     requires fresh { member.history ≡ [] }
     requires ports { length ports.now ≡ length member.keys.keys }
+    ensures closed { IfOk result (IsClosed (length member.keys.keys)) }
 {
     let own = member.keys().own();
     let members = member.keys().members();
@@ -96,7 +98,20 @@ where
     let (seats, ended) = running.run(seats, reader, writer);
     let seats = gathered(alloc, seats)?;
     ended?;
-    match node.close(alloc, seats.as_slice()) {
+    closed(alloc, members, node, seats.as_slice())
+}
+
+// The member of a node in a group of so many that no thread calls any more, if it bears out all receipts.
+fn closed<I: Instance + Drop, B: Settle + Drop>(
+    alloc: Global,
+    members: u16,
+    node: Node<I, B>,
+    seats: &[Seat],
+) -> Result<Member<I, B>, NodeFault>
+    requires { node.seats ≡ 2 * members - 1 }
+    ensures { IfOk result (IsClosed members) }
+{
+    match node.stop().close(alloc, seats) {
         Ok(member) => Ok(member),
         Err((fault, _)) => Err(NodeFault::Close(fault)),
     }

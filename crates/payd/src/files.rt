@@ -1,7 +1,10 @@
 //! The files that words name, each judged before the next is read.
 
-ghost use Rattle.std.specs.Prelude.{◌≡◌, ◌<◌, IfOk};
+ghost use Rattle.std.specs.Prelude.{◌≡◌, ◌+◌, ◌≤◌, ℕ, List, IfErr, IfOk, IfSome, map, take};
+ghost use Rattle.std.specs.List.{AllZip};
+ghost use Rattle.std.specs.Option.{option_map};
 ghost use Rattle.pay_link.specs.Keys.{IsKeysOf};
+ghost use Rattle.payd.specs.Files.{AreKeysIn, IsExportOf, IsExportStop, IsExportsStop, IsGenesisOf, IsGenesisStop, IsKeysStop, IsUnread};
 
 use crate::stop::Stop;
 use pay_audit::{Export, read_export};
@@ -23,30 +26,78 @@ const FAULTS: u64 = 1;
 
 const OPENING: [u64; 4] = [100, 0, 0, 50];
 
+/// Who gives the bytes of files by their names.
+pub(crate) trait NamedFiles {
+    // The bytes that a name's file may hold.
+    ghost holds: { Self → List ℕ → List ℕ → Type 0 };
+
+    /// All bytes of the file of this name.
+    fn bytes_of<'a>(&self, alloc: Global, name: &'a str) -> Result<Vec<u8>, Stop<'a>>
+        ensures ok { IfOk result (λ bytes. holds self.now name.entry.now bytes.items) }
+        ensures err { IfErr result (IsUnread name.entry.now) };
+}
+
+impl<F: Files> NamedFiles for F {
+    ghost use Rattle.std.specs.Prelude.{◌≤◌, length};
+    ghost use Rattle.payd.specs.declared.files.TheConstants.{MOST_BYTES};
+
+    // of what a file holds nothing is known but that it isn't too long
+    ghost holds = { λ _ _ bytes. length bytes ≤ MOST_BYTES };
+
+    fn bytes_of<'a>(&self, alloc: Global, name: &'a str) -> Result<Vec<u8>, Stop<'a>> {
+        match read(alloc, self, name) {
+            Ok(bytes) => {
+                if bytes.len() as u64 > MOST_BYTES {
+                    return Err(Stop::File(name));
+                }
+                Ok(bytes)
+            }
+            Err(error) => {
+                if error.kind() == io::ErrorKind::OutOfMemory {
+                    return Err(Stop::Engine(EngineFault::Memory));
+                }
+                Err(Stop::File(name))
+            }
+        }
+    }
+}
+
 /// The genesis in the file of this name, or that of four members.
-pub(crate) fn genesis_of<'a>(
+pub(crate) fn genesis_of<'a, F: NamedFiles>(
     alloc: Global,
-    rt: &impl Files,
+    files: &F,
     name: Option<&'a str>,
-) -> Result<Genesis, Stop<'a>> {
+) -> Result<Genesis, Stop<'a>>
+    ensures value { IfOk result (IsGenesisOf (F.holds files.now)
+        (option_map (λ name. name.now) name.entry)) }
+    ensures stop { IfErr result (IsGenesisStop (F.holds files.now)
+        (option_map (λ name. name.now) name.entry)) }
+{
     match name {
-        Some(name) => Ok(Genesis::read(alloc, bytes_of(alloc, rt, name)?.as_slice())?),
+        Some(name) => {
+            let bytes = files.bytes_of(alloc, name)?;
+            Ok(Genesis::read(alloc, bytes.as_slice())?)
+        }
         None => Ok(Genesis::new(alloc, MEMBERS, FAULTS, &OPENING)?),
     }
 }
 
 /// The keys in the file of this name, or the test keys of member 1, or of 0 where there is no other.
-pub(crate) fn keys_of<'a>(
+pub(crate) fn keys_of<'a, F: NamedFiles>(
     alloc: Global,
-    rt: &impl Files,
+    files: &F,
     genesis: &Genesis,
     name: Option<&'a str>,
 ) -> Result<Keys, Stop<'a>>
-    ensures { IfOk result (IsKeysOf genesis.now) }
+    ensures value { IfOk result (AreKeysIn (F.holds files.now) genesis.now.members
+        (option_map (λ name. name.now) name.entry)) }
+    ensures stop { IfErr result (IsKeysStop (F.holds files.now) genesis.now.members
+        (option_map (λ name. name.now) name.entry)) }
+    ensures genesis { IfOk result (IsKeysOf genesis.now) }
 {
     match name {
         Some(name) => {
-            let bytes = bytes_of(alloc, rt, name)?;
+            let bytes = files.bytes_of(alloc, name)?;
             Ok(Keys::read(alloc, genesis, bytes.as_slice())?)
         }
         None => {
@@ -57,49 +108,48 @@ pub(crate) fn keys_of<'a>(
 }
 
 /// The exports in the files of these names.
-pub(crate) fn exports_of<'a>(
+pub(crate) fn exports_of<'a, F: NamedFiles>(
     alloc: Global,
-    rt: &impl Files,
+    files: &F,
     names: &[&'a str],
-) -> Result<Vec<Export>, Stop<'a>> {
+) -> Result<Vec<Export>, Stop<'a>>
+    ensures value { IfOk result (λ exports. AllZip (IsExportOf (F.holds files.now))
+        (map (λ name. name.now) names.now) exports.items) }
+    ensures stop { IfErr result (IsExportsStop (F.holds files.now)
+        (map (λ name. name.now) names.now)) }
+{
     let mut exports = Vec::new(alloc);
     for name in names {
-        let bytes = bytes_of(alloc, rt, name)?;
-        let export = read_export(alloc, bytes.as_slice())?;
+        let export = export_of(alloc, files, name)?;
         exports.push(export).map_err(|_| EngineFault::Memory)?;
     }
     Ok(exports)
 }
 
-/// All bytes of the file of this name.
-pub(crate) fn bytes_of<'a>(
-    alloc: Global,
-    rt: &impl Files,
-    name: &'a str,
-) -> Result<Vec<u8>, Stop<'a>> {
-    match read(alloc, rt, name) {
-        Ok(bytes) => {
-            if bytes.len() as u64 > MOST_BYTES {
-                return Err(Stop::File(name));
-            }
-            Ok(bytes)
-        }
-        Err(error) => {
-            if error.kind() == io::ErrorKind::OutOfMemory {
-                return Err(Stop::Engine(EngineFault::Memory));
-            }
-            Err(Stop::File(name))
-        }
-    }
+/// The export in the file of this name.
+fn export_of<'a, F: NamedFiles>(alloc: Global, files: &F, name: &'a str) -> Result<Export, Stop<'a>>
+    ensures value { IfOk result (IsExportOf (F.holds files.now) name.entry.now) }
+    ensures stop { IfErr result (IsExportStop (F.holds files.now) name.entry.now) }
+{
+    let bytes = files.bytes_of(alloc, name)?;
+    Ok(read_export(alloc, bytes.as_slice())?)
 }
 
 /// The bytes of the file of this name, or one byte more than there may be.
 fn read(alloc: Global, rt: &impl Files, name: &str) -> io::Result<Vec<u8>> {
-    let mut bytes = Vec::new(alloc);
     let file = fs::open(rt, name)?;
     if file.metadata()?.len() > MOST_BYTES {
         return Err(io::Error::from(io::ErrorKind::FileTooLarge));
     }
-    file.take(MOST_BYTES + 1).read_to_end(&mut bytes)?;
+    read_within(alloc, file)
+}
+
+/// All bytes that are left of a source, or one byte more than there may be of a file.
+fn read_within<R: Read + Drop>(alloc: Global, source: R) -> io::Result<Vec<u8>>
+    ensures { IfOk result (λ bytes. IfSome (R.remaining source) (λ left.
+        bytes.items ≡ take (MOST_BYTES + 1) left)) }
+{
+    let mut bytes = Vec::new(alloc);
+    source.take(MOST_BYTES + 1).read_to_end(&mut bytes)?;
     Ok(bytes)
 }

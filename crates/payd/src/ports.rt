@@ -2,22 +2,21 @@
 
 ghost use Rattle.std.specs.Prelude.{◌≡◌, IfOk, length};
 
-use crate::files::bytes_of;
+use crate::files::NamedFiles;
 use crate::stop::Stop;
 use pay_link::Genesis;
 use pay_net::Ports;
 use std::alloc::Global;
-use std::rt::Files;
 
 /// The ports in the file of this name.
-pub(crate) fn ports_of<'a>(
+pub(crate) fn ports_of<'a, F: NamedFiles>(
     alloc: Global,
-    rt: &impl Files,
+    files: &F,
     genesis: &Genesis,
     name: &'a str,
 ) -> Result<Ports, Stop<'a>>
     ensures { IfOk result (λ ports. length ports ≡ genesis.now.members) }
 {
-    let bytes = bytes_of(alloc, rt, name)?;
+    let bytes = files.bytes_of(alloc, name)?;
     Ok(Ports::read(alloc, genesis, bytes.as_slice())?)
 }

@@ -1,3 +1,7 @@
+ghost use Rattle.std.specs.Prelude.{◌≡◌};
+ghost use Rattle.pay_frame.specs.declared.engine_fault.EngineFault.TheVariants.{Memory};
+ghost use Rattle.payd.specs.declared.stop.Stop.TheVariants.{Engine, Export, Genesis, Keys};
+
 use pay_audit::ExportFault;
 use pay_frame::EngineFault;
 use pay_link::{GenesisFault, KeysFault};
@@ -30,24 +34,32 @@ pub(crate) enum Stop<'a> {
 }
 
 impl<'a> From<EngineFault> for Stop<'a> {
+    ghost from_gives = { λ fault stop. stop ≡ Engine fault };
+
     fn from(fault: EngineFault) -> Stop<'a> {
         Stop::Engine(fault)
     }
 }
 
 impl<'a> From<GenesisFault> for Stop<'a> {
+    ghost from_gives = { λ fault stop. stop ≡ Genesis fault };
+
     fn from(fault: GenesisFault) -> Stop<'a> {
         Stop::Genesis(fault)
     }
 }
 
 impl<'a> From<KeysFault> for Stop<'a> {
+    ghost from_gives = { λ fault stop. stop ≡ Keys fault };
+
     fn from(fault: KeysFault) -> Stop<'a> {
         Stop::Keys(fault)
     }
 }
 
 impl<'a> From<ExportFault> for Stop<'a> {
+    ghost from_gives = { λ fault stop. stop ≡ Export fault };
+
     fn from(fault: ExportFault) -> Stop<'a> {
         Stop::Export(fault)
     }
@@ -70,6 +82,8 @@ impl<'a> From<NodeFault> for Stop<'a> {
 }
 
 impl<'a> From<AllocError> for Stop<'a> {
+    ghost from_gives = { λ _ stop. stop ≡ Engine Memory };
+
     fn from(_: AllocError) -> Stop<'a> {
         Stop::Engine(EngineFault::Memory)
     }

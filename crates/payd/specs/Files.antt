@@ -1,0 +1,80 @@
+-- What is read of the files that words name. `holds name bytes` says that a name's file may hold these bytes.
+use Rattle.std.specs.Prelude.{◌≡◌, ℕ, ◌⊎◌, nat_lt, List, [], ◌∷◌, ◌++◌, Option, Some, None, Result, Ok, Err, if◌then◌else◌}
+use Rattle.std.specs.List.{AllZip}
+use Rattle.pay_audit.specs.Export.{ExportFields, export_in}
+use Rattle.pay_audit.specs.declared.export_fault.ExportFault.TheVariants as export
+use Rattle.pay_frame.specs.declared.engine_fault.EngineFault.TheVariants as engine
+use Rattle.pay_link.specs.Files.{genesis_in, keys_in}
+use Rattle.pay_link.specs.Genesis.{GenesisFields}
+use Rattle.pay_link.specs.Keys.{KeyFields}
+use Rattle.pay_link.specs.TestKeys.{test_keys_of}
+use Rattle.pay_link.specs.declared.genesis_fault.GenesisFault.TheVariants as genesis
+use Rattle.pay_link.specs.declared.keys_fault.KeysFault.TheVariants as keys
+use Rattle.payd.specs.declared.stop.Stop.{Stop}
+use Rattle.payd.specs.declared.stop.Stop.TheVariants.{Engine, Genesis, Keys, Ports, Export, Close, Port, File}
+
+-- bytes that the file may hold are judged so
+abbrev pub IsJudged : {X : Type 0} → (List ℕ → List ℕ → Type 0) → List ℕ → (List ℕ → X) → X → Type 0
+IsJudged holds name judge verdict = (bytes : List ℕ) × holds name bytes × (judge bytes ≡ verdict)
+
+-- why the bytes of a file can't be had: it can't be read, or memory was refused
+abbrev pub IsUnread : List ℕ → Stop → Type 0
+IsUnread name (File named) = named.now ≡ name
+IsUnread name (Engine fault) = fault ≡ engine.Memory
+IsUnread name (Genesis fault) = ⊥
+IsUnread name (Keys fault) = ⊥
+IsUnread name (Ports fault) = ⊥
+IsUnread name (Export fault) = ⊥
+IsUnread name (Close fault) = ⊥
+IsUnread name (Port port) = ⊥
+
+-- why a file isn't what it should be: its bytes can't be had, memory was refused, or they have this fault
+abbrev pub IsStop : {X E : Type 0} → (List ℕ → List ℕ → Type 0) → List ℕ → (List ℕ → Result X E) → (E → Stop) → E → Stop → Type 0
+IsStop {X} {E} holds name judge said memory stop =
+    IsUnread name stop ⊎ (stop ≡ said memory) ⊎ ((fault : E) × (stop ≡ said fault) × IsJudged holds name judge (Err fault))
+
+-- ---- a genesis
+
+-- four members of whom one may lie
+abbrev pub own_genesis : GenesisFields
+own_genesis = record { members = 4; faults = 1; opening = 100 ∷ 0 ∷ 0 ∷ 50 ∷ [] }
+
+abbrev pub IsGenesisOf : (List ℕ → List ℕ → Type 0) → Option (List ℕ) → GenesisFields → Type 0
+IsGenesisOf holds None g = g ≡ own_genesis
+IsGenesisOf holds (Some name) g = IsJudged holds name genesis_in (Ok g)
+
+abbrev pub IsGenesisStop : (List ℕ → List ℕ → Type 0) → Option (List ℕ) → Stop → Type 0
+IsGenesisStop holds None stop = stop ≡ Genesis genesis.Memory
+IsGenesisStop holds (Some name) stop = IsStop holds name genesis_in Genesis genesis.Memory stop
+
+-- ---- keys, for a genesis of so many members
+
+-- member 1, or 0 where it is alone
+abbrev pub own_member : ℕ → ℕ
+own_member members = if nat_lt 1 members then 1 else 0
+
+abbrev pub AreKeysIn : (List ℕ → List ℕ → Type 0) → ℕ → Option (List ℕ) → KeyFields → Type 0
+AreKeysIn holds members None k = k ≡ test_keys_of members (own_member members)
+AreKeysIn holds members (Some name) k = IsJudged holds name (keys_in members) (Ok k)
+
+abbrev pub IsKeysStop : (List ℕ → List ℕ → Type 0) → ℕ → Option (List ℕ) → Stop → Type 0
+IsKeysStop holds members None stop = stop ≡ Engine engine.Memory
+IsKeysStop holds members (Some name) stop = IsStop holds name (keys_in members) Keys keys.Memory stop
+
+-- ---- exports
+
+abbrev pub IsExportOf : (List ℕ → List ℕ → Type 0) → List ℕ → ExportFields → Type 0
+IsExportOf holds name e = IsJudged holds name export_in (Ok e)
+
+abbrev pub IsExportStop : (List ℕ → List ℕ → Type 0) → List ℕ → Stop → Type 0
+IsExportStop holds name stop = IsStop holds name export_in Export export.Memory stop
+
+-- Exports of the first names are read, and the file behind them isn't one.
+pub record IsExportsStop (holds : List ℕ → List ℕ → Type 0) (names : List (List ℕ)) (stop : Stop) : Type 0 where
+  pub first : List (List ℕ)
+  pub name : List ℕ
+  pub others : List (List ℕ)
+  pub parts : names ≡ first ++ name ∷ others
+  pub exports : List ExportFields
+  pub read : AllZip (IsExportOf holds) first exports
+  pub stopped : IsExportStop holds name stop
