@@ -1,0 +1,20 @@
+"""The toolchain's command rt as a module: what it knows of a repository's crates, and how it builds and checks them."""
+
+import importlib.machinery
+import importlib.util
+import os
+import shutil
+import sys
+
+
+def load_rt():
+    """Loads the module, or returns nothing where the command isn't on the path."""
+    path = shutil.which("rt")
+    if path is None:
+        return None
+    # the toolchain's folder may be another user's
+    sys.dont_write_bytecode = True
+    loader = importlib.machinery.SourceFileLoader("rt", os.path.realpath(path))
+    module = importlib.util.module_from_spec(importlib.util.spec_from_loader("rt", loader))
+    loader.exec_module(module)
+    return module
