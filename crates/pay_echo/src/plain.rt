@@ -1,4 +1,4 @@
-ghost use Rattle.std.specs.Prelude.{◌≡◌, ◌≤◌, ◌<◌, ◌+◌, ◌++◌, ℕ, List, Bool, Some, None, length, slice_get, slice_set, replicate, IfOk, IfSome, OnOk, OnErr, is_some, false};
+ghost use Rattle.std.specs.Prelude.{◌≡◌, ◌≤◌, ◌<◌, ◌+◌, ◌++◌, ℕ, List, Bool, Some, None, length, slice_get, slice_set, replicate, IfOk, IfSome, OnOk, OnErr, is_some, is_none, true, false};
 ghost use Rattle.std.specs.List.{count_by};
 ghost use Rattle.std.specs.Option.{option_copied};
 ghost use Rattle.pay_echo.specs.Broadcast.{IsForeign, is_for};
@@ -113,13 +113,42 @@ impl PlainInstance {
         if vote.is_ready() { before + 1 } else { before }
     }
 
+    // The count of ECHOs where it can make a READY due. Where one was sent, it can't, and no vote
+    // is looked at.
+    fn echoes_asked_for(&self, vote: VoteRef) -> usize
+        ensures count { is_none self.now.readied ≡ true
+            → result ≡ echo_count self.now (vote_of vote.entry) }
+        ensures few { result ≤ MOST_MEMBERS + 1 }
+    {
+        if self.readied().is_none() {
+            self.echo_count(vote)
+        } else {
+            0
+        }
+    }
+
+    // The count of READYs where it can make a READY or a delivery due.
+    fn readys_asked_for(&self, vote: VoteRef) -> usize
+        ensures ready { is_none self.now.readied ≡ true
+            → result ≡ ready_count self.now (vote_of vote.entry) }
+        ensures deliver { is_none self.now.delivered ≡ true
+            → result ≡ ready_count self.now (vote_of vote.entry) }
+        ensures few { result ≤ MOST_MEMBERS + 1 }
+    {
+        if self.readied().is_none() || self.delivered().is_none() {
+            self.ready_count(vote)
+        } else {
+            0
+        }
+    }
+
     // What this vote makes known where none came before it.
     #[tactic(auto, unfolding(crate::specs::Step::moves_by))]
     fn moves_by(&self, vote: VoteRef) -> Moves
         ensures { result ≡ moves_by self.now (vote_of vote.entry) }
     {
-        let readys = self.ready_count(vote);
-        let ready = self.can_ready(self.echo_count(vote), readys);
+        let readys = self.readys_asked_for(vote);
+        let ready = self.can_ready(self.echoes_asked_for(vote), readys);
         let deliver = self.can_deliver(readys + usize::from(ready));
         Moves {
             echo: vote.is_send(),
