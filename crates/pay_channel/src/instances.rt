@@ -103,7 +103,7 @@ impl<I: Instance + Drop> Instances<I> {
 }
 
 // Asks an instance what a vote makes known, makes the bodies that are due, and then tells it the
-// vote.
+// vote and its own answer.
 fn tell<I: Instance>(
     instance: &mut I,
     alloc: Global,
@@ -125,7 +125,7 @@ fn tell<I: Instance>(
     let moves = instance.moves(vote);
     let echo = body_if(moves.echo, alloc, Kind::Echo, owner, seq, vote.value())?;
     let ready = body_if(moves.ready, alloc, Kind::Ready, owner, seq, vote.value())?;
-    instance.take(alloc, vote)?;
+    instance.take(alloc, vote, moves)?;
     Ok(Outgoing { moves, echo, ready })
 }
 

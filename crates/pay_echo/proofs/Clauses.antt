@@ -1,14 +1,13 @@
 -- The trait's clauses, from the step function.
-use Rattle.std.proofs.Common.{◌≡◌, ℕ, ◌<◌, Bool, true, false, not, cond, eqb, List, [], ◌∷◌, ◌++◌, map, replicate, Option, None, Some, is_none, is_some, Result, Ok, Err, refl, sym, ap, ◌∙◌, subst}
+use Rattle.std.proofs.Common.{◌≡◌, ℕ, ◌<◌, Bool, true, false, not, cond, eqb, List, [], ◌∷◌, ◌++◌, map, replicate, Option, None, Some, is_none, is_some, refl, sym, ap, ◌∙◌, subst}
 use Rattle.std.specs.List.{range_with_len}
-use Rattle.std.specs.Result.{OnOk, IfOk}
 use Rattle.std.proofs.lemmas.List.{get_or-replicate, length-replicate}
 use Rattle.std.proofs.lemmas.List.FromFn.{fill_by_all}
 use Rattle.pay_echo.specs.Broadcast.{Group, Vote, IsForeign, echoed, echo_of, ready_of, readied}
 use Rattle.pay_echo.specs.Meaning.{Meaning, meaning_of, Sees}
 use Rattle.pay_echo.specs.Moves.{IsMoves, Foresees}
 use Rattle.pay_echo.specs.declared.moves.Moves.{Moves}
-use Rattle.pay_echo.specs.Step.{vote_at, vote_before, moves_by, with_vote, IsPlaced, after}
+use Rattle.pay_echo.specs.Step.{vote_at, vote_before, moves_by, with_moves, with_vote, IsPlaced, after}
 use Rattle.pay_echo.specs.Plain.{meaning_by}
 use Rattle.pay_echo.proofs.OneMore.{readied-none, delivered-none}
 use Rattle.pay_echo.proofs.PlainLemmas.{votes_at-none}
@@ -80,9 +79,19 @@ Foresees-first m x placed foreign first moves e g votes is =
     let Q : Moves → Type 0 = IsMoves m (meaning_of g (votes ++ x ∷ [])) in
     subst Q (sym e) (subst P (Sees-first m x placed foreign first (with_vote m x) refl g votes is) (with_vote-IsMoves m x (before-none (vote_before m x) first)))
 
-pub counted-IsMoves : {E : Type 0} (r : Result Moves E) (m new : Meaning) (x : Vote) → is_some (vote_before m x) ≡ false → OnOk r (new ≡ with_vote m x) → IfOk r (λ moves. moves ≡ moves_by m x) → IfOk r (IsMoves m new)
-counted-IsMoves (Ok moves) m new x first is are =
-    let P : Meaning → Type 0 = λ n. IsMoves m n moves in
-    let Q : Moves → Type 0 = IsMoves m (with_vote m x) in
-    subst P (sym is) (subst Q (sym are) (with_vote-IsMoves m x (before-none (vote_before m x) first)))
-counted-IsMoves (Err e) m new x first is are = tt
+pub foreseen_became : (g : Group) (votes : List Vote) (old new : Meaning) (x : Vote) (moves : Moves) → old ≡ meaning_of g votes → Foresees old x moves → Sees old new x → IsMoves old new moves
+foreseen_became g votes old new x moves is told seen =
+    let P : Meaning → Type 0 = λ n. IsMoves old n moves in
+    subst P (sym (seen g votes is)) (told g votes is)
+
+-- no other moves are foreseen, and so a vote that is written with them is seen
+only-IsMoves : (old new : Meaning) (one other : Moves) → IsMoves old new one → IsMoves old new other → one ≡ other
+only-IsMoves old new one other is are =
+    λ i. record { echo = (is.echo ∙ sym are.echo) i; ready = (is.ready ∙ sym are.ready) i; deliver = (is.deliver ∙ sym are.deliver) i }
+
+pub Sees-told : (m : Meaning) (x : Vote) → IsPlaced m → IsForeign m.group x → is_some (vote_before m x) ≡ false → (moves : Moves) → Foresees m x moves → (new : Meaning) → new ≡ with_moves m x moves → Sees m new x
+unfolding with_vote
+Sees-told m x placed foreign first moves told new e g votes is =
+    let due = Foresees-first m x placed foreign first (moves_by m x) refl g votes is in
+    let same = only-IsMoves m (meaning_of g (votes ++ x ∷ [])) moves (moves_by m x) (told g votes is) due in
+    Sees-first m x placed foreign first new (e ∙ ap (with_moves m x) same) g votes is

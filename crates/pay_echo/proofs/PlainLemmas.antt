@@ -8,8 +8,7 @@ use Rattle.std.proofs.lemmas.List.Elements.{All-set, All-weaker}
 use Rattle.std.proofs.lemmas.Option.{slice_get-get_or, slice_get_within}
 use Rattle.pay_frame.specs.declared.limits.TheConstants.{MOST_MEMBERS}
 use Rattle.pay_echo.specs.Broadcast.{Group, Vote, Send, Echo, Ready, IsForeign, value_of}
-use Rattle.pay_echo.specs.Meaning.{Meaning}
-use Rattle.pay_echo.specs.Step.{vote_at, moves_by, is_send, put_echo, put_ready, put_if, with_vote, IsPlaced}
+use Rattle.pay_echo.specs.Step.{vote_at, is_send, put_echo, put_ready, put_if, with_moves, IsPlaced}
 use Rattle.pay_echo.specs.Plain.{value_at, votes_at, IsPlace, meaning_by, ArePlaces}
 use Rattle.pay_echo.specs.declared.moves.Moves.{Moves}
 
@@ -161,9 +160,8 @@ module _ (g : Group) (values more : List (List ℕ)) (echoes readys : List (Opti
         placed true before = inside
         placed false before = before
 
-  pub counted-meaning : IsForeign g x → moves ≡ moves_by (meaning_by g values echoes readys delivered) x → meaning_by g kept echoes_now readys_now delivered_now ≡ with_vote (meaning_by g values echoes readys delivered) x
-  unfolding with_vote moves_by
-  counted-meaning foreign e =
+  pub counted-meaning : IsForeign g x → meaning_by g kept echoes_now readys_now delivered_now ≡ with_moves (meaning_by g values echoes readys delivered) x moves
+  counted-meaning foreign =
       let v = value_of x in
       let echo_votes : votes_at kept echoes_now ≡ put_echo g.own x v (votes_at values echoes) =
       votes_at-put_echo kept place v is g.own x echoes ∙ ap (put_echo g.own x v) (votes_at-more values more echoes are.echo_places) in
@@ -174,19 +172,7 @@ module _ (g : Group) (values more : List (List ℕ)) (echoes readys : List (Opti
       let below_ready : g.own < length (put_ready x v (votes_at values readys)) = rw (length-put_ready x v (votes_at values readys), length-map readys (value_at values), are.readied) are.own in
       let echoed = ap (λ votes. vote_at votes g.own) echo_votes ∙ own_echo-put g x v (votes_at values echoes) below foreign in
       let readied = ap (λ votes. vote_at votes g.own) ready_votes ∙ own-put_if moves.ready g.own v (put_ready x v (votes_at values readys)) below_ready ∙ ap (cond moves.ready (Some v)) (own_ready-put g x v (votes_at values readys) foreign) in
-      let told : meaning_by g kept echoes_now readys_now delivered_now ≡ with_moves moves =
-      λ i. record { group = g; echoed = echoed i; echoes = echo_votes i; readied = readied i; readys = ready_votes i; delivered = handed moves.deliver i } in
-      told ∙ ap with_moves e where
-        with_moves : Moves → Meaning
-        with_moves m = record {
-          group = g;
-          echoed = cond (is_send x) (Some (value_of x)) (vote_at (votes_at values echoes) g.own);
-          echoes = put_echo g.own x (value_of x) (votes_at values echoes);
-          readied = cond m.ready (Some (value_of x)) (vote_at (votes_at values readys) g.own);
-          readys = put_if m.ready g.own (value_of x) (put_ready x (value_of x) (votes_at values readys));
-          delivered = cond m.deliver (Some (value_of x)) (value_at values delivered);
-        }
-
+      λ i. record { group = g; echoed = echoed i; echoes = echo_votes i; readied = readied i; readys = ready_votes i; delivered = handed moves.deliver i } where
         handed : (due : Bool) → value_at kept (option_or (then_some due place) delivered) ≡ cond due (Some (value_of x)) (value_at values delivered)
         handed true = is
         handed false = value_at-more values more delivered are.delivered_place

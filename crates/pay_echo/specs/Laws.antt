@@ -2,7 +2,9 @@
 use Rattle.std.specs.Prelude.{◌≡◌, ◌≢◌, ℕ, ◌+◌, ◌*◌, ◌<◌, ◌≤◌, ◌⊎◌, ◌↔◌, Bool, true, if◌then◌else◌, List, [], ◌∷◌, ◌++◌, Option, Some, None, Contains}
 use Rattle.std.specs.Option.{option_or}
 use Rattle.pay_echo.specs.Broadcast.{Group, Vote, Send, Echo, Ready, value_of, sent, size, echoed, echo_of, echo_set, other_ready_of, other_ready_set, may_ready, readied, ready_of, ready_set, may_deliver, delivered}
-use Rattle.pay_echo.specs.Meaning.{meaning_of}
+use Rattle.pay_echo.specs.Meaning.{Meaning, meaning_of, Sees}
+use Rattle.pay_echo.specs.Moves.{IsMoves, Foresees}
+use Rattle.pay_echo.specs.declared.moves.Moves.{Moves}
 
 -- ---- before any vote
 
@@ -40,6 +42,12 @@ DeliveredByOneMore =
     (g : Group) (votes : List Vote) (x : Vote)
     → delivered g (votes ++ x ∷ [])
     ≡ option_or (delivered g votes) (value_if (may_deliver g (votes ++ x ∷ []) (value_of x)) x)
+
+-- of votes that came, what was foreseen of one more is what became known by it
+abbrev pub ForeseenBecame : Type 0
+ForeseenBecame =
+    (g : Group) (votes : List Vote) (old new : Meaning) (x : Vote) (moves : Moves)
+    → old ≡ meaning_of g votes → Foresees old x moves → Sees old new x → IsMoves old new moves
 
 -- ---- what was known stays, and nobody leaves a set
 

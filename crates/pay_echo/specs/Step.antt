@@ -71,17 +71,21 @@ put_ready (Ready p v) x readys = slice_set readys p (Some x)
 abbrev pub put_if : {X : Type 0} → Bool → ℕ → X → List (Option X) → List (Option X)
 put_if due p x votes = if due then slice_set votes p (Some x) else votes
 
--- with this vote, where none stands in its place
-unfoldable pub with_vote : Meaning → Vote → Meaning
-with_vote m x =
-    let moves = moves_by m x in
+-- with this vote, where none stands in its place, and with the READY and the delivery that are told
+-- with it
+abbrev pub with_moves : Meaning → Vote → Moves → Meaning
+with_moves m x moves =
     record m {
-      echoed = if moves.echo then Some (value_of x) else m.echoed;
+      echoed = if is_send x then Some (value_of x) else m.echoed;
       echoes = put_echo m.group.own x (value_of x) m.echoes;
       readied = if moves.ready then Some (value_of x) else m.readied;
       readys = put_if moves.ready m.group.own (value_of x) (put_ready x (value_of x) m.readys);
       delivered = if moves.deliver then Some (value_of x) else m.delivered;
     }
+
+-- with this vote, where none stands in its place, and what it makes known
+unfoldable pub with_vote : Meaning → Vote → Meaning
+with_vote m x = with_moves m x (moves_by m x)
 
 -- Each member has its places, and what oneself echoed and readied stands at one's own.
 pub record IsPlaced (m : Meaning) : Type 0 where

@@ -2,7 +2,7 @@ ghost use Rattle.std.specs.Prelude.{◌≡◌, ◌≤◌, ◌<◌, [], IfOk, OnO
 ghost use Rattle.std.specs.Option.{option_copied};
 ghost use Rattle.pay_echo.specs.Broadcast.{IsForeign};
 ghost use Rattle.pay_echo.specs.Meaning.{Meaning, Sees, meaning_of};
-ghost use Rattle.pay_echo.specs.Moves.{IsMoves, Foresees};
+ghost use Rattle.pay_echo.specs.Moves.{Foresees};
 ghost use Rattle.pay_echo.specs.Votes.{vote_of};
 
 use crate::group::Group;
@@ -31,13 +31,13 @@ pub trait Instance: Sized {
         requires foreign { IsForeign (meaning self.now).group (vote_of vote) }
         ensures { Foresees (meaning self.now) (vote_of vote.entry) result };
 
-    /// Takes a vote, and tells what became known by it. A vote that is kept costs one copy of its
-    /// value at most.
-    fn take(&mut self, alloc: Global, vote: VoteRef) -> Result<Moves, AllocError>
+    /// Takes a vote, and with it what [`moves`](Instance::moves) says of it, so that no votes are
+    /// counted again. A vote that is kept costs one copy of its value at most.
+    fn take(&mut self, alloc: Global, vote: VoteRef, moves: Moves) -> Result<(), AllocError>
         requires foreign { IsForeign (meaning self.old).group (vote_of vote) }
+        requires told { Foresees (meaning self.old) (vote_of vote) moves }
         ensures seen { OnOk result
             (Sees (meaning self.old) (meaning self.new) (vote_of vote.entry)) }
-        ensures moves { IfOk result (IsMoves (meaning self.old) (meaning self.new)) }
         ensures group { (meaning self.new).group ≡ (meaning self.old).group }
         ensures err { OnErr result (meaning self.new ≡ meaning self.old) };
 

@@ -1,7 +1,7 @@
 //! Laws of authenticated double-echo broadcast over its definitions. Each function's contract is
 //! the law; its body is empty.
 
-ghost use Rattle.pay_echo.specs.Laws.{NotEchoedAtFirst, NotReadyAtFirst, NotDeliveredAtFirst, SentIsItsValue, EchoedByOneMore, ReadiedByOneMore, DeliveredByOneMore, EchoedStays, ReadiedStays, DeliveredStays, EchoStays, ReadyStays, OtherReadyStays, EchoSetGrows, ReadySetGrows, OtherReadySetGrows, SecondSend, SecondEcho, SecondReady, InEchoSet, InReadySet, InOtherReadySet, OwnEcho, OwnReady, SendCame, EchoCame, ReadyCame, SendIsEchoed, EchoCounts, ReadyCounts, WhyReady, WhyDelivered, QuorumMakesReady, AmplificationMakesReady, ReadysDeliver, OneValueByQuorum};
+ghost use Rattle.pay_echo.specs.Laws.{NotEchoedAtFirst, NotReadyAtFirst, NotDeliveredAtFirst, SentIsItsValue, EchoedByOneMore, ReadiedByOneMore, DeliveredByOneMore, ForeseenBecame, EchoedStays, ReadiedStays, DeliveredStays, EchoStays, ReadyStays, OtherReadyStays, EchoSetGrows, ReadySetGrows, OtherReadySetGrows, SecondSend, SecondEcho, SecondReady, InEchoSet, InReadySet, InOtherReadySet, OwnEcho, OwnReady, SendCame, EchoCame, ReadyCame, SendIsEchoed, EchoCounts, ReadyCounts, WhyReady, WhyDelivered, QuorumMakesReady, AmplificationMakesReady, ReadysDeliver, OneValueByQuorum};
 ghost use Rattle.pay_echo.specs.Quorums.{SizeIsAtMost, SizeOfListed, SizeOfOthers, PartIsSmaller, QuorumsShare, LargerHasAnother, RestIsQuorum, QuorumIsMore, MoreRemain};
 
 /// Before any vote nothing is echoed, readied or delivered.
@@ -18,6 +18,11 @@ pub fn one_vote_more()
     ensures readied { ReadiedByOneMore }
     ensures delivered { DeliveredByOneMore }
     ensures sent { SentIsItsValue }
+{}
+
+/// What was foreseen of a vote is what became known by it.
+pub fn foreseen_became()
+    ensures { ForeseenBecame }
 {}
 
 /// What was echoed, readied or delivered stays so, with its value, whatever comes.

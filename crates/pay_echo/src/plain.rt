@@ -3,7 +3,7 @@ ghost use Rattle.std.specs.List.{count_by};
 ghost use Rattle.std.specs.Option.{option_copied};
 ghost use Rattle.pay_echo.specs.Broadcast.{IsForeign, is_for};
 ghost use Rattle.pay_echo.specs.Votes.{vote_of};
-ghost use Rattle.pay_echo.specs.Step.{vote_at, vote_before, echo_count, ready_count, moves_by, can_ready, can_deliver, put_echo, put_ready, put_if, with_vote, IsPlaced};
+ghost use Rattle.pay_echo.specs.Step.{vote_at, vote_before, echo_count, ready_count, moves_by, can_ready, can_deliver, put_echo, put_ready, put_if, with_moves, IsPlaced};
 ghost use Rattle.pay_echo.specs.Plain.{value_at, votes_at};
 
 use crate::group::Group;
@@ -61,11 +61,11 @@ impl Instance for PlainInstance {
         self.moves_by(vote)
     }
 
-    fn take(&mut self, alloc: Global, vote: VoteRef) -> Result<Moves, AllocError> {
+    fn take(&mut self, alloc: Global, vote: VoteRef, moves: Moves) -> Result<(), AllocError> {
         if self.has_voted(vote) {
-            return Ok(Moves::NONE);
+            return Ok(());
         }
-        self.count(alloc, vote)
+        self.write(alloc, vote, moves)
     }
 
     fn echoed(&self) -> Option<&[u8]> {
@@ -172,22 +172,19 @@ impl PlainInstance {
         self.delivered().is_none() && 2 * usize::from(self.group.faults) < readys
     }
 
-    // Writes a vote in its place, where none stands, and what it makes known.
-    fn count(&mut self, alloc: Global, vote: VoteRef) -> Result<Moves, AllocError>
+    // Writes a vote in its place, and what it is told to make known.
+    fn write(&mut self, alloc: Global, vote: VoteRef, moves: Moves) -> Result<(), AllocError>
         requires foreign { IsForeign self.old.group (vote_of vote) }
-        requires first { is_some (vote_before self.old (vote_of vote)) ≡ false }
-        ensures after { OnOk result (self.new ≡ with_vote self.old (vote_of vote.entry)) }
-        ensures moves { IfOk result (λ moves. moves ≡ moves_by self.old (vote_of vote.entry)) }
+        ensures after { OnOk result (self.new ≡ with_moves self.old (vote_of vote.entry) moves) }
         ensures group { self.new.group ≡ self.old.group }
         ensures err { OnErr result (self.new ≡ self.old) }
     {
-        let moves = self.moves_by(vote);
         let group = self.group;
         let place = keep(&mut self.values, alloc, vote.value())?;
         put(&mut self.echoes, &mut self.readys, group, vote, place);
         put_if(moves.ready, &mut self.readys, group.own, place);
         self.delivered = moves.deliver.then_some(place).or(self.delivered);
-        Ok(moves)
+        Ok(())
     }
 }
 

@@ -1,6 +1,6 @@
 ghost use Rattle.std.specs.Prelude.{◌≤◌, ◌<◌};
 
-use crate::telling::is_foreign;
+use crate::telling::{is_foreign, tell};
 use pay_echo::{Group, Instance, Moves, PlainInstance, VoteRef};
 use pay_frame::MOST_MEMBERS;
 use std::alloc::Global;
@@ -51,7 +51,7 @@ fn run<I: Instance + Drop>(
     for (vote, told) in steps {
         assert!(rt; is_foreign(group, *vote));
         assert_eq!(rt; instance.moves(*vote), *told);
-        assert_eq!(rt; instance.take(alloc, *vote)?, *told);
+        assert_eq!(rt; tell(&mut instance, alloc, *vote)?, *told);
     }
     let [echoed, readied, delivered] = known;
     assert_eq!(rt; instance.echoed(), echoed);

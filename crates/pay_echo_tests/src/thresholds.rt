@@ -1,5 +1,6 @@
 ghost use Rattle.std.specs.Prelude.{◌≡◌, ◌≤◌, ◌<◌};
 
+use crate::telling::tell;
 use pay_echo::{Group, Instance, PlainInstance, VoteRef};
 use pay_frame::MOST_MEMBERS;
 use std::alloc::{AllocError, Global};
@@ -22,11 +23,11 @@ fn echo_threshold<I: Instance + Drop>(
         own: 0,
     };
     let mut instance = I::fresh(alloc, group)?;
-    if instance.take(alloc, VoteRef::Send(A))?.ready {
+    if tell(&mut instance, alloc, VoteRef::Send(A))?.ready {
         return Ok(1);
     }
     for process in 1..members {
-        if instance.take(alloc, VoteRef::Echo(process, A))?.ready {
+        if tell(&mut instance, alloc, VoteRef::Echo(process, A))?.ready {
             return Ok(process + 1);
         }
     }
@@ -50,7 +51,7 @@ fn ready_thresholds<I: Instance + Drop>(
     let mut instance = I::fresh(alloc, group)?;
     let mut ready = 0;
     for process in 1..members {
-        let moves = instance.take(alloc, VoteRef::Ready(process, A))?;
+        let moves = tell(&mut instance, alloc, VoteRef::Ready(process, A))?;
         if moves.ready {
             ready = process;
         }

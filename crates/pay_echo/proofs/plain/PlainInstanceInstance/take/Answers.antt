@@ -1,7 +1,7 @@
 use Rattle.std.proofs.Common.{sym, ◌∙◌}
 use Rattle.std.proofs.lemmas.Result.{on_ok_weaker}
 use Rattle.pay_echo.specs.Votes.{vote_of}
-use Rattle.pay_echo.proofs.Clauses.{Sees-again, Sees-first, counted-IsMoves}
+use Rattle.pay_echo.proofs.Clauses.{Sees-again, Sees-told}
 use Rattle.pay_echo.proofs.plain.PlainInstanceInstance.take.Goals as goal
 
 pub returns-then-has_voted-clause-seen : goal.returns-then-has_voted-clause-seen
@@ -10,10 +10,6 @@ returns-then-has_voted-clause-seen c =
 
 pub returns-clause-seen : goal.returns-clause-seen
 returns-clause-seen c =
-    on_ok_weaker c.count.result
-    (Sees-first c.args.self.now (vote_of c.args.vote) c.has_voted.ensures.placed c.requires.foreign (sym c.has_voted.ensures.voted ∙ c.if-has_voted.false) c.count.new.self)
-    c.count.ensures.after
-
-pub returns-clause-moves : goal.returns-clause-moves
-returns-clause-moves c =
-    counted-IsMoves c.count.result c.args.self.now c.count.new.self (vote_of c.args.vote) (sym c.has_voted.ensures.voted ∙ c.if-has_voted.false) c.count.ensures.after c.count.ensures.moves
+    on_ok_weaker c.write.result
+    (Sees-told c.args.self.now (vote_of c.args.vote) c.has_voted.ensures.placed c.requires.foreign (sym c.has_voted.ensures.voted ∙ c.if-has_voted.false) c.args.moves c.requires.told c.write.new.self)
+    c.write.ensures.after

@@ -2,9 +2,8 @@ use Rattle.std.proofs.Common.{◌≡◌, ℕ, List, Some, ◌++◌, slice_get, a
 use Rattle.pay_echo.specs.Broadcast.{IsForeign, value_of}
 use Rattle.pay_echo.specs.Meaning.{Meaning}
 use Rattle.pay_echo.specs.Votes.{vote_of}
-use Rattle.pay_echo.specs.Step.{moves_by}
 use Rattle.pay_echo.proofs.PlainLemmas.{counted-ArePlaces, counted-meaning}
-use Rattle.pay_echo.proofs.plain.PlainInstance.count.Goals as goal
+use Rattle.pay_echo.proofs.plain.PlainInstance.write.Goals as goal
 
 pub invariant_of-self-2 : goal.invariant_of-self-2
 invariant_of-self-2 c =
@@ -12,7 +11,7 @@ invariant_of-self-2 c =
     let is : slice_get (c.self.inside.values.items ++ grown.0) c.in_ok-place.place ≡ Some (value_of (vote_of c.args.vote)) =
     ap (λ (values : List (List ℕ)). slice_get values c.in_ok-place.place) (sym grown.1) ∙ c.in_ok-place.ensures.place ∙ ap (λ (v : List ℕ). Some v) c.value.ensures.value in
     rw (c.or-self-inside.ensures, c.then_some.ensures, c.put_if.ensures, c.put.ensures.readys, c.put.ensures.echoes, grown.1)
-    (counted-ArePlaces c.self.inside.group c.self.inside.values.items grown.0 c.self.inside.echoes.items c.self.inside.readys.items c.self.inside.delivered (vote_of c.args.vote) c.in_ok-place.place c.moves_by-moves.result c.self.invariant is)
+    (counted-ArePlaces c.self.inside.group c.self.inside.values.items grown.0 c.self.inside.echoes.items c.self.inside.readys.items c.self.inside.delivered (vote_of c.args.vote) c.in_ok-place.place c.args.moves c.self.invariant is)
 
 pub returns-clause-after : goal.returns-clause-after
 returns-clause-after c =
@@ -21,5 +20,4 @@ returns-clause-after c =
     ap (λ (values : List (List ℕ)). slice_get values c.in_ok-place.place) (sym grown.1) ∙ c.in_ok-place.ensures.place ∙ ap (λ (v : List ℕ). Some v) c.value.ensures.value in
     let foreign = subst (λ (m : Meaning). IsForeign m.group (vote_of c.args.vote)) (sym c.self.view_is) c.requires.foreign in
     rw (c.or-self-inside.ensures, c.then_some.ensures, c.put_if.ensures, c.put.ensures.readys, c.put.ensures.echoes, grown.1, ← c.self.view_is)
-    (counted-meaning c.self.inside.group c.self.inside.values.items grown.0 c.self.inside.echoes.items c.self.inside.readys.items c.self.inside.delivered (vote_of c.args.vote) c.in_ok-place.place c.moves_by-moves.result c.self.invariant is
-    foreign (c.moves_by-moves.ensures ∙ ap (λ m. moves_by m (vote_of c.args.vote)) (sym c.self.view_is)))
+    (counted-meaning c.self.inside.group c.self.inside.values.items grown.0 c.self.inside.echoes.items c.self.inside.readys.items c.self.inside.delivered (vote_of c.args.vote) c.in_ok-place.place c.args.moves c.self.invariant is foreign)
