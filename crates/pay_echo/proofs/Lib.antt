@@ -5,6 +5,7 @@ pub mod Settling
 pub mod StepLaw
 pub mod SecondVotes
 pub mod Stepping
+pub mod Places
 pub mod PlainLemmas
 pub mod Clauses
 pub mod Sets

@@ -9,21 +9,22 @@ use Rattle.std.proofs.lemmas.Option.{slice_get-get_or, slice_get_within}
 use Rattle.pay_frame.specs.declared.limits.TheConstants.{MOST_MEMBERS}
 use Rattle.pay_echo.specs.Broadcast.{Group, Vote, Send, Echo, Ready, IsForeign, value_of}
 use Rattle.pay_echo.specs.Step.{vote_at, is_send, put_echo, put_ready, put_if, with_moves, IsPlaced}
-use Rattle.pay_echo.specs.Plain.{value_at, votes_at, IsPlace, meaning_by, ArePlaces}
+use Rattle.pay_echo.specs.Plain.{value_at, votes_at, IsPlace, meaning_by, ArePlaces, AreDistinct}
 use Rattle.pay_echo.specs.declared.moves.Moves.{Moves}
 
 pub votes_at-none : (values : List (List ℕ)) (n : ℕ) → votes_at values (replicate n None) ≡ replicate n None
 votes_at-none values zero = refl
 votes_at-none values (suc n) = ap (λ (votes : List (Option (List ℕ))). None ∷ votes) (votes_at-none values n)
 
-pub ArePlaces-none : (g : Group) (values : List (List ℕ)) → g.members ≤ MOST_MEMBERS → g.own < g.members → ArePlaces g values (replicate g.members None) (replicate g.members None) None
-ArePlaces-none g values few member =
+pub ArePlaces-none : (g : Group) (values : List (List ℕ)) → values ≡ [] → g.members ≤ MOST_MEMBERS → g.own < g.members → ArePlaces g values (replicate g.members None) (replicate g.members None) None
+ArePlaces-none g values empty few member =
     let Place : Option ℕ → Type 0 = IsPlace (length values) in
     let none : Place None = tt in
     let places : All Place (replicate g.members None) = λ k d below. subst Place (sym (get_or-replicate g.members k None d (subst (λ n. k < n) (length-replicate g.members None) below))) none in
     record {
       few = few;
       own = member;
+      distinct = rw empty (λ j k v one other. cc);
       echoed = length-replicate g.members None;
       readied = length-replicate g.members None;
       echo_places = places;
@@ -124,7 +125,7 @@ All-put_if P false q place places p all = all
 
 -- ---- a vote counted
 
-module _ (g : Group) (values more : List (List ℕ)) (echoes readys : List (Option ℕ)) (delivered : Option ℕ) (x : Vote) (place : ℕ) (moves : Moves) (are : ArePlaces g values echoes readys delivered) (is : slice_get (values ++ more) place ≡ Some (value_of x)) where
+module _ (g : Group) (values more : List (List ℕ)) (echoes readys : List (Option ℕ)) (delivered : Option ℕ) (x : Vote) (place : ℕ) (moves : Moves) (are : ArePlaces g values echoes readys delivered) (distinct : AreDistinct (values ++ more)) (is : slice_get (values ++ more) place ≡ Some (value_of x)) where
   abbrev kept : List (List ℕ)
   kept = values ++ more
 
@@ -150,6 +151,7 @@ module _ (g : Group) (values more : List (List ℕ)) (echoes readys : List (Opti
       record {
         few = are.few;
         own = are.own;
+        distinct = distinct;
         echoed = length-put_echo g.own x place echoes ∙ are.echoed;
         readied = length-put_if moves.ready g.own place (put_ready x place readys) ∙ length-put_ready x place readys ∙ are.readied;
         echo_places = All-put_echo Place g.own x place echoes inside (All-weaker (IsPlace (length values)) Place weaker echoes are.echo_places);

@@ -1,5 +1,5 @@
 -- Votes as places in a list of values.
-use Rattle.std.specs.Prelude.{◌≡◌, ℕ, ◌<◌, ◌≤◌, List, length, map, slice_get, Option, Some, None, All}
+use Rattle.std.specs.Prelude.{◌≡◌, ◌≢◌, ℕ, ◌<◌, ◌≤◌, Bool, false, ◌==◌, List, length, map, slice_get, Option, Some, None, All}
 use Rattle.pay_frame.specs.declared.limits.TheConstants.{MOST_MEMBERS}
 use Rattle.pay_echo.specs.Broadcast.{Group}
 use Rattle.pay_echo.specs.Meaning.{Meaning}
@@ -12,6 +12,21 @@ value_at values (Some k) = slice_get values k
 
 abbrev pub votes_at : List (List ℕ) → List (Option ℕ) → List (Option (List ℕ))
 votes_at values places = map (value_at values) places
+
+-- whether a vote stands at this place
+abbrev pub is_at : ℕ → Option ℕ → Bool
+is_at k None = false
+is_at k (Some j) = j == k
+
+-- no value stands at two places
+abbrev pub AreDistinct : List (List ℕ) → Type 0
+AreDistinct values =
+    (j k : ℕ) (v : List ℕ) → slice_get values j ≡ Some v → slice_get values k ≡ Some v → j ≡ k
+
+-- where a value stands, if it stands anywhere
+abbrev pub IsPlaceOf : List ℕ → List (List ℕ) → Option ℕ → Type 0
+IsPlaceOf v values None = (k : ℕ) → slice_get values k ≢ Some v
+IsPlaceOf v values (Some k) = slice_get values k ≡ Some v
 
 -- the place is one of so many
 abbrev pub IsPlace : ℕ → Option ℕ → Type 0
@@ -30,12 +45,13 @@ meaning_by g values echoes readys delivered =
       delivered = value_at values delivered;
     }
 
--- There are few members, one's own number is one of theirs, each has its places, and each place is
--- one of the values.
+-- There are few members, one's own number is one of theirs, no value is kept twice, each member has
+-- its places, and each place is one of the values.
 pub record ArePlaces (g : Group) (values : List (List ℕ)) (echoes readys : List (Option ℕ))
     (delivered : Option ℕ) : Type 0 where
   pub few : g.members ≤ MOST_MEMBERS
   pub own : g.own < g.members
+  pub distinct : AreDistinct values
   pub echoed : length echoes ≡ g.members
   pub readied : length readys ≡ g.members
   pub echo_places : All (IsPlace (length values)) echoes

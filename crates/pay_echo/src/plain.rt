@@ -4,7 +4,7 @@ ghost use Rattle.std.specs.Option.{option_copied};
 ghost use Rattle.pay_echo.specs.Broadcast.{IsForeign, is_for};
 ghost use Rattle.pay_echo.specs.Votes.{vote_of};
 ghost use Rattle.pay_echo.specs.Step.{vote_at, vote_before, echo_count, ready_count, moves_by, can_ready, can_deliver, put_echo, put_ready, put_if, with_moves, IsPlaced};
-ghost use Rattle.pay_echo.specs.Plain.{value_at, votes_at};
+ghost use Rattle.pay_echo.specs.Plain.{value_at, votes_at, is_at, AreDistinct, IsPlaceOf};
 
 use crate::group::Group;
 use crate::instance::Instance;
@@ -206,44 +206,36 @@ fn vote_at<'a>(values: &'a [Bytes], places: &[Option<usize>], process: u16) -> O
     value_at(values, places[usize::from(process)])
 }
 
-#[tactic(auto, unfolding(crate::specs::Broadcast::is_for))]
-fn is_for(values: &[Bytes], place: Option<usize>, value: &[u8]) -> bool
-    ensures { result ≡ is_for value.now (value_at values.now place) }
-{
-    match value_at(values, place) {
-        Some(bytes) => bytes == value,
-        None => false,
-    }
-}
-
-// How many votes there are for a value.
+// How many votes there are for a value. All of them stand at its one place, so that no value is
+// looked at for each vote.
 fn count_for(values: &[Bytes], places: &[Option<usize>], value: &[u8]) -> usize
+    requires { AreDistinct values.now }
     ensures count { result ≡ count_by (is_for value.now) (votes_at values.now places.now) }
     ensures few { result ≤ length places.now }
 {
-    let known = place_of(values, value);
-    places
-        .iter()
-        .filter(|place| is_at(values, known, **place, value))
-        .count()
+    match place_of(values, value) {
+        Some(place) => count_at(places, place),
+        None => 0,
+    }
 }
 
-// The same as `is_for`, where a place of the value may be known. Most votes stand at one place, and
-// so few values are compared.
-#[tactic(auto, unfolding(crate::specs::Broadcast::is_for))]
-fn is_at(values: &[Bytes], known: Option<usize>, place: Option<usize>, value: &[u8]) -> bool
-    requires { IfSome known (λ k. slice_get values.now k ≡ Some value.now) }
-    ensures { result ≡ is_for value.now (value_at values.now place) }
+// How many votes stand at a place.
+fn count_at(votes: &[Option<usize>], place: usize) -> usize
+    ensures count { result ≡ count_by (is_at place) votes.now }
+    ensures few { result ≤ length votes.now }
 {
-    match (place, known) {
-        (Some(place), Some(known)) if place == known => true,
-        _ => is_for(values, place, value),
+    let mut count = 0;
+    for vote in votes {
+        if *vote == Some(place) {
+            count += 1;
+        }
     }
+    count
 }
 
 // The place of a value, if it is there.
 fn place_of(values: &[Bytes], value: &[u8]) -> Option<usize>
-    ensures { IfSome result (λ place. slice_get values.now place ≡ Some value.now) }
+    ensures { IsPlaceOf value.now values.now result }
 {
     for (place, kept) in values.iter().enumerate() {
         if kept.as_slice() == value {
@@ -255,6 +247,8 @@ fn place_of(values: &[Bytes], value: &[u8]) -> Option<usize>
 
 // The place of a value, which is put at the end where it isn't there yet.
 fn keep(values: &mut Vec<Bytes>, alloc: Global, value: &[u8]) -> Result<usize, AllocError>
+    requires { AreDistinct values.old.items }
+    ensures distinct { AreDistinct values.new.items }
     ensures place { IfOk result (λ place. slice_get values.new.items place ≡ Some value.now) }
     ensures grown { (more : List (List ℕ)) × (values.new.items ≡ values.old.items ++ more) }
     ensures err { OnErr result (values.new.items ≡ values.old.items) }
