@@ -1,5 +1,5 @@
 -- A world behind one event more.
-use Rattle.std.proofs.Common.{MatchOption, IsOkUnless, Result, Ok, Err, ◌≡◌, ◌≢◌, ◌⊎◌, inl, inr, ℕ, ◌+◌, ◌<◌, Bool, true, false, cond, List, [], ◌∷◌, ◌++◌, length, Option, None, Some, option_map, refl, sym, ap, ◌∙◌, subst, arith, length-append}
+use Rattle.std.proofs.Common.{MatchOption, Ok, Err, ◌≡◌, ◌≢◌, ◌⊎◌, inl, inr, ℕ, ◌+◌, ◌<◌, true, false, List, [], ◌∷◌, ◌++◌, length, Option, None, Some, option_map, refl, sym, ap, ◌∙◌, subst, arith, length-append}
 use Rattle.std.specs.Option.{option_map_or}
 use Rattle.std.proofs.lemmas.Bool.{cases_eq}
 use Rattle.pay_channel.specs.History.{Event}
@@ -13,14 +13,13 @@ use Rattle.pay_member.specs.Events.{events}
 use Rattle.pay_member.specs.Member.{MemberFields}
 use Rattle.pay_world.specs.declared.event.WorldEvent.{WorldEvent}
 use Rattle.pay_world.specs.declared.event.WorldEvent.TheVariants.{Ask, Bring}
-use Rattle.pay_world.specs.declared.fault.WorldFault.{WorldFault}
-use Rattle.pay_world.specs.declared.fault.WorldFault.TheVariants.{Memory, Forged}
+use Rattle.pay_world.specs.declared.fault.WorldFault.TheVariants.{Forged}
 use Rattle.pay_world.specs.declared.reply.Reply.{Reply}
 use Rattle.pay_world.specs.declared.reply.Reply.TheVariants.{Asked, Refused, Brought, Ignored}
 use Rattle.pay_world.specs.Genuine.{is_forged_in}
 use Rattle.pay_world.specs.Liars.{LiarFields, setting_of}
 use Rattle.pay_world.specs.World.{WorldFields, member_in, history_in, keys_in}
-use Rattle.pay_world.specs.Answer.{Answers, IsReply, IsReplyOf, deed_of, forgery, is_forged_at, member_after, one_more, receiver}
+use Rattle.pay_world.specs.Answer.{Answers, IsReply, IsReplyOf, deed_of, is_forged_at, member_after, one_more, receiver}
 use Rattle.pay_world.specs.RunLaws.{AnsweredIsUnforged, IsSaidTo, SaidIsForged, WorldByOneMore}
 use Rattle.pay_world.specs.GroupKeys.{group_test_keys}
 use Rattle.pay_sim.specs.declared.group.Group.{Group}

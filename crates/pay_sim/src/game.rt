@@ -306,8 +306,8 @@ impl<I: Instance + Drop, B: Settle + Drop> Game<I, B> {
     fn untaken(&self, alloc: Global, from: u16, to: u16) -> Result<Option<Bytes>, AllocError>
         requires from { from < 256 }
         requires to { to < 256 }
-        ensures { IfOk result (λ frame. (c : Group) (es : List WorldEvent) → IsBehind c es self.now
-            → frame ≡ untaken c es from to) }
+        ensures { IfOk result (λ frame. (c : Group) (es : List WorldEvent)
+            → IsBehind c es self.now → frame ≡ untaken c es from to) }
     {
         match self.world.member(to) {
             Some(_) => self.sent(alloc, from, to, self.next(from, to)),
@@ -326,8 +326,8 @@ impl<I: Instance + Drop, B: Settle + Drop> Game<I, B> {
     ) -> Result<Option<Bytes>, AllocError>
         requires from { from < 256 }
         requires to { to < 256 }
-        ensures { IfOk result (λ frame. (c : Group) (es : List WorldEvent) → IsBehind c es self.now
-            → frame ≡ frame_for c es from to number) }
+        ensures { IfOk result (λ frame. (c : Group) (es : List WorldEvent)
+            → IsBehind c es self.now → frame ≡ frame_for c es from to number) }
     {
         match self.world.member(to) {
             Some(_) => self.sent(alloc, from, to, number),
@@ -345,8 +345,8 @@ impl<I: Instance + Drop, B: Settle + Drop> Game<I, B> {
     ) -> Result<Option<Bytes>, AllocError>
         requires from { from < 256 }
         requires to { to < 256 }
-        ensures { IfOk result (λ frame. (c : Group) (es : List WorldEvent) → IsBehind c es self.now
-            → frame ≡ sent_frame c es from to number) }
+        ensures { IfOk result (λ frame. (c : Group) (es : List WorldEvent)
+            → IsBehind c es self.now → frame ≡ sent_frame c es from to number) }
     {
         if from == to {
             return Ok(None);

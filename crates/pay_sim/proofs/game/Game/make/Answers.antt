@@ -1,7 +1,4 @@
-use Rattle.std.proofs.Common.{◌≡◌, ◌<◌, length, MatchOption, IsOkUnless, Result, Err, sym, subst, refl, arith}
-use Rattle.pay_world.specs.declared.fault.WorldFault.{WorldFault}
-use Rattle.pay_world.specs.declared.fault.WorldFault.TheVariants.{Memory}
-use Rattle.pay_world.specs.declared.reply.Reply.{Reply}
+use Rattle.std.proofs.Common.{◌<◌, length, Err, sym, subst, refl, arith}
 use Rattle.pay_world.specs.RunLaws.{IsSaidTo}
 use Rattle.pay_sim.specs.declared.game.TheConstants.{MOST_EVENTS}
 use Rattle.pay_sim.specs.Playing.{IsBehind}
