@@ -77,28 +77,55 @@ where
     let Ok(listening) = Listening::on(rt, port) else {
         return Err(NodeFault::Port(port));
     };
-    let dialed = Standing::new(alloc, members)?;
-    let guests = Guests::new(alloc, MOST_CONNECTIONS)?;
     let Ok((node, seats)) = Node::new(alloc, member, 2 * members - 1) else {
         return Err(NodeFault::Engine(EngineFault::Memory));
     };
-    let seats = seated(alloc, own, members, seats)?;
+    let seats = run_threads(
+        rt, alloc, &node, tagger, ports, &listening, seats, reader, writer,
+    )?;
+    closed(alloc, members, node, seats.as_slice())
+}
+
+// Runs the threads of a node until the input of its desk ends, and hands all seats back.
+fn run_threads<H, I, B, T, In, Out>(
+    rt: &H,
+    alloc: Global,
+    node: &Node<I, B>,
+    tagger: &T,
+    ports: &Ports,
+    listening: &Listening,
+    seats: Vec<Seat>,
+    reader: &mut In,
+    writer: &mut Out,
+) -> Result<Vec<Seat>, NodeFault>
+where
+    H: Threads + Wait + Clock + Net<Listener = TcpListener, Stream = TcpStream> + Sync,
+    I: Instance + Drop + Send,
+    B: Settle + Drop + Send,
+    T: Tagger + Sync,
+    In: Input,
+    Out: Output,
+    requires { length seats.items + 1 ≡ 2 * length node.now.keys.keys }
+{
+    let keys = node.keys();
+    let dialed = Standing::new(alloc, keys.members())?;
+    let guests = Guests::new(alloc, MOST_CONNECTIONS)?;
+    let seats = seated(alloc, keys.own(), keys.members(), seats)?;
     let stop = AtomicBool::new(false);
     let running = Running {
         rt,
         alloc,
-        node: &node,
+        node,
         tagger,
         ports,
-        listening: &listening,
+        listening,
         dialed: &dialed,
         guests: &guests,
         stop: &stop,
     };
     let (seats, ended) = running.run(seats, reader, writer);
-    let seats = gathered(alloc, seats)?;
     ended?;
-    closed(alloc, members, node, seats.as_slice())
+    Ok(gathered(alloc, seats)?)
 }
 
 // The member of a node in a group of so many that no thread calls any more, if it bears out all receipts.

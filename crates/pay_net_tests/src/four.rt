@@ -28,19 +28,46 @@ fn exports_of(alloc: Global, members: &[Plain]) -> Option<Vec<Export>> {
     Some(exports)
 }
 
+// Whether a member has the fronts and balances that both payments make.
+fn has_settled(alloc: Global, member: &Plain) -> Result<bool, AllocError> {
+    let fronts = member.fronts(alloc)?;
+    if fronts.as_slice() != [1, 0, 0, 1].as_slice() {
+        return Ok(false);
+    }
+    Ok(balances_of(alloc, member)?.as_slice() == [90, 30, 0, 30].as_slice())
+}
+
+// Whether all of these members have settled both payments.
+fn have_settled(alloc: Global, members: &[Plain]) -> Result<bool, AllocError> {
+    for member in members {
+        if !has_settled(alloc, member)? {
+            return Ok(false);
+        }
+    }
+    Ok(true)
+}
+
+// The verdict on what these members export.
+fn verdict_on(alloc: Global, members: &[Plain]) -> Option<Verdict> {
+    let exports = exports_of(alloc, members)?;
+    audit(alloc, exports.as_slice()).ok()
+}
+
+// Whether four members have settled both payments, and their exports are clean.
+fn settle_the_same(alloc: Global, members: &[Plain]) -> Result<bool, AllocError> {
+    Ok(
+        members.len() == 4
+            && have_settled(alloc, members)?
+            && verdict_on(alloc, members) == Some(Verdict::Clean),
+    )
+}
+
 #[test]
 fn four_nodes_settle_the_same(rt: HostRuntime) -> Result<(), Fail> {
     let alloc = rt.alloc();
     let members = run_somewhere(&rt, alloc, process::id(rt.process()))?;
-    assert_eq!(rt; members.len(), 4);
-    for member in &members {
-        assert_eq!(rt; member.fronts(alloc)?.as_slice(), [1, 0, 0, 1].as_slice());
-        assert_eq!(rt;
-            balances_of(alloc, member)?.as_slice(),
-            [90, 30, 0, 30].as_slice()
-        );
-    }
-    let exports = exports_of(alloc, members.as_slice()).ok_or("no exports")?;
-    assert_eq!(rt; audit(alloc, exports.as_slice())?, Verdict::Clean);
+    let is_same = settle_the_same(alloc, members.as_slice())?;
+    drop(members);
+    assert!(rt; is_same);
     Ok(())
 }

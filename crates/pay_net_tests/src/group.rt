@@ -95,34 +95,55 @@ where
     ended
 }
 
-// The members of all four nodes, each in a thread of its own, or the first fault.
+// The members of two nodes, or the first fault.
+fn both(
+    alloc: Global,
+    first: Result<Plain, NodeFault>,
+    second: Result<Plain, NodeFault>,
+) -> Result<Vec<Plain>, NodeFault> {
+    let mut members = Vec::new(alloc);
+    members.push(first?)?;
+    members.push(second?)?;
+    Ok(members)
+}
+
+// The members of two nodes, each in a thread of its own.
+fn run_two<R>(rt: &R, alloc: Global, day: &Day, owns: [u16; 2]) -> Result<Vec<Plain>, NodeFault>
+where
+    R: Threads + Wait + Clock + Net<Listener = TcpListener, Stream = TcpStream> + Sync,
+{
+    let [first, second] = owns;
+    let (first, second) = join(
+        rt,
+        || run_to_end(rt, alloc, day, first),
+        || run_to_end(rt, alloc, day, second),
+    );
+    both(alloc, first, second)
+}
+
+// The members of these nodes and those behind them.
+fn all(
+    members: Result<Vec<Plain>, NodeFault>,
+    others: Result<Vec<Plain>, NodeFault>,
+) -> Result<Vec<Plain>, NodeFault> {
+    let mut members = members?;
+    for member in others? {
+        members.push(member)?;
+    }
+    Ok(members)
+}
+
+// The members of all four nodes.
 fn run_four<R>(rt: &R, alloc: Global, day: &Day) -> Result<Vec<Plain>, NodeFault>
 where
     R: Threads + Wait + Clock + Net<Listener = TcpListener, Stream = TcpStream> + Sync,
 {
-    let ((first, second), (third, fourth)) = join(
+    let (members, others) = join(
         rt,
-        || {
-            join(
-                rt,
-                || run_to_end(rt, alloc, day, 0),
-                || run_to_end(rt, alloc, day, 1),
-            )
-        },
-        || {
-            join(
-                rt,
-                || run_to_end(rt, alloc, day, 2),
-                || run_to_end(rt, alloc, day, 3),
-            )
-        },
+        || run_two(rt, alloc, day, [0, 1]),
+        || run_two(rt, alloc, day, [2, 3]),
     );
-    let mut members = Vec::new(alloc);
-    members.push(first?)?;
-    members.push(second?)?;
-    members.push(third?)?;
-    members.push(fourth?)?;
-    Ok(members)
+    all(members, others)
 }
 
 /// The members of four nodes, from a block of ports on, once their owners left.

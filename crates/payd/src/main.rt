@@ -1,6 +1,9 @@
 //! The program `payd`: its words lead to an engine, and how the engine ended to a status.
 #![tactic(auto)]
 
+ghost use Rattle.std.specs.Prelude.{◌≡◌, length};
+ghost use Rattle.pay_link.specs.Keys.{IsKeysOf};
+
 mod files;
 mod ports;
 mod stop;
@@ -15,9 +18,9 @@ use pay_desk::{Desk, OneMember, run_desk};
 use pay_echo::PlainInstance;
 use pay_frame::{EngineFault, Reader, Writer};
 use pay_hmac::PreparedHmac;
-use pay_link::Keys;
+use pay_link::{Genesis, Keys};
 use pay_member::Member;
-use pay_net::run_node;
+use pay_net::{NodeFault, Ports, run_node};
 use pay_sim::{SimEnd, run_sim};
 use ports::ports_of;
 use std::alloc::{AllocError, Global};
@@ -30,6 +33,9 @@ use std::time::Clock;
 use std::{env, io};
 use stop::Stop;
 use words::{Job, NOT_UTF8, job_of};
+
+/// A member in the plain forms of its parts.
+type Plain = Member<PlainInstance, PlainBook>;
 
 fn main(rt: HostRuntime) -> ExitCode {
     let words = match env::args(&rt) {
@@ -87,7 +93,7 @@ fn serve_desk<'a>(
     let genesis = genesis_of(alloc, rt, Some(genesis))?;
     let keys = keys_of(alloc, rt, &genesis, Some(keys))?;
     let (accounts, own) = (genesis.members(), keys.own());
-    let member: Member<PlainInstance, PlainBook> = Member::new(alloc, genesis, keys)?;
+    let member: Plain = Member::new(alloc, genesis, keys)?;
     let teller = OneMember { member, stamp: 0 };
     let mut desk = Desk::new(alloc, teller, accounts, own);
     let mut reader = Reader::new(rt.reader());
@@ -111,12 +117,34 @@ where
     let genesis = genesis_of(alloc, rt, Some(genesis))?;
     let keys = keys_of(alloc, rt, &genesis, Some(keys))?;
     let ports = ports_of(alloc, rt, &genesis, ports)?;
+    let member = meet_peers(alloc, rt, genesis, keys, &ports)?;
+    Ok(print_export(alloc, rt, &member)?)
+}
+
+/// Answers the lines on standard input while a fresh member meets its peers, and hands it back.
+fn meet_peers<R>(
+    alloc: Global,
+    rt: &R,
+    genesis: Genesis,
+    keys: Keys,
+    ports: &Ports,
+) -> Result<Plain, NodeFault>
+where
+    R: Input + Print + Threads + Wait + Clock + Sync,
+    R: Net<Listener = TcpListener, Stream = TcpStream>,
+    requires keys { IsKeysOf genesis keys }
+    requires ports { length ports.now ≡ genesis.members }
+{
     let tagger = tagger_of(alloc, &keys)?;
-    let member: Member<PlainInstance, PlainBook> = Member::new(alloc, genesis, keys)?;
+    let member = Member::new(alloc, genesis, keys)?;
     let mut reader = Reader::new(rt.reader());
     let mut writer = Writer::new(io::writer(rt));
-    let member = run_node(rt, alloc, member, &tagger, &ports, &mut reader, &mut writer)?;
-    let text = export_text(alloc, &member)?;
+    run_node(rt, alloc, member, &tagger, ports, &mut reader, &mut writer)
+}
+
+/// Writes a member's export as a line.
+fn print_export(alloc: Global, rt: &impl Print, member: &Plain) -> Result<(), EngineFault> {
+    let text = export_text(alloc, member)?;
     println!(rt; "{text}").map_err(|_| EngineFault::Write)?;
     Ok(())
 }
