@@ -1,3 +1,7 @@
+ghost use Rattle.std.specs.Prelude.{◌≡◌};
+ghost use Rattle.pay_frame.specs.declared.engine_fault.EngineFault.TheVariants.{Memory};
+ghost use Rattle.pay_net.specs.declared.node_fault.NodeFault.TheVariants.{Engine};
+
 use pay_frame::EngineFault;
 use pay_node::CloseFault;
 use std::alloc::{AllocError, AllocFailed};
@@ -18,18 +22,24 @@ pub enum NodeFault {
 }
 
 impl From<EngineFault> for NodeFault {
+    ghost from_gives = { λ fault e. e ≡ Engine fault };
+
     fn from(fault: EngineFault) -> NodeFault {
         NodeFault::Engine(fault)
     }
 }
 
 impl From<AllocError> for NodeFault {
+    ghost from_gives = { λ _ e. e ≡ Engine Memory };
+
     fn from(_: AllocError) -> NodeFault {
         NodeFault::Engine(EngineFault::Memory)
     }
 }
 
 impl<T: Drop> From<AllocFailed<T>> for NodeFault {
+    ghost from_gives = { λ _ e. e ≡ Engine Memory };
+
     fn from(_: AllocFailed<T>) -> NodeFault {
         NodeFault::Engine(EngineFault::Memory)
     }

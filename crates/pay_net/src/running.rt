@@ -1,5 +1,5 @@
-ghost use Rattle.std.specs.Prelude.{◌≡◌, ◌+◌, ◌-◌, ◌*◌, ◌<◌, [], IfOk, length};
-ghost use Rattle.pay_net.specs.Running.{IsClosed};
+ghost use Rattle.std.specs.Prelude.{◌≡◌, ◌+◌, ◌-◌, ◌*◌, ◌<◌, ℕ, [], Some, IfErr, IfOk, length, slice_get};
+ghost use Rattle.pay_net.specs.Running.{IsClosed, NamesPort};
 
 use crate::accepting::{Answering, MOST_CONNECTIONS, accept_all};
 use crate::dialing::Dialer;
@@ -48,7 +48,8 @@ struct Running<'a, H, I: Instance + Drop, B: Settle + Drop, T> {
 
 /// Runs a member as a node among its peers until the input of its desk ends, and hands the member back.
 ///
-/// It listens on its own port and dials those of all others. A fault of the desk ends it too, and is answered.
+/// It listens on its own port, which the fault `Port` names where it can't be had, and dials those of all others. A
+/// fault of the desk ends it too, and is answered.
 pub fn run_node<H, I, B, T, In, Out>(
     rt: &H,
     alloc: Global,
@@ -68,6 +69,8 @@ where
     requires fresh { member.history ≡ [] }
     requires ports { length ports.now ≡ length member.keys.keys }
     ensures closed { IfOk result (IsClosed (length member.keys.keys)) }
+    ensures port { IfErr result (λ fault. (port : ℕ) → NamesPort fault port
+        → slice_get ports.now member.keys.own ≡ Some port) }
 {
     let own = member.keys().own();
     let members = member.keys().members();
@@ -106,6 +109,7 @@ where
     In: Input,
     Out: Output,
     requires { length seats.items + 1 ≡ 2 * length node.now.keys.keys }
+    ensures { IfErr result (λ fault. (port : ℕ) → NamesPort fault port → ⊥) }
 {
     let keys = node.keys();
     let dialed = Standing::new(alloc, keys.members())?;
@@ -136,7 +140,8 @@ fn closed<I: Instance + Drop, B: Settle + Drop>(
     seats: &[Seat],
 ) -> Result<Member<I, B>, NodeFault>
     requires { node.seats ≡ 2 * members - 1 }
-    ensures { IfOk result (IsClosed members) }
+    ensures closed { IfOk result (IsClosed members) }
+    ensures port { IfErr result (λ fault. (port : ℕ) → NamesPort fault port → ⊥) }
 {
     match node.stop().close(alloc, seats) {
         Ok(member) => Ok(member),

@@ -6,8 +6,8 @@ use Rattle.pay_node.specs.Nodes.{NodeFields}
 use Rattle.pay_net.specs.Running.{IsClosed}
 use Rattle.pay_net.proofs.running.closed.Goals as goal
 
-pub returns-in-Ok : goal.returns-in-Ok
-returns-in-Ok g c =
+pub returns-in-Ok-clause-closed : goal.returns-in-Ok-clause-closed
+returns-in-Ok-clause-closed g c =
     let same = c.in-Ok.ensures.member in
     let count = ap (λ (n : NodeFields). n.seats) c.stop.ensures.node ∙ c.requires in
     record {
