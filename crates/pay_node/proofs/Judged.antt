@@ -1,7 +1,9 @@
 -- What a judge of receipts finds, one after the other, is what makes a seat right.
-use Rattle.std.proofs.Common.{◌≡◌, ◌≢◌, ◌↔◌, ℕ, ◌+◌, ◌<◌, ◌≤◌, zero, suc, Bool, false, rules, Result, Ok, Err, IfOk, IsTrue, List, [], ◌∷◌, length, take, drop, get_or, sym, ap, ◌∙◌, subst, arith}
+use Rattle.std.proofs.Common.{◌≡◌, ◌≢◌, ◌↔◌, ℕ, ◌+◌, ◌<◌, ◌≤◌, zero, suc, Bool, false, rules, Result, Ok, Err, IfOk, IsTrue, List, [], ◌∷◌, ◌++◌, ⊎_elim, length, take, drop, get_or, sym, ap, ◌∙◌, subst, arith}
 use Rattle.std.specs.List.{All, AllPairs}
-use Rattle.std.proofs.lemmas.List.{length-take-le, drop_more}
+use Rattle.std.proofs.lemmas.Bool.{cases_eq}
+use Rattle.std.proofs.lemmas.List.{length-take-le, drop_more, get_or-take, get_or_default, take_more}
+use Rattle.std.proofs.lemmas.List.Quantifiers.{all_pairs_push}
 use Rattle.std.proofs.lemmas.List.Elements.{All-nil, All-cons, All-head, All-tail, All-weaker}
 use Rattle.pay_member.specs.declared.entry.HistoryEntry.{HistoryEntry}
 use Rattle.pay_member.specs.Member.{MemberFields}
@@ -33,14 +35,33 @@ pairs_rest R x xs pairs i j d below within = pairs (suc i) (suc j) d (omega arit
 abbrev Follows : Receipt → Receipt → Type 0
 Follows r later = entries_after r ≤ later.seen
 
+seen_first : (r : Receipt) → r.seen ≤ entries_after r
+seen_first r = search rules
+
+-- one receipt more, behind all that those before it left
+pub ordered_on :
+    (rs : List Receipt) (i least after : ℕ) (r : Receipt) → AllPairs Follows (take i rs)
+    → ((k : ℕ) (d : Receipt) → k < i → entries_after (get_or rs k d) ≤ least) → i < length rs → r ≡ get_or rs i r → after ≡ entries_after r → least ≤ r.seen
+    → AllPairs Follows (take (i + 1) rs) × ((k : ℕ) (d : Receipt) → k < i + 1 → entries_after (get_or rs k d) ≤ after)
+ordered_on rs i least after r pairs before below is left ahead =
+    let long = length-take-le i rs (omega arith) in (
+      subst (AllPairs Follows) (sym (take_more rs i r below ∙ ap (λ (x : Receipt). take i rs ++ x ∷ []) (sym is)))
+          (all_pairs_push Follows (take i rs) r pairs
+          (λ k d within. (let early : k < i = omega arith in
+          let told = before k d early in
+          subst (λ (x : Receipt). entries_after x ≤ r.seen) (sym (get_or-take i rs k d early)) (omega arith)))),
+      (λ k d within. ⊎_elim
+          (λ same. (let last : get_or rs k d ≡ r = ap (λ n. get_or rs n d) same ∙ get_or_default rs i d r below ∙ sym is in
+          subst (λ (x : Receipt). entries_after x ≤ after) (sym last) (omega (arith, left))))
+          (λ other. (let told = before k d (omega arith) in let first = seen_first r in omega (arith, left)))
+          (cases_eq k i)),
+    )
+
 -- receipts that are borne out in order, the first behind so many entries
 record AreInOrder (m : MemberFields) (stamp least : ℕ) (rs : List Receipt) : Type 0 where
   ahead : All (λ (r : Receipt). least ≤ r.seen) rs
   each : All (λ (r : Receipt). IsBorneOut m stamp r.seen r.call) rs
   ordered : AllPairs Follows rs
-
-seen_first : (r : Receipt) → r.seen ≤ entries_after r
-seen_first r = search rules
 
 in_order_from : (m : MemberFields) (stamp least : ℕ) (rs : List Receipt) → AreBorneOut m stamp least rs → AreInOrder m stamp least rs
 in_order_from m stamp least [] are = record { ahead = All-nil _; each = All-nil _; ordered = pairs_none Follows }

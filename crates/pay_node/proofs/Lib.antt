@@ -4,6 +4,7 @@ pub mod Fresh
 pub mod Growings
 pub mod Handlings
 pub mod Judged
+pub mod Replayed
 pub mod Replays
 pub mod Rights
 pub mod Verdicts

@@ -1,10 +1,12 @@
 //! Whether all seats of a node agree with its member's history.
 
 ghost use Rattle.std.specs.Prelude.{◌≡◌, ◌↔◌, ◌≢◌, None, IfOk, IsTrue};
-ghost use Rattle.std.specs.List.{fold};
+ghost use Rattle.std.specs.List.{All, fold};
 ghost use Rattle.pay_node.specs.Closing.{IsKept, IsVerdict, lesser};
+ghost use Rattle.pay_node.specs.Judging.{EachBorneOut};
 
 use crate::judging::is_right;
+use crate::once::bears_out_each;
 use crate::seat::Seat;
 use pay_book::Settle;
 use pay_echo::Instance;
@@ -20,8 +22,9 @@ pub(crate) fn least_wrong<I: Instance + Drop, B: Settle + Drop>(
 ) -> Result<Option<u16>, AllocError>
     ensures { IfOk result (λ found. IsVerdict member.now count seats.now found) }
 {
+    let is_each_known = bears_out_each(alloc, member, seats)?;
     for stamp in 0..count {
-        if !is_kept(alloc, member, seats, stamp)? {
+        if !is_kept(alloc, member, seats, stamp, is_each_known)? {
             return Ok(Some(stamp));
         }
     }
@@ -35,13 +38,15 @@ fn is_kept<I: Instance + Drop, B: Settle + Drop>(
     member: &Member<I, B>,
     seats: &[Seat],
     stamp: u16,
+    is_each_known: bool,
 ) -> Result<bool, AllocError>
+    requires { IsTrue is_each_known → All (λ s. EachBorneOut member.now s) seats.now }
     ensures { IfOk result (λ says. IsTrue says ↔ IsKept member.now stamp seats.now) }
 {
     let mut met = false;
     for seat in seats {
         if seat.stamp() == stamp {
-            if met || !is_right(alloc, member, seat)? {
+            if met || !is_right(alloc, member, seat, is_each_known)? {
                 return Ok(false);
             }
             met = true;

@@ -1,11 +1,11 @@
 //! Whether a history bears out what a seat was told.
 
-ghost use Rattle.std.specs.Prelude.{◌≡◌, ◌↔◌, ◌≤◌, ◌==◌, [], length, take, slice_get, IfOk, IsTrue};
-ghost use Rattle.std.specs.List.{count_by};
+ghost use Rattle.std.specs.Prelude.{◌≡◌, ◌↔◌, ◌≤◌, ◌==◌, [], length, take, slice_get, IfOk, IfSome, IsTrue};
+ghost use Rattle.std.specs.List.{AllPairs, count_by};
 ghost use Rattle.pay_member.specs.Events.{events};
 ghost use Rattle.pay_member.specs.Legal.{Legal};
 ghost use Rattle.pay_member.specs.Refusal.{refusal};
-ghost use Rattle.pay_node.specs.Judging.{AreBorneOut, IsNextBorneOut};
+ghost use Rattle.pay_node.specs.Judging.{AreBorneOut, EachBorneOut, IsNextBorneOut};
 ghost use Rattle.pay_node.specs.Receipts.{IsBorneOut, entries_after, has_entry, shown_of};
 ghost use Rattle.pay_node.specs.Seats.{Right};
 
@@ -21,16 +21,22 @@ use pay_echo::Instance;
 use pay_member::{Event, HistoryEntry, Member, MemberFault, Reply};
 use std::alloc::{AllocError, Global};
 
-/// Whether a member's history bears out all that a seat was told.
+/// Whether a member's history bears out all that a seat was told. It is replayed where nobody knows yet that it bears
+/// out each receipt.
 pub(crate) fn is_right<I: Instance + Drop, B: Settle + Drop>(
     alloc: Global,
     member: &Member<I, B>,
     seat: &Seat,
+    is_each_known: bool,
 ) -> Result<bool, AllocError>
+    requires { IsTrue is_each_known → EachBorneOut member.now seat.now }
     ensures { IfOk result (λ says. IsTrue says ↔ Right member.now seat.now) }
 {
     if entries_under(member.history(), seat.stamp()) != entries_told(seat.receipts()) {
         return Ok(false);
+    }
+    if is_each_known && are_in_order(seat.receipts()) {
+        return Ok(true);
     }
     let mut fresh = anew(alloc, member)?;
     are_borne_out(
@@ -66,6 +72,34 @@ fn entries_told(receipts: &[Receipt]) -> usize
         }
     }
     count
+}
+
+// Whether none saw less than there was once the one before it was answered. Where it says no, nothing is known.
+fn are_in_order(receipts: &[Receipt]) -> bool
+    ensures { IsTrue result → AllPairs (λ r later. entries_after r ≤ later.seen) receipts.now }
+{
+    let mut least = 0;
+    for receipt in receipts {
+        let Some(after) = after(receipt) else {
+            return false;
+        };
+        if receipt.seen < least {
+            return false;
+        }
+        least = after;
+    }
+    true
+}
+
+// How many entries the history had once a call was answered, where a number says it.
+fn after(receipt: &Receipt) -> Option<usize>
+    ensures { IfSome result (λ count. count ≡ entries_after receipt.now) }
+{
+    if is_of_entry(&receipt.call) {
+        receipt.seen.checked_add(1)
+    } else {
+        Some(receipt.seen)
+    }
 }
 
 fn is_of_entry(call: &Call) -> bool
@@ -121,17 +155,36 @@ fn is_next_borne_out<I: Instance + Drop, B: Settle + Drop>(
         return Ok(false);
     }
     replay_to(alloc, member, history, seen)?;
+    if !is_borne_out_here(alloc, member, history, stamp, receipt)? {
+        return Ok(false);
+    }
+    if is_of_entry(&receipt.call) {
+        replay_to(alloc, member, history, seen + 1)?;
+    }
+    Ok(true)
+}
+
+/// Whether a legal history bears out a receipt that saw as many entries as the member took. If so, the member is as
+/// it was.
+pub(crate) fn is_borne_out_here<I: Instance + Drop, B: Settle + Drop>(
+    alloc: Global,
+    member: &mut Member<I, B>,
+    history: &[HistoryEntry],
+    stamp: u16,
+    receipt: &Receipt,
+) -> Result<bool, AllocError>
+    requires here { member.old.history ≡ take receipt.now.seen history.now }
+    requires within { receipt.now.seen ≤ length history.now }
+    ensures says { IfOk result (λ says. IsTrue says
+        ↔ IsBorneOut (record member.old { history = history.now }) stamp
+        receipt.now.seen receipt.now.call) }
+    ensures same { IfOk result (λ says. IsTrue says → member.new ≡ member.old) }
+{
     match &receipt.call {
         Call::Handed {
             event,
             answer: Ok(reply),
-        } => {
-            if !has_entry_at(history, seen, stamp, event, *reply) {
-                return Ok(false);
-            }
-            replay_to(alloc, member, history, seen + 1)?;
-            Ok(true)
-        }
+        } => Ok(has_entry_at(history, receipt.seen, stamp, event, *reply)),
         Call::Handed {
             event,
             answer: Err(fault),

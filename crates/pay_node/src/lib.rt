@@ -11,6 +11,7 @@ mod gate;
 mod handling;
 mod judging;
 mod node;
+mod once;
 mod question;
 mod readers;
 mod receipt;

@@ -1,0 +1,13 @@
+use Rattle.std.proofs.Common.{rules, arith}
+use Rattle.pay_node.proofs.Replayed.{all_counted, replayed_on}
+use Rattle.pay_node.proofs.once.bears_out_each.Goals as goal
+
+pub loop-place-preserved : goal.loop-place-preserved
+loop-place-preserved g c =
+    replayed_on c.args.member.now c.loop-place.fresh c.replay_to.new.member c.count_here.new.member c.history-history.result.now c.loop-place.place c.loop-place.counts.len c.args.seats.now c.loop-place.counts.items c.count_here.new.counts
+    (search rules) c.loop-place.invariant.2 (search rules) (let test = c.loop-place-test.true in omega arith)
+    (c.in_ok-count_here.ensures.kept (search rules)) (c.in_ok-count_here.ensures.counted (search rules)) c.count_here.ensures.same (search rules)
+
+pub returns : goal.returns
+returns g c = λ yes.
+    all_counted c.args.member.now c.args.seats.now c.loop-place.counts.items c.loop-place.invariant.0 (rw c.as_slice.ensures.value at (c.are_all_counted.ensures yes))

@@ -1,0 +1,103 @@
+//! All receipts of all seats, held against a history that is replayed once.
+
+ghost use Rattle.std.specs.Prelude.{◌≡◌, ◌≤◌, IfOk, IfSome, IsTrue, length, take};
+ghost use Rattle.std.specs.List.{All};
+ghost use Rattle.pay_node.specs.Judging.{AreAllCounted, CountedBorneOut, EachBorneOut, FirstBorneOut};
+
+use crate::judging::is_borne_out_here;
+use crate::replaying::{anew, replay_to};
+use crate::seat::Seat;
+use pay_book::Settle;
+use pay_echo::Instance;
+use pay_member::{HistoryEntry, Member};
+use std::alloc::{AllocError, Global};
+
+/// Whether a member's history bears out each receipt of all seats. Where it says no, nothing is known: one may be
+/// wrong, or stand out of its seat's order.
+pub(crate) fn bears_out_each<I: Instance + Drop, B: Settle + Drop>(
+    alloc: Global,
+    member: &Member<I, B>,
+    seats: &[Seat],
+) -> Result<bool, AllocError>
+    ensures { IfOk result (λ says. IsTrue says → All (λ s. EachBorneOut member.now s) seats.now) }
+{
+    let history = member.history();
+    let mut fresh = anew(alloc, member)?;
+    let mut counts = vec![in alloc; 0; seats.len()]?;
+    for place in 0..history.len() + 1 {
+        replay_to(alloc, &mut fresh, history, place)?;
+        if !count_here(alloc, &mut fresh, history, seats, counts.as_mut_slice())? {
+            return Ok(false);
+        }
+    }
+    Ok(are_all_counted(seats, counts.as_slice()))
+}
+
+// Counts, of each seat, the receipts that saw as many entries as the member took, if the history bears them out.
+fn count_here<I: Instance + Drop, B: Settle + Drop>(
+    alloc: Global,
+    member: &mut Member<I, B>,
+    history: &[HistoryEntry],
+    seats: &[Seat],
+    counts: &mut [usize],
+) -> Result<bool, AllocError>
+    requires here { member.old.history ≡ take (length member.old.history) history.now }
+    requires within { length member.old.history ≤ length history.now }
+    requires same { length counts.old ≡ length seats.now }
+    requires counted { CountedBorneOut (record member.old { history = history.now })
+        seats.now counts.old }
+    ensures counted { IfOk result (λ says. IsTrue says
+        → CountedBorneOut (record member.old { history = history.now }) seats.now counts.new) }
+    ensures same { length counts.new ≡ length seats.now }
+    ensures kept { IfOk result (λ says. IsTrue says → member.new ≡ member.old) }
+{
+    for k in 0..seats.len() {
+        match count_from(alloc, member, history, &seats[k], counts[k])? {
+            Some(count) => counts[k] = count,
+            None => return Ok(false),
+        }
+    }
+    Ok(true)
+}
+
+// How many receipts of a seat are borne out, from some on, up to the first that saw another number of entries than the
+// member took; none where one isn't.
+fn count_from<I: Instance + Drop, B: Settle + Drop>(
+    alloc: Global,
+    member: &mut Member<I, B>,
+    history: &[HistoryEntry],
+    seat: &Seat,
+    first: usize,
+) -> Result<Option<usize>, AllocError>
+    requires here { member.old.history ≡ take (length member.old.history) history.now }
+    requires within { length member.old.history ≤ length history.now }
+    requires first { FirstBorneOut (record member.old { history = history.now }) seat.now first }
+    ensures count { IfOk result (λ count. IfSome count (λ n.
+        FirstBorneOut (record member.old { history = history.now }) seat.now n)) }
+    ensures kept { IfOk result (λ count. IfSome count (λ n. member.new ≡ member.old)) }
+{
+    let receipts = seat.receipts();
+    for k in first..receipts.len() {
+        let receipt = &receipts[k];
+        if receipt.seen != member.history().len() {
+            return Ok(Some(k));
+        }
+        if !is_borne_out_here(alloc, member, history, seat.stamp(), receipt)? {
+            return Ok(None);
+        }
+    }
+    Ok(Some(receipts.len()))
+}
+
+// Whether these are the counts of all receipts.
+fn are_all_counted(seats: &[Seat], counts: &[usize]) -> bool
+    requires { length counts.now ≡ length seats.now }
+    ensures { IsTrue result → AreAllCounted seats.now counts.now }
+{
+    for k in 0..seats.len() {
+        if counts[k] != seats[k].receipts().len() {
+            return false;
+        }
+    }
+    true
+}
