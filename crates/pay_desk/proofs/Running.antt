@@ -13,10 +13,10 @@ module _ {A : Type 0} (says : A → Option (List ℕ) → List ℕ → Bool → 
   goes_on (line ∷ lines) a text on new (first, rest, false, mid, said, parts, after) = absurd (let bad : false ≡ true = follows a line first false mid said in cc)
 
   -- an engine that ended well came to the input's end
-  pub to_end : (bound : ℕ) (old new : A) (input left before after : Option (List ℕ)) (on : Bool) → Writes says bound old new input left before after (Ok on)
+  pub to_end : (gives_up : A → A → Type 0) (bound : ℕ) (old new : A) (input left before after : Option (List ℕ)) (on : Bool) → Writes says gives_up bound old new input left before after (Ok on)
       → IfSome input (λ bytes. AnswersAll says old (lines_within bound bytes) before after true new × IsAtEnd left)
-  to_end bound old new None left before after on (all, end) = tt
-  to_end bound old new (Some bytes) left before after on (all, end) =
+  to_end gives_up bound old new None left before after on (all, end) = tt
+  to_end gives_up bound old new (Some bytes) left before after on (all, end) =
       let e : on ≡ true = goes_on (lines_within bound bytes) old all.text on new all.answers in (
         record { text = all.text; answers = subst (λ (b : Bool). Answers says old (lines_within bound bytes) all.text b new) e all.answers; written = all.written },
         subst (λ (b : Bool). Either b (IsAtEnd left) Unit) e end,

@@ -29,9 +29,9 @@ pub record DeskSays {T : Type 0} (says : T → Call → Reply → T → Type 0) 
   pub answer : Answers says (command_at line) old text new ⊎ TellsMemory says old text new
 
 -- What is written, by how the engine ended: the answers to all lines of the input, at its end; else a beginning of
--- them.
+-- them, and the desk is what the answered lines made of it.
 abbrev pub WritesAnswers : {T : Type 0} → (T → Call → Reply → T → Type 0) → Desk T → Desk T → Option (List ℕ) → Option (List ℕ) → Option (List ℕ) → Option (List ℕ) → Result Unit EngineFault → Type 0
 WritesAnswers says old new input left before after (Ok done) =
     IfSome input (λ bytes. AnswersAll (DeskSays says) old (lines_within MOST_LINE bytes) before after true new × IsAtEnd left)
 WritesAnswers says old new input left before after (Err fault) =
-    IfSome input (λ bytes. AnswersFirst (DeskSays says) old (lines_within MOST_LINE bytes) before after)
+    IfSome input (λ bytes. AnswersFirst (DeskSays says) (λ mid last. last ≡ mid) old (lines_within MOST_LINE bytes) before after new)

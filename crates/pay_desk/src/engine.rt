@@ -20,6 +20,9 @@ const MEMORY: &str = "refused 0 Memory\n";
 impl<T: Teller> Answerer for Desk<T> {
     ghost says = { λ old line text on new. DeskSays T.says old line text on new };
 
+    // A desk answers that memory was refused, and so doesn't give up: it would be as it was.
+    ghost gives_up = { λ old new. new ≡ old };
+
     fn answer(&mut self, alloc: Global, line: Option<&[u8]>) -> Result<Answer, AllocError> {
         let text = match line {
             Some(line) => text_of(self.line(alloc, line)),
@@ -58,7 +61,8 @@ fn memory_text() -> Text
 /// Answers the lines that are read, to the input's end. A line over the bound is refused as a
 /// whole; where memory is refused the answer says so, and it goes on.
 ///
-/// After a fault what was written is a prefix of the answers.
+/// After a fault what was written is a prefix of the answers, and the desk is what the answered
+/// lines made of it.
 pub fn run_desk<T: Teller, R: Input, W: Output>(
     alloc: Global,
     desk: &mut Desk<T>,

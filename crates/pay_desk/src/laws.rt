@@ -1,8 +1,16 @@
-//! Laws of a desk over all lines: each function's contract is the law, and its body does nothing.
+//! Laws of a desk's refusals, and of a desk over all lines: each function's contract is the law, and its body does
+//! nothing.
 
-ghost use Rattle.pay_desk.specs.Laws.{LineAsksOnce, LinesAskOnce};
+ghost use Rattle.pay_desk.specs.Laws.{AccountCause, LineAsksOnce, LinesAskOnce, PayeeCause, PaymentCause};
 
 use crate::teller::Teller;
+
+/// Each refusal before the teller is asked comes exactly where its own cause holds and no earlier one.
+pub fn refusals_before_the_teller()
+    ensures account { AccountCause }
+    ensures payee { PayeeCause }
+    ensures payment { PaymentCause }
+{}
 
 /// By one line, and by any lines one after the other, a desk has its teller broadcast just the
 /// payments that it keeps since then, in their order, each under an id that was free until then. So

@@ -25,7 +25,7 @@ pub use desk::Desk;
 pub use engine::run_desk;
 pub use fault::DeskFault;
 pub use kept::{Kept, KeptOrders};
-pub use laws::a_desk_asks_once;
+pub use laws::{a_desk_asks_once, refusals_before_the_teller};
 pub use one_member::OneMember;
 pub use teller::Teller;
 pub use teller_fault::TellerFault;

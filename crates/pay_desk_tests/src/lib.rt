@@ -1,5 +1,5 @@
 //! Tests of `pay_desk`: the answers to lines where payments have settled, the text of a whole
-//! session, and what is printed of each refusal.
+//! exchange, and what is printed of each refusal.
 #![tactic(auto)]
 
 #[cfg(test)]

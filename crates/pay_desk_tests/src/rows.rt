@@ -59,7 +59,7 @@ const LARGE: Vote = Vote {
 
 pub(crate) const ROWS: [Row; 4] = [
     Row {
-        name: "a session",
+        name: "an exchange",
         asked: &[],
         votes: &[],
         lines: &[

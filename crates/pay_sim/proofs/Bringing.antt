@@ -12,11 +12,6 @@ use Rattle.pay_sim.specs.Made.{untaken}
 use Rattle.pay_sim.specs.All.{Draws, Nothing, Stopped, Further, InTurn, Passes, BringsAll, Enough, Halted, Again}
 use Rattle.pay_sim.specs.Playing.{GameFields, IsBehind, IsBrought, IsMade, Leads}
 
--- ---- nothing is brought yet
-
-pub leads_at_start : (c : Group) (g : GameFields) (does : List WorldEvent → List WorldEvent → Option Stop → Type 0) (es : List WorldEvent) → IsBehind c es g → Leads c g does (does es)
-leads_at_start c g does es b = (es, b, λ last stop rest. rest)
-
 -- ---- from one list
 
 pub draw_done : (c : Group) (from to : ℕ) (es : List WorldEvent) (now : GameFields) → (l : Leads c now (Draws c from to) (Draws c from to es))

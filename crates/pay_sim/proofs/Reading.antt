@@ -59,17 +59,6 @@ founds group es line text before game g is at behind (c, said, fresh) =
       go (Some d) b = absurd b
       go None none = ([], Some c, es, subst (λ (o : Option Group). Founds es o (Some c) (Prints [] es)) (sym said) (refl, refl), sym (append-nil before), subst (λ (l : List WorldEvent). IsBehind c l g) (sym none) fresh)
 
-pub founds_none : (group : Option Group) (es : List WorldEvent) (line : Option (List ℕ)) (text before after : List ℕ) (game new : Option GameFields) (h : Halt)
-    → line ≡ Some text → game ≡ None → IsGameAt game group es → IsFounded text (Err h)
-    → IsRead group es line before after new (Err h)
-founds_none group es line text before after game new h is at behind failed =
-    subst (λ (x : Option (List ℕ)). IsRead group es x before after new (Err h)) (sym is) (go group h (subst (λ (x : Option GameFields). IsGameAt x group es) at behind) failed) where
-      go : (group : Option Group) (h : Halt) → IsGameAt None group es → IsFounded text (Err h) → IsRead group es (Some text) before after new (Err h)
-      go (Some d) h b failed = absurd b
-      go None halt.Memory none failed = tt
-      go None (halt.Stop stop) none (bad, said) =
-          (None, subst (λ (s : Stop). Does None es (Some text) None (Stops s)) (sym bad) (subst (λ (o : Option Group). Founds es o None (Stops BadLine)) (sym said) (refl, refl)))
-
 -- ---- the answer to a line
 
 pub goes_on : (old new : PlayFields) (lines : ℕ) (line : Option (List ℕ)) (before out : List ℕ) (m : Moment) → IsGoing old m → lines ≡ one_more old.lines → before ≡ []

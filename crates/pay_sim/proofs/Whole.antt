@@ -1,5 +1,5 @@
 -- The run of a whole script.
-use Rattle.std.proofs.Common.{◌≡◌, ◌≢◌, ℕ, zero, suc, ◌≤◌, Bool, true, false, cond, eqb, List, [], ◌∷◌, ◌++◌, map, take, Option, Some, None, Ok, Err, refl, sym, ap, ◌∙◌, subst, arith}
+use Rattle.std.proofs.Common.{◌≡◌, ◌≢◌, ℕ, zero, suc, ◌≤◌, Bool, true, false, cond, eqb, List, [], ◌∷◌, ◌++◌, map, take, Option, Some, None, Ok, Err, inl, refl, sym, ap, ◌∙◌, subst, arith}
 use Rattle.std.specs.Prelude.{IfSome}
 use Rattle.std.specs.Io.KnownBytes.{Appends, IsAtEnd}
 use Rattle.std.proofs.KnownBytes.{Appends-trans}
@@ -15,7 +15,7 @@ use Rattle.pay_sim.specs.declared.sim_end.SimEnd.TheVariants as end
 use Rattle.pay_sim.specs.declared.stop.Stop.{Stop}
 use Rattle.pay_sim.specs.declared.stop.Stop.TheVariants.{BadLine, Forged, Limit}
 use Rattle.pay_sim.specs.Script.{Told, Prints, Stops, Follows, IsRun, IsRunBegun, Moment, Reads, WritesRun, end_of, no_line, start}
-use Rattle.pay_sim.specs.Playing.{IsAnswer, IsAt, IsGameAt, IsGoing, IsStopped, PlayFields}
+use Rattle.pay_sim.specs.Playing.{IsAnswer, IsAt, IsGameAt, IsGoing, IsStopped, MayBeAny, PlayFields}
 
 -- ---- lines that are answered are a script's
 
@@ -124,7 +124,7 @@ module _ (p q : PlayFields) (input left before after : Option (List ℕ)) (fresh
   none_at_first = ap (λ (x : PlayFields). x.lines) fresh
 
   -- some line was read
-  pub ends : (on : Bool) → Writes IsAnswer LONGEST_LINE p q input left before after (Ok on) → q.lines ≢ 0 → WritesRun input left before after (Ok (end_of q.stop))
+  pub ends : (on : Bool) → Writes IsAnswer MayBeAny LONGEST_LINE p q input left before after (Ok on) → q.lines ≢ 0 → WritesRun input left before after (Ok (end_of q.stop))
   ends on (all, at) some = go input all where
     finish : (on : Bool) → Either on (IsAtEnd left) Unit → (n : Moment) (lines : List (Option (List ℕ))) (text : List ℕ) → Answers Reads start lines text on n → q.stop ≡ n.stopped → end_of q.stop ≡ end.Done → IsAtEnd left
     finish true at n lines text answers stop done = at
@@ -143,7 +143,7 @@ module _ (p q : PlayFields) (input left before after : Option (List ℕ)) (fresh
   bad_is_not_done : end.BadLine ≡ end.Done → ⊥
   bad_is_not_done same = cc
 
-  pub ends_empty : (on : Bool) (last : Option (List ℕ)) → Writes IsAnswer LONGEST_LINE p q input left before after (Ok on) → q.lines ≡ 0 → Appends after last no_line → WritesRun input left before last (Ok end.BadLine)
+  pub ends_empty : (on : Bool) (last : Option (List ℕ)) → Writes IsAnswer MayBeAny LONGEST_LINE p q input left before after (Ok on) → q.lines ≡ 0 → Appends after last no_line → WritesRun input left before last (Ok end.BadLine)
   ends_empty on last (all, at) none written = go input all where
     go : (o : Option (List ℕ)) → IfSome o (λ bytes. AnswersAll IsAnswer p (lines_within LONGEST_LINE bytes) before after on q)
         → IfSome o (λ script. (text : List ℕ) × IsRun script text end.BadLine × Appends before last text × (end.BadLine ≡ end.Done → IsAtEnd left))
@@ -153,7 +153,7 @@ module _ (p q : PlayFields) (input left before after : Option (List ℕ)) (fresh
         (no_line, (refl, refl), subst (λ (t : List ℕ). Appends before last (t ++ no_line)) nothing (Appends-trans before after last a.text no_line a.written written), λ done. absurd (bad_is_not_done done))
     go (Some (b ∷ bytes)) a = absurd (let many = some_read p q b bytes a.text on (starts p fresh) a.answers in omega arith)
 
-  pub breaks_empty : (on : Bool) (last : Option (List ℕ)) (fault : EngineFault) → Writes IsAnswer LONGEST_LINE p q input left before after (Ok on) → q.lines ≡ 0 → WroteBeginning after last no_line → WritesRun input left before last (Err fault)
+  pub breaks_empty : (on : Bool) (last : Option (List ℕ)) (fault : EngineFault) → Writes IsAnswer MayBeAny LONGEST_LINE p q input left before after (Ok on) → q.lines ≡ 0 → WroteBeginning after last no_line → WritesRun input left before last (Err fault)
   breaks_empty on last fault (all, at) none wrote = go input all where
     go : (o : Option (List ℕ)) → IfSome o (λ bytes. AnswersAll IsAnswer p (lines_within LONGEST_LINE bytes) before after on q) → IfSome o (λ script. IsRunBegun script before last)
     go None a = tt
@@ -181,9 +181,9 @@ module _ (p q : PlayFields) (input left before after : Option (List ℕ)) (fresh
     take_none zero = refl
     take_none (suc k) = refl
 
-  pub breaks : (fault : EngineFault) → Writes IsAnswer LONGEST_LINE p q input left before after (Err fault) → WritesRun input left before after (Err fault)
+  pub breaks : (fault : EngineFault) → Writes IsAnswer MayBeAny LONGEST_LINE p q input left before after (Err fault) → WritesRun input left before after (Err fault)
   breaks fault all = go input all where
-    go : (o : Option (List ℕ)) → IfSome o (λ bytes. AnswersFirst IsAnswer p (lines_within LONGEST_LINE bytes) before after) → IfSome o (λ script. IsRunBegun script before after)
+    go : (o : Option (List ℕ)) → IfSome o (λ bytes. AnswersFirst IsAnswer MayBeAny p (lines_within LONGEST_LINE bytes) before after q) → IfSome o (λ script. IsRunBegun script before after)
     go None a = tt
     go (Some []) a =
         let none = nil_of_nil a.first a.others (sym none_of_none ∙ a.parts) in
@@ -191,4 +191,4 @@ module _ (p q : PlayFields) (input left before after : Option (List ℕ)) (fresh
         none_written before after a.text nothing.0 a.wrote
     go (Some (b ∷ bytes)) a =
         let followed = follow p a.mid a.first a.text a.on start (starts p fresh) a.answers in
-        record { first = a.first; others = a.others; parts = a.parts; text = a.text; on = a.on; mid = followed.0; answers = followed.1; wrote = a.wrote }
+        (followed.0, record { first = a.first; others = a.others; parts = a.parts; text = a.text; on = a.on; mid = followed.0; answers = followed.1; wrote = a.wrote; ends = inl refl })

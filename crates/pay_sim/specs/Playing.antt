@@ -104,3 +104,7 @@ IsRead group es line before after new (Err halt.Memory) = Unit {0}
 abbrev pub IsAnswer : PlayFields → Option (List ℕ) → List ℕ → Bool → PlayFields → Type 0
 IsAnswer old line text on new =
     (m : Moment) → IsGoing old m → (n : Moment) × Reads m line text on n × IsAt on new n
+
+-- Where memory is refused a script ends for good, and its world is dropped: so nothing is said of what it became.
+abbrev pub MayBeAny : PlayFields → PlayFields → Type 0
+MayBeAny old new = Unit {0}

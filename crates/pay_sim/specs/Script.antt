@@ -178,7 +178,7 @@ IsRun (b ∷ script) text ended =
 abbrev pub IsRunBegun : List ℕ → Option (List ℕ) → Option (List ℕ) → Type 0
 IsRunBegun [] before after = WroteBeginning before after no_line
 IsRunBegun (b ∷ script) before after =
-    AnswersFirst Reads start (lines_within LONGEST_LINE (b ∷ script)) before after
+    (n : Moment) × AnswersFirst Reads (λ mid last. last ≡ mid) start (lines_within LONGEST_LINE (b ∷ script)) before after n
 
 -- What the engine writes, where its input is known. It ends as done only at the input's end.
 abbrev pub WritesRun : Option (List ℕ) → Option (List ℕ) → Option (List ℕ) → Option (List ℕ) → Result SimEnd EngineFault → Type 0

@@ -18,7 +18,7 @@ use Rattle.pay_text.specs.Lines.{line_feed}
 use Rattle.pay_world.specs.declared.reply.Reply.{Reply}
 use Rattle.pay_world.specs.declared.reply.Reply.TheVariants as reply
 
--- ` refused WHERE C NAME`
+-- `refused WHERE C NAME`
 unfoldable pub refused_words : List ℕ → ℕ → List ℕ → List ℕ
 refused_words at number name =
     codes "refused " ++ at ++ codes " " ++ decimal number ++ codes " " ++ name

@@ -80,9 +80,11 @@ impl<I: Instance + Drop, B: Settle + Drop> Play<I, B> {
 }
 
 impl<I: Instance + Drop, B: Settle + Drop> Answerer for Play<I, B> {
-    ghost use Rattle.pay_sim.specs.Playing.{IsAnswer};
+    ghost use Rattle.pay_sim.specs.Playing.{IsAnswer, MayBeAny};
 
     ghost says = { IsAnswer };
+
+    ghost gives_up = { MayBeAny };
 
     fn answer(&mut self, alloc: Global, line: Option<&[u8]>) -> Result<Answer, AllocError> {
         self.lines = self.lines.saturating_add(1);

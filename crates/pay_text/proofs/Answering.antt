@@ -1,6 +1,6 @@
 -- Answers to lines, one after the other.
-use Rattle.std.proofs.Common.{◌≡◌, ℕ, ◌+◌, List, [], ◌∷◌, ◌++◌, length, take, refl, sym, ◌∙◌, ap, subst, arith, append_assoc, append-nil, length-append, true, false, Bool, Ok, Err}
-use Rattle.std.specs.Prelude.{Option, Result}
+use Rattle.std.proofs.Common.{◌≡◌, ℕ, ◌+◌, List, [], ◌∷◌, ◌++◌, length, take, refl, sym, ◌∙◌, ap, subst, arith, append_assoc, append-nil, length-append, true, false, Bool, Ok, Err, inl}
+use Rattle.std.specs.Prelude.{Option, Result, ◌⊎◌}
 use Rattle.std.specs.Io.KnownBytes.{Appends}
 use Rattle.std.proofs.KnownBytes.{Appends-nil, Appends-trans}
 use Rattle.std.proofs.Math.Seq.{take-append-add}
@@ -43,8 +43,12 @@ module _ {A : Type 0} (says : A → Option (List ℕ) → List ℕ → Bool → 
     written = Appends-trans before w after p.text q.text p.written q.written;
   }
 
-  pub first_further : (lines mid : List (Option (List ℕ))) (old a : A) (before w after : Option (List ℕ)) → Went says lines mid old a before w → AnswersFirst says a mid w after → AnswersFirst says old lines before after
-  first_further lines mid old a before w after p q =
+  pub nothing_left : (a : A) (w : Option (List ℕ)) → AnswersAll says a [] w w true a
+  nothing_left a w = record { text = []; answers = (refl, refl, refl); written = Appends-nil w }
+
+module _ {A : Type 0} (says : A → Option (List ℕ) → List ℕ → Bool → A → Type 0) (gives_up : A → A → Type 0) where
+  pub first_further : (lines mid : List (Option (List ℕ))) (old a new : A) (before w after : Option (List ℕ)) → Went says lines mid old a before w → AnswersFirst says gives_up a mid w after new → AnswersFirst says gives_up old lines before after new
+  first_further lines mid old a new before w after p q =
       let wrote = q.wrote in
       let within = wrote.within in
       let front : take (length p.text + wrote.count) (p.text ++ q.text) ≡ p.text ++ take wrote.count q.text = take-append-add p.text q.text wrote.count in
@@ -55,34 +59,32 @@ module _ {A : Type 0} (says : A → Option (List ℕ) → List ℕ → Bool → 
         text = p.text ++ q.text;
         on = q.on;
         mid = q.mid;
-        answers = answers_join old a q.mid p.answered q.first p.text q.text q.on p.answers q.answers;
+        answers = answers_join says old a q.mid p.answered q.first p.text q.text q.on p.answers q.answers;
         wrote = record {
           count = length p.text + wrote.count;
           within = omega (arith, length-append p.text q.text);
           written = subst (λ (xs : List ℕ). Appends before after xs) (sym front) (Appends-trans before w after p.text (take wrote.count q.text) p.written wrote.written);
         };
+        ends = q.ends;
       }
 
-  pub goes_further : (lines mid left : List (Option (List ℕ))) (old a new : A) (before w after : Option (List ℕ)) (r : Result Bool EngineFault) → Went says lines mid old a before w → Goes says mid left a new w after r → Goes says lines left old new before after r
-  goes_further lines mid left old a new before w after (Ok true) p q = went_further lines mid left old a new before w after p q
-  goes_further lines mid left old a new before w after (Ok false) p q = all_further lines mid old a new before w after false p q
-  goes_further lines mid left old a new before w after (Err fault) p q = first_further lines mid old a before w after p q
+  pub goes_further : (lines mid left : List (Option (List ℕ))) (old a new : A) (before w after : Option (List ℕ)) (r : Result Bool EngineFault) → Went says lines mid old a before w → Goes says gives_up mid left a new w after r → Goes says gives_up lines left old new before after r
+  goes_further lines mid left old a new before w after (Ok true) p q = went_further says lines mid left old a new before w after p q
+  goes_further lines mid left old a new before w after (Ok false) p q = all_further says lines mid old a new before w after false p q
+  goes_further lines mid left old a new before w after (Err fault) p q = first_further lines mid old a new before w after p q
 
   none_written : (w : Option (List ℕ)) → WroteBeginning w w []
   none_written w = record { count = 0; within = omega arith; written = Appends-nil w }
 
   -- nothing more is answered
-  pub broken_off : (lines : List (Option (List ℕ))) (a : A) (w : Option (List ℕ)) → AnswersFirst says a lines w w
-  broken_off lines a w = record { first = []; others = lines; parts = refl; text = []; on = true; mid = a; answers = (refl, refl, refl); wrote = none_written w }
+  pub broken_off : (lines : List (Option (List ℕ))) (a new : A) (w : Option (List ℕ)) → (new ≡ a) ⊎ gives_up a new → AnswersFirst says gives_up a lines w w new
+  broken_off lines a new w ends = record { first = []; others = lines; parts = refl; text = []; on = true; mid = a; answers = (refl, refl, refl); wrote = none_written w; ends = ends }
 
   -- one line is answered, and its answer written
-  pub one_answered : (a new : A) (line : Option (List ℕ)) (left : List (Option (List ℕ))) (text : List ℕ) (on : Bool) (w after : Option (List ℕ)) → says a line text on new → Appends w after text → Goes says (line ∷ left) left a new w after (Ok on)
-  one_answered a new line left text true w after said appended = record { answered = line ∷ []; parts = refl; text = text; answers = answers_one a new line text true said; written = appended }
-  one_answered a new line left text false w after said appended = record { text = text; answers = answers_last a new line left text said; written = appended }
+  pub one_answered : (a new : A) (line : Option (List ℕ)) (left : List (Option (List ℕ))) (text : List ℕ) (on : Bool) (w after : Option (List ℕ)) → says a line text on new → Appends w after text → Goes says gives_up (line ∷ left) left a new w after (Ok on)
+  one_answered a new line left text true w after said appended = record { answered = line ∷ []; parts = refl; text = text; answers = answers_one says a new line text true said; written = appended }
+  one_answered a new line left text false w after said appended = record { text = text; answers = answers_last says a new line left text said; written = appended }
 
   -- or not all of its answer is
-  pub one_broken : (a new : A) (line : Option (List ℕ)) (left : List (Option (List ℕ))) (text : List ℕ) (on : Bool) (w after : Option (List ℕ)) → says a line text on new → WroteBeginning w after text → AnswersFirst says a (line ∷ left) w after
-  one_broken a new line left text on w after said wrote = record { first = line ∷ []; others = left; parts = refl; text = text; on = on; mid = new; answers = answers_one a new line text on said; wrote = wrote }
-
-  pub nothing_left : (a : A) (w : Option (List ℕ)) → AnswersAll says a [] w w true a
-  nothing_left a w = record { text = []; answers = (refl, refl, refl); written = Appends-nil w }
+  pub one_broken : (a new : A) (line : Option (List ℕ)) (left : List (Option (List ℕ))) (text : List ℕ) (on : Bool) (w after : Option (List ℕ)) → says a line text on new → WroteBeginning w after text → AnswersFirst says gives_up a (line ∷ left) w after new
+  one_broken a new line left text on w after said wrote = record { first = line ∷ []; others = left; parts = refl; text = text; on = on; mid = new; answers = answers_one says a new line text on said; wrote = wrote; ends = inl refl }

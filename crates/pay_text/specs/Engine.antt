@@ -1,5 +1,5 @@
 -- What the engine that answers lines reads and writes, where it is known.
-use Rattle.std.specs.Prelude.{◌≡◌, ℕ, ◌+◌, ◌≤◌, Bool, true, false, List, [], ◌++◌, length, IfSome, Option, Some, None, Result, Ok, Err}
+use Rattle.std.specs.Prelude.{◌≡◌, ℕ, ◌+◌, ◌≤◌, Bool, true, false, List, [], ◌++◌, ◌⊎◌, length, IfSome, Option, Some, None, Result, Ok, Err}
 use Rattle.std.specs.Io.KnownBytes.{Appends, Consumes, IsAtEnd}
 use Rattle.pay_frame.specs.declared.engine_fault.EngineFault.{EngineFault}
 use Rattle.pay_frame.specs.Device.{WroteBeginning}
@@ -15,8 +15,9 @@ pub record AnswersAll {A : Type 0} (says : A → Option (List ℕ) → List ℕ 
   pub answers : Answers says old lines text on new
   pub written : Appends before after text
 
--- The first of the lines are answered, and a beginning of the answers is written.
-pub record AnswersFirst {A : Type 0} (says : A → Option (List ℕ) → List ℕ → Bool → A → Type 0) (old : A) (lines : List (Option (List ℕ))) (before after : Option (List ℕ)) : Type 0 where
+-- The first of the lines are answered, and a beginning of the answers is written. Who answers is as it was behind
+-- those lines, or it gave up at the next one.
+pub record AnswersFirst {A : Type 0} (says : A → Option (List ℕ) → List ℕ → Bool → A → Type 0) (gives_up : A → A → Type 0) (old : A) (lines : List (Option (List ℕ))) (before after : Option (List ℕ)) (new : A) : Type 0 where
   pub first : List (Option (List ℕ))
   pub others : List (Option (List ℕ))
   pub parts : lines ≡ first ++ others
@@ -25,14 +26,15 @@ pub record AnswersFirst {A : Type 0} (says : A → Option (List ℕ) → List �
   pub mid : A
   pub answers : Answers says old first text on mid
   pub wrote : WroteBeginning before after text
+  pub ends : (new ≡ mid) ⊎ gives_up mid new
 
 -- What is written, by how the engine ended: the answers to all lines of the input, at its end or at the first line
 -- behind which none may follow; else a beginning of them.
-abbrev pub Writes : {A : Type 0} → (A → Option (List ℕ) → List ℕ → Bool → A → Type 0) → ℕ → A → A → Option (List ℕ) → Option (List ℕ) → Option (List ℕ) → Option (List ℕ) → Result Bool EngineFault → Type 0
-Writes says bound old new input left before after (Ok on) =
+abbrev pub Writes : {A : Type 0} → (A → Option (List ℕ) → List ℕ → Bool → A → Type 0) → (A → A → Type 0) → ℕ → A → A → Option (List ℕ) → Option (List ℕ) → Option (List ℕ) → Option (List ℕ) → Result Bool EngineFault → Type 0
+Writes says gives_up bound old new input left before after (Ok on) =
     IfSome input (λ bytes. AnswersAll says old (lines_within bound bytes) before after on new) × Either on (IsAtEnd left) Unit
-Writes says bound old new input left before after (Err fault) =
-    IfSome input (λ bytes. AnswersFirst says old (lines_within bound bytes) before after)
+Writes says gives_up bound old new input left before after (Err fault) =
+    IfSome input (λ bytes. AnswersFirst says gives_up old (lines_within bound bytes) before after new)
 
 -- ---- what its parts do
 
@@ -45,10 +47,10 @@ pub record Went {A : Type 0} (says : A → Option (List ℕ) → List ℕ → Bo
   pub written : Appends before after text
 
 -- By some bytes: lines are left, or the last one is answered that may be, or the engine broke off.
-abbrev pub Goes : {A : Type 0} → (A → Option (List ℕ) → List ℕ → Bool → A → Type 0) → List (Option (List ℕ)) → List (Option (List ℕ)) → A → A → Option (List ℕ) → Option (List ℕ) → Result Bool EngineFault → Type 0
-Goes says lines left old new before after (Ok true) = Went says lines left old new before after
-Goes says lines left old new before after (Ok false) = AnswersAll says old lines before after false new
-Goes says lines left old new before after (Err fault) = AnswersFirst says old lines before after
+abbrev pub Goes : {A : Type 0} → (A → Option (List ℕ) → List ℕ → Bool → A → Type 0) → (A → A → Type 0) → List (Option (List ℕ)) → List (Option (List ℕ)) → A → A → Option (List ℕ) → Option (List ℕ) → Result Bool EngineFault → Type 0
+Goes says gives_up lines left old new before after (Ok true) = Went says lines left old new before after
+Goes says gives_up lines left old new before after (Ok false) = AnswersAll says old lines before after false new
+Goes says gives_up lines left old new before after (Err fault) = AnswersFirst says gives_up old lines before after new
 
 -- the lines to come, where a line has begun and this is left of the input
 abbrev pub lines_left : ℕ → Option (List ℕ) → Option (List ℕ) → List (Option (List ℕ))
@@ -63,7 +65,7 @@ pub record IsGoing {A : Type 0} (says : A → Option (List ℕ) → List ℕ →
   pub went : IfSome input (λ bytes. Went says (lines_within bound bytes) (lines_left bound begun left) old new before after)
 
 -- after one read more: it goes on, or it came to an end
-abbrev pub Reads : {A : Type 0} → (A → Option (List ℕ) → List ℕ → Bool → A → Type 0) → ℕ → Option (List ℕ) → A → A → Option (List ℕ) → Option (List ℕ) → Option (List ℕ) → Option (List ℕ) → ℕ → Result (Option Bool) EngineFault → Type 0
-Reads says bound begun old new input left before after reads (Ok None) = IsGoing says bound begun old new input left before after (reads + 1)
-Reads says bound begun old new input left before after reads (Ok (Some on)) = Writes says bound old new input left before after (Ok on)
-Reads says bound begun old new input left before after reads (Err fault) = Writes says bound old new input left before after (Err fault)
+abbrev pub Reads : {A : Type 0} → (A → Option (List ℕ) → List ℕ → Bool → A → Type 0) → (A → A → Type 0) → ℕ → Option (List ℕ) → A → A → Option (List ℕ) → Option (List ℕ) → Option (List ℕ) → Option (List ℕ) → ℕ → Result (Option Bool) EngineFault → Type 0
+Reads says gives_up bound begun old new input left before after reads (Ok None) = IsGoing says bound begun old new input left before after (reads + 1)
+Reads says gives_up bound begun old new input left before after reads (Ok (Some on)) = Writes says gives_up bound old new input left before after (Ok on)
+Reads says gives_up bound begun old new input left before after reads (Err fault) = Writes says gives_up bound old new input left before after (Err fault)

@@ -1,4 +1,4 @@
-ghost use Rattle.std.specs.Prelude.{◌≡◌, ℕ, List, Bool, Option, IfOk};
+ghost use Rattle.std.specs.Prelude.{◌≡◌, ℕ, List, Bool, Option, IfOk, OnErr};
 ghost use Rattle.std.specs.Option.{option_copied};
 ghost use Rattle.pay_text.specs.Answers.{bytes_of};
 
@@ -36,7 +36,12 @@ pub trait Answerer {
     // the answer, whether a line may follow, and who it is then.
     ghost says: { Self → Option (List ℕ) → List ℕ → Bool → Self → Type 0 };
 
+    // What may have become of who answers where memory was refused: who it was, and who it is.
+    ghost gives_up: { Self → Self → Type 0 };
+
     /// Answers a line, or `None` for one that is over the bound.
     fn answer(&mut self, alloc: Global, line: Option<&[u8]>) -> Result<Answer, AllocError>
-        ensures { IfOk result (λ a. says self.old (option_copied line.entry) (bytes_of a.text) a.goes_on self.new) };
+        ensures ok { IfOk result (λ a.
+            says self.old (option_copied line.entry) (bytes_of a.text) a.goes_on self.new) }
+        ensures err { OnErr result (gives_up self.old self.new) };
 }

@@ -16,8 +16,10 @@ const PIECE: usize = 4096;
 /// Reads lines to the input's end and writes the answer to each, however they come in pieces. A line without a line
 /// feed at the end counts as one; of a line over the bound the answerer learns nothing else.
 ///
-/// Returns `true` at the input's end, and `false` after a line behind which none may follow. After a fault what was
-/// written is a prefix of the answers.
+/// Returns `true` at the input's end, and `false` after a line behind which none may follow.
+///
+/// After a fault what was written is a prefix of the answers, and the answerer is what the answered
+/// lines made of it, or it gave up at the next one.
 pub fn run_lines<A: Answerer, R: Input, W: Output>(
     alloc: Global,
     bound: usize,
@@ -25,7 +27,7 @@ pub fn run_lines<A: Answerer, R: Input, W: Output>(
     reader: &mut R,
     writer: &mut W,
 ) -> Result<bool, EngineFault>
-    ensures text { Writes A.says bound answerer.old answerer.new (R.remaining reader.old)
+    ensures text { Writes A.says A.gives_up bound answerer.old answerer.new (R.remaining reader.old)
         (R.remaining reader.new) (W.contents writer.old) (W.contents writer.new) result }
     ensures read { IsErrOf result EngineFault.Read
         → RoseBy 1 (R.failure_count reader.old) (R.failure_count reader.new) }
@@ -59,7 +61,7 @@ fn read_once<A: Answerer, R: Input, W: Output>(
     ensures reads { (old : A) (input before : Option (List ℕ)) (reads : ℕ)
         → IsGoing A.says cutter.old.bound cutter.old.line old answerer.old input
         (R.remaining reader.old) before (W.contents writer.old) reads
-        → Reads A.says cutter.old.bound cutter.new.line old answerer.new input
+        → Reads A.says A.gives_up cutter.old.bound cutter.new.line old answerer.new input
         (R.remaining reader.new) before (W.contents writer.new) reads result }
     ensures cutter { OnOk result (cutter.new.bound ≡ cutter.old.bound) }
     ensures bound { ¬ (IsErrOf result EngineFault.Bound) }
@@ -98,7 +100,7 @@ fn take_piece<A: Answerer, W: Output>(
     piece: &[u8],
     writer: &mut W,
 ) -> Result<bool, EngineFault>
-    ensures goes { (more : List ℕ) → Goes A.says
+    ensures goes { (more : List ℕ) → Goes A.says A.gives_up
         (lines_after cutter.old.bound cutter.old.line (piece.now ++ more))
         (lines_after cutter.old.bound cutter.new.line more)
         answerer.old answerer.new (W.contents writer.old) (W.contents writer.new) result }
@@ -127,7 +129,8 @@ fn answer_line<A: Answerer, W: Output>(
     cutter: &mut LineCutter,
     writer: &mut W,
 ) -> Result<bool, EngineFault>
-    ensures goes { (left : List (Option (List ℕ))) → Goes A.says (cutter.old.line ∷ left) left
+    ensures goes { (left : List (Option (List ℕ)))
+        → Goes A.says A.gives_up (cutter.old.line ∷ left) left
         answerer.old answerer.new (W.contents writer.old) (W.contents writer.new) result }
     ensures cutter { OnOk result (cutter.new ≡ record cutter.old { line = Some [] }) }
     ensures read { ¬ (IsErrOf result EngineFault.Read) }

@@ -7,7 +7,7 @@ use Rattle.pay_text.proofs.engine.run_lines.Goals as goal
 
 pub loop-init : goal.loop-init
 loop-init g c = record {
-  going = going_at_start g.A.Answerer.says c.args.bound c.args.answerer.now (g.R.Input.remaining c.args.reader.now) (g.W.Output.contents c.args.writer.now) c.in_ok-cutter.cutter.line (ap (λ (s : Begun). s.line) c.in_ok-cutter.ensures);
+  going = going_at_start g.A.Answerer.says g.A.Answerer.gives_up c.args.bound c.args.answerer.now (g.R.Input.remaining c.args.reader.now) (g.W.Output.contents c.args.writer.now) c.in_ok-cutter.cutter.line (ap (λ (s : Begun). s.line) c.in_ok-cutter.ensures);
   bound = ap (λ (s : Begun). s.bound) c.in_ok-cutter.ensures;
   calls = search rules;
   most = search rules;
@@ -18,24 +18,26 @@ loop-init g c = record {
 pub returns-in_err-at_end-clause-text : goal.returns-in_err-at_end-clause-text
 returns-in_err-at_end-clause-text g c =
     let says = g.A.Answerer.says in
+    let gives_up = g.A.Answerer.gives_up in
     let remaining = g.R.Input.remaining in
     let contents = g.W.Output.contents in
     let e : EngineFault = c.in_err-at_end.field-0.0 in
     let same : c.from_residual-in_err-at_end.result ≡ Err e = search rules in
     let going = subst (λ (n : ℕ). IsGoing says n c.loop.cutter.line c.args.answerer.now c.loop.answerer (remaining c.args.reader.now) (remaining c.loop.reader) (contents c.args.writer.now) (contents c.loop.writer) c.loop.counter) (sym c.loop.invariant.bound) c.loop.invariant.going in
-    rw same (subst (λ (n : ℕ). Writes says n c.args.answerer.now c.read_once.new.answerer (remaining c.args.reader.now) (remaining c.read_once.new.reader) (contents c.args.writer.now) (contents c.read_once.new.writer) (Err e)) c.loop.invariant.bound
+    rw same (subst (λ (n : ℕ). Writes says gives_up n c.args.answerer.now c.read_once.new.answerer (remaining c.args.reader.now) (remaining c.read_once.new.reader) (contents c.args.writer.now) (contents c.read_once.new.writer) (Err e)) c.loop.invariant.bound
     (c.in_err-at_end.ensures.reads c.args.answerer.now (remaining c.args.reader.now) (contents c.args.writer.now) c.loop.counter going))
 
 pub returns-in-Some-clause-text : goal.returns-in-Some-clause-text
 returns-in-Some-clause-text g c =
     let says = g.A.Answerer.says in
+    let gives_up = g.A.Answerer.gives_up in
     let remaining = g.R.Input.remaining in
     let contents = g.W.Output.contents in
     let going = subst (λ (n : ℕ). IsGoing says n c.loop.cutter.line c.args.answerer.now c.loop.answerer (remaining c.args.reader.now) (remaining c.loop.reader) (contents c.args.writer.now) (contents c.loop.writer) c.loop.counter) (sym c.loop.invariant.bound) c.loop.invariant.going in
-    let told : Writes says c.loop.cutter.bound c.args.answerer.now c.read_once.new.answerer (remaining c.args.reader.now) (remaining c.read_once.new.reader) (contents c.args.writer.now) (contents c.read_once.new.writer) (Ok c.in-Some.at_end) =
+    let told : Writes says gives_up c.loop.cutter.bound c.args.answerer.now c.read_once.new.answerer (remaining c.args.reader.now) (remaining c.read_once.new.reader) (contents c.args.writer.now) (contents c.read_once.new.writer) (Ok c.in-Some.at_end) =
     rw c.in-Some.is at c.in_ok-at_end.ensures.reads c.args.answerer.now (remaining c.args.reader.now) (contents c.args.writer.now) c.loop.counter going
     in
-    subst (λ (n : ℕ). Writes says n c.args.answerer.now c.read_once.new.answerer (remaining c.args.reader.now) (remaining c.read_once.new.reader) (contents c.args.writer.now) (contents c.read_once.new.writer) (Ok c.in-Some.at_end)) c.loop.invariant.bound told
+    subst (λ (n : ℕ). Writes says gives_up n c.args.answerer.now c.read_once.new.answerer (remaining c.args.reader.now) (remaining c.read_once.new.reader) (contents c.args.writer.now) (contents c.read_once.new.writer) (Ok c.in-Some.at_end)) c.loop.invariant.bound told
 
 pub returns-clause-text : goal.returns-clause-text
-returns-clause-text g c = broken g.A.Answerer.says c.args.bound c.loop.cutter.line c.args.answerer.now c.loop.answerer _ _ _ _ c.loop.counter c.loop.invariant.going
+returns-clause-text g c = broken g.A.Answerer.says g.A.Answerer.gives_up c.args.bound c.loop.cutter.line c.args.answerer.now c.loop.answerer _ _ _ _ c.loop.counter c.loop.invariant.going

@@ -16,7 +16,7 @@ returns-in_err-answer_line-clause-goes g c = λ more.
     let same : c.from_residual.result ≡ Err c.in_err-answer_line.field-0.0 = search rules in
     let next = at_feed bound begun piece more i c.loop-byte-test.true c.if-byte-ne10.false in
     let went = subst (λ (ls : List (Option (List ℕ))). Went g.A.Answerer.says (lines_after bound c.args.cutter.now.line (piece ++ more)) ls c.args.answerer.now c.loop-byte.answerer (g.W.Output.contents c.args.writer.now) (g.W.Output.contents c.loop-byte.writer)) next (c.loop-byte.invariant.went more) in
-    rw same (first_further g.A.Answerer.says _ (begun ∷ left) _ _ _ _ _ went (c.in_err-answer_line.ensures.goes left))
+    rw same (first_further g.A.Answerer.says g.A.Answerer.gives_up _ (begun ∷ left) _ _ _ _ _ _ went (c.in_err-answer_line.ensures.goes left))
 
 pub returns-then-not-branch-clause-goes : goal.returns-then-not-branch-clause-goes
 returns-then-not-branch-clause-goes g c = λ more.
@@ -28,7 +28,7 @@ returns-then-not-branch-clause-goes g c = λ more.
     let off : c.in_ok-answer_line.field-0 ≡ false = search rules in
     let next = at_feed bound begun piece more i c.loop-byte-test.true c.if-byte-ne10.false in
     let went = subst (λ (ls : List (Option (List ℕ))). Went g.A.Answerer.says (lines_after bound c.args.cutter.now.line (piece ++ more)) ls c.args.answerer.now c.loop-byte.answerer (g.W.Output.contents c.args.writer.now) (g.W.Output.contents c.loop-byte.writer)) next (c.loop-byte.invariant.went more) in
-    let goes : Goes g.A.Answerer.says (begun ∷ left) left c.loop-byte.answerer c.answer_line.new.answerer (g.W.Output.contents c.loop-byte.writer) (g.W.Output.contents c.answer_line.new.writer) (Ok false) = rw off at c.in_ok-answer_line.ensures.goes left in
+    let goes : Goes g.A.Answerer.says g.A.Answerer.gives_up (begun ∷ left) left c.loop-byte.answerer c.answer_line.new.answerer (g.W.Output.contents c.loop-byte.writer) (g.W.Output.contents c.answer_line.new.writer) (Ok false) = rw off at c.in_ok-answer_line.ensures.goes left in
     all_further g.A.Answerer.says _ (begun ∷ left) _ _ _ _ _ _ false went goes
 
 pub loop-byte-preserved : goal.loop-byte-preserved
