@@ -19,7 +19,7 @@ use Rattle.pay_member.specs.Book.{book_after}
 use Rattle.pay_member.specs.Events.{events}
 use Rattle.pay_member.specs.Group.{group_in}
 use Rattle.pay_member.specs.Member.{MemberFields}
-use Rattle.pay_world.specs.Setting.{HasFewFaulty, IsCorrect}
+use Rattle.pay_world.specs.Setting.{HasFewFaulty, IsCorrect, setting_by}
 use Rattle.pay_world.specs.Deeds.{Deed, history_by}
 use Rattle.pay_world.specs.Genuine.{AreGenuine}
 use Rattle.pay_world.specs.Headline.{lists_by}
@@ -30,7 +30,7 @@ use Rattle.pay_audit.specs.Laws.{AgreeWith, Agreeing, HasRightBalances, HasRight
 use Rattle.pay_audit.specs.Said.{CleanIsJudged, Each, EachTwo, IsClean}
 use Rattle.pay_audit.specs.Verdict.{verdict_of}
 use Rattle.pay_audit.specs.declared.verdict.Verdict.TheVariants.{Clean}
-use Rattle.pay_audit_laws.specs.Moments.{IsCorrectMember, setting_by}
+use Rattle.pay_audit_laws.specs.Moments.{IsCorrectMember}
 
 -- ---- a list for each account
 

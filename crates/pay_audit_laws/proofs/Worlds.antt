@@ -9,7 +9,7 @@ use Rattle.pay_link.specs.Keys.{KeyFields}
 use Rattle.pay_member.specs.Events.{events}
 use Rattle.pay_member.specs.Member.{MemberFields}
 use Rattle.pay_world.specs.declared.event.WorldEvent.{WorldEvent}
-use Rattle.pay_world.specs.Setting.{HasFewFaulty, IsCorrect, Setting, is_correct}
+use Rattle.pay_world.specs.Setting.{HasFewFaulty, IsCorrect, Setting, setting_by, is_correct}
 use Rattle.pay_world.specs.Deeds.{history_by}
 use Rattle.pay_world.specs.DeedLaws.{CorrectIsTold}
 use Rattle.pay_world.specs.Genuine.{AreGenuine}
@@ -17,7 +17,7 @@ use Rattle.pay_world.specs.Answer.{deed_of}
 use Rattle.pay_world.specs.Liars.{AreLiars, AreLiarsOf, LiarFields, is_listed, setting_of}
 use Rattle.pay_world.specs.World.{IsMemberAt, WorldFields, setting_in}
 use Rattle.pay_world.specs.Run.{correct_keys, deeds_by}
-use Rattle.pay_audit_laws.specs.Moments.{ExportsAreClean, IsCorrectMember, setting_by}
+use Rattle.pay_audit_laws.specs.Moments.{ExportsAreClean, IsCorrectMember}
 use Rattle.pay_audit_laws.specs.Worlds.{IsOfWorld, WorldExportsAreClean}
 
 grown_deeds : (keys : List KeyFields) (l : LiarFields) (one all : List WorldEvent) → IsPrefix one all

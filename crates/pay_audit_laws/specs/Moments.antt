@@ -4,16 +4,12 @@ use Rattle.pay_channel.specs.Prefix.{IsPrefix}
 use Rattle.pay_link.specs.Genesis.{GenesisFields, IsGenesis}
 use Rattle.pay_member.specs.Events.{events}
 use Rattle.pay_member.specs.Member.{MemberFields}
-use Rattle.pay_world.specs.Setting.{Setting, IsCorrect, HasFewFaulty}
+use Rattle.pay_world.specs.Setting.{setting_by, IsCorrect, HasFewFaulty}
 use Rattle.pay_world.specs.Deeds.{Deed, history_by}
 use Rattle.pay_world.specs.Genuine.{AreGenuine}
 use Rattle.pay_audit.specs.Exporting.{exported}
 use Rattle.pay_audit.specs.Verdict.{verdict_of}
 use Rattle.pay_audit.specs.declared.verdict.Verdict.TheVariants.{Clean}
-
--- the group that a genesis makes, where these are faulty
-abbrev pub setting_by : GenesisFields → (ℕ → Bool) → Setting
-setting_by g faulty = record { members = g.members; faults = g.faults; faulty = faulty }
 
 -- A correct member of the group, at a moment of these deeds: it has taken what came to it until then. The queries in its
 -- history are no deeds, and may be any.

@@ -1,5 +1,5 @@
 -- What the members of a world are after an event.
-use Rattle.std.proofs.Common.{◌≡◌, ◌≢◌, ◌⊎◌, inl, inr, ⊎_elim, ℕ, ◌<◌, Bool, true, false, not, cond, eqb, ltb, leb, ◌&&◌, List, [], ◌++◌, length, set, slice_get, Option, None, Some, option_map, option_and_then, option_to_list, MatchOption, IsOkUnless, IfOk, OnErr, Result, Ok, Err, refl, sym, ap, ◌∙◌, subst, arith, append-nil, lt-ltb, ne_eqb}
+use Rattle.std.proofs.Common.{◌≡◌, ◌≢◌, ◌⊎◌, inl, inr, ⊎_elim, ℕ, ◌<◌, Bool, true, false, not, cond, eqb, ltb, leb, ◌&&◌, List, [], ◌++◌, length, set, slice_get, Option, None, Some, option_map, option_and_then, option_to_list, MatchOption, IfOk, OnErr, Result, Ok, Err, refl, sym, ap, ◌∙◌, subst, arith, append-nil, lt-ltb, ne_eqb}
 use Rattle.std.specs.Option.{option_map_or}
 use Rattle.std.proofs.lemmas.Bool.{cases_eq, cases_Bool, and_from, and_right}
 use Rattle.std.proofs.lemmas.Bool.Decides.{nat_tests}
@@ -9,14 +9,12 @@ use Rattle.pay_frame.specs.declared.kind.Kind.TheVariants.{Send, Echo, Ready, Wa
 use Rattle.pay_frame.specs.Frame.{FrameFields}
 use Rattle.pay_channel.specs.History.{Event, asks}
 use Rattle.pay_channel.specs.History as channel
-use Rattle.pay_channel.specs.Prefix.{IsPrefix}
 use Rattle.pay_channel.specs.Taken.{next}
-use Rattle.pay_link.specs.Keys.{KeyFields}
 use Rattle.pay_link.specs.Checked.{CheckedFields}
 use Rattle.pay_member.specs.declared.event.Event.TheVariants as entry
 use Rattle.pay_member.specs.declared.entry.HistoryEntry.{HistoryEntry}
 use Rattle.pay_member.specs.declared.fault.MemberFault.{MemberFault}
-use Rattle.pay_member.specs.declared.fault.MemberFault.TheVariants.{Memory, TooLong, Spent}
+use Rattle.pay_member.specs.declared.fault.MemberFault.TheVariants.{TooLong, Spent}
 use Rattle.pay_member.specs.declared.reply.Reply.TheVariants as entry_reply
 use Rattle.pay_member.specs.declared.outcome.Outcome.{Outcome}
 use Rattle.pay_member.specs.declared.outcome.Outcome.TheVariants as outcome
@@ -128,49 +126,7 @@ module _ (w : WorldFields) (e : WorldEvent) (m new : MemberFields) (here : slice
       IsWorld w → events new.history ≡ events m.history → Stands (setting_in w) (history_at (set w.members (receiver e) (Some new)))
   stands_still is same = subst (Stands (setting_in w)) (λ t i. sym (stays same i) t) is.stands
 
--- the same but for the count
-pub counted_answers :
-    (old new : WorldFields) (e : WorldEvent) (reply : Reply) (n : ℕ) → Answers old new e reply
-    → Answers old (record { genesis = new.genesis; liars = new.liars; members = new.members; answered = n }) e reply
-counted_answers old new e reply n answers = record {
-  genesis = answers.genesis;
-  liars = answers.liars;
-  said = answers.said;
-  here = answers.here;
-  others = answers.others;
-  histories = answers.histories;
-}
-
-pub answered_prefix :
-    (old new : WorldFields) (e : WorldEvent) (reply : Reply) → Answers old new e reply → (i : ℕ) → IsPrefix (history_in old i) (history_in new i)
-answered_prefix old new e reply answers i = record { rest = added_in old e i; is = answers.histories i }
-
 -- ---- an ask
-
-pub ask_unforged : (w : WorldFields) (i : ℕ) (v : List ℕ) → is_forged_at w (Ask i v) ≡ false
-ask_unforged w i v = go (keys_in w i) where
-  go : (o : Option KeyFields) → option_map_or (is_forged_in (setting_in w) (history_in w)) (option_and_then (λ k. deed_with k (Ask i v)) o) false ≡ false
-  go None = refl
-  go (Some k) = refl
-
-ok_err : {A E : Type 0} (x : A) (e : E) → ◌≡◌ {A = Result A E} (Ok x) (Err e) → ⊥
-ok_err x e same = cc
-
-err_is : {A E : Type 0} (d e : E) → ◌≡◌ {A = Result A E} (Err d) (Err e) → d ≡ e
-err_is d e same = cc
-
-pub said_asked :
-    (o : Option MemberFault) (n number : ℕ) → MatchOption o (IsOkUnless {T = ℕ} (Ok number) Memory) (λ fault. ◌≡◌ {A = Result ℕ MemberFault} (Ok number) (Err fault))
-    → number ≡ n → Asked number ≡ answer_to_ask o n
-said_asked None n number refused is = ap Asked is
-said_asked (Some fault) n number refused is = absurd (ok_err number fault refused)
-
-pub said_refused :
-    (o : Option MemberFault) (n : ℕ) (fault : MemberFault) → fault ≢ Memory
-    → MatchOption o (IsOkUnless {T = ℕ} (Err fault) Memory) (λ f. ◌≡◌ {A = Result ℕ MemberFault} (Err fault) (Err f))
-    → Refused fault ≡ answer_to_ask o n
-said_refused None n fault other refused = absurd (other refused)
-said_refused (Some f) n fault other refused = ap Refused (err_is {A = ℕ} fault f refused)
 
 pub ask_keeps_genesis : (m : MemberFields) (v : List ℕ) (reply : Reply) → (after_ask m v reply).genesis ≡ m.genesis
 ask_keeps_genesis m v (Asked number) = refl
@@ -184,7 +140,7 @@ ask_keeps_keys m v (Refused fault) = refl
 ask_keeps_keys m v (Brought outcome) = refl
 ask_keeps_keys m v Ignored = refl
 
-counted : (a n : ℕ) → (leb a GREATEST_VALUE && ltb n SEQS) ≡ (not (ltb GREATEST_VALUE a) && not (leb SEQS n))
+pub counted : (a n : ℕ) → (leb a GREATEST_VALUE && ltb n SEQS) ≡ (not (ltb GREATEST_VALUE a) && not (leb SEQS n))
 counted a n = ap (λ b. b && ltb n SEQS) (flip GREATEST_VALUE a) ∙ ap (λ b. not (ltb GREATEST_VALUE a) && b) (back SEQS n) where
   flip : (b a : ℕ) → leb a b ≡ not (ltb b a)
   flip b a = ⊎_elim
@@ -236,7 +192,7 @@ pub bring_keeps : (m : MemberFields) (o : Outcome) (f : Option FrameFields) → 
 bring_keeps m o None = (refl, refl)
 bring_keeps m o (Some f) = taken_keeps m _ o
 
-no_want : (kind : Kind) → kind ≢ Want → is_want kind ≡ false
+pub no_want : (kind : Kind) → kind ≢ Want → is_want kind ≡ false
 no_want Send other = refl
 no_want Echo other = refl
 no_want Ready other = refl

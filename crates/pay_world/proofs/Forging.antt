@@ -32,9 +32,6 @@ deed_there w e m there = ap (λ (o : Option MemberFields). option_and_then (λ k
 by_deed : (w : WorldFields) (e : WorldEvent) (o : Option Deed) → deed_of (keys_in w) e ≡ o → is_forged_at w e ≡ option_map_or (is_forged_in (setting_in w) (history_in w)) o false
 by_deed w e o is = ap (λ (x : Option Deed). option_map_or (is_forged_in (setting_in w) (history_in w)) x false) is
 
-pub forged_nowhere : (w : WorldFields) (i : ℕ) (bytes : List ℕ) → member_in w i ≡ None → false ≡ is_forged_at w (Bring i bytes)
-forged_nowhere w i bytes none = sym (by_deed w (Bring i bytes) None (deed_nowhere w (Bring i bytes) none))
-
 pub forged_unopened :
     (w : WorldFields) (i : ℕ) (bytes : List ℕ) (m : MemberFields) → member_in w i ≡ Some m → opened_in m.keys bytes ≡ None
     → false ≡ is_forged_at w (Bring i bytes)

@@ -7,10 +7,12 @@ pub mod Converging
 pub mod Happening
 pub mod Telling
 pub mod Booking
+pub mod Values
 pub mod Taking
 pub mod WorldLemmas
 pub mod Forging
 pub mod Answering
+pub mod Stored
 pub mod UnderWay
 pub mod Running
 pub mod GroupKeyLemmas

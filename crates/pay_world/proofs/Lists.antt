@@ -27,9 +27,6 @@ by_push {X} P none more xs = go [] xs none where
 pub prefix_same : {X : Type 0} (xs ys : List X) → xs ≡ ys → IsPrefix xs ys
 prefix_same xs ys same = record { rest = []; is = sym same ∙ sym (append-nil xs) }
 
-pub prefix_more : {X : Type 0} (xs more : List X) → IsPrefix xs (xs ++ more)
-prefix_more xs more = record { rest = more; is = refl }
-
 pub prefix_trans : {X : Type 0} (xs ys zs : List X) → IsPrefix xs ys → IsPrefix ys zs → IsPrefix xs zs
 prefix_trans xs ys zs p q = record { rest = p.rest ++ q.rest; is = q.is ∙ ap (λ l. l ++ q.rest) p.is ∙ append_assoc xs p.rest q.rest }
 

@@ -1,9 +1,14 @@
 -- What holds of deeds and of the histories by them, as statements. Each is proved as a public law.
-use Rattle.std.specs.Prelude.{◌≡◌, ◌↔◌, ℕ, true, false, List, [], ◌∷◌, ◌++◌}
+use Rattle.std.specs.Prelude.{◌≡◌, ◌↔◌, ℕ, Bool, true, false, List, [], ◌∷◌, ◌++◌}
 use Rattle.pay_channel.specs.Prefix.{IsPrefix}
 use Rattle.pay_channel.specs.History.{Event}
-use Rattle.pay_world.specs.Setting.{Setting, IsCorrect, is_correct}
-use Rattle.pay_world.specs.Deeds.{Deed, adds, history_by}
+use Rattle.pay_link.specs.Genesis.{GenesisFields}
+use Rattle.pay_link.specs.Keys.{KeyFields, IsKeysOf}
+use Rattle.pay_member.specs.declared.entry.HistoryEntry.{HistoryEntry}
+use Rattle.pay_member.specs.Events.{events}
+use Rattle.pay_member.specs.Legal.{Legal}
+use Rattle.pay_world.specs.Setting.{Setting, setting_by, IsCorrect, is_correct}
+use Rattle.pay_world.specs.Deeds.{Deed, adds, history_by, deeds_in}
 use Rattle.pay_world.specs.Genuine.{IsGenuine, IsGenuineIn, AreGenuine, AreGenuineByPlace, is_forged_in, none_forged}
 use Rattle.pay_world.specs.Stands.{Grow}
 
@@ -21,6 +26,14 @@ abbrev pub HistoriesGrow : Type 0
 HistoriesGrow =
     (w : Setting) (deeds more : List Deed)
     → Grow (history_by w deeds) (history_by w (deeds ++ more))
+
+-- A history that a member can have, queries left out, is the one by the asks and frames that it
+-- holds, as deeds at that member
+abbrev pub LegalHistoryByDeeds : Type 0
+LegalHistoryByDeeds =
+    (g : GenesisFields) (k : KeyFields) (history : List HistoryEntry) (faulty : ℕ → Bool)
+    → IsKeysOf g k → Legal g k history
+    → events history ≡ history_by (setting_by g faulty) (deeds_in k.own history) k.own
 
 -- ---- genuine deeds
 

@@ -1,11 +1,15 @@
 -- What happens to the members of a group, and the history that each has by it.
-use Rattle.std.specs.Prelude.{ℕ, nat_le, nat_lt, Bool, true, false, not, ◌&&◌, ◌==◌, if◌then◌else◌, List, [], ◌∷◌, ◌++◌, length}
+use Rattle.std.specs.Prelude.{ℕ, nat_le, nat_lt, Bool, true, false, not, ◌&&◌, ◌==◌, if◌then◌else◌, List, [], ◌∷◌, ◌++◌, length, Option, Some, None}
+use Rattle.std.specs.List.{filter_map}
 use Rattle.pay_frame.specs.declared.kind.Kind.{Kind}
 use Rattle.pay_frame.specs.declared.kind.Kind.TheVariants.{Send, Echo, Ready, Want}
 use Rattle.pay_frame.specs.declared.limits.TheConstants.{GREATEST_VALUE, SEQS}
 use Rattle.pay_frame.specs.Frame.{BodyFields}
 use Rattle.pay_channel.specs.History.{Event, Ask, From, asks}
 use Rattle.pay_channel.specs.Taken.{next}
+use Rattle.pay_member.specs.declared.event.Event.{Event as MemberEvent}
+use Rattle.pay_member.specs.declared.event.Event.TheVariants as entry
+use Rattle.pay_member.specs.declared.entry.HistoryEntry.{HistoryEntry}
 use Rattle.pay_world.specs.Setting.{Setting}
 
 -- A member is asked to broadcast a value, or a frame is brought to it that opens there: from
@@ -57,3 +61,15 @@ history_after w i history (d ∷ deeds) = history_after w i (history ++ adds w i
 -- member's history has a part in it.
 unfoldable pub history_by : Setting → List Deed → ℕ → List Event
 history_by w deeds i = history_after w i [] deeds
+
+-- ---- a stored history as deeds
+
+-- what an event of member k's history is as a deed: a query is none
+abbrev pub deed_at : ℕ → MemberEvent → Option Deed
+deed_at k (entry.Ask v) = Some (Asks k v)
+deed_at k (entry.Taken c) = Some (Brings k c.frame.from c.frame.number c.frame.body)
+deed_at k (entry.Query a) = None
+
+-- The asks and the frames that stand in member k's history, as deeds at it, in their order.
+unfoldable pub deeds_in : ℕ → List HistoryEntry → List Deed
+deeds_in k history = filter_map (λ e. deed_at k e.event) history

@@ -2,7 +2,12 @@
 use Rattle.std.specs.Prelude.{ℕ, ◌==◌, ◌||◌, List, [], ◌∷◌, Option}
 use Rattle.pay_frame.specs.declared.kind.Kind.{Kind}
 use Rattle.pay_frame.specs.declared.kind.Kind.TheVariants.{Send, Echo, Ready}
+use Rattle.pay_frame.specs.Frame.{frame_of_parts}
 use Rattle.pay_channel.specs.History.{body_of, delivered_at}
+use Rattle.pay_member.specs.declared.event.Event.{Event as MemberEvent}
+use Rattle.pay_member.specs.declared.event.Event.TheVariants as entry
+use Rattle.pay_member.specs.declared.reply.Reply.TheVariants as entry_reply
+use Rattle.pay_member.specs.declared.entry.HistoryEntry.{HistoryEntry}
 use Rattle.pay_world.specs.Setting.{Setting, group_at}
 use Rattle.pay_world.specs.Deeds.{Deed, Asks, Brings, history_by}
 
@@ -85,3 +90,19 @@ of_three =
     ∷ of_0 Echo 0 1 0 A ∷ of_0 Echo 0 2 0 A
     ∷ of_0 Ready 1 0 2 A ∷ of_0 Ready 0 1 1 A ∷ of_0 Ready 0 2 1 A
     ∷ []
+
+-- ---- a stored history
+
+-- an entry with this event; its stamp and its reply mean nothing here
+abbrev pub entry_with : MemberEvent → HistoryEntry
+entry_with e = record { stamp = 0; event = e; reply = entry_reply.Asked 0 }
+
+-- the SEND of 0's A came to 1, under this number; its tag and key mean nothing here either
+abbrev pub send_at_1 : ℕ → MemberEvent
+send_at_1 number =
+    entry.Taken (record { frame = frame_of_parts 0 1 number (body_of Send 0 0 A) []; key = [] })
+
+-- 1 is asked for B and for the state of account 0, and a SEND under this number comes
+abbrev pub stored_at_1 : ℕ → List HistoryEntry
+stored_at_1 number =
+    entry_with (entry.Ask B) ∷ entry_with (entry.Query 0) ∷ entry_with (send_at_1 number) ∷ []

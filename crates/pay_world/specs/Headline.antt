@@ -1,5 +1,5 @@
 -- What correct members settle, and how it agrees.
-use Rattle.std.specs.Prelude.{◌≡◌, ◌⊎◌, ℕ, ◌<◌, pos, ◌≤ℤ◌, List, length, slice_index, sum}
+use Rattle.std.specs.Prelude.{◌≡◌, ◌⊎◌, ℕ, ◌<◌, pos, ◌≤ℤ◌, List, length, take, slice_index, sum}
 use Rattle.std.specs.List.{flat_map}
 use Rattle.pay_channel.specs.Prefix.{IsPrefix}
 use Rattle.pay_channel.specs.History.{list_of}
@@ -9,7 +9,7 @@ use Rattle.pay_book.specs.Payment.{entries_in, entries_of}
 use Rattle.pay_book.specs.Balance.{balance_at, AreBalances}
 use Rattle.pay_book.specs.Front.{IsLargest}
 use Rattle.pay_book.specs.Book.{Standing}
-use Rattle.pay_book.specs.Settled.{settled_book, settled_entries}
+use Rattle.pay_book.specs.Settled.{settled_front, settled_book, settled_entries}
 use Rattle.pay_world.specs.Setting.{Setting, group_at, IsCorrect}
 use Rattle.pay_world.specs.Deeds.{Deed, history_by}
 
@@ -26,6 +26,15 @@ book_by w opening deeds i = settled_book opening (lists_by w deeds i)
 -- the entries of account a that member i has settled
 abbrev pub settled_by : Setting → List ℕ → List Deed → ℕ → ℕ → List Entry
 settled_by w opening deeds i a = settled_entries opening (lists_by w deeds i) a
+
+-- an account's settled values: those of its list before the front, void or not
+abbrev pub settled_values : List ℕ → (ℕ → List (List ℕ)) → ℕ → List (List ℕ)
+settled_values opening lists account =
+    take (slice_index (settled_front opening lists) account) (lists account)
+
+-- the values of account a that member i has settled
+abbrev pub settled_values_by : Setting → List ℕ → List Deed → ℕ → ℕ → List (List ℕ)
+settled_values_by w opening deeds i a = settled_values opening (lists_by w deeds i) a
 
 -- the entries of all that member a was asked to broadcast
 abbrev pub asked_by : Setting → List ℕ → List Deed → ℕ → List Entry

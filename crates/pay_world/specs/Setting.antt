@@ -3,6 +3,7 @@
 -- called Byzantine).
 use Rattle.std.specs.Prelude.{◌≡◌, ℕ, ◌*◌, ◌<◌, ◌≤◌, Bool, false, not, ◌&&◌, nat_lt}
 use Rattle.pay_echo.specs.Broadcast.{Group, size}
+use Rattle.pay_link.specs.Genesis.{GenesisFields}
 
 -- N members, numbered from 0, of which f may be faulty, and which are. A faulty member says what
 -- it likes, and to each what it likes.
@@ -10,6 +11,10 @@ pub record Setting : Type 0 where
   pub members : ℕ
   pub faults : ℕ
   pub faulty : ℕ → Bool
+
+-- the group that a genesis makes, where these are faulty
+abbrev pub setting_by : GenesisFields → (ℕ → Bool) → Setting
+setting_by g faulty = record { members = g.members; faults = g.faults; faulty = faulty }
 
 -- the group, as member i sees it
 abbrev pub group_at : Setting → ℕ → Group

@@ -1,14 +1,15 @@
 //! Worked examples of what happens in a group, computed from the definitions alone: the premises
 //! of the laws can be met, and none of them can be left out.
 
-ghost use Rattle.std.specs.Prelude.{◌≡◌, ◌≤◌, true, [], Some, None};
-ghost use Rattle.pay_frame.specs.declared.kind.Kind.TheVariants.{Ready};
+ghost use Rattle.std.specs.Prelude.{◌≡◌, ◌≢◌, ◌≤◌, true, [], ◌∷◌, Some, None};
+ghost use Rattle.pay_frame.specs.declared.kind.Kind.TheVariants.{Send, Ready};
 ghost use Rattle.pay_echo.specs.Broadcast.{size};
+ghost use Rattle.pay_member.specs.Events.{events};
 ghost use Rattle.pay_world.specs.Setting.{HasFewFaulty};
-ghost use Rattle.pay_world.specs.Deeds.{history_by};
+ghost use Rattle.pay_world.specs.Deeds.{Asks, history_by, deeds_in};
 ghost use Rattle.pay_world.specs.Genuine.{AreGenuine, is_forged};
 ghost use Rattle.pay_world.specs.Convergence.{AllTaken};
-ghost use Rattle.pay_world.specs.Examples.{A, B, of_3, first_of, four, two_liars, three, with_a_liar, by_two_liars, by_a_forged_frame, of_three};
+ghost use Rattle.pay_world.specs.Examples.{A, B, of_3, of_0, first_of, four, two_liars, three, with_a_liar, by_two_liars, by_a_forged_frame, of_three, stored_at_1};
 
 use crate::laws::forged_is_told;
 
@@ -54,3 +55,11 @@ pub fn one_liar_of_three()
 {
     forged_is_told();
 }
+
+/// An ask and a frame of a stored history are deeds, a query is none, and the history is the one
+/// by them. It isn't where the frame came out of turn, as in no history that a member can have.
+pub fn stored_history_of_four()
+    ensures deeds { deeds_in 1 (stored_at_1 0) ≡ Asks 1 B ∷ of_0 Send 1 0 0 A ∷ [] }
+    ensures same { events (stored_at_1 0) ≡ history_by four (deeds_in 1 (stored_at_1 0)) 1 }
+    ensures early { events (stored_at_1 1) ≢ history_by four (deeds_in 1 (stored_at_1 1)) 1 }
+{}

@@ -2,13 +2,14 @@
 //! the laws that it stands on.
 
 ghost use Rattle.pay_world.specs.Below.{Below, OfBooks};
-ghost use Rattle.pay_world.specs.DeedLaws.{NoHistoryAtFirst, HistoryByOneMore, HistoriesGrow, NoDeedIsGenuine, GenuineByOneMore, PrefixIsGenuine, GenuineByPlace, CorrectIsTold, ForgedIsTold, NoneForgedIsTold};
+ghost use Rattle.pay_world.specs.DeedLaws.{NoHistoryAtFirst, HistoryByOneMore, HistoriesGrow, LegalHistoryByDeeds, NoDeedIsGenuine, GenuineByOneMore, PrefixIsGenuine, GenuineByPlace, CorrectIsTold, ForgedIsTold, NoneForgedIsTold};
 ghost use Rattle.pay_world.specs.StandLaws.{StandsAtFirst, StandsByOneMore, StandsByDeed, GenuineStands, Agreement, ListsCompare, Integrity, ListIsAsked, NothingIsTakenBack, Convergence, ListsConverge, AsksAreDelivered, ListIsAllAsked};
-ghost use Rattle.pay_world.specs.HeadlineLaws.{HeadlineHolds, BooksConverge, NoListForks, ListWasAsked, ListStays, ListsAreEqual, ListIsComplete};
+ghost use Rattle.pay_world.specs.HeadlineLaws.{HeadlineHolds, BooksConverge, NoListForks, ListWasAsked, ListStays, ListsAreEqual, ListIsComplete, SettledValuesMakeEntries, NoSettledValueForks, SettledValuesStay, SettledValuesWereAsked};
 
 use pay_book::laws::{
-    book_keeps_total, equal_lists_equal_books, nobody_owes_once_settled, settled_book_exists,
-    settled_entries_compare, settled_entries_grow, settled_entries_were_asked, settled_is_largest,
+    book_keeps_total, equal_lists_equal_books, largest_grows, nobody_owes_once_settled,
+    settled_book_exists, settled_entries_compare, settled_entries_grow, settled_entries_were_asked,
+    settled_is_largest,
 };
 use pay_channel::laws::{
     delivered_for_good, grow_at_the_end, lists_compared, lists_grow, nothing_at_first,
@@ -18,6 +19,7 @@ use pay_echo::laws::{
     members_of_sets, nobody_leaves, nothing_known_at_first, quorums_can_form, quorums_share,
     sizes_of_sets, votes_came, why_known,
 };
+use pay_member::laws::{events_in_order, legal_histories};
 
 // The laws of one broadcast and of one member's channel that those between members stand on.
 fn laws_below()
@@ -64,6 +66,15 @@ pub fn histories_by_deeds()
     ensures one_more { HistoryByOneMore }
     ensures grow { HistoriesGrow }
 {}
+
+/// A history that a member can have is, queries left out, the one by its asks and frames as deeds
+/// at that member: each of them counts behind those before it, whoever is faulty.
+pub fn legal_history_by_deeds()
+    ensures { LegalHistoryByDeeds }
+{
+    events_in_order();
+    legal_histories();
+}
 
 /// Deeds are genuine up to the first that isn't. It comes to the same to say it of each place in
 /// their list.
@@ -160,4 +171,17 @@ pub fn lists_by_deeds()
     ensures complete { ListIsComplete }
 {
     laws_below();
+}
+
+/// The same of settled values, void ones too, whose entries are the settled entries: of what two
+/// correct members settled of an account one is a prefix of the other, no value is taken back, and a
+/// correct owner was asked for them, in that order.
+pub fn settled_values_by_deeds()
+    ensures entries { SettledValuesMakeEntries }
+    ensures agree { NoSettledValueForks }
+    ensures for_good { SettledValuesStay }
+    ensures asked { SettledValuesWereAsked }
+{
+    laws_below();
+    largest_grows();
 }

@@ -1,6 +1,7 @@
 ghost use Rattle.std.specs.Prelude.{◌≡◌};
 ghost use Rattle.pay_world.specs.Faults.{liar_fault_name, liar_fault_number};
 
+use std::alloc::AllocError;
 use thiserror::Error;
 
 /// Why a list isn't one of a group's liars, in the order in which it is tested; memory stands
@@ -40,5 +41,15 @@ impl LiarFault {
         ensures value { result.now ≡ liar_fault_name self }
     {
         self.entry().1
+    }
+}
+
+impl From<AllocError> for LiarFault {
+    ghost use Rattle.pay_world.specs.declared.liar_fault.LiarFault.TheVariants.{Memory};
+
+    ghost from_gives = { λ _ e. e ≡ Memory };
+
+    fn from(_error: AllocError) -> LiarFault {
+        LiarFault::Memory
     }
 }

@@ -47,7 +47,7 @@ impl Liars {
         if liars.len() > usize::from(genesis.faults()) {
             return Err(LiarFault::TooMany);
         }
-        let liars = Vec::from_slice(alloc, liars).map_err(|_| LiarFault::Memory)?;
+        let liars = Vec::from_slice(alloc, liars)?;
         Ok(Liars {
             members,
             faults: genesis.faults(),
@@ -83,7 +83,8 @@ fn are_members(members: u16, liars: &[u16]) -> bool
     liars.iter().all(|liar| *liar < members)
 }
 
-// Of members alone some of the first 65 stand there again, where any does.
+// Whether one stands there twice. Of members, of whom there are at most 64, one does among the
+// first 65, so the loop ends there.
 fn has_twice(liars: &[u16]) -> bool
     ensures { result ≡ has_twice liars.now }
 {
