@@ -16,9 +16,6 @@ use Rattle.pay_node.specs.Feeding.{HasFed, IsFed}
 use Rattle.pay_node.specs.Handling.{AreHandled, Run}
 use Rattle.pay_node.specs.Growing.{Grows}
 
-pub grows_not : (seat : SeatFields) → Grows seat seat
-grows_not seat = record { more = []; is = ap (λ (l : List Receipt). record seat { receipts = l }) (sym (append-nil seat.receipts)) }
-
 pub grows_on : (a b c : SeatFields) → Grows a b → Grows b c → Grows a c
 grows_on a b c one two = record {
   more = one.more ++ two.more;

@@ -23,7 +23,7 @@ use Rattle.pay_member.specs.Legal.{Legal}
 use Rattle.pay_member.specs.Member.{MemberFields}
 use Rattle.pay_node.specs.declared.question.Question.{Question}
 use Rattle.pay_node.specs.declared.shown.Shown.{Shown}
-use Rattle.pay_node.specs.Receipts.{shown_of, receipts_of, reading_receipt}
+use Rattle.pay_node.specs.Receipts.{HadMemory, shown_of, receipts_of, reading_receipt}
 use Rattle.pay_node.specs.Seats.{SeatFields, with_receipts}
 
 -- What is known of a node without its lock: the keys with which it opens frames, and how many seats it has.
@@ -103,9 +103,10 @@ want_of k f (Err Spent) = None
 want_of k f (Err TooLong) = None
 want_of k f (Err NoAccount) = None
 
--- a frame that opened was handed to the member, whose answer this is
+-- A frame that opened was handed to the member, whose answer this is; that memory was refused is no answer.
 pub record IsTaken (k : KeyFields) (before after : SeatFields) (opened : OpenedFields) (b : Brought) : Type 0 where
   pub answer : Result Took MemberFault
+  pub memory : HadMemory answer
   pub answered : IsAnswered before after (Taken (checked_fields opened)) (taken answer)
   pub outcome : b.outcome ≡ outcome_of answer
   pub want : b.want ≡ want_of k opened.frame answer
