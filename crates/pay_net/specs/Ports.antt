@@ -1,7 +1,9 @@
 -- On which port each member listens, as a file of JSON (RFC 8259) says it.
-use Rattle.std.specs.Prelude.{◌≡◌, ℕ, ◌^◌, ◌<◌, List, length, codes, Some, None}
+use Rattle.std.specs.Prelude.{◌≡◌, ℕ, ◌^◌, ◌<◌, List, length, codes, Some, None, ⊤}
 use Rattle.std.specs.List.{All}
 use Rattle.pay_json.specs.File.{Data, numbers_at, value_in}
+use Rattle.pay_net.specs.declared.ports_fault.PortsFault.{PortsFault}
+use Rattle.pay_net.specs.declared.ports_fault.PortsFault.TheVariants.{Memory, BadJson, BadShape}
 
 -- a port of TCP (RFC 9293) that can be named: 16 bits, and not 0 (RFC 6335)
 abbrev pub IsPort : ℕ → Type 0
@@ -24,3 +26,9 @@ pub record LacksPorts (members : ℕ) (bytes : List ℕ) : Type 0 where
   pub value : Data
   pub read : value_in bytes ≡ Some value
   pub none : (ports : List ℕ) → ¬ (SaysPorts members value ports)
+
+-- what is wrong with bytes that say no ports; where memory is refused that isn't known
+abbrev pub IsPortsFault : ℕ → List ℕ → PortsFault → Type 0
+IsPortsFault members bytes Memory = ⊤
+IsPortsFault members bytes BadJson = value_in bytes ≡ None
+IsPortsFault members bytes BadShape = LacksPorts members bytes

@@ -1,7 +1,6 @@
-ghost use Rattle.std.specs.Prelude.{◌≡◌, ◌<◌, IfNone, IfOk, IfSome, IsErrOf, None, length, slice_get};
+ghost use Rattle.std.specs.Prelude.{◌≡◌, ◌<◌, IfErr, IfNone, IfOk, IfSome, length, slice_get};
 ghost use Rattle.std.specs.List.{All};
-ghost use Rattle.pay_json.specs.File.{value_in};
-ghost use Rattle.pay_net.specs.Ports.{HasPorts, IsPort, LacksPorts};
+ghost use Rattle.pay_net.specs.Ports.{HasPorts, IsPort, IsPortsFault};
 
 use crate::ports_fault::PortsFault;
 use pay_json::{numbers_at, value_in};
@@ -27,16 +26,14 @@ impl Ports {
     /// The ports that a file of JSON says for the members of this genesis.
     pub fn read(alloc: Global, genesis: &Genesis, bytes: &[u8]) -> Result<Ports, PortsFault>
         ensures value { IfOk result (HasPorts genesis.now.members bytes.now) }
-        ensures json { IsErrOf result PortsFault.BadJson → value_in bytes.now ≡ None }
-        ensures shape { IsErrOf result PortsFault.BadShape
-            → LacksPorts genesis.now.members bytes.now }
+        ensures fault { IfErr result (IsPortsFault genesis.now.members bytes.now) }
         ensures count { IfOk result (λ ports. length ports ≡ genesis.now.members) }
     {
-        let value = value_in(alloc, bytes).map_err(|_| PortsFault::Memory)?;
+        let value = value_in(alloc, bytes)?;
         let Some(value) = value else {
             return Err(PortsFault::BadJson);
         };
-        let numbers = numbers_at(alloc, &value, "ports").map_err(|_| PortsFault::Memory)?;
+        let numbers = numbers_at(alloc, &value, "ports")?;
         let Some(numbers) = numbers else {
             return Err(PortsFault::BadShape);
         };

@@ -1,6 +1,7 @@
 ghost use Rattle.std.specs.Prelude.{◌≡◌};
 ghost use Rattle.pay_net.specs.Faults.{ports_fault_name, ports_fault_number};
 
+use std::alloc::AllocError;
 use thiserror::Error;
 
 /// Why there are no ports, in the order in which it is tested; memory stands apart.
@@ -36,5 +37,15 @@ impl PortsFault {
         ensures value { result.now ≡ ports_fault_name self }
     {
         self.entry().1
+    }
+}
+
+impl From<AllocError> for PortsFault {
+    ghost use Rattle.pay_net.specs.declared.ports_fault.PortsFault.TheVariants.{Memory};
+
+    ghost from_gives = { λ _ e. e ≡ Memory };
+
+    fn from(_error: AllocError) -> PortsFault {
+        PortsFault::Memory
     }
 }

@@ -10,6 +10,8 @@ use Rattle.pay_link.specs.Keys.{KeyFields}
 use Rattle.pay_link.specs.TestKeys.{test_keys_of}
 use Rattle.pay_link.specs.declared.genesis_fault.GenesisFault.TheVariants as genesis
 use Rattle.pay_link.specs.declared.keys_fault.KeysFault.TheVariants as keys
+use Rattle.pay_net.specs.Ports.{HasPorts, IsPortsFault}
+use Rattle.pay_net.specs.declared.ports_fault.PortsFault.{PortsFault}
 use Rattle.payd.specs.declared.stop.Stop.{Stop}
 use Rattle.payd.specs.declared.stop.Stop.TheVariants.{Engine, Genesis, Keys, Ports, Export, Close, Port, File}
 
@@ -60,6 +62,16 @@ AreKeysIn holds members (Some name) k = IsJudged holds name (keys_in members) (O
 abbrev pub IsKeysStop : (List ℕ → List ℕ → Type 0) → ℕ → Option (List ℕ) → Stop → Type 0
 IsKeysStop holds members None stop = stop ≡ Engine engine.Memory
 IsKeysStop holds members (Some name) stop = IsStop holds name (keys_in members) Keys keys.Memory stop
+
+-- ---- ports, for a genesis of so many members
+
+abbrev pub ArePortsIn : (List ℕ → List ℕ → Type 0) → ℕ → List ℕ → List ℕ → Type 0
+ArePortsIn holds members name ports = (bytes : List ℕ) × holds name bytes × HasPorts members bytes ports
+
+abbrev pub IsPortsStop : (List ℕ → List ℕ → Type 0) → ℕ → List ℕ → Stop → Type 0
+IsPortsStop holds members name stop =
+    IsUnread name stop
+    ⊎ ((fault : PortsFault) × (stop ≡ Ports fault) × (bytes : List ℕ) × holds name bytes × IsPortsFault members bytes fault)
 
 -- ---- exports
 

@@ -211,15 +211,20 @@ fn status_without_words(rt: &impl Eprint, error: &io::Error) -> ExitCode {
     }
 }
 
-/// Prints what the reading of the words answers in place of a job: help, the version, or a mistake.
+/// Prints what the reading of the words answers in place of a job: help, the version, or a mistake, which is one also
+/// where it can't be printed.
 fn status_of_answer(rt: &(impl Print + Eprint), answer: &clap::Error) -> ExitCode {
     if answer.kind() == ErrorKind::OutOfMemory {
         return status_of(rt, Err(Stop::Engine(EngineFault::Memory)));
     }
-    if answer.print(rt).is_err() {
-        return status_of(rt, Err(Stop::Engine(EngineFault::Write)));
+    let printed = answer.print(rt);
+    if answer.use_stderr() {
+        return ExitCode::from(2);
     }
-    ExitCode::from(if answer.use_stderr() { 2 } else { 0 })
+    match printed {
+        Ok(()) => ExitCode::SUCCESS,
+        Err(_) => status_of(rt, Err(Stop::Engine(EngineFault::Write))),
+    }
 }
 
 /// A script that ends before its input does has its last line already; a fault is named on standard error.

@@ -1,6 +1,7 @@
 //! The file that says on which port each member listens.
 
-ghost use Rattle.std.specs.Prelude.{◌≡◌, IfOk, length};
+ghost use Rattle.std.specs.Prelude.{◌≡◌, IfErr, IfOk, length};
+ghost use Rattle.payd.specs.Files.{ArePortsIn, IsPortsStop};
 
 use crate::files::NamedFiles;
 use crate::stop::Stop;
@@ -15,7 +16,11 @@ pub(crate) fn ports_of<'a, F: NamedFiles>(
     genesis: &Genesis,
     name: &'a str,
 ) -> Result<Ports, Stop<'a>>
-    ensures { IfOk result (λ ports. length ports ≡ genesis.now.members) }
+    ensures value { IfOk result
+        (ArePortsIn (F.holds files.now) genesis.now.members name.entry.now) }
+    ensures stop { IfErr result
+        (IsPortsStop (F.holds files.now) genesis.now.members name.entry.now) }
+    ensures count { IfOk result (λ ports. length ports ≡ genesis.now.members) }
 {
     let bytes = files.bytes_of(alloc, name)?;
     Ok(Ports::read(alloc, genesis, bytes.as_slice())?)

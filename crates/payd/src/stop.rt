@@ -1,6 +1,7 @@
 ghost use Rattle.std.specs.Prelude.{◌≡◌};
 ghost use Rattle.pay_frame.specs.declared.engine_fault.EngineFault.TheVariants.{Memory};
-ghost use Rattle.payd.specs.declared.stop.Stop.TheVariants.{Engine, Export, Genesis, Keys};
+ghost use Rattle.payd.specs.declared.stop.Stop.TheVariants.{Engine, Export, Genesis, Keys, Ports};
+ghost use Rattle.payd.specs.Stops.{node_stop};
 
 use pay_audit::ExportFault;
 use pay_frame::EngineFault;
@@ -66,12 +67,16 @@ impl<'a> From<ExportFault> for Stop<'a> {
 }
 
 impl<'a> From<PortsFault> for Stop<'a> {
+    ghost from_gives = { λ fault stop. stop ≡ Ports fault };
+
     fn from(fault: PortsFault) -> Stop<'a> {
         Stop::Ports(fault)
     }
 }
 
 impl<'a> From<NodeFault> for Stop<'a> {
+    ghost from_gives = { λ fault stop. stop ≡ node_stop fault };
+
     fn from(fault: NodeFault) -> Stop<'a> {
         match fault {
             NodeFault::Port(port) => Stop::Port(port),

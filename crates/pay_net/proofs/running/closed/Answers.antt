@@ -1,9 +1,8 @@
-use Rattle.std.proofs.Common.{◌≡◌, ℕ, ◌*◌, ◌-◌, ap, ◌∙◌, subst, sym}
+use Rattle.std.proofs.Common.{ℕ, ◌*◌, ◌-◌, ap, ◌∙◌, subst, sym}
 use Rattle.pay_member.specs.Legal.{Legal}
 use Rattle.pay_member.specs.Member.{MemberFields}
 use Rattle.pay_node.specs.Closing.{AllSettled}
 use Rattle.pay_node.specs.Nodes.{NodeFields}
-use Rattle.pay_net.specs.Running.{IsClosed}
 use Rattle.pay_net.proofs.running.closed.Goals as goal
 
 pub returns-in-Ok-clause-closed : goal.returns-in-Ok-clause-closed

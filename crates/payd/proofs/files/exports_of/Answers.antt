@@ -1,4 +1,4 @@
-use Rattle.std.proofs.Common.{rules, arith, ◌≡◌, ◌≤◌, length, List, [], ◌∷◌, ◌++◌, Err, drop, refl, inl}
+use Rattle.std.proofs.Common.{rules, arith, ◌≡◌, ◌≤◌, length, [], ◌∷◌, ◌++◌, Err, drop, refl, inl}
 use Rattle.pay_frame.specs.declared.engine_fault.EngineFault.TheVariants.{Memory}
 use Rattle.payd.specs.declared.stop.Stop.TheVariants.{Engine}
 use Rattle.std.proofs.lemmas.List.{drop_all}
