@@ -6,3 +6,4 @@ pub mod Verdict
 pub mod Laws
 pub mod Said
 pub mod ReadBack
+pub mod FileLaws

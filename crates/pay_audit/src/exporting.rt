@@ -57,6 +57,7 @@ pub fn export_text<I: Instance + Drop, B: Settle + Drop>(
     lists_are_delivered();
     legal_histories();
     export_reads_back();
+    // for what their clauses say of a member: the calls do nothing
     member.genesis();
     member.keys().own();
     member.history();

@@ -1,12 +1,23 @@
 //! Laws of the definitions: what a verdict's parts say of an export. Each function's contract is the law; its body only
 //! names the laws below that it stands on.
 
+ghost use Rattle.pay_audit.specs.FileLaws.{BadGenesisCause, BadJsonCause, BadShapeCause};
 ghost use Rattle.pay_audit.specs.Laws.{BalancesAreJudged, ForkIsJudged, FrontIsJudged};
 ghost use Rattle.pay_audit.specs.ReadBack.{ExportReadsBack};
 ghost use Rattle.pay_audit.specs.Said.{CleanIsJudged, VerdictIsSaid};
 
 use pay_book::laws::{largest_is_computed, largest_is_one, settled_book_exists};
 use pay_link::laws::genesis_limits;
+
+/// A file isn't JSON exactly where it has no value, of a wrong shape exactly where its value lacks a part of an export
+/// or has one of another size, and without a genesis exactly where the genesis that it says is none.
+pub fn export_file_faults()
+    ensures json { BadJsonCause }
+    ensures shape { BadShapeCause }
+    ensures genesis { BadGenesisCause }
+{
+    genesis_limits();
+}
 
 /// No account's front is named exactly where the export's front is the largest that steps reach over its own lists.
 pub fn front_is_judged()

@@ -12,7 +12,7 @@ use Rattle.pay_channel.specs.History as channel
 use Rattle.pay_channel.specs.History.{asks}
 use Rattle.pay_channel.specs.Taken.{is_from, next}
 use Rattle.pay_channel.specs.TakenLaws.{NothingTakenAtFirst, NextByOneMore, NextIsCount}
-use Rattle.pay_channel.specs.FollowLaws.{ChannelFollows, UnchangedFollows, ListsFollow}
+use Rattle.pay_channel.specs.FollowLaws.{ChannelFollows, ListsFollow}
 use Rattle.pay_channel.specs.State.{lists_of}
 use Rattle.pay_channel.specs.History.{list_of}
 use Rattle.pay_book.specs.Book.{Standing}
@@ -27,7 +27,7 @@ use Rattle.pay_member.specs.Events.{channel_event, events}
 use Rattle.pay_link.specs.Checked.{CheckedFields, IsFor}
 use Rattle.pay_member.specs.Refusal.{refusal}
 use Rattle.pay_member.specs.Legal.{IsOwed, Legal}
-use Rattle.pay_member.specs.Ledger.{LedgerFields, Tracks, Grows, IsSameLedger}
+use Rattle.pay_member.specs.Ledger.{LedgerFields, Tracks, Grows}
 use Rattle.pay_member.specs.Member.{MemberFields, IsMember, with_entry}
 use Rattle.pay_member.specs.Group.{group_in}
 use Rattle.pay_member.specs.Book.{book_after}
@@ -35,7 +35,7 @@ use Rattle.pay_member.specs.Reply.{told_of}
 use Rattle.pay_member.specs.Reading.{state_of}
 use Rattle.pay_member.specs.declared.standing.PaymentState.{PaymentState}
 use Rattle.pay_member.specs.declared.standing.PaymentState.TheVariants.{Unknown, Asked, Waiting, Settled}
-use Rattle.pay_member.proofs.Ledgers.{tracks_more, tracks_same, lists_are, book_is}
+use Rattle.pay_member.proofs.Ledgers.{tracks_more, lists_are, book_is}
 
 -- ---- one entry more
 
@@ -145,18 +145,6 @@ member_queried m ledger fronts x is event owed =
       tracks = subst (λ h. Tracks m.genesis m.keys.own h ledger) (sym now) is.tracks;
       one_for_each = is.one_for_each;
       turns = λ p member. is.turns p member ∙ ap (next p) (sym now);
-    }
-
-pub member_same :
-    UnchangedFollows → (m : MemberFields) (old new : LedgerFields) (fronts : List ℕ) → IsMember m old fronts → IsSameLedger old new → IsMember m new fronts
-member_same unchanged m old new fronts is same =
-    record {
-      genesis = is.genesis;
-      keys = is.keys;
-      legal = is.legal;
-      tracks = tracks_same unchanged m.genesis m.keys.own (events m.history) old new is.tracks same;
-      one_for_each = is.one_for_each;
-      turns = is.turns;
     }
 
 -- ---- the next numbers

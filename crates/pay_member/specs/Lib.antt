@@ -3,6 +3,7 @@ pub mod Events
 pub mod Book
 pub mod Reply
 pub mod Refusal
+pub mod RefusalLaws
 pub mod Faults
 pub mod Legal
 pub mod Ledger

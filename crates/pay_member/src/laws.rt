@@ -4,6 +4,7 @@
 ghost use Rattle.pay_member.specs.EventLaws.{NoEventsAtFirst, EventsByOneMore};
 ghost use Rattle.pay_member.specs.Laws.{NoneIsLegal, LegalByOneMore, PrefixIsLegal, LegalEventsMayCome, DeliveredAreValues, EventsGrow, SentGrows, ListsOfHistoryGrow, SettledStays, FrontsGrow, BookIsSettled, TotalIsKept, NobodyOwes, EqualListsEqualBooksAfter, OpenedIn, EventIn, BroughtMayCome};
 ghost use Rattle.pay_member.specs.OpeningLaws.{WhatOpens};
+ghost use Rattle.pay_member.specs.RefusalLaws.{TooLongCause, SpentCause, WrongKeyCause, RepeatCause, GapCause, NoAccountCause};
 
 use pay_book::laws::{
     book_keeps_total, equal_lists_equal_books, largest_grows, nobody_owes_once_settled,
@@ -40,6 +41,16 @@ pub fn legal_histories()
 {
     delivered_for_good();
 }
+
+/// Each refusal comes exactly where its own cause holds and no earlier one.
+pub fn refusal_causes()
+    ensures too_long { TooLongCause }
+    ensures spent { SpentCause }
+    ensures wrong_key { WrongKeyCause }
+    ensures repeat { RepeatCause }
+    ensures gap { GapCause }
+    ensures no_account { NoAccountCause }
+{}
 
 /// As a history grows, so do its events, the sent list, each account's list and its settled
 /// entries, all at their ends alone, and no front moves back: nothing that settled at a member is

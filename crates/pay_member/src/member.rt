@@ -226,6 +226,7 @@ impl<I: Instance + Drop, B: Settle + Drop> Member<I, B> {
             ≡ with_brought self.old stamp outcome (opened_in self.old.keys bytes.now)) }
         ensures events { IfOk result (λ _. events self.new.history ≡ events self.old.history
             ++ option_to_list (event_in self.old.keys (events self.old.history) bytes.now)) }
+        ensures memory { OnErr result (opened_in self.old.keys bytes.now ≢ None) }
         ensures err { OnErr result (self.new ≡ self.old) }
     {
         one_frame_is();

@@ -1,0 +1,30 @@
+-- When a file is no export, as statements. Each is proved as a public law.
+use Rattle.std.specs.Prelude.{◌≡◌, ◌↔◌, ℕ, ◌<◌, List, length, Some, None, Err}
+use Rattle.pay_json.specs.File.{Data, value_in}
+use Rattle.pay_link.specs.Genesis.{IsGenesis}
+use Rattle.pay_audit.specs.declared.export_fault.ExportFault.TheVariants.{BadJson, BadShape, BadGenesis}
+use Rattle.pay_audit.specs.Export.{ExportFields, export_in, parts_in}
+
+-- its member is one of so many as the object says that there are, and each has a list, a front and a balance
+pub record HasSizes (e : ExportFields) : Type 0 where
+  pub member : e.member < e.genesis.members
+  pub lists : length e.lists ≡ e.genesis.members
+  pub front : length e.front ≡ e.genesis.members
+  pub balances : length e.balances ≡ e.genesis.members
+
+-- it is no JSON
+abbrev pub BadJsonCause : Type 0
+BadJsonCause = (bytes : List ℕ) → (export_in bytes ≡ Err BadJson) ↔ (value_in bytes ≡ None)
+
+-- it is, and its value has not all parts of an export, or not in their sizes
+abbrev pub BadShapeCause : Type 0
+BadShapeCause =
+    (bytes : List ℕ) → (export_in bytes ≡ Err BadShape)
+    ↔ ((d : Data) × (value_in bytes ≡ Some d) × ((e : ExportFields) → parts_in d ≡ Some e → ¬ (HasSizes e)))
+
+-- it has them, and its genesis is none
+abbrev pub BadGenesisCause : Type 0
+BadGenesisCause =
+    (bytes : List ℕ) → (export_in bytes ≡ Err BadGenesis)
+    ↔ ((d : Data) × (e : ExportFields) × (value_in bytes ≡ Some d) × (parts_in d ≡ Some e) × HasSizes e
+    × (¬ (IsGenesis e.genesis)))
