@@ -5,7 +5,7 @@ use Rattle.std.proofs.lemmas.Int.{ints}
 use Rattle.std.proofs.lemmas.Bool.{cases_eq, cond-true, cond-false, eq-eqb, ne_eqb}
 use Rattle.std.proofs.Math.Numerals.{add-one}
 use Rattle.std.proofs.lemmas.List.{take_all}
-use Rattle.std.proofs.lemmas.List.Sums.{sum_by_more, sum_by-cons, get_or-le-sum_by}
+use Rattle.std.proofs.lemmas.List.Sums.{sum_by_more, sum_by-cons}
 use Rattle.std.proofs.lemmas.List.Elements.{All-head, All-tail, All-take}
 use Rattle.std.proofs.lemmas.Option.{slice_get_within, get_or_from_slice_get}
 use Rattle.pay_book.specs.declared.payment.Entry.{Entry}
@@ -25,10 +25,6 @@ sum_by-take_entry f log place entry there =
 pub amount_of-le : (income paid : ℕ) (entry : Entry) → Covers (pos income -ℤ pos paid) (Some entry) → paid ≤ income → paid + amount_of entry ≤ income
 amount_of-le income paid (Pay payee amount) c h = omega (arith, ints)
 amount_of-le income paid Void c h = omega arith
-
--- the income of an account, with what it opened with
-pub income_at : List ℕ → (ℕ → List Entry) → (ℕ → ℕ) → ℕ → ℕ
-income_at opening logs front a = slice_index opening a + paid_in (length opening) logs front a
 
 pub paid_out-le : (opening : List ℕ) (logs : ℕ → List Entry) {front : ℕ → ℕ} → Reach opening logs front → (a : ℕ) → paid_out logs front a ≤ slice_index opening a + paid_in (length opening) logs front a
 paid_out-le opening logs (Start {front = front} zeros) a =
@@ -116,12 +112,4 @@ sum-balances opening logs front balances within are =
     let right = sum_below-add n (slice_index opening) (paid_in n logs front) in
     let of_balances = sum-places balances n are.one_for_each in
     let of_opening = sum-places opening n refl in
-    omega arith
-
--- No balance is more than all opened with.
-pub balance-le-sum : (opening : List ℕ) (logs : ℕ → List Entry) (front : ℕ → ℕ) (balances : List ℕ) → AllPayWithin (length opening) logs → AreBalances opening logs front balances → (a : ℕ) → a < length opening → slice_index balances a ≤ sum opening
-balance-le-sum opening logs front balances within are a h =
-    let total = sum-balances opening logs front balances within are in
-    let one = are.one_for_each in
-    let part = get_or-le-sum_by (λ (x : ℕ). x) balances a 0 (omega arith) in
     omega arith

@@ -1,4 +1,4 @@
-//! The engines of the program `payd`, and how its words are read.
+//! The engine of the command `check`.
 #![tactic(auto)]
 
 mod check;

@@ -8,7 +8,7 @@ use Rattle.std.proofs.lemmas.List.Elements.{All-set, All-weaker}
 use Rattle.std.proofs.lemmas.Option.{slice_get-get_or, slice_get_within}
 use Rattle.pay_frame.specs.declared.limits.TheConstants.{MOST_MEMBERS}
 use Rattle.pay_echo.specs.Broadcast.{Group, Vote, Send, Echo, Ready, IsForeign, value_of}
-use Rattle.pay_echo.specs.Step.{vote_at, is_send, put_echo, put_ready, put_if, with_moves, IsPlaced}
+use Rattle.pay_echo.specs.Step.{vote_at, is_send, put_echo, put_ready, put_if, with_moves}
 use Rattle.pay_echo.specs.Plain.{value_at, votes_at, IsPlace, meaning_by, ArePlaces, AreDistinct}
 use Rattle.pay_echo.specs.declared.moves.Moves.{Moves}
 
@@ -30,16 +30,6 @@ ArePlaces-none g values empty few member =
       echo_places = places;
       ready_places = places;
       delivered_place = tt;
-    }
-
-pub meaning_by-IsPlaced : (g : Group) (values : List (List ℕ)) (echoes readys : List (Option ℕ)) (delivered : Option ℕ) → ArePlaces g values echoes readys delivered → IsPlaced (meaning_by g values echoes readys delivered)
-meaning_by-IsPlaced g values echoes readys delivered are =
-    record {
-      own = are.own;
-      echoes = length-map echoes (value_at values) ∙ are.echoed;
-      readys = length-map readys (value_at values) ∙ are.readied;
-      echoed = refl;
-      readied = refl;
     }
 
 -- ---- values that stay where they are

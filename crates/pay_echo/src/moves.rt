@@ -1,4 +1,4 @@
-/// What one vote made known: that oneself sends ECHO, sends READY, delivers.
+/// What is due by one vote: that oneself sends ECHO, sends READY, delivers.
 #[derive(Clone, Copy, Debug, PartialEq, Eq)]
 pub struct Moves {
     pub echo: bool,

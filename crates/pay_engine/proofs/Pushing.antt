@@ -1,5 +1,5 @@
 -- What a step of the engine's parts pushes.
-use Rattle.std.proofs.Common.{◌≡◌, ℕ, ◌-◌, ◌<◌, ◌≤◌, ◌⊎◌, inl, inr, min, take, List, [], ◌∷◌, ◌++◌, length, refl, sym, ◌∙◌, ap, arith, append_assoc, Some, None}
+use Rattle.std.proofs.Common.{◌≡◌, ℕ, ◌-◌, ◌<◌, ◌≤◌, ◌⊎◌, inl, inr, min, take, List, [], ◌∷◌, ◌++◌, length, sym, ◌∙◌, ap, arith, append_assoc, Some, None}
 use Rattle.std.proofs.lemmas.List.{append-nil, take_all}
 use Rattle.pay_frame.specs.declared.fault.FrameFault.{FrameFault}
 use Rattle.pay_frame.specs.declared.limits.TheConstants.{CUTTER_ROOM, GREATEST_FRAME, GREATEST_PIECE}
@@ -9,9 +9,6 @@ use Rattle.pay_frame.specs.Stream.{IsFramesThen, IsStream}
 use Rattle.pay_engine.specs.Handling.{Handling, state_after, texts_from}
 use Rattle.pay_engine.specs.Engine.{Pushes, PushesEnd, Advances}
 use Rattle.pay_engine.proofs.Texts.{state_after-append, texts_from-append}
-
-pub pushes_nothing : {S : Type 0} (h : Handling S) (s : S) (bytes out : List ℕ) → IsFramesThen bytes [] bytes → Pushes h s bytes out s bytes out
-pushes_nothing h s bytes out cut = record { frames = []; cut = cut; state = refl; texts = sym (append-nil out) }
 
 -- one frame more, whose text stands behind the others
 pub pushes_a_frame : {S : Type 0} (h : Handling S) (first s next : S) (bytes out held rest text longer : List ℕ) (f : FrameFields) → (pushed : Pushes h first bytes out s held text)
@@ -30,9 +27,6 @@ pushes_a_frame {S} h first s next bytes out held rest text longer f pushed cut s
           ∙ ap (λ (xs : List ℕ). out ++ (texts_from h first fs ++ xs)) added
           ∙ ap (λ (xs : List ℕ). out ++ xs) (sym (texts_from-append h first fs (f ∷ [])));
     }
-
-pub advances_so_far : {S : Type 0} (h : Handling S) (first s : S) (bytes out held text : List ℕ) → Pushes h first bytes out s held text → Advances h first s bytes
-advances_so_far h first s bytes out held text pushed = record { frames = pushed.frames; rest = held; cut = pushed.cut; state = pushed.state }
 
 -- memory was refused for a frame: it was handled, or not
 pub advances_or_not : {S : Type 0} (h : Handling S) (first s next : S) (bytes out held rest text : List ℕ) (f : FrameFields) → (pushed : Pushes h first bytes out s held text)

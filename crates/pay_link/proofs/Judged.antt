@@ -7,7 +7,7 @@ use Rattle.std.proofs.lemmas.Bool.{false_from_ne_true}
 use Rattle.std.proofs.lemmas.Slice.Eq.{bytes_eq-Decides}
 use Rattle.pay_frame.specs.Frame.{BodyFields, FrameFields}
 use Rattle.pay_link.specs.Keys.{IsPeer, KeyFields, is_peer, key_for}
-use Rattle.pay_link.specs.Opening.{IsOpened, IsTagged, OpenedFields, Opens, judgement, opened_fields, right_tag}
+use Rattle.pay_link.specs.Opening.{IsTagged, OpenedFields, Opens, judgement, opened_fields, right_tag}
 use Rattle.pay_hmac.specs.Mac.{mac}
 use Rattle.pay_link.specs.Sealing.{sealed, tagged_bytes}
 use Rattle.pay_link.specs.declared.link_fault.LinkFault.{LinkFault}
@@ -69,18 +69,6 @@ judgement-opened k f me peer known tag =
     rw (test, peer, owner, tag) refl
 
 pub ruleset judged = (is_peer_read, judgement-not_for_me, judgement-unknown_sender, judgement-unknown_owner, judgement-bad_tag, judgement-opened)
-
--- what opens keeps what an opened frame's type does
-pub IsOpened-opened_fields : (k : KeyFields) (f : FrameFields) → f.to ≡ k.own → is_peer k f.from ≡ true →
-    f.body.owner < length k.keys → bytes_eq f.tag (right_tag (key_for k f.from) f) ≡ true → IsOpened (opened_fields k f)
-IsOpened-opened_fields k f me peer known tag =
-    let sender = (is_peer-Decides k f.from).0 peer in
-    record {
-      tagged = (bytes_eq-Decides f.tag (right_tag (key_for k f.from) f)).0 tag;
-      sender = sender.0;
-      other = λ same. sender.1 (same ∙ me);
-      owner = known;
-    }
 
 -- the four tests in their order
 abbrev decided : Bool → Bool → Bool → Bool → OpenedFields → Result OpenedFields LinkFault

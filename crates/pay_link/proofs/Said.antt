@@ -52,10 +52,6 @@ judged-err : {A E : Type 0} (fault : Option E) (a : A) (e : E) → judged fault 
 judged-err None a e h = absurd cc
 judged-err (Some x) a e h = cc
 
-judged-ok : {A E : Type 0} (fault : Option E) (a b : A) → judged fault a ≡ Ok b → (fault ≡ None) × (a ≡ b)
-judged-ok None a b h = (refl, cc)
-judged-ok (Some x) a b h = absurd cc
-
 -- a file in its steps: whether it has a value, whether the value has a shape, and what is judged of it
 abbrev steps : {A B E : Type 0} → E → E → (Data → Option A) → (A → Result B E) → Option Data → Result B E
 steps json shape said rest o = ok_or o json >>= λ d. (ok_or (said d) shape >>= rest)

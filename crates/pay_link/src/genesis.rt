@@ -58,7 +58,7 @@ impl Genesis {
         if !has_bounded_total(opening) {
             return Err(GenesisFault::BadTotal);
         }
-        let opening = Vec::from_slice(alloc, opening).map_err(|_| GenesisFault::Memory)?;
+        let opening = Vec::from_slice(alloc, opening)?;
         Ok(Genesis {
             members: members as u16,
             faults: faults as u16,
@@ -71,7 +71,7 @@ impl Genesis {
         ensures value { (result ≡ genesis_in bytes.now) ⊎ (result ≡ Err GenesisFault.Memory) }
         ensures limits { IfOk result IsGenesis }
     {
-        let value = value_in(alloc, bytes).map_err(|_| GenesisFault::Memory)?;
+        let value = value_in(alloc, bytes)?;
         let Some(value) = value else {
             return Err(GenesisFault::BadJson);
         };
@@ -81,7 +81,7 @@ impl Genesis {
         let Some(faults) = number_at(&value, "faults") else {
             return Err(GenesisFault::BadShape);
         };
-        let opening = numbers_at(alloc, &value, "opening").map_err(|_| GenesisFault::Memory)?;
+        let opening = numbers_at(alloc, &value, "opening")?;
         let Some(opening) = opening else {
             return Err(GenesisFault::BadShape);
         };

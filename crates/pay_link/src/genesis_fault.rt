@@ -1,6 +1,7 @@
 ghost use Rattle.std.specs.Prelude.{◌≡◌};
 ghost use Rattle.pay_link.specs.Faults.{genesis_fault_name, genesis_fault_number};
 
+use std::alloc::AllocError;
 use thiserror::Error;
 
 /// Why there is no genesis, in the order in which it is tested; memory stands apart.
@@ -48,5 +49,15 @@ impl GenesisFault {
         ensures value { result.now ≡ genesis_fault_name self }
     {
         self.entry().1
+    }
+}
+
+impl From<AllocError> for GenesisFault {
+    ghost use Rattle.pay_link.specs.declared.genesis_fault.GenesisFault.TheVariants.{Memory};
+
+    ghost from_gives = { λ _ e. e ≡ Memory };
+
+    fn from(_error: AllocError) -> GenesisFault {
+        GenesisFault::Memory
     }
 }

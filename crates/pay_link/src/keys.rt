@@ -50,7 +50,7 @@ impl Keys {
         ensures genesis { IfOk result (IsKeysOf genesis.now) }
     {
         let own = place_in(genesis, own, keys.len())?;
-        let mut keys = Vec::from_slice(alloc, keys).map_err(|_| KeysFault::Memory)?;
+        let mut keys = Vec::from_slice(alloc, keys)?;
         keys[usize::from(own)] = NO_KEY;
         Ok(Keys { own, keys })
     }
@@ -61,14 +61,14 @@ impl Keys {
             ⊎ (result ≡ Err KeysFault.Memory) }
         ensures genesis { IfOk result (IsKeysOf genesis.now) }
     {
-        let value = value_in(alloc, bytes).map_err(|_| KeysFault::Memory)?;
+        let value = value_in(alloc, bytes)?;
         let Some(value) = value else {
             return Err(KeysFault::BadJson);
         };
         let Some(own) = number_at(&value, "own") else {
             return Err(KeysFault::BadShape);
         };
-        let texts = texts_at(alloc, &value, "keys").map_err(|_| KeysFault::Memory)?;
+        let texts = texts_at(alloc, &value, "keys")?;
         let Some(texts) = texts else {
             return Err(KeysFault::BadShape);
         };

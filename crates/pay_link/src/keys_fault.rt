@@ -1,6 +1,7 @@
 ghost use Rattle.std.specs.Prelude.{◌≡◌};
 ghost use Rattle.pay_link.specs.Faults.{keys_fault_name, keys_fault_number};
 
+use std::alloc::AllocError;
 use thiserror::Error;
 
 /// Why there are no keys, in the order in which it is tested; memory stands apart.
@@ -45,5 +46,15 @@ impl KeysFault {
         ensures value { result.now ≡ keys_fault_name self }
     {
         self.entry().1
+    }
+}
+
+impl From<AllocError> for KeysFault {
+    ghost use Rattle.pay_link.specs.declared.keys_fault.KeysFault.TheVariants.{Memory};
+
+    ghost from_gives = { λ _ e. e ≡ Memory };
+
+    fn from(_error: AllocError) -> KeysFault {
+        KeysFault::Memory
     }
 }

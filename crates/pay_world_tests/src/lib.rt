@@ -6,6 +6,8 @@ mod plays;
 #[cfg(test)]
 mod rows;
 #[cfg(test)]
+mod runs;
+#[cfg(test)]
 mod step;
 #[cfg(test)]
 mod trial;

@@ -1,7 +1,7 @@
 //! The rows, and what is printed of each fault.
 
 use crate::step::Step::{AllTaken, Ask, Balance, Bring, Nobody, Pass, Raw};
-use crate::step::{Group, Row, Unsealed};
+use crate::step::{Deed, Group, Row, Unsealed};
 use pay_frame::{FrameFault, Kind};
 use pay_link::LinkFault;
 use pay_member::{MemberFault, Outcome, Took};
@@ -154,6 +154,84 @@ pub(crate) const ROWS: [Row; 5] = [
             Balance(0, 0, 7),
         ],
     },
+];
+
+// What the members say to one another about that payment.
+const ECHO_0_TO_1: Unsealed = Unsealed {
+    number: 1,
+    kind: Kind::Echo,
+    ..SENT
+};
+
+const ECHO_1_TO_0: Unsealed = Unsealed {
+    from: 1,
+    to: 0,
+    kind: Kind::Echo,
+    ..SENT
+};
+
+const READY_1_TO_0: Unsealed = Unsealed {
+    from: 1,
+    to: 0,
+    number: 1,
+    kind: Kind::Ready,
+    ..SENT
+};
+
+const ASKED: Deed = Deed::Ask(0, THIRTY_TO_1);
+
+/// Events in that group, and what all of them come to: the balance of account 0 at member 0.
+pub(crate) const RUNS: [(&[Deed], Result<u64, WorldFault>); 4] = [
+    (&[], Ok(100)),
+    (
+        &[Deed::Raw(1, MISTAGGED), ASKED, Deed::Bring(SENT)],
+        Ok(100),
+    ),
+    (
+        &[
+            ASKED,
+            Deed::Bring(SENT),
+            Deed::Bring(Unsealed {
+                value: FIVE_TO_1,
+                ..SENT
+            }),
+            Deed::Bring(Unsealed { number: 2, ..SENT }),
+        ],
+        Err(WorldFault::Forged(2)),
+    ),
+    // the last two are the others' READYs, with which member 0 has three
+    (
+        &[
+            ASKED,
+            Deed::Bring(SENT),
+            Deed::Bring(ECHO_0_TO_1),
+            Deed::Bring(Unsealed { to: 2, ..SENT }),
+            Deed::Bring(Unsealed {
+                to: 2,
+                ..ECHO_0_TO_1
+            }),
+            Deed::Bring(Unsealed {
+                to: 2,
+                ..ECHO_1_TO_0
+            }),
+            Deed::Bring(ECHO_1_TO_0),
+            Deed::Bring(Unsealed {
+                from: 2,
+                to: 1,
+                ..ECHO_1_TO_0
+            }),
+            Deed::Bring(Unsealed {
+                from: 2,
+                ..ECHO_1_TO_0
+            }),
+            Deed::Bring(READY_1_TO_0),
+            Deed::Bring(Unsealed {
+                from: 2,
+                ..READY_1_TO_0
+            }),
+        ],
+        Ok(70),
+    ),
 ];
 
 /// Lists of liars of that group, and the fault of each.

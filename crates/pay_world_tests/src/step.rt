@@ -15,6 +15,15 @@ pub(crate) struct Unsealed {
     pub(crate) value: &'static [u8],
 }
 
+/// An event.
+#[derive(Clone, Copy)]
+pub(crate) enum Deed {
+    Ask(u16, &'static [u8]),
+    Bring(Unsealed),
+    /// These bytes are brought to a member.
+    Raw(u16, &'static [u8]),
+}
+
 /// One step, and what is answered to it.
 #[derive(Clone, Copy)]
 pub(crate) enum Step {

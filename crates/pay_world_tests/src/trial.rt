@@ -1,6 +1,6 @@
 //! A world to which steps happen.
 
-use crate::step::{Group, Step, Unsealed};
+use crate::step::{Deed, Group, Step, Unsealed};
 use pay_book::PlainBook;
 use pay_echo::PlainInstance;
 use pay_frame::{Body, Bytes, GREATEST_VALUE, Kind, SEQS};
@@ -41,18 +41,13 @@ impl Trial {
     /// refused.
     pub(crate) fn meets(&mut self, alloc: Global, step: &Step) -> bool {
         match *step {
-            Step::Ask(member, value, answer) => match Bytes::from_slice(alloc, value) {
-                Ok(value) => self.answers(alloc, WorldEvent::Ask(member, value), answer),
-                Err(_) => false,
-            },
-            Step::Bring(frame, answer) => match self.sealed(alloc, frame) {
-                Some(bytes) => self.answers(alloc, WorldEvent::Bring(frame.to, bytes), answer),
-                None => false,
-            },
-            Step::Raw(member, bytes, answer) => match Bytes::from_slice(alloc, bytes) {
-                Ok(bytes) => self.answers(alloc, WorldEvent::Bring(member, bytes), answer),
-                Err(_) => false,
-            },
+            Step::Ask(member, value, answer) => {
+                self.answers(alloc, Deed::Ask(member, value), answer)
+            }
+            Step::Bring(frame, answer) => self.answers(alloc, Deed::Bring(frame), answer),
+            Step::Raw(member, bytes, answer) => {
+                self.answers(alloc, Deed::Raw(member, bytes), answer)
+            }
             Step::Balance(member, account, balance) => self.has(member, account, balance),
             Step::Nobody(member) => self.world.member(member).is_none(),
             Step::Pass(from, to) => self.passes(alloc, from, to),
@@ -60,13 +55,11 @@ impl Trial {
         }
     }
 
-    fn answers(
-        &mut self,
-        alloc: Global,
-        event: WorldEvent,
-        answer: Result<Reply, WorldFault>,
-    ) -> bool {
-        self.world.apply(alloc, &HmacSha256, event) == answer
+    fn answers(&mut self, alloc: Global, deed: Deed, answer: Result<Reply, WorldFault>) -> bool {
+        match event_of(alloc, &self.genesis, deed) {
+            Some(event) => self.world.apply(alloc, &HmacSha256, event) == answer,
+            None => false,
+        }
     }
 
     fn has(&self, member: u16, account: u16, balance: u64) -> bool {
@@ -102,17 +95,35 @@ impl Trial {
         let bytes = seal(alloc, &HmacSha256, sender.keys(), to, number, body).ok()?;
         Some(Bytes::new(bytes))
     }
+}
 
-    // The frame, sealed by its sender.
-    fn sealed(&self, alloc: Global, frame: Unsealed) -> Option<Bytes> {
-        let sender = keys_in(alloc, &self.genesis, frame.from)?;
-        if !sender.is_peer(frame.to) {
-            return None;
+/// The event in a group, unless memory is refused or a frame can't be sealed so.
+pub(crate) fn event_of(alloc: Global, genesis: &Genesis, deed: Deed) -> Option<WorldEvent> {
+    match deed {
+        Deed::Ask(member, value) => {
+            let value = Bytes::from_slice(alloc, value).ok()?;
+            Some(WorldEvent::Ask(member, value))
         }
-        let body = body_of(alloc, frame)?;
-        let bytes = seal(alloc, &HmacSha256, &sender, frame.to, frame.number, &body).ok()?;
-        Some(Bytes::new(bytes))
+        Deed::Bring(frame) => {
+            let bytes = sealed(alloc, genesis, frame)?;
+            Some(WorldEvent::Bring(frame.to, bytes))
+        }
+        Deed::Raw(member, bytes) => {
+            let bytes = Bytes::from_slice(alloc, bytes).ok()?;
+            Some(WorldEvent::Bring(member, bytes))
+        }
     }
+}
+
+// The frame, sealed by its sender.
+fn sealed(alloc: Global, genesis: &Genesis, frame: Unsealed) -> Option<Bytes> {
+    let sender = keys_in(alloc, genesis, frame.from)?;
+    if !sender.is_peer(frame.to) {
+        return None;
+    }
+    let body = body_of(alloc, frame)?;
+    let bytes = seal(alloc, &HmacSha256, &sender, frame.to, frame.number, &body).ok()?;
+    Some(Bytes::new(bytes))
 }
 
 // A member's test keys, if there is such a member.
