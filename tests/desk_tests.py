@@ -23,8 +23,8 @@ def lines_of(rows):
 
 
 @test
-def desk_answers_a_session():
-    lines, answers = zip(*desks.SESSION)
+def desk_answers_an_exchange():
+    lines, answers = zip(*desks.EXCHANGE)
     shows(desk(lines_of(lines)), 0, lines_of(answers))
     shows(desk(lines_of(lines)[:-1]), 0, lines_of(answers), of="the last line without its end")
     shows(desk(b""), 0, "", of="no line")
@@ -121,7 +121,7 @@ def desk_answers_line_by_line():
     watchdog = threading.Timer(SECONDS, child.kill)
     watchdog.start()
     try:
-        for line, answer in desks.SESSION:
+        for line, answer in desks.EXCHANGE:
             for piece in (line[:3], line[3:], "\n"):
                 child.stdin.write(piece.encode())
             same(child.stdout.readline(), f"{answer}\n".encode(), line)

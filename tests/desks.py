@@ -14,7 +14,7 @@ ID_USED = "refused 4 IdUsed"
 SPENT = "refused 5 Spent"
 
 # Lines to the desk of member 0 of four that opened with 100, 0, 0 and 50, one after the other, and their answers.
-SESSION = [
+EXCHANGE = [
     ("BALANCE 3", "balance 3 50"),
     ("FRONT", "front 0 0 0 0"),
     ("STATEMENT 3", "end 3 balance 50"),

@@ -128,7 +128,7 @@ def two_thousand_payments_settle():
 @test
 def desk_of_a_node_without_peers():
     """It answers as a desk alone, and then writes its export."""
-    lines, answers = zip(*desks.SESSION)
+    lines, answers = zip(*desks.EXCHANGE)
     text = "".join(f"{line}\n" for line in lines)
     values = [payment(1, 30).hex(), payment(1, 5).hex(), payment(1, 1).hex(), payment(3, 2**64 - 1).hex()]
     same([line.startswith("PAY") for line in lines].count(True) > len(values), True, "some are refused")

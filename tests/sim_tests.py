@@ -3,6 +3,7 @@
 import os
 import random
 
+from frames import ECHO, SEND, frame, payment
 from model import play
 from runs import TOP, run, run_byte_by_byte, same, shows, test
 from scripts import FOUR_ONE_LIAR, WORKED, RandomScripts, script_of
@@ -47,6 +48,25 @@ def examples_of_scripts():
             text = answers.read()
         shows(run(["sim"], lines), status, text, of=name)
         same(play(lines), (text, status), f"the model of {name}")
+
+
+def with_a_bit_turned(frame):
+    """The frame with each of its bits turned, one at a time."""
+    number = int.from_bytes(frame, "big")
+    return [(number ^ 1 << bit).to_bytes(len(frame), "big") for bit in range(8 * len(frame))]
+
+
+@test
+def each_bit_turned():
+    sent = [frame(kind, 0, 1, number, value=payment(1, 30)) for number, kind in enumerate([SEND, ECHO])]
+    for place, right in enumerate(sent):
+        before = ["ask 0 1 30", *(f"raw 1 {it.hex()}" for it in sent[:place])]
+        turned = [f"raw 1 {it.hex()}" for it in with_a_bit_turned(right)]
+        script = script_of(FOUR_ONE_LIAR, [*before, *turned, f"raw 1 {right.hex()}", "all", "show"])
+        sim(script, of=f"frame {place}, each bit turned")
+        replies = run(["sim"], script)[1].splitlines()[len(before) :]
+        taken = [place for place, reply in enumerate(replies[: len(turned)]) if not reply.startswith("refused ")]
+        same((taken, replies[len(turned)].startswith("took")), ([], True), f"frame {place}, and as it is")
 
 
 @test

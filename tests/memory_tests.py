@@ -1,0 +1,87 @@
+"""Black-box tests of runs that are refused memory."""
+
+import json
+import os
+import resource
+import subprocess
+import tempfile
+
+from runs import EXAMPLE_GENESIS, GENESIS, SECONDS, TOP, example_keys, run, same, test
+
+# (./payd itself needs more memory than there is to be: it has built the program by then)
+PROGRAM = os.path.join(TOP, "crates", "payd", "out", "payd")
+
+PIECE = 64 * 1024
+
+# More memory, and more again.
+LIMITS = [PIECE * k * k for k in range(25)]
+
+
+def run_within(memory, words, stream=b""):
+    """Status, standard output and standard error of a run that has so many bytes of addresses."""
+
+    def limit():
+        resource.setrlimit(resource.RLIMIT_AS, (memory, memory))
+
+    done = subprocess.run([PROGRAM, *words], input=stream, capture_output=True, preexec_fn=limit, timeout=SECONDS)
+    return done.returncode, done.stdout.decode("ascii"), done.stderr.decode()
+
+
+def least_memory():
+    """What the program needs to be loaded and to answer an empty stream."""
+    run([])
+    return next(it for it in range(PIECE, 1 << 30, PIECE) if run_within(it, []) == (0, "", ""))
+
+
+def is_refused(status, errors):
+    return status == 3 and errors.startswith("payd: ") and errors.endswith(" 0 Memory\n")
+
+
+def writes_a_beginning(words, stream=b""):
+    """With too little memory a run writes a beginning of what it writes with enough."""
+    whole = run(words, stream)
+    least, refused = least_memory(), []
+    for memory in (least + more for more in LIMITS):
+        status, text, errors = run_within(memory, words, stream)
+        refused.append(is_refused(status, errors))
+        if refused[-1]:
+            same(whole[1].startswith(text), True, f"{words} within {memory}: a beginning")
+        else:
+            same((status, text, errors), whole, f"{words} within {memory}")
+    same((refused[0], refused[-1]), (True, False), f"{words}: refused with the least, and not with the most")
+
+
+@test
+def refused_memory_leaves_a_beginning_of_a_script():
+    world = json.dumps({**GENESIS, "liars": []})
+    lines = [world, *(60 * ["ask 0 1 1", "ask 3 0 1", "all", "show"])]
+    writes_a_beginning(["sim"], "".join(f"{line}\n" for line in lines).encode())
+
+
+@test
+def refused_memory_leaves_no_verdict():
+    export = {"members": 1, "faults": 0, "opening": [7], "member": 0, "front": [20_000], "balances": [7]}
+    with tempfile.TemporaryDirectory() as folder:
+        names = [os.path.join(folder, f"{place}.json") for place in range(2)]
+        for name in names:
+            with open(name, "w", encoding="ascii") as file:
+                json.dump({**export, "lists": [20_000 * ["ff"]]}, file)
+        writes_a_beginning(["audit", *names])
+
+
+@test
+def refused_memory_loses_no_payment():
+    lines = [f"PAY {place} 1 1" for place in range(20_000)]
+    stream = "".join(f"{line}\n" for line in lines).encode()
+    words = ["desk", "--genesis", EXAMPLE_GENESIS, "--keys", example_keys(0)]
+    least, refusals = least_memory(), 0
+    for memory in (least + more for more in LIMITS):
+        status, text, errors = run_within(memory, words, stream)
+        answers = text.splitlines()
+        asked = [(place, it) for place, it in enumerate(answers) if it != "refused 0 Memory"]
+        numbered = [(place, f"asked {place} seq {seq}") for seq, (place, _) in enumerate(asked)]
+        same(asked, numbered, f"within {memory}")
+        refusals += len(answers) - len(asked)
+        if not is_refused(status, errors):
+            same((status, len(answers), errors), (0, len(lines), ""), f"within {memory}")
+    same((refusals > 0, len(asked)), (True, len(lines)), "some refused, and none with the most")
