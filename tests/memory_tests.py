@@ -6,6 +6,7 @@ import resource
 import subprocess
 import tempfile
 
+from model import play
 from runs import EXAMPLE_GENESIS, GENESIS, SECONDS, TOP, example_keys, run, same, test
 
 # (./payd itself needs more memory than there is to be: it has built the program by then)
@@ -37,36 +38,37 @@ def is_refused(status, errors):
     return status == 3 and errors.startswith("payd: ") and errors.endswith(" 0 Memory\n")
 
 
-def writes_a_beginning(words, stream=b""):
-    """With too little memory a run writes a beginning of what it writes with enough."""
-    whole = run(words, stream)
+def writes_a_beginning(wanted, words, stream=b""):
+    """With enough memory a run writes this text, and with too little a beginning of it."""
     least, refused = least_memory(), []
     for memory in (least + more for more in LIMITS):
         status, text, errors = run_within(memory, words, stream)
         refused.append(is_refused(status, errors))
         if refused[-1]:
-            same(whole[1].startswith(text), True, f"{words} within {memory}: a beginning")
+            same(wanted.startswith(text), True, f"{words} within {memory}: a beginning")
         else:
-            same((status, text, errors), whole, f"{words} within {memory}")
+            same((status, text, errors), (0, wanted, ""), f"{words} within {memory}")
     same((refused[0], refused[-1]), (True, False), f"{words}: refused with the least, and not with the most")
 
 
 @test
 def refused_memory_leaves_a_beginning_of_a_script():
     world = json.dumps({**GENESIS, "liars": []})
-    lines = [world, *(60 * ["ask 0 1 1", "ask 3 0 1", "all", "show"])]
-    writes_a_beginning(["sim"], "".join(f"{line}\n" for line in lines).encode())
+    lines = [world, *(20 * ["ask 0 1 1", "ask 3 0 1", "all", "show"])]
+    script = "".join(f"{line}\n" for line in lines).encode()
+    writes_a_beginning(play(script)[0], ["sim"], script)
 
 
 @test
 def refused_memory_leaves_no_verdict():
+    # a member alone, whose 20,000 values are no payments
     export = {"members": 1, "faults": 0, "opening": [7], "member": 0, "front": [20_000], "balances": [7]}
     with tempfile.TemporaryDirectory() as folder:
         names = [os.path.join(folder, f"{place}.json") for place in range(2)]
         for name in names:
             with open(name, "w", encoding="ascii") as file:
                 json.dump({**export, "lists": [20_000 * ["ff"]]}, file)
-        writes_a_beginning(["audit", *names])
+        writes_a_beginning("clean\n", ["audit", *names])
 
 
 @test
