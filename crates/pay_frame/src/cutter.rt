@@ -11,12 +11,15 @@ use std::marker::Model;
 /// Splits a stream of bytes into frames, however the stream is cut into pieces.
 ///
 /// It buffers at most `CUTTER_ROOM` bytes. `new` allocates the buffer, and no later call allocates.
+/// The bytes held are a window of the buffer: `feed` writes behind its end, `next` moves its
+/// beginning past a frame. They move to the buffer's front only where a piece doesn't fit behind
+/// them.
 #[derive(Debug, Drop)]
 pub struct Cutter {
     buffer: Vec<u8>,
     /// Where the frame that was returned last begins.
     given: usize,
-    /// Where the buffered bytes begin.
+    /// Where the window begins. It ends where the buffer's bytes do.
     start: usize,
     met: Option<FrameFault>,
 }
@@ -68,9 +71,11 @@ impl Cutter {
         if self.met.is_some() {
             return 0;
         }
-        drop_front(&mut self.buffer, self.start);
-        self.given = 0;
-        self.start = 0;
+        if piece.len() > CUTTER_ROOM - self.buffer.len() && self.start > 0 {
+            drop_front(&mut self.buffer, self.start);
+            self.given = 0;
+            self.start = 0;
+        }
         let count = piece.len().min(CUTTER_ROOM - self.buffer.len());
         let _ = self.buffer.extend_from_slice(&piece[..count]);
         count
