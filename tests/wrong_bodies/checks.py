@@ -1,0 +1,258 @@
+"""Checks copies of a crate that have wrong bodies, and judges what the prover says of each."""
+
+from __future__ import annotations
+
+import os
+import re
+import shutil
+import subprocess
+import tempfile
+from dataclasses import dataclass, field
+
+from . import rt, rtlib
+from .edits import Body, Place, alone, cut, in_batches, item, places_of_change, read_file
+
+# A wrong body is refused at a goal that isn't proved, or by a proof file that doesn't fit its text. A control is proved.
+GOAL, MISMATCH, PROVED = "goal", "mismatch", "control"
+LET_THROUGH, BAD_EDIT, NOT_PROVED = "LET THROUGH", "BAD EDIT", "CONTROL NOT PROVED"
+WELL = (GOAL, MISMATCH, PROVED)
+
+
+@dataclass
+class Outcome:
+    """What came of a wrong body, and what was said of it."""
+
+    body: str
+    verdict: str
+    said: str
+
+
+@dataclass
+class Tally:
+    """What came of a crate's wrong bodies, by how many checks and processor seconds."""
+
+    crate: str
+    outcomes: list[Outcome] = field(default_factory=list)
+    checks: int = 0
+    seconds: float = 0
+
+    def count(self, *verdicts: str) -> int:
+        return sum(it.verdict in verdicts for it in self.outcomes)
+
+
+# ---- checks
+
+
+@dataclass
+class Report:
+    """What the prover said of a copy of a crate."""
+
+    lines: list[str]
+    # The files in which the copy differs.
+    texts: dict[str, str]
+    # Whether it read the crate and came to an end.
+    has_judged: bool
+    # Of processors.
+    seconds: float
+
+
+def check(crate, batch: list[Place], kept: str) -> Report:
+    """Checks the functions of a batch on a copy of the crate with all its bodies, over the work that is kept."""
+    texts = joined(crate, batch)
+    with tempfile.TemporaryDirectory(prefix="wrong-bodies-") as room:
+        for part in rtlib.PARTS:
+            if os.path.isdir(f"{crate.folder}/{part}"):
+                shutil.copytree(f"{crate.folder}/{part}", f"{room}/{part}")
+        write_files(room, texts)
+        for it in batch:
+            copy_proofs(crate, it, room)
+        words = crate.words(["--jobs", "1", "--incremental", kept], keeps=False)
+        for function in sorted({function for it in batch for function in it.functions()}):
+            words += ["--only", function]
+        lines, seconds = run(room, [rtlib.RATTLE, "check", *words])
+    has_judged = bool(re.fullmatch(r"only=\d+ proved=\d+", lines[-1]))
+    return Report(lines, texts, has_judged and not any(rt.unread(it, texts) for it in lines), seconds)
+
+
+def joined(crate, batch: list[Place]) -> dict[str, str]:
+    """What the files become that the bodies of a batch change, with all of these together."""
+    if len(batch) == 1 and not batch[0].ending:
+        return batch[0].body.texts
+    owns, parts = {}, {}
+    for it in batch:
+        for path, text in it.body.texts.items():
+            own = owns.setdefault(path, cut(read_file(f"{crate.folder}/{path}")))
+            into = parts.setdefault(path, [text for _, text in own])
+            for at in places_of_change(own, text):
+                if it.ending:
+                    into[at + 1] = with_twin(own, at, cut(text)[at][1], it.ending, into[at + 1])
+                else:
+                    into[at] = cut(text)[at][1]
+    return {path: "".join(it) for path, it in parts.items()}
+
+
+def with_twin(own: list[tuple[str, str]], at: int, body: str, ending: str, behind: str) -> str:
+    """What stands behind a function's body, with a twin of this body right behind the function's end."""
+    name = own[at][0]
+    head = re.sub(rf"\bfn {name}\b", f"fn {name}{ending}", item(own[at - 1][1], name), count=1)
+    end, rest = behind.split("\n", 1)
+    return f"{end}\n\n{head}{body}{end}\n{rest}"
+
+
+def copy_proofs(crate, place: Place, room: str) -> None:
+    """Gives a twin the proof files of its function."""
+    for function in place.body.functions if place.ending else []:
+        files = f"{crate.folder}/proofs/{function.replace('::', '/')}"
+        named = rf"(Rattle\.{crate.name}\.(?:proofs|specs\.contracts)\.{re.escape(function.replace('::', '.'))})\b"
+        for file in os.listdir(files) if os.path.isdir(files) else []:
+            if file.endswith(".antt"):
+                text = re.sub(named, rf"\1{place.ending}", read_file(f"{files}/{file}"))
+                write_files(room, {f"proofs/{function.replace('::', '/')}{place.ending}/{file}": text})
+
+
+def write_files(folder: str, texts: dict[str, str]) -> None:
+    for path, text in texts.items():
+        os.makedirs(os.path.dirname(f"{folder}/{path}"), exist_ok=True)
+        with open(f"{folder}/{path}", "w", encoding="utf-8") as file:
+            file.write(text)
+
+
+def run(folder: str, words: list[str]) -> tuple[list[str], float]:
+    """Runs a command, and returns the lines that it printed and the processor seconds that it took."""
+    how = {"stdin": subprocess.DEVNULL, "stdout": subprocess.PIPE, "stderr": subprocess.STDOUT, "errors": "replace"}
+    with subprocess.Popen([*rtlib.guarded(), *words], cwd=folder, **how) as started:
+        said = started.stdout.read()
+        # (the only call that tells the time of one child)
+        _, started.returncode, used = os.wait4(started.pid, 0)
+    return said.rstrip("\n").split("\n"), used.ru_utime + used.ru_stime
+
+
+# ---- verdicts
+
+TAKEN_AWAY = re.compile(r"has no field|is not in scope|has no `|was not admitted")
+# A tactic of a proof file that didn't prove its goal, or says of which values it doesn't hold.
+UNPROVED = re.compile(r"the goal does not follow|the goal fails|no proof of|did not prove")
+
+
+def line_of(crate, function: str, report: Report) -> str:
+    """What the prover says of a function, or '' where no line is about it."""
+    wanted = re.compile(rf"fn {crate.name}::(?:\w+::)*{re.escape(function)}: (.*)")
+    found = [it[1] for it in map(wanted.match, report.lines) if it]
+    return found[0] if len(found) == 1 else ""
+
+
+def own_errors(function: str, report: Report) -> list[str]:
+    """The errors in a function's own proof files, each with the lines that go on with it."""
+    place = re.compile(rf"(?:\./)?proofs/(?:\w+/)*{function.replace('::', '/')}/\w+\.antt:\d+:\d+: error: (.*)")
+    found, is_own = [], False
+    for line in report.lines:
+        begun = place.match(line)
+        if begun:
+            found.append(begun[1])
+        elif is_own and line.startswith("  "):
+            found[-1] += " " + line.strip()
+        is_own = bool(begun) or is_own and line.startswith("  ")
+    return found
+
+
+def open_goal(function: str, report: Report) -> str:
+    """A goal of a function that the search left open, or ''. (Of a function with proof files a note of its place alone
+    says so. It is taken where the place tells which function it is.)"""
+    for line in report.lines:
+        note = re.match(r"note: src/(\S+)\.rt:(\d+):\d+: (it is not proved that .*)", line)
+        if note and f"src/{note[1]}.rt" in report.texts:
+            module = "" if note[1] in ("lib", "main") else note[1].replace("/", "::") + "::"
+            names = [name for name, _ in cut(report.texts[f"src/{note[1]}.rt"]) if name]
+            name = function_at(report.texts[f"src/{note[1]}.rt"], int(note[2]))
+            if function.startswith(module) and function.split("::")[-1] == name and names.count(name) == 1:
+                return note[3]
+    return ""
+
+
+def function_at(source: str, line: int) -> str:
+    """The function on whose head or body a line of a source is, or ''."""
+    before = 0
+    parts = cut(source)
+    for at, (name, text) in enumerate(parts):
+        head = item(parts[at - 1][1], name).count("\n") if name else 0
+        if name and before - head < line <= before + text.count("\n") + 1:
+            return name
+        before += text.count("\n")
+    return ""
+
+
+def refusal(crate, place: Place, report: Report) -> tuple[str, str]:
+    """How the prover refuses one of the body's functions by itself, and at what; or ('', '') where it doesn't."""
+    mismatch = "", ""
+    for function in place.functions() if report.has_judged else []:
+        said = line_of(crate, function, report)
+        if "did not prove" in said:
+            return GOAL, f"{function}: {said}"
+        if said.startswith(("not proved", "no proof")):
+            errors = own_errors(function, report)
+            at_goal = [it for it in errors if UNPROVED.search(it)]
+            fits = not any(TAKEN_AWAY.search(it) for it in errors)
+            at_goal += [open_goal(function, report)] if fits else []
+            if any(at_goal):
+                return GOAL, f"{function}: {said}: {next(filter(None, at_goal))}"
+            errors = [it for it in errors if not TAKEN_AWAY.search(it)]
+            if errors and not mismatch[0]:
+                mismatch = MISMATCH, f"{function}: {said}: {errors[0]}"
+    return mismatch
+
+
+def is_proved(crate, place: Place, report: Report) -> bool:
+    return report.has_judged and all(line_of(crate, it, report) == "proved" for it in place.functions())
+
+
+def verdict_of(crate, place: Place, report: Report, is_last: bool) -> Outcome | None:
+    """What came of a body, or nothing where this check leaves it open and isn't the last one."""
+    name, is_control = place.body.name, place.body.is_control
+    kind, said = refusal(crate, place, report)
+    if kind:
+        return Outcome(name, NOT_PROVED if is_control else kind, said)
+    if is_control and is_proved(crate, place, report):
+        return Outcome(name, PROVED, "proved")
+    if is_last or is_proved(crate, place, report):
+        return why_not(crate, place, report)
+    return None
+
+
+def why_not(crate, place: Place, report: Report) -> Outcome:
+    """What came of a body that isn't refused, though it was tried by itself or is proved."""
+    if report.has_judged:
+        said = [f"{it}: {line_of(crate, it, report) or 'not named by the prover'}" for it in place.functions()]
+        return Outcome(place.body.name, NOT_PROVED if place.body.is_control else LET_THROUGH, "; ".join(said))
+    errors = [it for it in report.lines if "error" in it] or report.lines
+    return Outcome(place.body.name, BAD_EDIT, f"the prover judged nothing: {errors[0]}")
+
+
+# ---- crates
+
+
+def try_bodies(crate, bodies: list[Body]) -> Tally:
+    """Tries wrong bodies of a crate batch by batch, once more together what the batches leave open, and by itself what
+    is open then."""
+    tally = Tally(crate.name)
+    with tempfile.TemporaryDirectory(prefix="wrong-bodies-") as kept:
+        for ordered in in_batches, in_batches, lambda left: [[alone(it)] for it in left]:
+            bodies = [it for batch in ordered(bodies) for it in try_batch(crate, batch, kept, tally)]
+    return tally
+
+
+def try_batch(crate, batch: list[Place], kept: str, tally: Tally) -> list[Body]:
+    """Tries the bodies of a batch, in halves where it can't be read as a whole, and returns those that are left open."""
+    report = check(crate, batch, kept)
+    tally.checks += 1
+    tally.seconds += report.seconds
+    if not report.has_judged and len(batch) > 1:
+        half = len(batch) // 2
+        return [it for part in (batch[:half], batch[half:]) for it in try_batch(crate, part, kept, tally)]
+    left = []
+    for it in batch:
+        outcome = verdict_of(crate, it, report, is_last=len(batch) == 1)
+        if outcome:
+            tally.outcomes.append(outcome)
+        else:
+            left.append(it.body)
+    return left

@@ -1,0 +1,214 @@
+"""Reads wrong bodies: what an edit changes, and in which check it can stand beside others."""
+
+from __future__ import annotations
+
+import os
+import re
+from dataclasses import dataclass
+
+from . import rt
+
+
+class BadEdit(Exception):
+    """Why an edit can't be tried."""
+
+
+@dataclass
+class Body:
+    """A wrong body, or a control beside one: its edit's name, and what the files that it changes become."""
+
+    name: str
+    texts: dict[str, str]
+    # The functions that it changes.
+    functions: list[str]
+    # The edit itself.
+    edit: str = ""
+    # Whether it is harmless, so that it has to be proved.
+    is_control: bool = False
+    # Whether it changes nothing but these functions' bodies.
+    is_inside: bool = True
+    # Whether it can stand in twins of the functions that it changes.
+    can_be_twin: bool = False
+
+
+@dataclass
+class Place:
+    """Where a check has a body: in its functions' own place, or in twins of them."""
+
+    body: Body
+    # What the twins' names end with, or ''.
+    ending: str = ""
+
+    def functions(self) -> list[str]:
+        return [it + self.ending for it in self.body.functions]
+
+
+# ---- sources
+
+FUNCTION = re.compile(r"( *)(?:pub(?:\([a-z]+\))? )?(?:const )?fn (\w+)")
+
+
+def cut(source: str) -> list[tuple[str, str]]:
+    """Cuts a source, as rt fmt lays it out, into functions' bodies, each behind its function's name, and what stands
+    between them, behind ''. A body begins behind the first '{' of a line that is indented as its 'fn' is, and ends
+    before a line that is '}' with that indentation."""
+    parts, name, indent, is_inside = [("", "")], "", None, False
+    for line in source.splitlines(True):
+        if is_inside:
+            if line.rstrip() == f"{indent}}}":
+                parts.append(("", ""))
+                indent, is_inside = None, False
+        else:
+            begun = FUNCTION.match(line)
+            if begun:
+                indent, name = begun[1], begun[2]
+            elif indent is not None and re.match(rf"{indent}(?![ {{)]|where\b)", line):
+                indent = None
+            if indent is not None and re.match(rf"{indent}[^ ]", line):
+                head, brace, rest = line.partition("{")
+                if brace and rest.count("}") <= rest.count("{"):
+                    parts[-1] = ("", parts[-1][1] + head + brace)
+                    parts.append((name, ""))
+                    line, is_inside = rest, True
+                elif line.rstrip().endswith(("}", ";")):
+                    indent = None
+        parts[-1] = (parts[-1][0], parts[-1][1] + line)
+    return parts
+
+
+def changed_functions(old: str, new: str) -> set[str] | None:
+    """The functions whose bodies differ in two texts of a file, or None where something else differs."""
+    was, now = cut(old), cut(new)
+    names = {before[0] for before, after in zip(was, now) if before != after}
+    return None if len(was) != len(now) or "" in names else names
+
+
+def places_of_change(own: list[tuple[str, str]], new: str) -> list[int]:
+    return [at for at, (old, now) in enumerate(zip(own, cut(new))) if old != now]
+
+
+def item(head: str, name: str) -> str:
+    """The end of a text that ends with the head of a function of this name: that head with what stands right above."""
+    lines = head.splitlines(True)
+    first = last_line(lines, rf" *(?:pub(?:\([a-z]+\))? )?(?:const )?fn {name}\b")
+    while first and lines[first - 1].strip() and not lines[first - 1].rstrip().endswith(("{", "}", ";")):
+        first -= 1
+    return "".join(lines[first:])
+
+
+def is_of_trait(head: str, name: str) -> bool:
+    """Whether the function whose head ends this text stands in a trait or in an impl of one."""
+    if not item(head, name).startswith(" "):
+        return False
+    lines = head.splitlines(True)
+    above = "".join(lines[last_line(lines, r"(pub(\([a-z]+\))? )?(unsafe )?(impl|trait|mod)\b") :]).partition("{")[0]
+    return bool(re.search(r"\btrait\b|\bfor\b", above))
+
+
+def last_line(lines: list[str], pattern: str) -> int:
+    return max(at for at, line in enumerate(lines) if re.match(pattern, line))
+
+
+def statements(source: str) -> str:
+    """A source without the bodies of its functions, but of those that constants may call, and without comments and
+    blank lines: what others can know of it."""
+    parts = cut(source)
+    kept = [text for at, (name, text) in enumerate(parts) if not name or "const fn" in item(parts[at - 1][1], name)]
+    return without_comments("".join(kept), "//")
+
+
+def without_comments(text: str, begin: str) -> str:
+    lines = text.splitlines()
+    return "\n".join(it for it in lines if it.strip() and not it.lstrip().startswith(begin))
+
+
+def read_file(path: str) -> str:
+    with open(path, encoding="utf-8") as file:
+        return file.read()
+
+
+# ---- edits
+
+MARKS = "function|file|old|new|promise|control"
+
+
+def lines_of(edit: str, mark: str) -> list[str]:
+    """What stands behind a mark, line by line."""
+    return re.findall(rf"(?m)^{mark}: (.*\S)", edit)
+
+
+def read_body(crate, name: str) -> Body:
+    """Reads an edit, and tries it on the crate's files."""
+    text = read_file(f"{crate.folder}/wrong-bodies/{name}.edit")
+    # (rt passes over such a line)
+    other = re.search(rf"(?m)^(?!(?:{MARKS}):(?: |$)).+$", text)
+    if other:
+        raise BadEdit(f"a line begins with no mark of an edit: {other[0]}")
+    texts, why = rt.edited(text, crate.folder)
+    if why:
+        raise BadEdit(why)
+    body = Body(name, texts, re.findall(r"(?m)^function: (\S+)$", text), text, bool(lines_of(text, "control")))
+    if not body.functions:
+        raise BadEdit("it has no line 'function: PATH'")
+    named = {it.rpartition("::")[2] for it in body.functions}
+    for path, new in texts.items():
+        changed = changed_functions(read_file(f"{crate.folder}/{path}"), new)
+        if changed is None or not path.endswith(".rt"):
+            body.is_inside = False
+        elif changed - named:
+            raise BadEdit(f"no line 'function: PATH' names {min(changed - named)}, whose body it changes")
+    body.can_be_twin = body.is_inside and can_be_twin(crate, body)
+    return body
+
+
+def can_be_twin(crate, body: Body) -> bool:
+    """Whether no trait asks for the functions that the body changes, none is in a cycle of calls, and no closure of
+    theirs has proof files."""
+    named = []
+    for path, new in body.texts.items():
+        own = cut(read_file(f"{crate.folder}/{path}"))
+        for at in places_of_change(own, new):
+            head = "".join(text for _, text in own[:at])
+            if "#[cycle" in item(head, own[at][0]) or is_of_trait(head, own[at][0]):
+                return False
+            named.append(own[at][0])
+    modules = [it.rpartition("::") for it in body.functions]
+    closures = [f"{crate.folder}/proofs/{module.replace('::', '/')}/fn/{name}" for module, _, name in modules]
+    return sorted(named) == sorted(name for _, _, name in modules) and not any(map(os.path.exists, closures))
+
+
+def read_bodies(crate) -> tuple[list[Body], dict[str, str]]:
+    """Reads a crate's wrong bodies, and says of those that can't be tried why."""
+    folder, bodies, bad = f"{crate.folder}/wrong-bodies", [], {}
+    for file in sorted(os.listdir(folder)):
+        name, ending = os.path.splitext(file)
+        try:
+            if ending != ".edit":
+                raise BadEdit("its name doesn't end in .edit")
+            bodies.append(read_body(crate, name))
+        except (BadEdit, OSError, UnicodeDecodeError) as why:
+            bad[name] = str(why)
+    return bodies, bad
+
+
+def in_batches(bodies: list[Body]) -> list[list[Place]]:
+    """Puts each body into the first batch in which it can be judged, those first that can have no twin. A control
+    stands in a twin where it can, so that it speaks for the wrong bodies that do."""
+    batches: list[list[Place]] = []
+    for body in sorted(bodies, key=lambda it: it.can_be_twin):
+        for batch in batches:
+            if body.is_inside and all(it.body.is_inside for it in batch):
+                taken = {name for it in batch if not it.ending for name in it.body.functions}
+                if not taken & {*body.functions} and not (body.is_control and body.can_be_twin):
+                    batch.append(Place(body))
+                    break
+                if body.can_be_twin:
+                    batch.append(Place(body, f"_twin{len(batch)}"))
+                    break
+        else:
+            batches.append([alone(body)])
+    return batches
+
+
+def alone(body: Body) -> Place:
+    return Place(body, "_twin0" if body.is_control and body.can_be_twin else "")

@@ -1,0 +1,143 @@
+"""The record of refused wrong bodies, which says of each in which world it was refused.
+
+A body's sum is over all that its verdict hangs on: the edit; its crate's sources, specs and proofs; of each library
+below what others can know of it, which is its specs and its sources without the bodies of its functions; their lines
+of crates.txt; the toolchain's identity; and the texts of this script. The record of a crate is a file of lines
+'BODY KIND SUM', in their order. A line of another world says nothing and does no harm, so that a merge may keep both
+sides' lines.
+"""
+
+from __future__ import annotations
+
+import functools
+import hashlib
+import os
+import re
+import subprocess
+from dataclasses import dataclass, field
+
+from . import TOP, rtlib
+from .checks import WELL, Outcome
+from .edits import Body, read_file, statements, without_comments
+
+FOLDER = os.path.join(TOP, "tests", "refused")
+# Of those on record one of so many is tried all the same.
+DRAWN = 20
+
+
+def sum_of(*parts) -> str:
+    return hashlib.sha256(repr(parts).encode()).hexdigest()[:32]
+
+
+# ---- worlds
+
+
+@functools.cache
+def script_sum() -> str:
+    """Of this script's own texts."""
+    tests = os.path.join(TOP, "tests")
+    parts = sorted(it for it in os.listdir(f"{tests}/wrong_bodies") if it.endswith(".py"))
+    return sum_of(*[(it, read_file(f"{tests}/{it}")) for it in ["wrong-bodies", *[f"wrong_bodies/{it}" for it in parts]]])
+
+
+@functools.cache
+def toolchain_sum() -> str:
+    return sum_of(*[read_file(f"{rtlib.KIT}/{it}") for it in ("KIT-ID", "WHAT")])
+
+
+@functools.cache
+def texts_of(crate) -> dict[str, str]:
+    """A crate's sources, specs and proofs by their paths in it."""
+    return {os.path.relpath(it, crate.folder): read_file(it) for it in rtlib.files_of(crate.folder)}
+
+
+@functools.cache
+def proofs_named(crate) -> set[str]:
+    """The libraries below whose proofs a crate names."""
+    found = {it for text in texts_of(crate).values() for it in re.findall(r"\bRattle\.(\w+)\.proofs\b", text)}
+    return found - {crate.name}
+
+
+@functools.cache
+def known_of(library, has_proofs: bool) -> str:
+    """A sum of what others can know of a library, and of its proofs where they name these."""
+    found = []
+    for path, text in texts_of(library).items():
+        if path.startswith("src/"):
+            found.append((path, statements(text)))
+        elif path.startswith("specs/") or has_proofs:
+            found.append((path, without_comments(text, "--")))
+    return sum_of(library.name, library.of_kit, [it.name for it in library.deps], found)
+
+
+def world_of(crate) -> str:
+    """A sum of all that the verdicts on a crate's wrong bodies hang on, but for the edits."""
+    below = crate.below()
+    named = {name for it in [crate, *below] for name in proofs_named(it)}
+    known = sorted(known_of(it, it.name in named) for it in below)
+    own = sorted(texts_of(crate).items())
+    return sum_of(toolchain_sum(), script_sum(), crate.name, crate.of_kit, [it.name for it in crate.deps], own, known)
+
+
+def commit() -> str:
+    """The name of the commit that the tree stands on, or '' where there is none."""
+    how = {"cwd": TOP, "stdin": subprocess.DEVNULL, "stdout": subprocess.PIPE, "stderr": subprocess.DEVNULL, "text": True}
+    try:
+        return subprocess.run(["git", "rev-parse", "HEAD"], **how).stdout.strip()
+    except OSError:
+        return ""
+
+
+# ---- records
+
+
+class Record:
+    """What is on record of a crate's wrong bodies."""
+
+    LINE = re.compile(r"(\S+) (\S+) ([0-9a-f]{32})")
+
+    def __init__(self, crate, folder: str = FOLDER):
+        self.path, self.world = f"{folder}/{crate.name}", world_of(crate)
+        text = read_file(self.path) if os.path.isfile(self.path) else ""
+        found = [self.LINE.fullmatch(it) for it in text.splitlines()]
+        self.kinds = {(it[1], it[3]): it[2] for it in found if it and it[2] in WELL}
+
+    def sum(self, body: Body) -> str:
+        return sum_of(self.world, body.name, body.edit)
+
+    def kind(self, body: Body) -> str:
+        """Of which kind the refusal of this very body is on record, or ''."""
+        return self.kinds.get((body.name, self.sum(body)), "")
+
+    def write(self, bodies: list[Body], outcomes: list[Outcome]) -> None:
+        """Writes down the bodies that came as they have to."""
+        came = {it.body: it.verdict for it in outcomes if it.verdict in WELL}
+        lines = sorted(f"{it.name} {came[it.name]} {self.sum(it)}\n" for it in bodies if it.name in came)
+        os.makedirs(os.path.dirname(self.path), exist_ok=True)
+        with open(self.path, "w", encoding="utf-8") as file:
+            file.writelines(lines)
+
+
+@dataclass
+class Choice:
+    """Which of a crate's wrong bodies a run tries."""
+
+    # Those that aren't on record, and those that are and are drawn all the same.
+    new: list[Body] = field(default_factory=list)
+    drawn: list[Body] = field(default_factory=list)
+    # What is on record of the others.
+    kept: list[Outcome] = field(default_factory=list)
+
+
+def choose(crate, bodies: list[Body], record: Record, by: str) -> Choice:
+    """Draws by a name, such as a commit's. By none all are drawn."""
+    choice = Choice()
+    for body in bodies:
+        kind = record.kind(body)
+        if not kind:
+            choice.new.append(body)
+        elif not by or int(sum_of(by, crate.name, body.name), 16) % DRAWN == 0:
+            choice.drawn.append(body)
+        else:
+            choice.kept.append(Outcome(body.name, kind, "on record"))
+    return choice

@@ -1,0 +1,213 @@
+"""The trial of this script: edits of a small crate, of which some are harmless, and all that is said of them."""
+
+from __future__ import annotations
+
+import os
+import tempfile
+
+from . import rtlib
+from .checks import BAD_EDIT, GOAL, LET_THROUGH, MISMATCH, NOT_PROVED, PROVED, WELL, Outcome, Tally, try_bodies, write_files
+from .edits import read_bodies
+from .promises import faults_of_promises, mismatches
+from .record import DRAWN, Record, choose, world_of
+
+SOURCE = """\
+//! What the trial of wrong bodies tries itself on.
+#![tactic(auto)]
+
+ghost use Rattle.std.specs.Prelude.{◌≡◌, ◌+◌, ◌<◌};
+
+pub fn same(k: u32) -> u32
+    ensures { result ≡ k }
+{
+    k
+}
+
+pub fn next(x: u32) -> u32
+    requires { x < 100 }
+    ensures { result ≡ x + 1 }
+{
+    x + 1
+}
+
+pub fn second(x: u32) -> u32
+    requires { x + 1 < 100 }
+    ensures { result ≡ x + 2 }
+{
+    let before = next(x);
+    next(before)
+}
+
+pub fn third(x: u32) -> u32
+    requires { x + 2 < 100 }
+    ensures { result ≡ x + 3 }
+{
+    let almost = second(x);
+    next(almost)
+}
+
+pub fn passed_on(k: u32) -> u32
+    ensures { result ≡ k }
+{
+    same(k)
+}
+"""
+
+# Proof files: one with a tactic, so that the prover names no goal of the function, and one with the term itself.
+ANSWERS = {
+    "third": """\
+use Rattle.std.proofs.Common.{rules}
+use Rattle.fixture.proofs.third.Goals as goal
+
+pub returns : goal.returns
+returns c = search rules
+""",
+    "passed_on": """\
+use Rattle.fixture.proofs.passed_on.Goals as goal
+
+pub returns : goal.returns
+returns c = c.same.ensures
+""",
+}
+
+# Each edit's function, its old and new text, and what has to come of it.
+EDITS = {
+    "cannot_be_read": ("same", "    k", "    j", BAD_EDIT),
+    "harmless": ("same", "    k", "    k + 0", LET_THROUGH),
+    "harmless_above_wrong": ("second", "next(before)", "before + 1", LET_THROUGH),
+    "old_text_twice": ("next", "x + 1", "x", BAD_EDIT),
+    "other_function": ("same", "next(before)", "before", BAD_EDIT),
+    "two_lines": ("next", "    x + 1", "    x\n    + 2", BAD_EDIT),
+    "wrong": ("next", "    x + 1", "    x + 2", GOAL),
+    "wrong_again": ("next", "    x + 1", "    x", GOAL),
+    "wrong_beside_a_proof": ("third", "next(almost)", "next(almost) - 1", GOAL),
+    "wrong_above_wrong": ("third", "next(almost)", "almost", GOAL),
+    "wrong_beside_a_term": ("passed_on", "    same(k)", "    same(k) / 2", MISMATCH),
+}
+# The same of controls.
+CONTROLS = {
+    "in_brackets": ("passed_on", "    same(k)", "    (same(k))", PROVED),
+    "asked_twice": ("passed_on", "    same(k)", "    same(same(k))", NOT_PROVED),
+    "in_its_own_place": ("next", "    x + 1", "    1 + x", PROVED),
+    "no_control": ("next", "    x + 1", "    x + 3", NOT_PROVED),
+}
+
+PROMISES = """\
+| promise | in one line | today |
+|---|---|---|
+| Kept | it is kept | yes |
+| Forgotten | no wrong body speaks of it | yes |
+
+Bold are **`wrong`** and **`unmarked`**.
+"""
+FAULTS = [
+    "no wrong body is marked with the promise 'Forgotten'",
+    "a wrong body is marked with 'Unheard', which is no promise",
+    "unmarked is bold among the promises, and no edit of this name has a mark",
+    "another is marked with a promise, and not bold among them",
+]
+
+
+def try_itself() -> tuple[bool, str]:
+    """Returns whether all came as it had to, and what to say."""
+    with tempfile.TemporaryDirectory(prefix="wrong-bodies-") as top:
+        said, tally = try_edits(top)
+        said += try_record(top, tally)
+    with tempfile.TemporaryDirectory(prefix="wrong-bodies-") as top:
+        said += try_worlds(top)
+    if faults_of_promises(PROMISES, {"wrong": ["Kept"], "another": ["Unheard"], "a_third": []}) != FAULTS:
+        said.append("a promise without a wrong body passes")
+    head = f"itself: {'FAILED' if said else 'ok'}; {tally.checks} checks, {tally.seconds:.0f} processor seconds"
+    return not said, "\n".join([head, *[f"itself/{it}" for it in said]])
+
+
+def edit_text(function: str, old: str, new: str, why: str = "") -> str:
+    mark = f"control: {why}\n" if why else ""
+    return f"{mark}function: {function}\nfile: src/lib.rt\nold: {old}\nnew: {new}\n"
+
+
+def fixture(top: str):
+    """The crate below this folder, read anew."""
+    return next(it for it in rtlib.crates_below(top) if it.name == "fixture")
+
+
+def try_edits(top: str) -> tuple[list[str], Tally]:
+    """Tries the edits above."""
+    texts = {"crates.txt": "fixture:\n", "crates/fixture/src/lib.rt": SOURCE}
+    texts.update({f"crates/fixture/proofs/{name}/Answers.antt": text for name, text in ANSWERS.items()})
+    for name, (function, old, new, _) in EDITS.items():
+        texts[f"crates/fixture/wrong-bodies/{name}.edit"] = edit_text(function, old, new)
+    for name, (function, old, new, _) in CONTROLS.items():
+        texts[f"crates/fixture/wrong-bodies/{name}.edit"] = edit_text(function, old, new, "the same")
+    write_files(top, texts)
+    crate = fixture(top)
+    bodies, bad = read_bodies(crate)
+    tally = try_bodies(crate, bodies)
+    tally.outcomes += [Outcome(name, BAD_EDIT, why) for name, why in bad.items()]
+    wanted = {name: it[3] for name, it in (EDITS | CONTROLS).items()}
+    missed = [it for it in tally.outcomes if it.verdict != wanted[it.body]]
+    said = [f"{it.body}: {it.verdict}, and not {wanted[it.body]}: {it.said}" for it in missed]
+    if sorted(it.body for it in tally.outcomes) != sorted(wanted):
+        said.append("some edits have no verdict, or two")
+    proved = [it for it in tally.outcomes if it.body != "in_brackets"]
+    if mismatches(bodies, tally.outcomes) != (1, 0) or mismatches(bodies, proved) != (1, 1):
+        said.append("the bodies that stand on a mismatch are miscounted")
+    return said, tally
+
+
+def try_record(top: str, tally: Tally) -> list[str]:
+    """Records what came of the edits, and looks at what the next run would try."""
+    crate, said = fixture(top), []
+    bodies, _ = read_bodies(crate)
+    Record(crate, top).write(bodies, tally.outcomes)
+    refused = {it.body for it in tally.outcomes if it.verdict in WELL}
+    let_through = {it.name for it in bodies} - refused
+    first = "0"
+    choice = choose(crate, bodies, Record(crate, top), first)
+    if {it.name for it in choice.new} != let_through:
+        said.append("another than the bodies that are not on record is tried as new")
+    if {(it.body, it.verdict) for it in choice.kept} - {(it.body, it.verdict) for it in tally.outcomes}:
+        said.append("a body is on record as what it isn't")
+    draws = [len(choose(crate, bodies, Record(crate, top), str(at)).drawn) for at in range(200)]
+    if not 0.5 < sum(draws) * DRAWN / (200 * len(refused)) < 2 or len(choose(crate, bodies, Record(crate, top), "").drawn) < len(refused):
+        said.append("another part than one in twenty is drawn, or by no name not all")
+    # what was let through is not on record even where a line says so of another edit
+    write_files(top, {"crates/fixture/wrong-bodies/wrong.edit": edit_text("next", "    x + 1", "    x + 1 + 0")})
+    changed, _ = read_bodies(crate)
+    if "wrong" not in {it.name for it in choose(crate, changed, Record(crate, top), first).new}:
+        said.append("a changed edit stands on the record of the former")
+    write_files(top, {"crates/fixture/proofs/third/Answers.antt": ANSWERS["third"] + "\n"})
+    crate = fixture(top)
+    if choose(crate, bodies, Record(crate, top), first).kept:
+        said.append("a body stands on a record of other proofs")
+    return said
+
+
+def try_worlds(top: str) -> list[str]:
+    """Changes a library below a crate, and looks when the crate's world is another."""
+    texts = {"crates.txt": "under:\nfixture: under\n", "crates/under/src/lib.rt": SOURCE}
+    texts |= {"crates/fixture/src/lib.rt": SOURCE, "crates/under/specs/Lib.antt": "-- a comment\n"}
+    texts |= {"crates/under/proofs/Lib.antt": "-- a comment\n"}
+    write_files(top, texts)
+    before, said = world_of(fixture(top)), []
+    source = "crates/under/src/lib.rt"
+    for path, text, is_same in (
+        (source, SOURCE.replace("    x + 1\n", "    1 + x\n"), True),
+        (source, SOURCE.replace("pub fn same", "// a comment\npub fn same"), True),
+        ("crates/under/proofs/Lib.antt", "mod More\n", True),
+        (source, SOURCE.replace("x < 100", "x < 99"), False),
+        (source, SOURCE.replace("pub fn same", "pub const MOST: u32 = 4;\n\npub fn same"), False),
+        ("crates/under/specs/Lib.antt", "pub mod More\n", False),
+        ("crates/fixture/src/lib.rt", SOURCE.replace("    x + 1\n", "    1 + x\n"), False),
+    ):
+        write_files(top, {path: text})
+        if (world_of(fixture(top)) == before) != is_same:
+            said.append(f"a change of {path} counts that says nothing" if is_same else f"a change of {path} doesn't count")
+        write_files(top, {path: texts[path]})
+    # a proof that others name counts
+    write_files(top, {"crates/fixture/proofs/Lib.antt": "use Rattle.under.proofs.Lib.{lemma}\n"})
+    before = world_of(fixture(top))
+    write_files(top, {"crates/under/proofs/Lib.antt": "mod More\n"})
+    if world_of(fixture(top)) == before:
+        said.append("a change of a proof that another crate names doesn't count")
+    return said
