@@ -1,11 +1,12 @@
 -- What owning an opened frame keeps.
-use Rattle.std.proofs.Common.{◌≡◌, ◌≢◌, Ok, refl, sym, ap, subst}
+use Rattle.std.proofs.Common.{◌≡◌, ◌≢◌, ℕ, ◌<◌, length, Ok, refl, sym, ap, subst}
 use Rattle.pay_frame.specs.declared.kind.Kind.TheVariants.{Want}
-use Rattle.pay_frame.specs.Frame.{FrameFields, IsFrame}
+use Rattle.pay_frame.specs.Frame.{BodyFields, FrameFields, IsFrame}
 use Rattle.pay_frame.specs.OneFrame.{IsOneFrame}
 use Rattle.pay_link.specs.Checked.{CheckedFields, IsChecked, IsFor, bytes_of, checked_fields}
-use Rattle.pay_link.specs.Keys.{KeyFields}
+use Rattle.pay_link.specs.Keys.{IsPeer, KeyFields, key_for}
 use Rattle.pay_link.specs.Opening.{OpenedFields, judgement, opened_fields}
+use Rattle.pay_link.specs.Sealing.{sealed}
 use Rattle.pay_link.proofs.Judged.{opened_law}
 
 pub kept_law : (k : KeyFields) (f : FrameFields) (o : OpenedFields) → IsFrame f → f.body.kind ≢ Want →
@@ -36,3 +37,18 @@ opens_again_law k c is_checked is_for = (
 
 pub one_frame_law : (c : CheckedFields) → IsChecked c → IsOneFrame (bytes_of c) c.frame
 one_frame_law c is_checked = record { is = is_checked.frame; spelled = refl }
+
+-- what is sealed for a peer opens there, and is then what was owned
+pub sealed_owned : (a k : KeyFields) (to number : ℕ) (body : BodyFields) (c : CheckedFields) → IsChecked c →
+    c ≡ record { frame = sealed a to number body; key = key_for a to } → k.own ≡ to → IsPeer k a.own →
+    key_for a to ≡ key_for k a.own → body.owner < length k.keys →
+    IsFor k c × (judgement k c.frame ≡ Ok (opened_fields k c.frame)) × (checked_fields (opened_fields k c.frame) ≡ c)
+sealed_owned a k to number body c is_checked value own peer shared owner =
+    let is_for : IsFor k c = subst (IsFor k) (sym value) (record {
+      receiver = sym own;
+      sender = peer;
+      owner = owner;
+      key = shared;
+    }) in
+    let again = opens_again_law k c is_checked is_for in
+    (is_for, again.0, again.1)

@@ -26,4 +26,4 @@ pub use limits::{GREATEST_TOTAL, WANT_LEN};
 pub use link_fault::LinkFault;
 pub use opened::{Opened, open};
 pub use pay_frame::MOST_MEMBERS;
-pub use sealing::{seal, want};
+pub use sealing::{seal, sealed, want};

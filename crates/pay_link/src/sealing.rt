@@ -1,9 +1,12 @@
-ghost use Rattle.std.specs.Prelude.{◌≡◌, ◌++◌, IfOk};
+ghost use Rattle.std.specs.Prelude.{◌≡◌, ◌≢◌, ◌<◌, ◌++◌, IfOk, length};
 ghost use Rattle.pay_frame.specs.Frame.{IsFrame, frame_bytes};
 ghost use Rattle.pay_hmac.specs.Mac.{mac};
-ghost use Rattle.pay_link.specs.Keys.{IsPeer, key_for};
+ghost use Rattle.pay_link.specs.Checked.{IsChecked, IsFor, bytes_of, checked_fields};
+ghost use Rattle.pay_link.specs.Keys.{IsPeer, KeyFields, key_for};
+ghost use Rattle.pay_link.specs.Opening.{judgement, opened_fields};
 ghost use Rattle.pay_link.specs.Sealing.{sealed, tagged_bytes, wanted};
 
+use crate::checked::Checked;
 use crate::keys::Keys;
 use crate::limits::WANT_LEN;
 use pay_frame::{Body, HEAD_LEN, Kind, TAG_LEN, head_into, write};
@@ -26,6 +29,36 @@ pub fn seal<T: Tagger>(
 {
     let tag = tag_for(t, keys, to, number, body);
     write(alloc, keys.own(), to, number, body, &tag)
+}
+
+/// The same frame by itself, with the key that it was sealed under.
+///
+/// At the peer, where that has the same key for the sender, its bytes open, and what is owned there
+/// is this very frame. So whoever hands it on in one process computes its tag but once.
+pub fn sealed<T: Tagger>(
+    alloc: Global,
+    t: &T,
+    keys: &Keys,
+    to: u16,
+    number: u64,
+    body: &Body,
+) -> Result<Checked, AllocError>
+    requires peer { IsPeer keys.now to }
+    requires kind { body.now.kind ≢ Kind.Want }
+    ensures value { IfOk result (λ checked. checked
+        ≡ record { frame = sealed keys.now to number body.now; key = key_for keys.now to }) }
+    ensures bytes { IfOk result (λ checked.
+        bytes_of checked ≡ frame_bytes (sealed keys.now to number body.now)) }
+    ensures frame { IsFrame (sealed keys.now to number body.now) }
+    ensures limits { IfOk result IsChecked }
+    ensures owned { IfOk result (λ checked. (k : KeyFields) → k.own ≡ to → IsPeer k keys.now.own
+        → key_for keys.now to ≡ key_for k keys.now.own → body.now.owner < length k.keys
+        → IsFor k checked
+        × (judgement k checked.frame ≡ Ok (opened_fields k checked.frame))
+        × (checked_fields (opened_fields k checked.frame) ≡ checked)) }
+{
+    let checked = checked_for(alloc, t, keys, to, number, body)?;
+    Ok(checked)
 }
 
 /// The bytes of a WANT to a peer, with its right tag: it asks for the frames from a number on. It
@@ -56,9 +89,39 @@ fn joined(head: &[u8; HEAD_LEN], tag: &[u8; TAG_LEN]) -> [u8; WANT_LEN]
 #[tactic(auto, unfolding(crate::specs::Sealing::tagged_bytes))]
 fn tag_for<T: Tagger>(t: &T, keys: &Keys, to: u16, number: u64, body: &Body) -> [u8; TAG_LEN]
     requires { IsPeer keys.now to }
-    ensures { result ≡ mac (key_for keys.now to) (tagged_bytes keys.now.own to number body.now) }
+    ensures tag { result
+        ≡ mac (key_for keys.now to) (tagged_bytes keys.now.own to number body.now) }
+    ensures frame { IsFrame (sealed keys.now to number body.now) }
 {
     let mut head = [0; HEAD_LEN];
     head_into(&mut head, keys.own(), to, number, body);
     t.tag(keys.key(to), &head, body.value())
+}
+
+// A frame to a peer by itself, with the key that is shared with that peer.
+fn checked_for<T: Tagger>(
+    alloc: Global,
+    t: &T,
+    keys: &Keys,
+    to: u16,
+    number: u64,
+    body: &Body,
+) -> Result<Checked, AllocError>
+    requires peer { IsPeer keys.now to }
+    requires kind { body.now.kind ≢ Kind.Want }
+    ensures value { IfOk result (λ checked. checked
+        ≡ record { frame = sealed keys.now to number body.now; key = key_for keys.now to }) }
+    ensures frame { IsFrame (sealed keys.now to number body.now) }
+    ensures limits { IfOk result IsChecked }
+{
+    let tag = tag_for(t, keys, to, number, body);
+    let body = body.copy(alloc)?;
+    Ok(Checked {
+        from: keys.own(),
+        to,
+        number,
+        body,
+        tag,
+        key: *keys.key(to),
+    })
 }

@@ -256,6 +256,24 @@ fn owned(alloc: Global, keys: &Keys) -> Result<Checked, Fail> {
     Ok(opened.own(alloc)?)
 }
 
+/// The ECHO by itself, sealed by member 3 for member 1.
+fn sealed_by_itself(alloc: Global) -> Result<Checked, Fail> {
+    let keys = keys_of(alloc, 3)?;
+    let value = Bytes::from_slice(alloc, &[1, 0, 1, 0, 0, 0, 0, 0, 0, 0, 30])?;
+    if value.len() > 1024 || !keys.is_peer(1) {
+        return Err(Fail::new("a long value, or no peer"));
+    }
+    let body = Body::new(Kind::Echo, 2, 65_535, value);
+    Ok(pay_link::sealed(alloc, &HmacSha256, &keys, 1, 7, &body)?)
+}
+
+/// What is sealed by itself is what its receiver would own.
+#[test]
+fn sealed_as_owned(rt: HostRuntime) -> Result<(), Fail> {
+    let checked = sealed_by_itself(rt.alloc())?;
+    try_owned(&rt, rt.alloc(), &checked)
+}
+
 /// From whom to whom an owned frame is, and its number.
 fn route(checked: &Checked) -> (u16, u16, u64) {
     (checked.from(), checked.to(), checked.number())

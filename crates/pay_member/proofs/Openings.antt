@@ -9,7 +9,7 @@ use Rattle.pay_frame.specs.declared.kind.Kind.TheVariants.{Send, Echo, Ready, Wa
 use Rattle.pay_frame.specs.Frame.{FrameFields, IsFrame}
 use Rattle.pay_frame.specs.OneFrame.{IsOneFrame, IsOneReading, one_frame}
 use Rattle.pay_link.specs.Keys.{KeyFields, IsPeer}
-use Rattle.pay_link.specs.Checked.{IsChecked, IsFor, checked_fields}
+use Rattle.pay_link.specs.Checked.{CheckedFields, IsChecked, IsFor, bytes_of, checked_fields}
 use Rattle.pay_link.specs.Opening.{OpenedFields, Opens, judgement, opened_fields}
 use Rattle.pay_link.specs.declared.link_fault.LinkFault.{LinkFault}
 use Rattle.pay_member.specs.declared.outcome.Outcome.{Outcome}
@@ -205,3 +205,40 @@ pub opened_as :
     → option_map (λ (o : OpenedFields). o.frame) (result_ok r) ≡ opened_in k bytes
 opened_as frame none k bytes (Err outcome) is = sym (none_opened frame none k bytes outcome is)
 opened_as frame none k bytes (Ok o) is = sym (some_opened frame k bytes o (has_opened k bytes o is))
+
+-- ---- the bytes of a frame that is for the member
+
+abbrev pub OpensAgain : Type 0
+OpensAgain =
+    (k : KeyFields) (c : CheckedFields) → IsChecked c → IsFor k c
+    → (judgement k c.frame ≡ Ok (opened_fields k c.frame)) × (checked_fields (opened_fields k c.frame) ≡ c)
+
+abbrev pub OneFrameOf : Type 0
+OneFrameOf = (c : CheckedFields) → IsChecked c → IsOneFrame (bytes_of c) c.frame
+
+wants_none : (of : Kind) → of ≢ Want → is_want of ≡ false
+wants_none Send other = refl
+wants_none Echo other = refl
+wants_none Ready other = refl
+wants_none Want other = absurd (other refl)
+
+-- they open, and what opens is the frame
+pub record IsOwned (k : KeyFields) (c : CheckedFields) : Type 0 where
+  pub one : IsOneFrame (bytes_of c) c.frame
+  pub opening : opening k (Ok c.frame) ≡ Ok (opened_fields k c.frame)
+  pub opened : opened_in k (bytes_of c) ≡ Some c.frame
+  pub same : c ≡ checked_with k c.frame
+
+pub is_owned : FrameIs → OpensAgain → OneFrameOf → (k : KeyFields) (c : CheckedFields) → IsChecked c → IsFor k c → IsOwned k c
+unfolding opening
+is_owned frame again one_frame k c is_checked is_for =
+    let one = one_frame c is_checked in
+    let opens = again k c is_checked is_for in
+    let other = wants_none c.frame.body.kind is_checked.kind in
+    let has : HasOpened k (bytes_of c) (opened_fields k c.frame) = record { frame = c.frame; one = one; opens = opens.0; other = other } in
+    record {
+      one = one;
+      opening = ap judged opens.0 ∙ cond-false _ _ _ other;
+      opened = some_opened frame k (bytes_of c) (opened_fields k c.frame) has;
+      same = sym opens.1;
+    }

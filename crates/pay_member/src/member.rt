@@ -2,7 +2,7 @@ ghost use Rattle.std.specs.Prelude.{◌≡◌, ◌≢◌, ◌<◌, ◌&&◌, ◌
 ghost use Rattle.std.specs.Option.{option_copied, option_map, option_to_list};
 ghost use Rattle.pay_link.specs.Keys.{IsKeysOf};
 ghost use Rattle.pay_frame.specs.Lent.{fields_of};
-ghost use Rattle.pay_link.specs.Checked.{IsFor, checked_fields};
+ghost use Rattle.pay_link.specs.Checked.{IsFor, bytes_of, checked_fields};
 ghost use Rattle.pay_link.specs.Genesis.{IsGenesis};
 ghost use Rattle.pay_book.specs.Statement.{statement_of};
 ghost use Rattle.pay_channel.specs.History.{From, asks, list_of, out};
@@ -236,6 +236,31 @@ impl<I: Instance + Drop, B: Settle + Drop> Member<I, B> {
             Ok(opened) => self.take_unanswered(alloc, stamp, &opened),
             Err(outcome) => Ok(outcome),
         }
+    }
+
+    /// The same of a frame by itself that is for this member, without its bytes: they would open to
+    /// it, so no tag is computed.
+    pub fn bring_owned(
+        &mut self,
+        alloc: Global,
+        stamp: u16,
+        owned: Checked,
+    ) -> Result<Outcome, AllocError>
+        requires { IsFor self.old.keys owned }
+        ensures outcome { IfOk result (IsOutcome self.old.genesis self.old.keys
+            (events self.old.history) (bytes_of owned)) }
+        ensures entry { IfOk result (λ outcome. self.new
+            ≡ with_brought self.old stamp outcome (opened_in self.old.keys (bytes_of owned))) }
+        ensures events { IfOk result (λ _. events self.new.history ≡ events self.old.history
+            ++ option_to_list
+            (event_in self.old.keys (events self.old.history) (bytes_of owned))) }
+        ensures memory { OnErr result (opened_in self.old.keys (bytes_of owned) ≢ None) }
+        ensures err { OnErr result (self.new ≡ self.old) }
+    {
+        one_frame_is();
+        laws::owned();
+        taken_is_kept(&owned);
+        self.take_mine(alloc, stamp, owned)
     }
 
     // Takes a frame that opened for this member and is no WANT.

@@ -1,7 +1,7 @@
 //! The rows, and what is printed of each refusal.
 
 use crate::step::Fact::{Balance, Entries, Fetched, Front, Fronts, Next, State, Statement};
-use crate::step::Step::{Ask, Bring, Query, Raw, Show, Take};
+use crate::step::Step::{Ask, Bring, Own, Query, Raw, Show, Take};
 use crate::step::{Row, Said, Unsealed};
 use pay_book::Line;
 use pay_frame::{FrameFault, Kind};
@@ -128,7 +128,7 @@ const SETTLED: Took = Took {
 
 const OPENING: &[u64] = &[100, 0, 0, 50];
 
-pub(crate) const ROWS: [Row; 6] = [
+pub(crate) const ROWS: [Row; 7] = [
     Row {
         name: "refusals leave no entry",
         faults: 1,
@@ -186,6 +186,20 @@ pub(crate) const ROWS: [Row; 6] = [
             Show(Entries(1)),
             Show(Next(0, 1)),
             Show(Fronts(&[0, 0, 0, 0])),
+        ],
+    },
+    Row {
+        name: "frames by themselves",
+        faults: 1,
+        opening: OPENING,
+        own: 1,
+        steps: &[
+            Own(SENT, Outcome::Took(ECHO)),
+            Own(SENT, Outcome::Link(LinkFault::Repeat(1))),
+            Own(READIED, Outcome::Link(LinkFault::Gap(1))),
+            Show(Entries(1)),
+            Own(ECHOED, Outcome::Took(NOTHING)),
+            Show(Next(0, 2)),
         ],
     },
     Row {

@@ -24,6 +24,8 @@ pub(crate) enum Step {
     Take(Unsealed, Result<Took, MemberFault>),
     /// The frame's bytes are brought: what comes of them, and which number the WANT asks for.
     Bring(Unsealed, Outcome, Option<u64>),
+    /// The frame is brought by itself: what comes of it.
+    Own(Unsealed, Outcome),
     /// These bytes are brought, and no WANT is answered.
     Raw(&'static [u8], Outcome),
     Query(u16, Result<Told, MemberFault>),

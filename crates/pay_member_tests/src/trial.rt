@@ -52,6 +52,10 @@ impl Trial {
                 Some(bytes) => self.brings(alloc, bytes.as_slice(), outcome, number),
                 None => false,
             },
+            Step::Own(frame, outcome) => match self.checked(alloc, frame) {
+                Some(checked) => self.owns(alloc, checked, outcome),
+                None => false,
+            },
             Step::Raw(bytes, outcome) => self.brings(alloc, bytes, outcome, None),
             Step::Query(account, reply) => self.member.query(alloc, 0, account) == reply,
             Step::Show(fact) => self.shows(alloc, fact),
@@ -70,6 +74,14 @@ impl Trial {
             Ok(brought) => brought.outcome == outcome && number_in(&brought) == number,
             Err(_) => false,
         }
+    }
+
+    // Whether that comes of a frame by itself, which is for this member.
+    fn owns(&mut self, alloc: Global, checked: Checked, outcome: Outcome) -> bool {
+        if !checked.is_for(self.member.keys()) {
+            return false;
+        }
+        self.member.bring_owned(alloc, 0, checked) == Ok(outcome)
     }
 
     fn shows(&self, alloc: Global, fact: Fact) -> bool {

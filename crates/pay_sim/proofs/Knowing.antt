@@ -54,6 +54,13 @@ pub sent_to_itself : (c : Group) (es : List WorldEvent) (from to number : ℕ) �
 unfolding sent_frame
 sent_to_itself c es from to number same = sym (leaves_second (is_there c from) (eqb from to) _ _ (same_test from to same))
 
+pub untaken_unsent : (c : Group) (es : List WorldEvent) (from to : ℕ) → ((number : ℕ) → None ≡ sent_frame c es from to number) → None ≡ untaken c es from to
+unfolding untaken
+untaken_unsent c es from to none = go (is_there c to) where
+  go : (b : Bool) → None ≡ cond b (sent_frame c es from to (next_number c es from to)) None
+  go true = none (next_number c es from to)
+  go false = refl
+
 -- ---- what is known
 
 module _ (c : Group) (es : List WorldEvent) (g : GameFields) (b : IsBehind c es g) (world : IsWorld g.world) where

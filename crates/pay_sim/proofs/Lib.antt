@@ -2,6 +2,7 @@ mod Accounts
 mod Knowing
 mod Making
 mod Bringing
+mod Passing
 mod Showing
 mod Short
 mod Reading

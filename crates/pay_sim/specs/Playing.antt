@@ -31,6 +31,12 @@ pub record IsBehind (c : Group) (es : List WorldEvent) (g : GameFields) : Type 0
   pub few : c.genesis.members < 256
   pub made : g.made ≡ length es
 
+-- It is the world of some group behind some events: so all its members have the test keys.
+pub record IsGame (g : GameFields) : Type 0 where
+  pub group : Group
+  pub events : List WorldEvent
+  pub behind : IsBehind group events g
+
 -- an event more was made, or not
 abbrev pub IsMade : Group → List WorldEvent → WorldEvent → GameFields → Result Reply Halt → Type 0
 IsMade c es e new (Ok reply) = Makes c es e (Ok reply) × IsBehind c (es ++ e ∷ []) new

@@ -1,9 +1,10 @@
 //! A script's world, and what its commands do there.
 
-ghost use Rattle.std.specs.Prelude.{◌≡◌, ◌+◌, ◌++◌, ◌<◌, ◌≤◌, ℕ, List, [], IfOk, OnOk};
+ghost use Rattle.std.specs.Prelude.{◌≡◌, ◌+◌, ◌++◌, ◌<◌, ◌≤◌, ℕ, List, [], IfOk, IfSome, OnOk, option_map};
 ghost use Rattle.pay_world.specs.declared.event.WorldEvent.{WorldEvent};
 ghost use Rattle.pay_world.specs.Answer.{receiver};
 ghost use Rattle.pay_world.specs.Liars.{AreLiarsOf};
+ghost use Rattle.pay_world.specs.Passing.{MayPass, frame_of, passing};
 ghost use Rattle.pay_book.specs.Payment.{payment_value};
 ghost use Rattle.pay_sim.specs.declared.group.Group.{Group};
 ghost use Rattle.pay_sim.specs.Made.{frame_for, next_number, sent_frame, untaken};
@@ -20,6 +21,7 @@ use crate::test_frames::{PairTagger, test_frame};
 use pay_book::{Settle, payment_value};
 use pay_echo::Instance;
 use pay_frame::{Body, Bytes};
+use pay_link::laws::shared_test_keys;
 use pay_text::{push_number, push_word};
 use pay_world::{
     Reply, World, WorldEvent, WorldFault, all_taken, group_test_keys, what_is_forged,
@@ -43,13 +45,14 @@ pub(crate) struct Game<I: Instance + Drop, B: Settle + Drop> {
 impl<I: Instance + Drop, B: Settle + Drop> Model for Game<I, B> {
     ghost use Rattle.std.specs.Prelude.{◌<◌, ◌≤◌};
     ghost use Rattle.pay_sim.specs.declared.game.TheConstants.{MOST_EVENTS};
-    ghost use Rattle.pay_sim.specs.Playing.{GameFields};
+    ghost use Rattle.pay_sim.specs.Playing.{GameFields, IsGame};
 
     ghost Value = { GameFields };
 
     ghost view = { λ g. record { world = g.world; members = g.members; made = g.made } };
 
-    ghost invariant = { λ g. (g.made ≤ MOST_EVENTS) × (g.members < 256) };
+    ghost invariant = { λ g. (g.made ≤ MOST_EVENTS) × (g.members < 256)
+        × IsGame (record { world = g.world; members = g.members; made = g.made }) };
 }
 
 impl<I: Instance + Drop, B: Settle + Drop> Game<I, B> {
@@ -295,23 +298,57 @@ impl<I: Instance + Drop, B: Settle + Drop> Game<I, B> {
         ensures count { OnOk result (self.old.made ≤ self.new.made) }
     {
         'frames: loop {
-            let Some(bytes) = self.untaken(alloc, from, to)? else {
+            let Some(number) = self.untaken(from, to) else {
                 return Ok(());
             };
-            self.make(alloc, WorldEvent::Bring(to, bytes))?;
+            self.pass_on(alloc, from, to, number)?;
         }
     }
 
-    /// The frame that a member takes next of another's list, if the list has it.
-    fn untaken(&self, alloc: Global, from: u16, to: u16) -> Result<Option<Bytes>, AllocError>
-        requires from { from < 256 }
-        requires to { to < 256 }
-        ensures { IfOk result (λ frame. (c : Group) (es : List WorldEvent)
-            → IsBehind c es self.now → frame ≡ untaken c es from to) }
+    /// Passes on a frame that one correct member sent another, unless there were as many events as
+    /// there may be.
+    fn pass_on(&mut self, alloc: Global, from: u16, to: u16, number: u64) -> Result<Reply, Halt>
+        requires { MayPass self.old.world from to number }
+        ensures made { (c : Group) (es : List WorldEvent) → IsBehind c es self.old
+            → IsMade c es (passing self.old.world from to number) self.new result }
+        ensures count { OnOk result ((self.old.made < MOST_EVENTS)
+            × (self.new.made ≡ self.old.made + 1)) }
     {
-        match self.world.member(to) {
-            Some(_) => self.sent(alloc, from, to, self.next(from, to)),
-            None => Ok(None),
+        world_by_events();
+        what_is_forged();
+        if self.made < MOST_EVENTS {
+            match self.world.pass(alloc, &self.tagger, from, to, number) {
+                Ok(reply) => {
+                    self.made += 1;
+                    Ok(reply)
+                }
+                Err(_) => Err(Halt::Memory),
+            }
+        } else {
+            Err(Halt::Stop(Stop::Limit))
+        }
+    }
+
+    /// The number of the frame that a member takes next of another's list, if the list has it.
+    fn untaken(&self, from: u16, to: u16) -> Option<u64>
+        ensures frame { (c : Group) (es : List WorldEvent) → IsBehind c es self.now
+            → option_map (frame_of self.now.world from to) result ≡ untaken c es from to }
+        ensures there { IfSome result (MayPass self.now.world from to) }
+    {
+        shared_test_keys();
+        if to == from {
+            return None;
+        }
+        let Some(_) = self.world.member(to) else {
+            return None;
+        };
+        let Some(sender) = self.world.member(from) else {
+            return None;
+        };
+        let number = self.next(from, to);
+        match sender.sent(number) {
+            Some(_) => Some(number),
+            None => None,
         }
     }
 

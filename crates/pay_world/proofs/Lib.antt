@@ -12,6 +12,7 @@ pub mod Taking
 pub mod WorldLemmas
 pub mod Forging
 pub mod Answering
+pub mod Passing
 pub mod Stored
 pub mod UnderWay
 pub mod Running

@@ -14,6 +14,7 @@ pub mod Examples
 pub mod World
 pub mod Converged
 pub mod Answer
+pub mod Passing
 pub mod Run
 pub mod RunLaws
 pub mod GroupKeys

@@ -1,17 +1,20 @@
-ghost use Rattle.std.specs.Prelude.{◌≡◌, ℕ, slice_get, Some, IfOk, IsOkUnless, MatchOption, OnOk, OnErr};
+ghost use Rattle.std.specs.Prelude.{◌≡◌, ◌↔◌, ℕ, slice_get, Some, false, IfOk, IsOkUnless, IsTrue, MatchOption, OnOk, OnErr};
 ghost use Rattle.std.specs.Option.{option_copied, option_map};
 ghost use Rattle.pay_frame.specs.Frame.{FrameFields};
 ghost use Rattle.pay_frame.specs.Lent.{fields_of};
 ghost use Rattle.pay_frame.specs.OneFrame.{IsOneFrame};
 ghost use Rattle.pay_channel.specs.History.{out};
 ghost use Rattle.pay_channel.specs.Prefix.{IsPrefix};
-ghost use Rattle.pay_link.specs.Keys.{IsKeysOf};
+ghost use Rattle.pay_link.specs.Checked.{IsFor, bytes_of};
+ghost use Rattle.pay_link.specs.Keys.{IsKeysOf, IsPeer, key_for};
 ghost use Rattle.pay_member.specs.Group.{group_in};
 ghost use Rattle.pay_member.specs.Events.{events};
+ghost use Rattle.pay_member.specs.Member.{MemberFields};
 ghost use Rattle.pay_world.specs.Genuine.{is_body};
 ghost use Rattle.pay_world.specs.Liars.{AreLiarsOf};
 ghost use Rattle.pay_world.specs.World.{AreKeysOf, IsWorld, fresh_place, fresh_world, history_in, member_in};
 ghost use Rattle.pay_world.specs.Answer.{Answers, IsGrownBy, IsReplyFrom, forgery, is_forged_at, is_unsent, member_after, one_more};
+ghost use Rattle.pay_world.specs.Passing.{MayPass, frame_of, passing};
 
 use crate::event::WorldEvent;
 use crate::fault::WorldFault;
@@ -19,12 +22,13 @@ use crate::laws::{correct_members_stand, forged_is_told};
 use crate::liars::Liars;
 use crate::reply::Reply;
 use pay_book::Settle;
+use pay_channel::laws::what_is_sent;
 use pay_echo::Instance;
 use pay_echo::laws::sizes_of_sets;
 use pay_frame::{Body, Bytes, FrameRef, one_answer, read_one};
 use pay_hmac::Tagger;
-use pay_link::{Genesis, Keys};
-use pay_member::laws::{events_in_order, what_opens};
+use pay_link::{Checked, Genesis, Keys, sealed};
+use pay_member::laws::{events_in_order, what_is_brought, what_opens};
 use pay_member::{Member, MemberFault};
 use std::alloc::{AllocError, Global};
 use std::marker::Model;
@@ -218,6 +222,101 @@ impl<I: Instance + Drop, B: Settle + Drop> World<I, B> {
         }
     }
 
+    /// Whether `pass` may be asked for this: the one member sent something at that place of its
+    /// list, the other is there to take it, and they have one key for each other.
+    pub fn may_pass(&self, from: u16, to: u16, number: u64) -> bool
+        ensures { IsTrue result ↔ MayPass self.now from to number }
+    {
+        let (Some(giver), Some(taker)) = (self.member(from), self.member(to)) else {
+            return false;
+        };
+        giver.sent(number).is_some() && share_key(giver.keys(), taker.keys())
+    }
+
+    /// Passes on what a correct member sent another that has the same key for it: the frame at a
+    /// place of its list, sealed for the other. What it does is what bringing the frame's bytes to
+    /// the other would, but they aren't spelled, and its tag is computed once.
+    ///
+    /// A frame that was sent is never refused.
+    pub fn pass<T: Tagger>(
+        &mut self,
+        alloc: Global,
+        tagger: &T,
+        from: u16,
+        to: u16,
+        number: u64,
+    ) -> Result<Reply, WorldFault>
+        requires { MayPass self.old from to number }
+        ensures refused { MatchOption (forgery self.old (passing self.old from to number))
+            (IsOkUnless result WorldFault.Memory)
+            (λ fault. result ≡ Err fault) }
+        ensures passed { IsOkUnless result WorldFault.Memory }
+        ensures answers { IfOk result
+            (Answers self.old self.new (passing self.old from to number)) }
+        ensures count { OnOk result (self.new.answered ≡ one_more self.old.answered) }
+        ensures prefix { (i : ℕ) → IsPrefix (history_in self.old i) (history_in self.new i) }
+        ensures err { OnErr result (self.new ≡ self.old) }
+    {
+        let reply = self.hand_on(alloc, tagger, from, to, number)?;
+        let answered = self.answered.saturating_add(1);
+        self.answered = answered;
+        Ok(reply)
+    }
+
+    // Passes a frame on, and doesn't count it.
+    fn hand_on<T: Tagger>(
+        &mut self,
+        alloc: Global,
+        tagger: &T,
+        from: u16,
+        to: u16,
+        number: u64,
+    ) -> Result<Reply, WorldFault>
+        requires { MayPass self.old from to number }
+        ensures unforged { is_forged_at self.old (passing self.old from to number) ≡ false }
+        ensures passed { IsOkUnless result WorldFault.Memory }
+        ensures answers { IfOk result
+            (Answers self.old self.new (passing self.old from to number)) }
+        ensures count { self.new.answered ≡ self.old.answered }
+        ensures err { OnErr result (self.new ≡ self.old) }
+    {
+        what_opens();
+        sizes_of_sets();
+        correct_members_stand();
+        forged_is_told();
+        let checked = self.sealed(alloc, tagger, from, to, number)?;
+        pass_place(&mut self.members[usize::from(to)], alloc, checked)
+    }
+
+    // The frame at a place of all that a correct member sent, sealed for another.
+    fn sealed<T: Tagger>(
+        &self,
+        alloc: Global,
+        tagger: &T,
+        from: u16,
+        to: u16,
+        number: u64,
+    ) -> Result<Checked, AllocError>
+        requires { MayPass self.now from to number }
+        ensures bytes { IfOk result (λ checked.
+            bytes_of checked ≡ frame_of self.now from to number) }
+        ensures mine { IfOk result (λ checked. (taker : MemberFields)
+            → member_in self.now to ≡ Some taker → IsFor taker.keys checked) }
+        ensures unforged { is_forged_at self.now (passing self.now from to number) ≡ false }
+    {
+        what_is_brought();
+        what_is_sent();
+        forged_is_told();
+        let Some(giver) = self.member(from) else {
+            unreachable!()
+        };
+        let Some(body) = giver.sent(number) else {
+            unreachable!()
+        };
+        let checked = sealed(alloc, tagger, giver.keys(), to, number, body)?;
+        Ok(checked)
+    }
+
     // How many members the group has, those that lie among them.
     pub(crate) fn members(&self) -> u16
         ensures value { result ≡ self.now.genesis.members }
@@ -236,6 +335,16 @@ impl<I: Instance + Drop, B: Settle + Drop> World<I, B> {
             _ => None,
         }
     }
+}
+
+// Whether two members have one key for each other.
+fn share_key(one: &Keys, other: &Keys) -> bool
+    ensures { IsTrue result ↔ (IsPeer one.now other.now.own × IsPeer other.now one.now.own
+        × (key_for one.now other.now.own ≡ key_for other.now one.now.own)) }
+{
+    one.is_peer(other.own())
+        && other.is_peer(one.own())
+        && one.key(other.own()) == other.key(one.own())
 }
 
 // Asks the member at a place, if there is one, to broadcast a value.
@@ -278,6 +387,27 @@ fn bring_place<I: Instance + Drop, B: Settle + Drop, T: Tagger>(
         return Ok(Reply::Ignored);
     };
     let outcome = member.bring_unanswered(alloc, 0, tagger, bytes)?;
+    Ok(Reply::Brought(outcome))
+}
+
+// Brings a frame that is for it to the member at a place, if there is one.
+fn pass_place<I: Instance + Drop, B: Settle + Drop>(
+    place: &mut Option<Member<I, B>>,
+    alloc: Global,
+    checked: Checked,
+) -> Result<Reply, WorldFault>
+    requires { MatchOption place.old (Unit {0}) (λ m. IsFor m.keys checked) }
+    ensures reply { IfOk result (IsReplyFrom place.old (WorldEvent.Bring 0 (bytes_of checked))) }
+    ensures after { IfOk result (λ reply. place.new
+        ≡ option_map (member_after (WorldEvent.Bring 0 (bytes_of checked)) reply) place.old) }
+    ensures grown { IfOk result (λ _. IsGrownBy place.old place.new (bytes_of checked)) }
+    ensures memory { IsOkUnless result WorldFault.Memory }
+    ensures err { OnErr result (place.new ≡ place.old) }
+{
+    let Some(member) = place else {
+        return Ok(Reply::Ignored);
+    };
+    let outcome = member.bring_owned(alloc, 0, checked)?;
     Ok(Reply::Brought(outcome))
 }
 

@@ -1,6 +1,6 @@
 //! The rows, and what is printed of each fault.
 
-use crate::step::Step::{AllTaken, Ask, Balance, Bring, Nobody, Pass, Raw};
+use crate::step::Step::{AllTaken, Ask, Balance, Bring, HandOn, Nobody, Pass, Raw};
 use crate::step::{Deed, Group, Row, Unsealed};
 use pay_frame::{FrameFault, Kind};
 use pay_link::LinkFault;
@@ -56,11 +56,21 @@ const REPEAT: Reply = Brought(Outcome::Link(LinkFault::Repeat(1)));
 
 const GAP: Reply = Brought(Outcome::Link(LinkFault::Gap(1)));
 
+const GAP_BEFORE_ALL: Reply = Brought(Outcome::Link(LinkFault::Gap(0)));
+
+// The ECHO of who sent, which makes nothing known.
+const NOTHING: Reply = Brought(Outcome::Took(Took {
+    echo: false,
+    ready: false,
+    deliver: false,
+    settled: 0,
+}));
+
 const BAD_TAG: Reply = Brought(Outcome::Link(LinkFault::BadTag));
 
 const TRUNCATED: Reply = Brought(Outcome::Frame(FrameFault::Truncated));
 
-pub(crate) const ROWS: [Row; 5] = [
+pub(crate) const ROWS: [Row; 6] = [
     Row {
         name: "what another didn't send is forged",
         group: Group::Four,
@@ -111,6 +121,28 @@ pub(crate) const ROWS: [Row; 5] = [
             Nobody(3),
             Nobody(4),
             Balance(0, 3, 50),
+        ],
+    },
+    Row {
+        name: "what was sent is passed on, and counted",
+        group: Group::Four,
+        steps: &[
+            HandOn(0, 1, 0, None),
+            Ask(0, THIRTY_TO_1, Ok(Asked(0))),
+            HandOn(0, 1, 2, None),
+            HandOn(0, 0, 0, None),
+            HandOn(0, 3, 0, None),
+            HandOn(3, 0, 0, None),
+            HandOn(0, 4, 0, None),
+            HandOn(0, 1, 0, Some(Ok(ECHO))),
+            HandOn(0, 1, 0, Some(Ok(REPEAT))),
+            HandOn(0, 2, 1, Some(Ok(GAP_BEFORE_ALL))),
+            Bring(Unsealed { number: 2, ..SENT }, Err(WorldFault::Forged(4))),
+            HandOn(0, 1, 1, Some(Ok(NOTHING))),
+            Bring(
+                ECHO_0_TO_1,
+                Ok(Brought(Outcome::Link(LinkFault::Repeat(2)))),
+            ),
         ],
     },
     Row {

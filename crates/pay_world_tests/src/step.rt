@@ -37,6 +37,9 @@ pub(crate) enum Step {
     Nobody(u16),
     /// One member takes the next frame of all that another one sent: from whom, to whom.
     Pass(u16, u16),
+    /// A frame is passed on as it was sent, where that may be asked for: from whom, to whom, under
+    /// which number.
+    HandOn(u16, u16, u64, Option<Result<Reply, WorldFault>>),
     /// Whether all was taken.
     AllTaken(bool),
 }

@@ -51,6 +51,9 @@ impl Trial {
             Step::Balance(member, account, balance) => self.has(member, account, balance),
             Step::Nobody(member) => self.world.member(member).is_none(),
             Step::Pass(from, to) => self.passes(alloc, from, to),
+            Step::HandOn(from, to, number, answer) => {
+                self.hands_on(alloc, from, to, number, answer)
+            }
             Step::AllTaken(answer) => all_taken(&self.world) == answer,
         }
     }
@@ -67,6 +70,24 @@ impl Trial {
             Some(member) => {
                 account < member.genesis().members() && member.balance(account) == balance
             }
+            None => false,
+        }
+    }
+
+    // Whether passing a frame on has this answer; none, where it may not be asked for.
+    fn hands_on(
+        &mut self,
+        alloc: Global,
+        from: u16,
+        to: u16,
+        number: u64,
+        answer: Option<Result<Reply, WorldFault>>,
+    ) -> bool {
+        if !self.world.may_pass(from, to, number) {
+            return answer.is_none();
+        }
+        match answer {
+            Some(answer) => self.world.pass(alloc, &HmacSha256, from, to, number) == answer,
             None => false,
         }
     }
