@@ -1,5 +1,6 @@
 """Black-box tests of runs that are refused memory."""
 
+import functools
 import json
 import os
 import resource
@@ -7,10 +8,11 @@ import subprocess
 import tempfile
 
 from model import play
-from runs import EXAMPLE_GENESIS, GENESIS, SECONDS, TOP, example_keys, run, same, test
+import programs
+from runs import EXAMPLE_GENESIS, GENESIS, SECONDS, example_keys, same, test
 
-# (./payd itself needs more memory than there is to be: it has built the program by then)
-PROGRAM = os.path.join(TOP, "crates", "payd", "out", "payd")
+# (./payd itself needs more memory than there is to be)
+program = functools.lru_cache(programs.proved_program)
 
 PIECE = 64 * 1024
 
@@ -24,13 +26,12 @@ def run_within(memory, words, stream=b""):
     def limit():
         resource.setrlimit(resource.RLIMIT_AS, (memory, memory))
 
-    done = subprocess.run([PROGRAM, *words], input=stream, capture_output=True, preexec_fn=limit, timeout=SECONDS)
+    done = subprocess.run([program(), *words], input=stream, capture_output=True, preexec_fn=limit, timeout=SECONDS)
     return done.returncode, done.stdout.decode("ascii"), done.stderr.decode()
 
 
 def least_memory():
     """What the program needs to be loaded and to answer an empty stream."""
-    run([])
     return next(it for it in range(PIECE, 1 << 30, PIECE) if run_within(it, []) == (0, "", ""))
 
 

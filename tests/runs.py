@@ -9,7 +9,7 @@ import threading
 import time
 
 TOP = os.path.dirname(os.path.dirname(os.path.realpath(__file__)))
-sys.path.insert(0, os.path.join(TOP, "examples"))
+sys.path[:0] = [os.path.join(TOP, "examples"), os.path.join(TOP, "tools")]
 
 from frames import test_key  # noqa: E402
 

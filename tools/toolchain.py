@@ -4,6 +4,7 @@ import importlib.machinery
 import importlib.util
 import os
 import shutil
+import subprocess
 import sys
 
 
@@ -18,3 +19,12 @@ def load_rt():
     module = importlib.util.module_from_spec(importlib.util.spec_from_loader("rt", loader))
     loader.exec_module(module)
     return module
+
+
+def identity():
+    """What the toolchain calls itself, or '' where there is none."""
+    if shutil.which("rt") is None:
+        return ""
+    how = {"stdin": subprocess.DEVNULL, "stdout": subprocess.PIPE, "stderr": subprocess.DEVNULL}
+    ran = subprocess.run(["rt", "version"], **how, errors="replace")
+    return "" if ran.returncode else " ".join(ran.stdout.split())
