@@ -7,7 +7,7 @@ use crate::rows::{ALONE, AT_FIRST, FOUR, LATE_FIRST_NUMBER, ONE};
 use crate::step::{Fact, Group, Turn, said_by};
 use crate::trial::Trial;
 use pay_channel::{Channel, Source};
-use pay_echo::{Instance, PlainInstance};
+use pay_echo::{Instance, MaskInstance, PlainInstance};
 use std::alloc::{AllocError, Global};
 use std::process::Abort;
 use std::test::Fail;
@@ -76,8 +76,17 @@ fn plays<I: Instance + Drop>(
     Ok(())
 }
 
+fn rows_of<I: Instance + Drop>(rt: &impl Abort, alloc: Global) -> Result<(), Fail> {
+    plays::<I>(rt, alloc, ONE, &ALONE)?;
+    plays::<I>(rt, alloc, FOUR, &LATE_FIRST_NUMBER)
+}
+
+#[test]
+fn rows_of_the_mask_form(rt: HostRuntime) -> Result<(), Fail> {
+    rows_of::<MaskInstance>(&rt, rt.alloc())
+}
+
 #[test]
 fn rows_of_the_plain_form(rt: HostRuntime) -> Result<(), Fail> {
-    plays::<PlainInstance>(&rt, rt.alloc(), ONE, &ALONE)?;
-    plays::<PlainInstance>(&rt, rt.alloc(), FOUR, &LATE_FIRST_NUMBER)
+    rows_of::<PlainInstance>(&rt, rt.alloc())
 }

@@ -81,7 +81,7 @@ own_ready-put g (Send w) v votes foreign = refl
 own_ready-put g (Echo p w) v votes foreign = refl
 own_ready-put g (Ready p w) v votes foreign = get_or-set_other votes p g.own (Some v) None (λ e. foreign.1 (sym e))
 
-length-put_ready : {X : Type 0} (x : Vote) (y : X) (votes : List (Option X)) → length (put_ready x y votes) ≡ length votes
+pub length-put_ready : {X : Type 0} (x : Vote) (y : X) (votes : List (Option X)) → length (put_ready x y votes) ≡ length votes
 length-put_ready (Send w) y votes = refl
 length-put_ready (Echo p w) y votes = refl
 length-put_ready (Ready p w) y votes = length-set votes p (Some y)

@@ -4,6 +4,7 @@ pub mod Votes
 pub mod Moves
 pub mod Step
 pub mod Plain
+pub mod Masks
 pub mod Examples
 pub mod Quorums
 pub mod Laws

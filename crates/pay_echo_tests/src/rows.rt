@@ -1,7 +1,7 @@
 ghost use Rattle.std.specs.Prelude.{◌≤◌, ◌<◌};
 
 use crate::telling::{is_foreign, tell};
-use pay_echo::{Group, Instance, Moves, PlainInstance, VoteRef};
+use pay_echo::{Group, Instance, MaskInstance, Moves, PlainInstance, VoteRef};
 use pay_frame::MOST_MEMBERS;
 use std::alloc::Global;
 use std::process::Abort;
@@ -95,4 +95,11 @@ fn rows_of_the_plain_form(rt: HostRuntime) -> Result<(), Fail> {
     echo_quorum_of_three::<PlainInstance>(&rt, rt.alloc())?;
     amplified_first::<PlainInstance>(&rt, rt.alloc())?;
     one_process::<PlainInstance>(&rt, rt.alloc())
+}
+
+#[test]
+fn rows_of_the_mask_form(rt: HostRuntime) -> Result<(), Fail> {
+    echo_quorum_of_three::<MaskInstance>(&rt, rt.alloc())?;
+    amplified_first::<MaskInstance>(&rt, rt.alloc())?;
+    one_process::<MaskInstance>(&rt, rt.alloc())
 }

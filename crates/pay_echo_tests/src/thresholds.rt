@@ -1,9 +1,10 @@
 ghost use Rattle.std.specs.Prelude.{◌≡◌, ◌≤◌, ◌<◌};
 
 use crate::telling::tell;
-use pay_echo::{Group, Instance, PlainInstance, VoteRef};
+use pay_echo::{Group, Instance, MaskInstance, PlainInstance, VoteRef};
 use pay_frame::MOST_MEMBERS;
 use std::alloc::{AllocError, Global};
+use std::process::Abort;
 use std::test::Fail;
 
 const A: &[u8] = b"A";
@@ -64,22 +65,17 @@ fn ready_thresholds<I: Instance + Drop>(
 
 // For every allowed group the quorum of ECHOs is the least c with 2c > N + f, amplification takes f + 1
 // READYs, delivery 2f + 1, the own one included.
-#[test]
-fn thresholds_of_all_groups(rt: HostRuntime) -> Result<(), Fail> {
+fn all_groups<I: Instance + Drop>(rt: &impl Abort, alloc: Global) -> Result<(), Fail> {
     for members in 1..=MOST_MEMBERS {
         for faults in 0..members.div_ceil(3) {
-            let echoes = echo_threshold::<PlainInstance>(rt.alloc(), members, faults)?;
+            let echoes = echo_threshold::<I>(alloc, members, faults)?;
             assert_eq!(rt;
                 echoes,
                 (members + faults) / 2 + 1,
                 "the quorum at {members} and {faults}"
             );
             if members > 1 {
-                let (ready, deliver) = ready_thresholds::<PlainInstance>(
-                    rt.alloc(),
-                    members,
-                    faults,
-                )?;
+                let (ready, deliver) = ready_thresholds::<I>(alloc, members, faults)?;
                 assert_eq!(rt;
                     ready,
                     faults + 1,
@@ -96,21 +92,23 @@ fn thresholds_of_all_groups(rt: HostRuntime) -> Result<(), Fail> {
     Ok(())
 }
 
-#[test]
-fn thresholds_of_named_groups(rt: HostRuntime) -> Result<(), Fail> {
+fn named_groups<I: Instance + Drop>(rt: &impl Abort, alloc: Global) -> Result<(), Fail> {
     for (members, faults, echoes) in [(1, 0, 1), (4, 1, 3), (64, 21, 43)] {
-        assert_eq!(rt;
-            echo_threshold::<PlainInstance>(rt.alloc(), members, faults)?,
-            echoes
-        );
+        assert_eq!(rt; echo_threshold::<I>(alloc, members, faults)?, echoes);
     }
-    assert_eq!(rt;
-        ready_thresholds::<PlainInstance>(rt.alloc(), 4, 1)?,
-        (2, 2)
-    );
-    assert_eq!(rt;
-        ready_thresholds::<PlainInstance>(rt.alloc(), 64, 21)?,
-        (22, 42)
-    );
+    assert_eq!(rt; ready_thresholds::<I>(alloc, 4, 1)?, (2, 2));
+    assert_eq!(rt; ready_thresholds::<I>(alloc, 64, 21)?, (22, 42));
     Ok(())
+}
+
+#[test]
+fn thresholds_of_the_plain_form(rt: HostRuntime) -> Result<(), Fail> {
+    all_groups::<PlainInstance>(&rt, rt.alloc())?;
+    named_groups::<PlainInstance>(&rt, rt.alloc())
+}
+
+#[test]
+fn thresholds_of_the_mask_form(rt: HostRuntime) -> Result<(), Fail> {
+    all_groups::<MaskInstance>(&rt, rt.alloc())?;
+    named_groups::<MaskInstance>(&rt, rt.alloc())
 }

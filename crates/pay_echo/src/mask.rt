@@ -1,0 +1,253 @@
+ghost use Rattle.std.specs.Prelude.{◌≡◌, ◌≤◌, ◌<◌, ◌+◌, ◌++◌, ℕ, List, Bool, Some, None, length, slice_get, slice_index_or, IfOk, OnOk, OnErr, is_some, is_none, true, false};
+ghost use Rattle.std.specs.List.{count_by};
+ghost use Rattle.pay_echo.specs.Broadcast.{IsForeign, is_for};
+ghost use Rattle.pay_echo.specs.Votes.{vote_of};
+ghost use Rattle.pay_echo.specs.Step.{vote_before, echo_count, ready_count, moves_by, can_ready, can_deliver, put_echo, put_ready, put_if, with_moves, IsPlaced};
+ghost use Rattle.pay_echo.specs.Masks.{place_before};
+
+use crate::group::Group;
+use crate::instance::Instance;
+use crate::moves::Moves;
+use crate::tally::Tally;
+use crate::vote::VoteRef;
+use crate::vote_kind::VoteKind;
+use pay_frame::MOST_MEMBERS;
+use std::alloc::{AllocError, Global};
+use std::marker::Model;
+
+/// An instance as a short list of values, each with a mask of the processes whose ECHO it is and one
+/// of those whose READY it is. A count of votes is a count of bits.
+#[derive(Drop)]
+pub struct MaskInstance {
+    group: Group,
+    // the votes; one's own are what oneself echoed and readied
+    tally: Tally,
+    // the place of the value delivered
+    delivered: Option<usize>,
+}
+
+impl Model for MaskInstance {
+    ghost use Rattle.pay_echo.specs.Meaning.{Meaning};
+    ghost use Rattle.pay_echo.specs.Plain.{meaning_by};
+    ghost use Rattle.pay_echo.specs.Masks.{IsCounted};
+
+    ghost Value = { Meaning };
+
+    ghost view = { λ i.
+        meaning_by i.group i.tally.values i.tally.echoes i.tally.readys i.delivered };
+
+    ghost invariant = { λ i. IsCounted i.group i.tally i.delivered };
+}
+
+impl Instance for MaskInstance {
+    ghost meaning = { λ i. i };
+
+    fn fresh(alloc: Global, group: Group) -> Result<MaskInstance, AllocError> {
+        Ok(MaskInstance {
+            group,
+            tally: Tally::new(alloc, group.members)?,
+            delivered: None,
+        })
+    }
+
+    fn moves(&self, vote: VoteRef) -> Moves {
+        if self.has_voted(vote) {
+            return Moves::NONE;
+        }
+        self.moves_by(vote)
+    }
+
+    fn take(&mut self, alloc: Global, vote: VoteRef, moves: Moves) -> Result<(), AllocError> {
+        if self.has_voted(vote) {
+            return Ok(());
+        }
+        let ready = moves.ready && !self.has_readied();
+        self.write(alloc, vote, ready, moves.deliver)
+    }
+
+    fn echoed(&self) -> Option<&[u8]> {
+        self.tally
+            .value(self.tally.place(VoteKind::Echo, self.group.own))
+    }
+
+    fn readied(&self) -> Option<&[u8]> {
+        self.tally
+            .value(self.tally.place(VoteKind::Ready, self.group.own))
+    }
+
+    fn delivered(&self) -> Option<&[u8]> {
+        self.tally.value(self.delivered)
+    }
+}
+
+impl MaskInstance {
+    // Whether a vote of that process and kind came before.
+    fn has_voted(&self, vote: VoteRef) -> bool
+        requires { IsForeign self.now.group (vote_of vote) }
+        ensures voted { result ≡ is_some (vote_before self.now (vote_of vote.entry)) }
+        ensures placed { IsPlaced self.now }
+    {
+        match vote {
+            VoteRef::Send(_) => self.tally.has_voted(VoteKind::Echo, self.group.own),
+            VoteRef::Echo(process, _) => self.tally.has_voted(VoteKind::Echo, process),
+            VoteRef::Ready(process, _) => self.tally.has_voted(VoteKind::Ready, process),
+        }
+    }
+
+    // Whether oneself sent a READY.
+    fn has_readied(&self) -> bool
+        ensures { result ≡ is_some self.now.readied }
+    {
+        self.tally.has_voted(VoteKind::Ready, self.group.own)
+    }
+
+    // Whether a value is delivered.
+    fn has_delivered(&self) -> bool
+        ensures { result ≡ is_some self.now.delivered }
+    {
+        self.delivered.is_some()
+    }
+
+    // How many ECHOs and READYs there are for a value.
+    fn counts_for(&self, value: &[u8]) -> Counts
+        ensures echoes { result.echoes ≡ count_by (is_for value.now) self.now.echoes }
+        ensures readys { result.readys ≡ count_by (is_for value.now) self.now.readys }
+        ensures few_echoes { result.echoes ≤ MOST_MEMBERS }
+        ensures few_readys { result.readys ≤ MOST_MEMBERS }
+    {
+        match self.tally.place_of(value) {
+            Some(place) => Counts {
+                echoes: self.tally.count(VoteKind::Echo, place),
+                readys: self.tally.count(VoteKind::Ready, place),
+            },
+            None => Counts {
+                echoes: 0,
+                readys: 0,
+            },
+        }
+    }
+
+    // How many there are for this vote's value, itself included.
+    fn counts_with(&self, vote: VoteRef) -> Counts
+        ensures echoes { result.echoes ≡ echo_count self.now (vote_of vote.entry) }
+        ensures readys { result.readys ≡ ready_count self.now (vote_of vote.entry) }
+        ensures few_echoes { result.echoes ≤ MOST_MEMBERS + 1 }
+        ensures few_readys { result.readys ≤ MOST_MEMBERS + 1 }
+    {
+        let before = self.counts_for(vote.value());
+        if vote.is_ready() {
+            Counts {
+                echoes: before.echoes,
+                readys: before.readys + 1,
+            }
+        } else {
+            Counts {
+                echoes: before.echoes + 1,
+                readys: before.readys,
+            }
+        }
+    }
+
+    // What this vote makes known where none came before it. Where READY was sent and a value is
+    // delivered, it can't make more known than an ECHO, and no value is looked at.
+    #[tactic(auto, unfolding(crate::specs::Step::moves_by))]
+    fn moves_by(&self, vote: VoteRef) -> Moves
+        ensures { result ≡ moves_by self.now (vote_of vote.entry) }
+    {
+        if self.has_readied() && self.has_delivered() {
+            return Moves {
+                echo: vote.is_send(),
+                ready: false,
+                deliver: false,
+            };
+        }
+        let counts = self.counts_with(vote);
+        let ready = self.can_ready(counts.echoes, counts.readys);
+        let deliver = self.can_deliver(counts.readys + u32::from(ready));
+        Moves {
+            echo: vote.is_send(),
+            ready,
+            deliver,
+        }
+    }
+
+    fn can_ready(&self, echoes: u32, readys: u32) -> bool
+        requires { echoes ≤ MOST_MEMBERS + 1 }
+        ensures { result ≡ can_ready self.now echoes readys }
+    {
+        let faults = u32::from(self.group.faults);
+        let all = u32::from(self.group.members) + faults;
+        !self.has_readied() && (all < 2 * echoes || faults < readys)
+    }
+
+    fn can_deliver(&self, readys: u32) -> bool
+        ensures { result ≡ can_deliver self.now readys }
+    {
+        !self.has_delivered() && 2 * u32::from(self.group.faults) < readys
+    }
+
+    // Writes a vote in its place, and what it is told to make known.
+    fn write(
+        &mut self,
+        alloc: Global,
+        vote: VoteRef,
+        ready: bool,
+        deliver: bool,
+    ) -> Result<(), AllocError>
+        requires foreign { IsForeign self.old.group (vote_of vote) }
+        requires first { is_some (vote_before self.old (vote_of vote)) ≡ false }
+        requires ready { ready ≡ true → is_some self.old.readied ≡ false }
+        ensures after { OnOk result (self.new ≡ with_moves self.old (vote_of vote.entry)
+            (record { echo = false; ready = ready; deliver = deliver })) }
+        ensures group { self.new.group ≡ self.old.group }
+        ensures err { OnErr result (self.new ≡ self.old) }
+    {
+        let group = self.group;
+        let place = self.tally.keep(alloc, vote.value())?;
+        put(&mut self.tally, group, vote, place);
+        put_ready_if(ready, &mut self.tally, group.own, place);
+        self.delivered = deliver.then_some(place).or(self.delivered);
+        Ok(())
+    }
+}
+
+// How many ECHOs and READYs there are.
+#[derive(Clone, Copy)]
+struct Counts {
+    echoes: u32,
+    readys: u32,
+}
+
+// Takes a vote for the value at a place.
+fn put(tally: &mut Tally, group: Group, vote: VoteRef, place: usize)
+    requires own { group.own < group.members }
+    requires foreign { IsForeign group (vote_of vote) }
+    requires echoes { length tally.old.echoes ≡ group.members }
+    requires readys { length tally.old.readys ≡ group.members }
+    requires first { place_before group.own (vote_of vote) tally.old ≡ None }
+    requires place { place < length tally.old.values }
+    ensures values { tally.new.values ≡ tally.old.values }
+    ensures echoes { tally.new.echoes
+        ≡ put_echo group.own (vote_of vote.entry) place tally.old.echoes }
+    ensures readys { tally.new.readys ≡ put_ready (vote_of vote.entry) place tally.old.readys }
+{
+    match vote {
+        VoteRef::Send(_) => tally.vote(VoteKind::Echo, group.own, place),
+        VoteRef::Echo(process, _) => tally.vote(VoteKind::Echo, process, place),
+        VoteRef::Ready(process, _) => tally.vote(VoteKind::Ready, process, place),
+    }
+}
+
+// Takes a process's READY for the value at a place if it is due.
+fn put_ready_if(due: bool, tally: &mut Tally, process: u16, place: usize)
+    requires process { process < length tally.old.readys }
+    requires first { due ≡ true → slice_index_or tally.old.readys process None ≡ None }
+    requires place { place < length tally.old.values }
+    ensures values { tally.new.values ≡ tally.old.values }
+    ensures echoes { tally.new.echoes ≡ tally.old.echoes }
+    ensures readys { tally.new.readys ≡ put_if due process place tally.old.readys }
+{
+    if due {
+        tally.vote(VoteKind::Ready, process, place);
+    }
+}
