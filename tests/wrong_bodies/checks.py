@@ -12,7 +12,7 @@ from dataclasses import dataclass, field
 from . import rt, rtlib
 from .edits import Body, Place, alone, cut, in_batches, item, places_of_change, read_file
 
-# A wrong body is refused at a goal that isn't proved, or by a proof file that doesn't fit its text. A control is proved.
+# A wrong body is refused at a goal that isn't proved, or by a proof file that doesn't fit it. A control is proved.
 GOAL, MISMATCH, PROVED = "goal", "mismatch", "control"
 LET_THROUGH, BAD_EDIT, NOT_PROVED = "LET THROUGH", "BAD EDIT", "CONTROL NOT PROVED"
 WELL = (GOAL, MISMATCH, PROVED)
@@ -131,7 +131,7 @@ def run(folder: str, words: list[str]) -> tuple[list[str], float]:
 
 TAKEN_AWAY = re.compile(r"has no field|is not in scope|has no `|was not admitted")
 # A tactic of a proof file that didn't prove its goal, or says of which values it doesn't hold.
-UNPROVED = re.compile(r"the goal does not follow|the goal fails|no proof of|did not prove")
+UNPROVED = re.compile(r"the goal does not follow|the goal fails|no proof of|did not prove|before the equations had joined")
 
 
 def line_of(crate, function: str, report: Report) -> str:
@@ -241,7 +241,7 @@ def try_bodies(crate, bodies: list[Body]) -> Tally:
 
 
 def try_batch(crate, batch: list[Place], kept: str, tally: Tally) -> list[Body]:
-    """Tries the bodies of a batch, in halves where it can't be read as a whole, and returns those that are left open."""
+    """Tries the bodies of a batch, in halves where it can't be read as a whole, and returns those left open."""
     report = check(crate, batch, kept)
     tally.checks += 1
     tally.seconds += report.seconds

@@ -25,11 +25,11 @@ def faults_of_promises(text: str, marked: dict[str, list[str]]) -> list[str]:
     """What is amiss between the page of promises and the edits, each with the promises that it is marked with."""
     promises, bold = promises_in(text), {*re.findall(r"\*\*`(\w+)`\*\*", text)}
     named = {it for names in marked.values() for it in names}
+    bodies = {name for name, names in marked.items() if names}
     faults = [f"no wrong body is marked with the promise '{it}'" for it in promises if it not in named]
     faults += [f"a wrong body is marked with '{it}', which is no promise" for it in sorted(named - {*promises})]
-    with_mark = {name for name, names in marked.items() if names}
-    faults += [f"{it} is bold among the promises, and no edit of this name has a mark" for it in sorted(bold - with_mark)]
-    return faults + [f"{it} is marked with a promise, and not bold among them" for it in sorted(with_mark - bold)]
+    faults += [f"{it} is bold among the promises, and no edit of this name has a mark" for it in sorted(bold - bodies)]
+    return faults + [f"{it} is marked with a promise, and not bold among them" for it in sorted(bodies - bold)]
 
 
 def marks_of(crates) -> dict[str, list[str]]:
@@ -38,7 +38,8 @@ def marks_of(crates) -> dict[str, list[str]]:
     for crate in crates:
         for folder in (f"{crate.folder}/wrong-bodies", f"{crate.folder}/must-fail"):
             for file in sorted(os.listdir(folder)) if os.path.isdir(folder) else []:
-                marked.setdefault(file.removesuffix(".edit"), []).extend(lines_of(read_file(f"{folder}/{file}"), "promise"))
+                marks = lines_of(read_file(f"{folder}/{file}"), "promise")
+                marked.setdefault(file.removesuffix(".edit"), []).extend(marks)
     return marked
 
 

@@ -37,7 +37,7 @@ def script_sum() -> str:
     """Of this script's own texts."""
     tests = os.path.join(TOP, "tests")
     parts = sorted(it for it in os.listdir(f"{tests}/wrong_bodies") if it.endswith(".py"))
-    return sum_of(*[(it, read_file(f"{tests}/{it}")) for it in ["wrong-bodies", *[f"wrong_bodies/{it}" for it in parts]]])
+    return sum_of(read_file(f"{tests}/wrong-bodies"), *[(it, read_file(f"{tests}/wrong_bodies/{it}")) for it in parts])
 
 
 @functools.cache
@@ -81,9 +81,9 @@ def world_of(crate) -> str:
 
 def commit() -> str:
     """The name of the commit that the tree stands on, or '' where there is none."""
-    how = {"cwd": TOP, "stdin": subprocess.DEVNULL, "stdout": subprocess.PIPE, "stderr": subprocess.DEVNULL, "text": True}
     try:
-        return subprocess.run(["git", "rev-parse", "HEAD"], **how).stdout.strip()
+        said = subprocess.run(["git", "rev-parse", "HEAD"], cwd=TOP, stdin=subprocess.DEVNULL, capture_output=True)
+        return said.stdout.decode().strip()
     except OSError:
         return ""
 

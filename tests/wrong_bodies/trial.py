@@ -6,7 +6,8 @@ import os
 import tempfile
 
 from . import rtlib
-from .checks import BAD_EDIT, GOAL, LET_THROUGH, MISMATCH, NOT_PROVED, PROVED, WELL, Outcome, Tally, try_bodies, write_files
+from .checks import BAD_EDIT, GOAL, LET_THROUGH, MISMATCH, NOT_PROVED, PROVED, WELL
+from .checks import Outcome, Tally, try_bodies, write_files
 from .edits import read_bodies
 from .promises import faults_of_promises, mismatches
 from .record import DRAWN, Record, choose, world_of
@@ -162,23 +163,24 @@ def try_record(top: str, tally: Tally) -> list[str]:
     Record(crate, top).write(bodies, tally.outcomes)
     refused = {it.body for it in tally.outcomes if it.verdict in WELL}
     let_through = {it.name for it in bodies} - refused
-    first = "0"
-    choice = choose(crate, bodies, Record(crate, top), first)
+    record = Record(crate, top)
+    choice = choose(crate, bodies, record, "a commit")
     if {it.name for it in choice.new} != let_through:
         said.append("another than the bodies that are not on record is tried as new")
     if {(it.body, it.verdict) for it in choice.kept} - {(it.body, it.verdict) for it in tally.outcomes}:
         said.append("a body is on record as what it isn't")
-    draws = [len(choose(crate, bodies, Record(crate, top), str(at)).drawn) for at in range(200)]
-    if not 0.5 < sum(draws) * DRAWN / (200 * len(refused)) < 2 or len(choose(crate, bodies, Record(crate, top), "").drawn) < len(refused):
-        said.append("another part than one in twenty is drawn, or by no name not all")
-    # what was let through is not on record even where a line says so of another edit
+    drawn = sum(len(choose(crate, bodies, record, str(at)).drawn) for at in range(200))
+    if not 0.5 < drawn * DRAWN / (200 * len(refused)) < 2:
+        said.append(f"another part than one in {DRAWN} is drawn")
+    if len(choose(crate, bodies, record, "").drawn) != len(refused):
+        said.append("without a name not all are drawn")
     write_files(top, {"crates/fixture/wrong-bodies/wrong.edit": edit_text("next", "    x + 1", "    x + 1 + 0")})
     changed, _ = read_bodies(crate)
-    if "wrong" not in {it.name for it in choose(crate, changed, Record(crate, top), first).new}:
+    if "wrong" not in {it.name for it in choose(crate, changed, record, "a commit").new}:
         said.append("a changed edit stands on the record of the former")
     write_files(top, {"crates/fixture/proofs/third/Answers.antt": ANSWERS["third"] + "\n"})
     crate = fixture(top)
-    if choose(crate, bodies, Record(crate, top), first).kept:
+    if choose(crate, bodies, Record(crate, top), "a commit").kept:
         said.append("a body stands on a record of other proofs")
     return said
 
@@ -202,7 +204,7 @@ def try_worlds(top: str) -> list[str]:
     ):
         write_files(top, {path: text})
         if (world_of(fixture(top)) == before) != is_same:
-            said.append(f"a change of {path} counts that says nothing" if is_same else f"a change of {path} doesn't count")
+            said.append(f"a change of {path} {'counts that says nothing' if is_same else 'does not count'}")
         write_files(top, {path: texts[path]})
     # a proof that others name counts
     write_files(top, {"crates/fixture/proofs/Lib.antt": "use Rattle.under.proofs.Lib.{lemma}\n"})
