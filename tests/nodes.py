@@ -7,6 +7,7 @@ import json
 import os
 import random
 import select
+import signal
 import socket
 import subprocess
 import tempfile
@@ -55,8 +56,8 @@ def write_json(folder, name, value):
 class Node:
     """A running node, and its desk."""
 
-    def __init__(self, own, folder, ports):
-        words = [PAYD, "node", "--genesis", "genesis", "--keys", f"keys-{own}", "--ports", ports]
+    def __init__(self, own, folder, ports, options=()):
+        words = [PAYD, "node", "--genesis", "genesis", "--keys", f"keys-{own}", "--ports", ports, *options]
         pipe = subprocess.PIPE
         self.child = subprocess.Popen(words, cwd=folder, stdin=pipe, stdout=pipe, stderr=pipe, bufsize=0)
         self.own = own
@@ -98,12 +99,20 @@ class Node:
         answers = [self.ask(f"BALANCE {account}") for account in range(len(self.front()))]
         return [int(answer.split()[2]) for answer in answers]
 
+    def program(self):
+        """The number of the program's process, which tools/hold-node runs, or None where it runs no more."""
+        try:
+            with open(f"/proc/{self.child.pid}/task/{self.child.pid}/children", encoding="ascii") as numbers:
+                return next(map(int, numbers.read().split()), None)
+        except (FileNotFoundError, ProcessLookupError):
+            return None
+
     def threads(self):
-        with open(f"/proc/{self.child.pid}/status", encoding="ascii") as lines:
+        with open(f"/proc/{self.program()}/status", encoding="ascii") as lines:
             return next(int(line.split()[1]) for line in lines if line.startswith("Threads:"))
 
     def open_files(self):
-        return len(os.listdir(f"/proc/{self.child.pid}/fd"))
+        return len(os.listdir(f"/proc/{self.program()}/fd"))
 
     def stop(self):
         """Ends the input, and waits for the node's end: its status, what it still wrote, and its errors."""
@@ -113,7 +122,10 @@ class Node:
         return self.child.returncode, (self.held + output).decode("ascii"), errors.decode()
 
     def kill(self):
-        """Ends the process as it stands, if it hasn't ended."""
+        """Ends both processes as they stand, if they haven't ended: the node's first, for it would still export."""
+        program = self.program()
+        if program is not None:
+            os.kill(program, signal.SIGKILL)
         self.child.kill()
         self.child.wait()
         for stream in (self.child.stdin, self.child.stdout, self.child.stderr):
@@ -158,8 +170,8 @@ class Group:
             node.kill()
         self.place.cleanup()
 
-    def start(self, own, ports="ports"):
-        self.nodes[own] = Node(own, self.place.name, ports)
+    def start(self, own, ports="ports", options=()):
+        self.nodes[own] = Node(own, self.place.name, ports, options)
         return self.nodes[own]
 
     def kill(self, own):

@@ -16,6 +16,9 @@ from frames import test_key  # noqa: E402
 PAYD = os.path.join(TOP, "payd")
 SECONDS = 60
 
+# Files of keys are made that nobody else may read: a node says so where others may.
+os.umask(0o077)
+
 TESTS = []
 
 
