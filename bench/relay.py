@@ -1,0 +1,73 @@
+"""A stand-in for the tunnels of a member on a machine of its own: each byte is passed on late.
+
+usage: bench/relay.py OWN MILLISECONDS PORT..
+
+The member dials its peers on their PORTs of 127.0.0.1, as the file of ports says. There this relay listens in their
+place, and passes each connection on to the peer's machine, where the peer's own relay hands it to the peer.
+"""
+
+import asyncio
+import sys
+
+ADDRESS = "10.99.0.{}"
+TUNNEL = 20_999
+PIECE = 65_536
+
+
+def address(member):
+    return ADDRESS.format(member + 1)
+
+
+async def pass_on(reader, writer, seconds):
+    """Passes bytes on in their order, each so much later, and then the end."""
+    loop, queue = asyncio.get_running_loop(), asyncio.Queue()
+
+    async def write():
+        try:
+            while True:
+                due, piece = await queue.get()
+                await asyncio.sleep(max(0, due - loop.time()))
+                if not piece:
+                    break
+                writer.write(piece)
+                await writer.drain()
+        except OSError:
+            pass
+        finally:
+            writer.close()
+
+    writing = asyncio.create_task(write())
+    piece = b"?"
+    while piece:
+        try:
+            piece = await reader.read(PIECE)
+        except OSError:
+            piece = b""
+        queue.put_nowait((loop.time() + seconds, piece))
+    await writing
+
+
+def relay(host, port, seconds):
+    """Answers a connection by one to there, and passes both ways on."""
+
+    async def answer(reader, writer):
+        try:
+            there = await asyncio.open_connection(host, port)
+        except OSError:
+            writer.close()
+            return
+        await asyncio.gather(pass_on(reader, there[1], seconds), pass_on(there[0], writer, seconds))
+
+    return answer
+
+
+async def main(own, seconds, ports):
+    servers = [await asyncio.start_server(relay("127.0.0.1", ports[own], 0), address(own), TUNNEL)]
+    for peer, port in enumerate(ports):
+        if peer != own:
+            servers.append(await asyncio.start_server(relay(address(peer), TUNNEL, seconds), "127.0.0.1", port))
+    await asyncio.gather(*(server.serve_forever() for server in servers))
+
+
+if __name__ == "__main__":
+    asyncio.run(main(int(sys.argv[1]), int(sys.argv[2]) / 1000, [int(word) for word in sys.argv[3:]]))
