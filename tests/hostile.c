@@ -1,0 +1,100 @@
+// Comes between the program and the C library, and refuses what the environment says: one growth of memory, one read
+// of standard input or one write of standard output, counted from 1, or all but so many bytes of each. Where it
+// refused something it makes the file that HOSTILE_MARK names.
+#define _GNU_SOURCE
+#include <dlfcn.h>
+#include <errno.h>
+#include <fcntl.h>
+#include <stdatomic.h>
+#include <stdlib.h>
+#include <string.h>
+#include <sys/syscall.h>
+#include <unistd.h>
+
+static atomic_long growths, reads, writes;
+
+static long wanted(const char *name) {
+    const char *text = getenv(name);
+    return text == NULL ? 0 : atol(text);
+}
+
+static void mark(void) {
+    const char *name = getenv("HOSTILE_MARK");
+    if (name != NULL) {
+        long file = syscall(SYS_open, name, O_WRONLY | O_CREAT, 0600);
+        syscall(SYS_close, file);
+    }
+}
+
+// Whether this is the call of this kind that is refused.
+static int refused(atomic_long *count, const char *name) {
+    long place = wanted(name);
+    if (place == 0 || atomic_fetch_add(count, 1) + 1 != place) {
+        return 0;
+    }
+    mark();
+    return 1;
+}
+
+void *malloc(size_t size) {
+    static void *(*real)(size_t);
+    if (real == NULL) {
+        real = (void *(*)(size_t))dlsym(RTLD_NEXT, "malloc");
+    }
+    if (refused(&growths, "HOSTILE_GROWTH")) {
+        errno = ENOMEM;
+        return NULL;
+    }
+    return real(size);
+}
+
+void *realloc(void *old, size_t size) {
+    static void *(*real)(void *, size_t);
+    if (real == NULL) {
+        real = (void *(*)(void *, size_t))dlsym(RTLD_NEXT, "realloc");
+    }
+    if (refused(&growths, "HOSTILE_GROWTH")) {
+        errno = ENOMEM;
+        return NULL;
+    }
+    return real(old, size);
+}
+
+ssize_t read(int file, void *buffer, size_t size) {
+    if (file == STDIN_FILENO) {
+        long most = wanted("HOSTILE_READ_SIZE");
+        if (refused(&reads, "HOSTILE_READ")) {
+            errno = EIO;
+            return -1;
+        }
+        if (most != 0 && size > (size_t)most) {
+            size = most;
+        }
+    }
+    return syscall(SYS_read, file, buffer, size);
+}
+
+static ssize_t write_some(int file, const void *buffer, size_t size) {
+    if (file == STDOUT_FILENO) {
+        long most = wanted("HOSTILE_WRITE_SIZE");
+        if (refused(&writes, "HOSTILE_WRITE")) {
+            if (wanted("HOSTILE_WRITE_TAKES_NOTHING")) {
+                return 0;
+            }
+            errno = ENOSPC;
+            return -1;
+        }
+        if (most != 0 && size > (size_t)most) {
+            size = most;
+        }
+    }
+    return syscall(SYS_write, file, buffer, size);
+}
+
+ssize_t write(int file, const void *buffer, size_t size) {
+    return write_some(file, buffer, size);
+}
+
+ssize_t __write(int file, const void *buffer, size_t size) {
+    return write_some(file, buffer, size);
+}
