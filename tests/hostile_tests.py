@@ -13,12 +13,12 @@ import tempfile
 import audits
 import desks
 from frames import SEND, frame
+from memory_tests import program
 from nodes import free_ports, write_json
 from runs import EXAMPLE_GENESIS, GENESIS, SECONDS, TOP, example_keys, key_texts, run, same, test
 from scripts import WORKED, script_of
 
 HERE = os.path.dirname(os.path.realpath(__file__))
-PROGRAM = os.path.join(TOP, "crates", "payd", "out", "payd")
 MEMORY = re.compile("payd: (engine|genesis|keys|ports|export|close) 0 Memory\n|error: .*memory.*\n", re.DOTALL)
 
 # Where this is refused more often than any run has calls of its kind, a loop over these has no end.
@@ -48,7 +48,7 @@ class Hostile:
         given = {f"HOSTILE_{name.upper()}": f"{value}" for name, value in wanted.items()}
         given |= {"LD_PRELOAD": self.library, "HOSTILE_MARK": mark}
         how = {"input": stream, "capture_output": True, "timeout": SECONDS, "cwd": self.place.name}
-        done = subprocess.run([PROGRAM, *words], env={**os.environ, **given}, **how)
+        done = subprocess.run([program(), *words], env={**os.environ, **given}, **how)
         was_refused = os.path.exists(mark)
         if was_refused:
             os.unlink(mark)

@@ -94,7 +94,13 @@ const NODE_ABOUT: &str =
 
 const NODE_HELP: &str = "\
 Input and output: as those of payd desk. At the end of the input the node stops, and its export is one
-line more, which payd audit reads.
+line more, which payd audit reads. A member without its export has lost its account.
+
+The script payd, which runs this program, holds a node's input. It ends that at the first SIGINT, SIGTERM
+or SIGHUP, and waits for the export. It has three options more:
+  --export FILE   the export goes to this file, which must not be there before
+  --lines FILE    the lines come from this file; a named pipe is read until a signal
+  --stay          at the end of the lines the node goes on, until a signal
 
 The member listens on its own port of 127.0.0.1 and dials those of all others, a thousand times some
 10 milliseconds apart and again after each connection that brought a frame. So a group's nodes are
