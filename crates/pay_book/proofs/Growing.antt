@@ -13,7 +13,7 @@ use Rattle.pay_book.proofs.Reaching.{Reach-within, within_from_Covers}
 pub IsWithin : ℕ → (ℕ → List Entry) → (ℕ → ℕ) → Type 0
 IsWithin accounts logs front = (a : ℕ) → a < accounts → front a ≤ length (logs a)
 
-slice_get-append_left : {X : Type 0} (xs more : List X) (k : ℕ) → k < length xs → slice_get (xs ++ more) k ≡ slice_get xs k
+pub slice_get-append_left : {X : Type 0} (xs more : List X) (k : ℕ) → k < length xs → slice_get (xs ++ more) k ≡ slice_get xs k
 slice_get-append_left [] more k h = absurd (omega arith)
 slice_get-append_left (x ∷ xs) more zero h = refl
 slice_get-append_left (x ∷ xs) more (suc k) h = slice_get-append_left xs more k (omega arith)

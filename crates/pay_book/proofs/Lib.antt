@@ -4,9 +4,13 @@ pub mod Reaching
 pub mod Conserving
 pub mod Growing
 pub mod Computing
+pub mod Places
 pub mod Entries
+pub mod Placing
 pub mod Settling
 pub mod Settled
 pub mod OneStep
 pub mod PlainLoops
 pub mod Lines
+pub mod Former
+pub mod Whole

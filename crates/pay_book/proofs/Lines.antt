@@ -1,40 +1,55 @@
 -- A statement, line by line.
-use Rattle.std.proofs.Common.{◌≡◌, ℕ, ◌+◌, ◌<◌, List, [], ◌∷◌, ◌++◌, length, map, take, get_or, ap, ◌∙◌, sym, subst, arith}
+use Rattle.std.proofs.Common.{◌≡◌, ℕ, zero, suc, ◌+◌, List, [], ◌∷◌, ◌++◌, length, map, take, ap, ap₂, ◌∙◌, sym, arith}
 use Rattle.std.specs.Prelude.{slice_get, Option, Some}
+use Rattle.std.specs.Option.{option_map}
 use Rattle.std.specs.List.{flat_map, filter_map, cons_option, enumerate_from, range_with_len}
-use Rattle.std.proofs.lemmas.List.{append_assoc, map-append, take_more, length-map, get_or-map, append-nil, map-id}
-use Rattle.std.proofs.lemmas.List.Concat.{flat_map_single, flat_map-append}
+use Rattle.std.proofs.lemmas.List.{append_assoc, map-append, take_more, length-map, append-nil, map-id}
+use Rattle.std.proofs.lemmas.List.Concat.{flat_map-append}
 use Rattle.std.proofs.lemmas.List.Elements.{filter_map-append}
-use Rattle.std.proofs.lemmas.List.FromFn.{length-enumerate_from, get_or-enumerate_from, map-range_with_len_more}
-use Rattle.std.proofs.lemmas.Option.{slice_get_within, get_or_from_slice_get}
+use Rattle.std.proofs.lemmas.List.FromFn.{map-range_with_len_more}
+use Rattle.std.proofs.lemmas.Option.{slice_get-map, slice_get_within, get_or_from_slice_get, same_Some}
 use Rattle.pay_book.specs.declared.payment.Entry.{Entry}
 use Rattle.pay_book.specs.declared.payment.Entry.TheVariants.{Void}
-use Rattle.pay_book.specs.Payment.{entry_of, entries_in}
+use Rattle.pay_book.specs.Payment.{count_in, entries_in}
+use Rattle.pay_book.specs.Places.{Place, place_in}
 use Rattle.pay_book.specs.Statement.{numbered_entries_of}
+use Rattle.pay_book.proofs.Places.{entry_from, entry_from-some, slice_get-flat_map, place_in-numbered}
+use Rattle.pay_book.proofs.Entries.{length-entries_in}
 
--- as long as a value is one entry, the numbered entries are the values' one by one
-pub numbered_entries_of-map : (accounts : ℕ) (lists : ℕ → List (List ℕ)) (owner : ℕ) → numbered_entries_of accounts lists owner ≡ map (λ v. (v.0, entry_of accounts owner v.1)) (enumerate_from 0 (lists owner))
-unfolding numbered_entries_of entries_in
-numbered_entries_of-map accounts lists owner =
-    flat_map_single (λ (v : ℕ × List ℕ). (v.0, entry_of accounts owner v.1)) (enumerate_from 0 (lists owner))
+-- a value of a numbered list
+slice_get-enumerate_from : {X : Type 0} (from : ℕ) (xs : List X) (k : ℕ) (x : X) → slice_get xs k ≡ Some x → slice_get (enumerate_from from xs) k ≡ Some (from + k, x)
+slice_get-enumerate_from from [] k x there = absurd cc
+slice_get-enumerate_from from (y ∷ ys) zero x there =
+    let same : from ≡ from + 0 = omega arith in
+    ap Some (ap₂ (λ (n : ℕ) v. (n, v)) same (same_Some y x there))
+slice_get-enumerate_from from (y ∷ ys) (suc k) x there =
+    let same : from + 1 + k ≡ from + suc k = omega arith in
+    slice_get-enumerate_from (from + 1) ys k x there ∙ ap (λ n. Some (n, x)) same
 
 -- one entry more
-pub take-numbered_more : (accounts : ℕ) (lists : ℕ → List (List ℕ)) (owner place : ℕ) (value : List ℕ) → slice_get (lists owner) place ≡ Some value → take (place + 1) (numbered_entries_of accounts lists owner) ≡ take place (numbered_entries_of accounts lists owner) ++ (place, entry_of accounts owner value) ∷ []
-take-numbered_more accounts lists owner place value there =
+pub take-numbered_more : (accounts : ℕ) (lists : ℕ → List (List ℕ)) (owner number : ℕ) (place : Place) (value : List ℕ) (entry : Entry) → place ≡ place_in count_in (lists owner) number → slice_get (lists owner) place.0 ≡ Some value → slice_get (entries_in accounts owner value) place.1 ≡ Some entry → take (number + 1) (numbered_entries_of accounts lists owner) ≡ take number (numbered_entries_of accounts lists owner) ++ (place.0, entry) ∷ []
+unfolding numbered_entries_of
+take-numbered_more accounts lists owner number place value entry at there next =
     let values = lists owner in
-    let number : ℕ × List ℕ → ℕ × Entry = λ v. (v.0, entry_of accounts owner v.1) in
+    let numbered = enumerate_from 0 values in
+    let number_all : ℕ × List ℕ → List (ℕ × Entry) = λ v. map (λ e. (v.0, e)) (entries_in accounts owner v.1) in
+    let count : ℕ × List ℕ → ℕ = λ v. count_in v.1 in
+    let counts : (v : ℕ × List ℕ) → length (number_all v) ≡ count v =
+    λ v. length-map (entries_in accounts owner v.1) (λ e. (v.0, e)) ∙ length-entries_in accounts owner v.1 in
+    let same : place_in count numbered number ≡ place = place_in-numbered count_in 0 values number ∙ sym at in
+    let zero_more : 0 + place.0 ≡ place.0 = omega arith in
+    let stands : slice_get numbered place.0 ≡ Some (place.0, value) =
+    slice_get-enumerate_from 0 values place.0 value there ∙ ap (λ n. Some (n, value)) zero_more in
+    let all = flat_map number_all numbered in
+    let is : slice_get all number ≡ Some (place.0, entry) =
+    slice_get-flat_map count number_all counts numbered number
+    ∙ ap (λ (p : Place). entry_from number_all (slice_get numbered p.0) p.1) same
+    ∙ entry_from-some number_all (slice_get numbered place.0) (place.0, value) place.1 stands
+    ∙ slice_get-map (λ e. (place.0, e)) (entries_in accounts owner value) place.1
+    ∙ ap (option_map (λ e. (place.0, e))) next in
     let default : ℕ × Entry = (0, Void) in
-    let inside = slice_get_within values place value there in
-    let long = length-enumerate_from 0 values in
-    let within : place < length (map number (enumerate_from 0 values)) = omega (arith, length-map (enumerate_from 0 values) number) in
-    let at_place : get_or (map number (enumerate_from 0 values)) place default ≡ (place, entry_of accounts owner value) =
-    get_or-map number (enumerate_from 0 values) place (0, []) default (omega arith)
-    ∙ ap number (get_or-enumerate_from 0 values place (0, []) inside)
-    ∙ ap (λ n. (n, entry_of accounts owner (get_or values place []))) (omega arith)
-    ∙ ap (λ v. (place, entry_of accounts owner v)) (get_or_from_slice_get values place value [] there) in
-    let P : List (ℕ × Entry) → Type 0 = λ xs. take (place + 1) xs ≡ take place xs ++ (place, entry_of accounts owner value) ∷ [] in
-    subst P (sym (numbered_entries_of-map accounts lists owner))
-    (take_more (map number (enumerate_from 0 values)) place default within ∙ ap (λ e. take place (map number (enumerate_from 0 values)) ++ e ∷ []) at_place)
+    take_more all number default (slice_get_within all number (place.0, entry) is)
+    ∙ ap (λ e. take number all ++ e ∷ []) (get_or_from_slice_get all number (place.0, entry) default is)
 
 -- the lines so far, with those of one entry more
 module _ {X : Type 0} (before : List X) (some more : List (ℕ × Entry)) (place : ℕ) (entry : Entry) (is : more ≡ some ++ (place, entry) ∷ []) where

@@ -1,5 +1,5 @@
 -- A book after one entry more is still a book.
-use Rattle.std.proofs.Common.{◌≡◌, ℕ, ◌+◌, ◌<◌, ◌≤◌, ℤ, pos, cond, eqb, List, length, take, sum_by, slice_index, ap, ◌∙◌, sym, subst, arith, inl, inr}
+use Rattle.std.proofs.Common.{◌≡◌, ℕ, ◌+◌, ◌<◌, ◌≤◌, ◌^◌, ℤ, pos, cond, eqb, List, length, take, sum_by, slice_index, ap, ◌∙◌, sym, subst, arith, inl, inr}
 use Rattle.std.specs.Prelude.{slice_get, slice_set, Option, Some}
 use Rattle.std.proofs.lemmas.Int.{ints}
 use Rattle.std.proofs.lemmas.Bool.{cases_eq, cond-true, cond-false, eq-eqb, ne_eqb}
@@ -8,8 +8,11 @@ use Rattle.pay_book.specs.declared.payment.Entry.{Entry}
 use Rattle.pay_book.specs.declared.payment.Entry.TheVariants.{Pay, Void}
 use Rattle.pay_book.specs.Balance.{amount_of, amount_to, paid_in, paid_out, balance_at, Moves}
 use Rattle.pay_book.specs.Front.{Covers, MayStep, IsOneFurther, Step}
-use Rattle.pay_book.specs.Book.{Standing, entries_for, IsBook}
-use Rattle.pay_book.proofs.Sums.{sum_below-one_more}
+use Rattle.pay_book.specs.Payment.{count_in}
+use Rattle.pay_book.specs.Places.{Place, place_in}
+use Rattle.pay_book.specs.Book.{Standing, entries_for, IsBook, AreCountable}
+use Rattle.pay_book.proofs.Sums.{sum_below-one_more, sum_below-at}
+use Rattle.pay_book.proofs.Placing.{ArePlaces-stepped}
 use Rattle.pay_book.proofs.Conserving.{sum_by-take_entry}
 use Rattle.pay_book.proofs.Computing.{set_is_further}
 
@@ -43,7 +46,7 @@ module _ (opening : List ℕ) (logs : ℕ → List Entry) (front next : ℕ → 
       ]
 
 -- the same at a book's lists
-book_after : (lists : ℕ → List (List ℕ)) (old : Standing) (account : ℕ) (entry : Entry) (balances : List ℕ) → IsBook lists old → account < length old.opening → slice_get (entries_for old lists account) (slice_index old.front account) ≡ Some entry → amount_of entry ≤ slice_index old.balances account → length balances ≡ length old.opening → Moves entry account old.balances balances → IsBook lists (record { opening = old.opening; front = slice_set old.front account (slice_index old.front account + 1); balances = balances })
+book_after : (lists : ℕ → List (List ℕ)) (old : Standing) (account : ℕ) (entry : Entry) (balances : List ℕ) → IsBook lists old → account < length old.opening → slice_get (entries_for old lists account) (slice_index old.front account) ≡ Some entry → amount_of entry ≤ slice_index old.balances account → length balances ≡ length old.opening → Moves entry account old.balances balances → IsBook lists (record { opening = old.opening; front = slice_set old.front account (slice_index old.front account + 1); balances = balances; places = slice_set old.places account (place_in count_in (lists account) (slice_index old.front account + 1)) })
 book_after lists old account entry balances is h there covered one_for_each moves =
     let logs = entries_for old lists in
     let n = length old.opening in
@@ -66,10 +69,19 @@ book_after lists old account entry balances is h there covered one_for_each move
             let moved = moves b in
             omega (arith, ints));
       };
+      placed = ArePlaces-stepped n lists front next old.places account h further is.placed;
     }
 
-pub IsBook-stepped : (lists : ℕ → List (List ℕ)) (old new : Standing) (account : ℕ) (entry : Entry) → IsBook lists old → account < length old.opening → slice_get (entries_for old lists account) (slice_index old.front account) ≡ Some entry → amount_of entry ≤ slice_index old.balances account → new.opening ≡ old.opening → new.front ≡ slice_set old.front account (slice_index old.front account + 1) → length new.balances ≡ length old.opening → Moves entry account old.balances new.balances → IsBook lists new
-IsBook-stepped lists old new account entry is h there covered same_opening front one_for_each moves =
-    let P : List ℕ → Type 0 = λ o. IsBook lists (record { opening = o; front = new.front; balances = new.balances }) in
-    let Q : List ℕ → Type 0 = λ f. IsBook lists (record { opening = old.opening; front = f; balances = new.balances }) in
-    subst P (sym same_opening) (subst Q (sym front) (book_after lists old account entry new.balances is h there covered one_for_each moves))
+pub IsBook-stepped : (lists : ℕ → List (List ℕ)) (old new : Standing) (account : ℕ) (entry : Entry) (place : Place) → IsBook lists old → account < length old.opening → slice_get (entries_for old lists account) (slice_index old.front account) ≡ Some entry → amount_of entry ≤ slice_index old.balances account → place ≡ place_in count_in (lists account) (slice_index old.front account + 1) → new.opening ≡ old.opening → new.front ≡ slice_set old.front account (slice_index old.front account + 1) → length new.balances ≡ length old.opening → Moves entry account old.balances new.balances → new.places ≡ slice_set old.places account place → IsBook lists new
+IsBook-stepped lists old new account entry place is h there covered reached same_opening front one_for_each moves places =
+    let P : List ℕ → Type 0 = λ o. IsBook lists (record { opening = o; front = new.front; balances = new.balances; places = new.places }) in
+    let Q : List ℕ → Type 0 = λ f. IsBook lists (record { opening = old.opening; front = f; balances = new.balances; places = new.places }) in
+    let R : List Place → Type 0 = λ w. IsBook lists (record { opening = old.opening; front = slice_set old.front account (slice_index old.front account + 1); balances = new.balances; places = w }) in
+    let moved = places ∙ ap (slice_set old.places account) reached in
+    subst P (sym same_opening) (subst Q (sym front) (subst R (sym moved) (book_after lists old account entry new.balances is h there covered one_for_each moves)))
+
+-- a count of 32 bits has room for one entry more
+pub room_for_entry : (lists : ℕ → List (List ℕ)) (book : Standing) (account : ℕ) → AreCountable lists book → account < length book.opening → slice_index book.front account < length (entries_for book lists account) → slice_index book.front account + 1 < 2 ^ 32
+room_for_entry lists book account countable h there =
+    let one = sum_below-at (length book.opening) (λ a. length (entries_for book lists a)) account h in
+    omega arith

@@ -18,6 +18,7 @@ use Rattle.pay_book.proofs.Reaching.{Reach-within}
 use Rattle.pay_book.proofs.Growing.{take-grown, largest_grows}
 use Rattle.pay_book.proofs.Computing.{largest_front_is_largest}
 use Rattle.pay_book.proofs.Entries.{entries_of-prefix, entries_of-grow, entries_of-within}
+use Rattle.pay_book.proofs.Placing.{places_of-are}
 use Rattle.pay_book.proofs.Settling.{same_books}
 
 -- at a reached front the computed balances are the balances there
@@ -43,6 +44,7 @@ settled_book_is_settled opening lists =
         reached = computed.1.reached;
         one_for_each = computed.0;
         are = balances_of-are opening logs (slice_index (largest_front opening logs)) computed.1.reached;
+        placed = places_of-are (length opening) lists (slice_index (largest_front opening logs));
       };
       largest = refl;
     }
@@ -63,12 +65,12 @@ nobody_owes opening lists a =
 
 -- ---- growth
 
-settled_front-within : (opening : List ℕ) (lists : ℕ → List (List ℕ)) (a : ℕ) → slice_index (settled_front opening lists) a ≤ length (entries_of (length opening) lists a)
+pub settled_front-within : (opening : List ℕ) (lists : ℕ → List (List ℕ)) (a : ℕ) → slice_index (settled_front opening lists) a ≤ length (entries_of (length opening) lists a)
 settled_front-within opening lists a =
     let logs = entries_of (length opening) lists in
     Reach-within opening logs (largest_front_is_largest opening logs).1.reached a
 
-settled_front-grows : (opening : List ℕ) (old new : ℕ → List (List ℕ)) → AllGrow (length opening) old new → (a : ℕ) → slice_index (settled_front opening old) a ≤ slice_index (settled_front opening new) a
+pub settled_front-grows : (opening : List ℕ) (old new : ℕ → List (List ℕ)) → AllGrow (length opening) old new → (a : ℕ) → slice_index (settled_front opening old) a ≤ slice_index (settled_front opening new) a
 settled_front-grows opening old new grow =
     let n = length opening in
     let before = entries_of n old in
@@ -85,7 +87,7 @@ settled_count_grows opening old new grow =
 
 -- ---- prefixes
 
-take-prefix : {X : Type 0} (m n : ℕ) (xs : List X) → m ≤ n → IsPrefix (take m xs) (take n xs)
+pub take-prefix : {X : Type 0} (m n : ℕ) (xs : List X) → m ≤ n → IsPrefix (take m xs) (take n xs)
 take-prefix m n xs h =
     record {
       rest = drop m (take n xs);

@@ -17,7 +17,9 @@ use Rattle.pay_book.proofs.Conserving.{sum-places}
 use Rattle.pay_book.proofs.Reaching.{zero_front, Reach-within, within_from_Covers, largest_from_stuck, largest_is_stuck}
 use Rattle.pay_book.proofs.Growing.{balance_at-grown, MayStep-same_list, Reach-grown, AllGrow-same}
 use Rattle.pay_book.proofs.Computing.{largest_front_is_largest, same_largest_front, largest_front-same}
-use Rattle.pay_book.proofs.Entries.{length-entries_of, length-entries_of-le, entries_of-grow, entries_of-same}
+use Rattle.pay_book.specs.Places.{Place, places_of}
+use Rattle.pay_book.proofs.Entries.{length-entries_of-le, entries_of-grow, entries_of-same}
+use Rattle.pay_book.proofs.Placing.{ArePlaces-grown, ArePlaces-fresh, same_places}
 
 -- one owner's growth is growth
 pub AllGrow-from_one : (old new : ℕ → List (List ℕ)) (owner accounts : ℕ) → GrowsOnly old new owner → AllGrow accounts old new
@@ -52,6 +54,7 @@ IsBook-grown old new book grow is =
         one_for_each = is.are.one_for_each;
         exact = λ a h. is.are.exact a h ∙ sym (balance_at-grown book.opening (entries_for book old) (entries_for book new) (slice_index book.front) a entries_grow (λ b _. Reach-within book.opening (entries_for book old) is.reached b) h);
       };
+      placed = ArePlaces-grown n old new (slice_index book.front) book.places grow (Reach-within book.opening (entries_for book old) is.reached) is.placed;
     }
 
 pub can_settle_grown : (old new : ℕ → List (List ℕ)) (book : Standing) (owner : ℕ) → IsSettled old book → GrowsOnly old new owner → owner < length book.opening → AreCountable new book → CanSettle new book owner
@@ -84,6 +87,7 @@ fresh_is_book opening lists =
       reached = Start (zero_front n);
       one_for_each = length-replicate {A = ℕ} n 0;
       are = record { one_for_each = refl; exact = λ a _. fresh_balance opening (entries_of n lists) (slice_index (replicate n 0)) (zero_front n) a };
+      placed = ArePlaces-fresh n lists;
     }
 
 pub fresh_is_settled : (opening : List ℕ) (lists : ℕ → List (List ℕ)) → ((a : ℕ) → a < length opening → length (lists a) ≡ 0) → IsSettled lists (fresh opening)
@@ -93,7 +97,7 @@ fresh_is_settled opening lists empty =
     (λ a may.
     let inside = within_from_Covers (balance_at opening (entries_of n lists) (slice_index (replicate n 0)) a) (entries_of n lists a) (slice_index (replicate n 0) a) may.1 in
     let none = empty a may.0 in
-    let long = length-entries_of n lists a in
+    let long = length-entries_of-le n lists a 0 (omega arith) in
     omega arith)
 
 -- no more is settled than is listed
@@ -127,8 +131,14 @@ same_books lists p q opening at_p at_q =
     let B : List ℕ → List ℕ → ℤ = λ o f. balance_at o (entries_of (length o) lists) (slice_index f) k in
     let same : B p.opening p.front ≡ B q.opening q.front = ap (λ o. B o p.front) opening ∙ ap (λ f. B q.opening f) front in
     same_pos (get_or p.balances k 0) (get_or q.balances k 0) (at_p_k ∙ same ∙ sym at_q_k)) in
-    let made : List ℕ → List ℕ → List ℕ → Standing = λ o f b. record { opening = o; front = f; balances = b } in
-    ap (λ o. made o p.front p.balances) opening ∙ ap (λ f. made q.opening f p.balances) front ∙ ap (made q.opening q.front) balances
+    let at : List ℕ → List ℕ → List Place = λ o f. places_of (length o) lists (slice_index f) in
+    let places : p.places ≡ q.places =
+    same_places (length p.opening) lists (slice_index p.front) p.places at_p.is.placed
+    ∙ ap (λ o. at o p.front) opening ∙ ap (at q.opening) front
+    ∙ sym (same_places (length q.opening) lists (slice_index q.front) q.places at_q.is.placed) in
+    let made : List ℕ → List ℕ → List ℕ → List Place → Standing = λ o f b w. record { opening = o; front = f; balances = b; places = w } in
+    ap (λ o. made o p.front p.balances p.places) opening ∙ ap (λ f. made q.opening f p.balances p.places) front
+    ∙ ap (λ b. made q.opening q.front b p.places) balances ∙ ap (made q.opening q.front q.balances) places
   where
     same_pos : (m n : ℕ) → pos m ≡ pos n → m ≡ n
     same_pos m n e = omega (arith, ints)

@@ -2,32 +2,40 @@
 use Rattle.std.specs.Prelude.{◌≡◌, ◌≢◌, ℕ, ◌+◌, ◌<◌, ◌^◌, List, length, replicate, slice_index, slice_get, slice_set, sum, Some}
 use Rattle.pay_book.specs.declared.payment.Entry.{Entry}
 use Rattle.pay_book.specs.Payment.{entries_of}
+use Rattle.pay_book.specs.Places.{Place, ArePlaces}
 use Rattle.pay_book.specs.Balance.{AreBalances}
 use Rattle.pay_book.specs.Front.{MayStep, Reach, entry_count, largest_front}
 
 -- The opening balances that a book was made with, its front and its balances, each account's at its
--- place.
+-- place, and where each account's front falls in its list of values.
 pub record Standing : Type 0 where
   pub opening : List ℕ
   pub front : List ℕ
   pub balances : List ℕ
+  pub places : List Place
 
-abbrev pub standing_of_parts : List ℕ → List ℕ → List ℕ → Standing
-standing_of_parts opening front balances =
-    record { opening = opening; front = front; balances = balances }
+abbrev pub standing_of_parts : List ℕ → List ℕ → List ℕ → List Place → Standing
+standing_of_parts opening front balances places =
+    record { opening = opening; front = front; balances = balances; places = places }
 
 -- Each account has its places, and no count of accounts or sum of balances is more than the book's
 -- numbers hold.
 pub record IsSound (book : Standing) : Type 0 where
   pub front_for_each : length book.front ≡ length book.opening
   pub balance_for_each : length book.balances ≡ length book.opening
+  pub place_for_each : length book.places ≡ length book.opening
   pub accounts : length book.opening < 2 ^ 16
   pub total : sum book.opening < 2 ^ 64
 
 -- a book in which nothing is settled
 abbrev pub fresh : List ℕ → Standing
 fresh opening =
-    record { opening = opening; front = replicate (length opening) 0; balances = opening }
+    record {
+      opening = opening;
+      front = replicate (length opening) 0;
+      balances = opening;
+      places = replicate (length opening) (0, 0);
+    }
 
 -- the owners' lists as this book reads them
 abbrev pub entries_for : Standing → (ℕ → List (List ℕ)) → ℕ → List Entry
@@ -42,11 +50,12 @@ MaySettle lists book account =
 abbrev pub IsStuck : (ℕ → List (List ℕ)) → Standing → Type 0
 IsStuck lists book = (a : ℕ) → MaySettle lists book a → ⊥
 
--- The book stands at a front that steps reach, with the balances there.
+-- The book stands at a front that steps reach, with the balances and places there.
 pub record IsBook (lists : ℕ → List (List ℕ)) (book : Standing) : Type 0 where
   pub reached : Reach book.opening (entries_for book lists) (slice_index book.front)
   pub one_for_each : length book.front ≡ length book.opening
   pub are : AreBalances book.opening (entries_for book lists) (slice_index book.front) book.balances
+  pub placed : ArePlaces (length book.opening) lists (slice_index book.front) book.places
 
 -- It stands at the largest front.
 pub record IsSettled (lists : ℕ → List (List ℕ)) (book : Standing) : Type 0 where

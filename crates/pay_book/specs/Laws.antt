@@ -1,15 +1,18 @@
 -- The laws of settling, over any entries; src/laws.rt says each in words.
-use Rattle.std.specs.Prelude.{◌≡◌, ◌⊎◌, ℕ, ◌*◌, ◌^◌, ◌<◌, ◌≤◌, max, pos, ◌≤ℤ◌, List, length, slice_index, sum}
-use Rattle.std.specs.List.{flat_map}
+use Rattle.std.specs.Prelude.{◌≡◌, ◌⊎◌, ◌↔◌, ℕ, ◌+◌, ◌*◌, ◌^◌, ◌<◌, ◌≤◌, max, pos, ◌≤ℤ◌, false, List, ◌++◌, length, map, take, slice_index, slice_get, sum, Some, All}
+use Rattle.std.specs.List.{flat_map, filter_map, enumerate_from, range_with_len}
 use Rattle.pay_frame.specs.declared.limits.TheConstants.{SEQS, MOST_MEMBERS}
 use Rattle.pay_channel.specs.Prefix.{IsPrefix}
 use Rattle.pay_channel.specs.Source.{GrowsOnly}
 use Rattle.pay_book.specs.declared.payment.Entry.{Entry}
-use Rattle.pay_book.specs.Payment.{most_entries, entries_in, entries_of}
+use Rattle.pay_book.specs.declared.line.Line.{Line}
+use Rattle.pay_book.specs.Payment.{most_entries, entry_of, is_several, count_in, entries_in, entries_of}
+use Rattle.pay_book.specs.Places.{place_in, place_of}
+use Rattle.pay_book.specs.Statement.{own_line, incoming_line, statement_of}
 use Rattle.pay_book.specs.Balance.{balance_at, AreBalances}
 use Rattle.pay_book.specs.Front.{MayStep, Reach, IsLargest, largest_front, AllGrow}
 use Rattle.pay_book.specs.Book.{Standing, fresh, entries_for, IsBook, IsSettled, AreCountable, CanSettle}
-use Rattle.pay_book.specs.Settled.{settled_front, settled_book, settled_entries}
+use Rattle.pay_book.specs.Settled.{settled_front, settled_book, settled_entries, settled_place, settled_values}
 
 abbrev pub ReachedFrontsJoin : Type 0
 ReachedFrontsJoin =
@@ -190,3 +193,101 @@ SettledEntriesWereAsked =
     (opening : List ℕ) (lists : ℕ → List (List ℕ)) (a : ℕ) (asked : List (List ℕ)) →
     IsPrefix (lists a) asked →
     IsPrefix (settled_entries opening lists a) (flat_map (entries_in (length opening) a) asked)
+
+-- ---- values of several payments
+
+-- A value's entries are as many as `count_in` says.
+abbrev pub ValuesCountTheirEntries : Type 0
+ValuesCountTheirEntries =
+    (accounts owner : ℕ) (value : List ℕ) → length (entries_in accounts owner value) ≡ count_in value
+
+-- None of these accounts' values has the shape of several payments.
+abbrev pub AllSingle : ℕ → (ℕ → List (List ℕ)) → Type 0
+AllSingle accounts lists =
+    (a : ℕ) → a < accounts → All (λ v. is_several v ≡ false) (lists a)
+
+-- One entry for each value, as before there were values of several payments.
+abbrev pub former_entries_of : ℕ → (ℕ → List (List ℕ)) → ℕ → List Entry
+former_entries_of accounts lists owner = map (entry_of accounts owner) (lists owner)
+
+-- each with the place of its value
+abbrev pub former_numbered_entries_of : ℕ → (ℕ → List (List ℕ)) → ℕ → List (ℕ × Entry)
+former_numbered_entries_of accounts lists owner =
+    map (λ v. (v.0, entry_of accounts owner v.1)) (enumerate_from 0 (lists owner))
+
+-- and the statement of them
+abbrev pub former_statement_of : ℕ → (ℕ → List (List ℕ)) → (ℕ → ℕ) → ℕ → List Line
+former_statement_of accounts lists front account =
+    map (λ e. own_line e.0 e.1)
+    (take (front account) (former_numbered_entries_of accounts lists account))
+    ++ flat_map
+    (λ owner. filter_map (λ e. incoming_line account owner e.0 e.1)
+    (take (front owner) (former_numbered_entries_of accounts lists owner)))
+    (range_with_len 0 accounts)
+
+-- All is as it was.
+pub record IsAsFormer (opening : List ℕ) (lists : ℕ → List (List ℕ)) : Type 0 where
+  pub entries :
+      (a : ℕ) → a < length opening →
+      entries_of (length opening) lists a ≡ former_entries_of (length opening) lists a
+  pub front :
+      settled_front opening lists
+      ≡ largest_front opening (former_entries_of (length opening) lists)
+  pub balances :
+      (front : ℕ → ℕ) (a : ℕ) → a < length opening →
+      balance_at opening (entries_of (length opening) lists) front a
+      ≡ balance_at opening (former_entries_of (length opening) lists) front a
+  pub places :
+      (a number : ℕ) → a < length opening → number ≤ length (lists a)
+      → place_in count_in (lists a) number ≡ (number, 0)
+  pub statement :
+      (front : ℕ → ℕ) (a : ℕ) → a < length opening →
+      statement_of (length opening) lists front a
+      ≡ former_statement_of (length opening) lists front a
+
+abbrev pub SingleEntries : Type 0
+SingleEntries =
+    (opening : List ℕ) (lists : ℕ → List (List ℕ)) →
+    AllSingle (length opening) lists → IsAsFormer opening lists
+
+-- The account's place says which of its values are settled wholly: those whose entries are all
+-- before the front; and how many entries of the next one are.
+pub record TellsWhole (lists : ℕ → List (List ℕ)) (book : Standing) (a : ℕ) : Type 0 where
+  pub within : (place_of book.places a).0 ≤ length (lists a)
+  pub part :
+      (value : List ℕ) → slice_get (lists a) (place_of book.places a).0 ≡ Some value
+      → (place_of book.places a).1 < count_in value
+  pub adds_up :
+      length (flat_map (entries_in (length book.opening) a)
+      (take (place_of book.places a).0 (lists a)))
+      + (place_of book.places a).1
+      ≡ slice_index book.front a
+  pub whole :
+      (s : ℕ) → s < length (lists a) →
+      (s < (place_of book.places a).0)
+      ↔ (length (flat_map (entries_in (length book.opening) a) (take (s + 1) (lists a)))
+      ≤ slice_index book.front a)
+
+abbrev pub WhollySettled : Type 0
+WhollySettled =
+    (lists : ℕ → List (List ℕ)) (book : Standing) (a : ℕ) →
+    IsBook lists book → a < length book.opening → TellsWhole lists book a
+
+-- ---- values that are settled wholly
+
+abbrev pub SettledBookTellsPlaces : Type 0
+SettledBookTellsPlaces =
+    (opening : List ℕ) (lists : ℕ → List (List ℕ)) (a : ℕ) → a < length opening
+    → place_of (settled_book opening lists).places a ≡ settled_place opening lists a
+
+abbrev pub SettledPlacesGrow : Type 0
+SettledPlacesGrow =
+    (opening : List ℕ) (old new : ℕ → List (List ℕ)) →
+    AllGrow (length opening) old new →
+    (a : ℕ) → (settled_place opening old a).0 ≤ (settled_place opening new a).0
+
+abbrev pub SettledValuesBeginEntries : Type 0
+SettledValuesBeginEntries =
+    (opening : List ℕ) (lists : ℕ → List (List ℕ)) (a : ℕ) →
+    IsPrefix (flat_map (entries_in (length opening) a) (settled_values opening lists a))
+    (settled_entries opening lists a)

@@ -1,4 +1,5 @@
 pub mod Payment
+pub mod Places
 pub mod Balance
 pub mod Front
 pub mod Book

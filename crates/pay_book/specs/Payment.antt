@@ -1,9 +1,9 @@
 -- What broadcast values mean to the book: this project's own format, stated in docs/DEFINITIONS.md.
-use Rattle.std.specs.Prelude.{ℕ, List, [], ◌∷◌, ◌++◌, length, slice_index, slice_range, nat_lt, ◌==◌, ◌&&◌, not, if◌then◌else◌}
-use Rattle.std.specs.List.{flat_map}
+use Rattle.std.specs.Prelude.{ℕ, ◌+◌, ◌*◌, Bool, List, [], ◌∷◌, ◌++◌, length, map, slice_index, slice_range, nat_lt, nat_le, ◌==◌, ◌&&◌, not, if◌then◌else◌}
+use Rattle.std.specs.List.{flat_map, range_with_len}
 use Rattle.std.specs.Int.{from_be_bytes, to_be_bytes, w16, w64}
 use Rattle.pay_book.specs.declared.payment.Entry.{Entry}
-use Rattle.pay_book.specs.declared.payment.TheConstants.{PAYMENT_LENGTH, PAYMENT_VERSION}
+use Rattle.pay_book.specs.declared.payment.TheConstants.{PAYMENT_LENGTH, PAYMENT_VERSION, SEVERAL_VERSION, MOST_PAYMENTS, PAIR_LENGTH}
 use Rattle.pay_book.specs.declared.payment.Entry.TheVariants.{Pay, Void}
 
 -- A payment to an account that is there, that isn't the owner's own, of more than nothing; else
@@ -14,25 +14,51 @@ payment accounts owner payee amount =
     then Pay payee amount
     else Void
 
--- The version, the payee in two bytes and the amount in eight, the greatest byte first.
+-- What a pair of payee and amount means: the payee in two bytes and the amount in eight, the greatest
+-- byte first.
+unfoldable pub pair_entry : ℕ → ℕ → List ℕ → Entry
+pair_entry accounts owner pair =
+    payment accounts owner (from_be_bytes w16 (slice_range pair 0 2))
+    (from_be_bytes w64 (slice_range pair 2 PAIR_LENGTH))
+
+-- A value of one payment: the version and the pair. Nothing else is one.
 unfoldable pub entry_of : ℕ → ℕ → List ℕ → Entry
 entry_of accounts owner value =
     if length value == PAYMENT_LENGTH && slice_index value 0 == PAYMENT_VERSION
-    then payment accounts owner (from_be_bytes w16 (slice_range value 1 3))
-    (from_be_bytes w64 (slice_range value 3 PAYMENT_LENGTH))
+    then pair_entry accounts owner (slice_range value 1 PAYMENT_LENGTH)
     else Void
 
--- The value that says so.
+-- the value of this payment
 unfoldable pub payment_value : ℕ → ℕ → List ℕ
 payment_value payee amount = PAYMENT_VERSION ∷ to_be_bytes w16 payee ++ to_be_bytes w64 amount
 
+-- A value of several payments: its own version, how many they are, and a pair for each.
+unfoldable pub is_several : List ℕ → Bool
+is_several value =
+    slice_index value 0 == SEVERAL_VERSION && nat_lt 0 (slice_index value 1)
+    && nat_le (slice_index value 1) MOST_PAYMENTS
+    && length value == 2 + PAIR_LENGTH * slice_index value 1
+
+-- the pair at this place
+abbrev pub pair_at : List ℕ → ℕ → List ℕ
+pair_at value place =
+    slice_range value (2 + PAIR_LENGTH * place) (2 + PAIR_LENGTH * place + PAIR_LENGTH)
+
 -- how many entries a value has at most
 abbrev pub most_entries : ℕ
-most_entries = 1
+most_entries = MOST_PAYMENTS
 
--- A value's entries, in its order: a value is one entry.
+-- how many entries a value has
+unfoldable pub count_in : List ℕ → ℕ
+count_in value = if is_several value then slice_index value 1 else 1
+
+-- A value's entries, in its order: one for each pair of several payments; else the value is one
+-- entry.
 unfoldable pub entries_in : ℕ → ℕ → List ℕ → List Entry
-entries_in accounts owner value = entry_of accounts owner value ∷ []
+entries_in accounts owner value =
+    if is_several value
+    then map (λ place. pair_entry accounts owner (pair_at value place)) (range_with_len 0 (slice_index value 1))
+    else entry_of accounts owner value ∷ []
 
 -- The entries of an owner's list: those of its values, joined in order.
 unfoldable pub entries_of : ℕ → (ℕ → List (List ℕ)) → ℕ → List Entry

@@ -1,6 +1,6 @@
 -- Worked examples of four accounts, computed from the definitions.
-use Rattle.std.specs.Prelude.{◌≡◌, ℕ, pos, List, [], ◌∷◌, length, map, slice_index, slice_index_or}
-use Rattle.std.specs.List.{range_with_len}
+use Rattle.std.specs.Prelude.{◌≡◌, ℕ, pos, List, [], ◌∷◌, ◌++◌, length, map, take, slice_index, slice_index_or}
+use Rattle.std.specs.List.{flat_map, range_with_len}
 use Rattle.pay_book.specs.Payment.{entries_of}
 use Rattle.pay_book.specs.Balance.{balance_at}
 use Rattle.pay_book.specs.Front.{largest_front}
@@ -44,6 +44,9 @@ ten_to_1 = 1 ∷ 0 ∷ 1 ∷ 0 ∷ 0 ∷ 0 ∷ 0 ∷ 0 ∷ 0 ∷ 0 ∷ 10 ∷ []
 abbrev pub one_fifty_to_1 : List ℕ
 one_fifty_to_1 = 1 ∷ 0 ∷ 1 ∷ 0 ∷ 0 ∷ 0 ∷ 0 ∷ 0 ∷ 0 ∷ 0 ∷ 150 ∷ []
 
+abbrev pub thirty_to_0 : List ℕ
+thirty_to_0 = 1 ∷ 0 ∷ 0 ∷ 0 ∷ 0 ∷ 0 ∷ 0 ∷ 0 ∷ 0 ∷ 0 ∷ 30 ∷ []
+
 abbrev pub fifty_to_0 : List ℕ
 fifty_to_0 = 1 ∷ 0 ∷ 0 ∷ 0 ∷ 0 ∷ 0 ∷ 0 ∷ 0 ∷ 0 ∷ 0 ∷ 50 ∷ []
 
@@ -55,6 +58,29 @@ one_to_1 = 1 ∷ 0 ∷ 1 ∷ 0 ∷ 0 ∷ 0 ∷ 0 ∷ 0 ∷ 0 ∷ 0 ∷ 1 ∷ []
 
 abbrev pub greatest_total_to_1 : List ℕ
 greatest_total_to_1 = 1 ∷ 0 ∷ 1 ∷ 127 ∷ 255 ∷ 255 ∷ 255 ∷ 255 ∷ 255 ∷ 255 ∷ 255 ∷ []
+
+-- and some of several payments: to 1 thirty, to 2 fifty, to 1 forty, to 2 twenty; to 1 five and to 3
+-- one; of no payments; the first with a byte more and a byte less; and so many times one to 1
+abbrev pub pair_of : ℕ → ℕ → List ℕ
+pair_of payee amount = 0 ∷ payee ∷ 0 ∷ 0 ∷ 0 ∷ 0 ∷ 0 ∷ 0 ∷ 0 ∷ amount ∷ []
+
+abbrev pub four_payments : List ℕ
+four_payments = 2 ∷ 4 ∷ pair_of 1 30 ++ pair_of 2 50 ++ pair_of 1 40 ++ pair_of 2 20
+
+abbrev pub five_to_1_one_to_3 : List ℕ
+five_to_1_one_to_3 = 2 ∷ 2 ∷ pair_of 1 5 ++ pair_of 3 1
+
+abbrev pub no_payments : List ℕ
+no_payments = 2 ∷ 0 ∷ []
+
+abbrev pub four_payments_and_more : List ℕ
+four_payments_and_more = four_payments ++ 0 ∷ []
+
+abbrev pub four_payments_and_less : List ℕ
+four_payments_and_less = take 41 four_payments
+
+abbrev pub times_one_to_1 : ℕ → List ℕ
+times_one_to_1 n = 2 ∷ n ∷ flat_map (λ _. pair_of 1 1) (range_with_len 0 n)
 
 -- one number for each of the four accounts
 abbrev pub four : ℕ → ℕ → ℕ → ℕ → List ℕ

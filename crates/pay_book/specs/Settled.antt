@@ -2,7 +2,8 @@
 use Rattle.std.specs.Prelude.{ℕ, ◌+◌, ◌-◌, List, length, map, take, slice_index}
 use Rattle.std.specs.List.{range_with_len}
 use Rattle.pay_book.specs.declared.payment.Entry.{Entry}
-use Rattle.pay_book.specs.Payment.{entries_of}
+use Rattle.pay_book.specs.Payment.{count_in, entries_of}
+use Rattle.pay_book.specs.Places.{Place, place_in, places_of}
 use Rattle.pay_book.specs.Balance.{paid_in, paid_out}
 use Rattle.pay_book.specs.Front.{largest_front}
 use Rattle.pay_book.specs.Book.{Standing}
@@ -25,6 +26,7 @@ settled_book opening lists =
       opening = opening;
       front = front;
       balances = balances_of opening (entries_of (length opening) lists) (slice_index front);
+      places = places_of (length opening) lists (slice_index front);
     }
 
 -- An account's settled entries: those of its list before that front.
@@ -32,3 +34,13 @@ abbrev pub settled_entries : List ℕ → (ℕ → List (List ℕ)) → ℕ → 
 settled_entries opening lists account =
     take (slice_index (settled_front opening lists) account)
     (entries_of (length opening) lists account)
+
+-- where that front falls among the account's values
+abbrev pub settled_place : List ℕ → (ℕ → List (List ℕ)) → ℕ → Place
+settled_place opening lists account =
+    place_in count_in (lists account) (slice_index (settled_front opening lists) account)
+
+-- An account's values that are settled wholly.
+abbrev pub settled_values : List ℕ → (ℕ → List (List ℕ)) → ℕ → List (List ℕ)
+settled_values opening lists account =
+    take (settled_place opening lists account).0 (lists account)

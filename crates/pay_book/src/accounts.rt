@@ -1,12 +1,15 @@
 //! A book's accounts, which move by one settled entry at a time.
 
-ghost use Rattle.std.specs.Prelude.{◌≡◌, ◌+◌, ◌<◌, ◌≤◌, ◌^◌, ◌↔◌, length, sum, slice_get, slice_index, slice_set, IsTrue, IfOk, OnSome, IfNone, IfSome};
+ghost use Rattle.std.specs.Prelude.{◌≡◌, ◌+◌, ◌<◌, ◌≤◌, ◌^◌, ◌↔◌, length, sum, slice_get, slice_index, slice_set, IsTrue, IfOk, IfNone, IfSome};
 ghost use Rattle.std.specs.Bool.{OnTrue, OnFalse};
 ghost use Rattle.pay_book.specs.Balance.{amount_of, PayWithin, Moves};
-ghost use Rattle.pay_book.specs.Book.{fresh, entries_for, MaySettle, IsBook, IsStep};
+ghost use Rattle.pay_book.specs.Payment.{count_in};
+ghost use Rattle.pay_book.specs.Places.{place_in, place_of};
+ghost use Rattle.pay_book.specs.Book.{fresh, entries_for, AreCountable, MaySettle, IsBook, IsStep};
 
-use crate::decode::decode_payment;
+use crate::decode::entry_at;
 use crate::payment::Entry;
+use crate::place::place_after;
 use pay_channel::Source;
 use pay_link::Genesis;
 use std::alloc::{AllocError, Global};
@@ -18,6 +21,8 @@ pub struct Accounts {
     opening: Vec<u64>,
     front: Vec<u32>,
     balances: Vec<u64>,
+    // how many values of each account are settled wholly, and how many entries of its next one
+    places: Vec<(u32, u8)>,
 }
 
 impl Model for Accounts {
@@ -26,10 +31,10 @@ impl Model for Accounts {
     ghost Value = { Standing };
 
     ghost view = { λ a.
-        standing_of_parts a.opening.items a.front.items a.balances.items };
+        standing_of_parts a.opening.items a.front.items a.balances.items a.places.items };
 
     ghost invariant = { λ a. IsSound
-        (standing_of_parts a.opening.items a.front.items a.balances.items) };
+        (standing_of_parts a.opening.items a.front.items a.balances.items a.places.items) };
 }
 
 impl Accounts {
@@ -53,6 +58,7 @@ impl Accounts {
         Ok(Accounts {
             front: vec![in alloc; 0; opening.len()]?,
             balances: opening.as_slice().to_vec(alloc)?,
+            places: vec![in alloc; (0, 0); opening.len()]?,
             opening,
         })
     }
@@ -80,20 +86,42 @@ impl Accounts {
         self.balances[account as usize]
     }
 
+    /// How many values of an account are settled wholly, and how many entries of its next one.
+    pub fn place(&self, account: u16) -> (u32, u8)
+        requires { account < length self.now.opening }
+        ensures { result ≡ place_of self.now.places account }
+    {
+        self.places[account as usize]
+    }
+
     /// The entry that an account settles next, if its list has one.
     fn next_entry<S: Source>(&self, source: &S, account: u16) -> Option<Entry>
-        requires { account < length self.now.opening }
-        ensures entry { result
+        requires book { IsBook (S.lists source.now) self.now }
+        requires account { account < length self.now.opening }
+        ensures { result
             ≡ slice_get (entries_for self.now (S.lists source.now) account)
             (slice_index self.now.front account) }
-        ensures place { OnSome result (slice_index self.now.front account + 1 < 2 ^ 32) }
     {
-        let place = self.front(account);
-        if place < source.length(account) {
-            Some(decode_payment(source.at(account, place), account, self.count()))
+        let (value, place) = self.place(account);
+        if value < source.length(account) {
+            Some(entry_at(source.at(account, value), place, account, self.count()))
         } else {
             None
         }
+    }
+
+    /// Where an account stands once it settled its next entry.
+    fn next_place<S: Source>(&self, source: &S, account: u16) -> (u32, u8)
+        requires book { IsBook (S.lists source.now) self.now }
+        requires account { account < length self.now.opening }
+        requires entry { slice_index self.now.front account
+            < length (entries_for self.now (S.lists source.now) account) }
+        requires number { slice_index self.now.front account + 1 < 2 ^ 32 }
+        ensures { result
+            ≡ place_in count_in (S.lists source.now account) (slice_index self.now.front account + 1) }
+    {
+        let place = self.place(account);
+        place_after(source.at(account, place.0), place)
     }
 
     /// Whether an account may settle its next entry: whether there is one and its balance covers it.
@@ -112,6 +140,7 @@ impl Accounts {
     /// Settles the next entry of an account where its balance covers it, and says which entry that
     /// was.
     pub fn try_step<S: Source>(&mut self, source: &S, account: u16) -> Option<Entry>
+        requires countable { AreCountable (S.lists source.now) self.old }
         requires book { IsBook (S.lists source.now) self.old }
         requires account { account < length self.old.opening }
         ensures book { IsBook (S.lists source.now) self.new }
@@ -124,24 +153,27 @@ impl Accounts {
         if !is_covered(entry, self.balance(account)) {
             return None;
         }
-        self.pass(account, entry);
+        let place = self.next_place(source, account);
+        self.pass(account, entry, place);
         Some(entry)
     }
 
     /// Moves an account's place past this entry, and the money that the entry pays.
-    fn pass(&mut self, account: u16, entry: Entry)
+    fn pass(&mut self, account: u16, entry: Entry, place: (u32, u8))
         requires account { account < length self.old.opening }
         requires payee { PayWithin (length self.old.opening) entry }
         requires covered { amount_of entry ≤ slice_index self.old.balances account }
-        requires place { slice_index self.old.front account + 1 < 2 ^ 32 }
+        requires front { slice_index self.old.front account + 1 < 2 ^ 32 }
         requires total { sum self.old.balances ≡ sum self.old.opening }
         ensures opening { self.new.opening ≡ self.old.opening }
         ensures front { self.new.front
             ≡ slice_set self.old.front account (slice_index self.old.front account + 1) }
         ensures one_for_each { length self.new.balances ≡ length self.old.opening }
         ensures balances { Moves entry account self.old.balances self.new.balances }
+        ensures places { self.new.places ≡ slice_set self.old.places account place }
     {
         self.front[account as usize] += 1;
+        self.places[account as usize] = place;
         transfer(&mut self.balances, account, entry);
     }
 }

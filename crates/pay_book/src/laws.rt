@@ -1,7 +1,7 @@
 //! The laws of settling. Each function does nothing: what it ensures is the law, which
 //! specs/Laws.antt spells out.
 
-ghost use Rattle.pay_book.specs.Laws.{ReachedFrontsJoin, StuckIsLargest, LargestIsStuck, LargestIsOne, LargestIsComputed, ReachedIsWithinLists, NoBalanceBelowZero, BalancesSumToOpening, ReachedStaysReached, LargestGrows, EqualListsEqualLargest, EqualListsEqualBalances, EqualListsEqualBooks, FreshBookIsSettled, GrownListCanSettle, SameListsStaySettled, FewEntriesAreCountable, ShortListsAreCountable, GroupListsAreCountable, ValuesHaveFewEntries, SettledBookExists, SettledBookIsOne, SettledIsLargest, BookKeepsTotal, NobodyOwesOnceSettled, OneListGrows, BookStays, SettledCountGrows, SettledEntriesGrow, SettledEntriesCompare, SettledEntriesWereAsked};
+ghost use Rattle.pay_book.specs.Laws.{ReachedFrontsJoin, StuckIsLargest, LargestIsStuck, LargestIsOne, LargestIsComputed, ReachedIsWithinLists, NoBalanceBelowZero, BalancesSumToOpening, ReachedStaysReached, LargestGrows, EqualListsEqualLargest, EqualListsEqualBalances, EqualListsEqualBooks, FreshBookIsSettled, GrownListCanSettle, SameListsStaySettled, FewEntriesAreCountable, ShortListsAreCountable, GroupListsAreCountable, ValuesHaveFewEntries, SettledBookExists, SettledBookIsOne, SettledIsLargest, BookKeepsTotal, NobodyOwesOnceSettled, OneListGrows, BookStays, SettledCountGrows, SettledEntriesGrow, SettledEntriesCompare, SettledEntriesWereAsked, ValuesCountTheirEntries, SingleEntries, WhollySettled, SettledBookTellsPlaces, SettledPlacesGrow, SettledValuesBeginEntries};
 
 /// Two fronts that steps reach have a common one: the front that is as far as either at each
 /// account is reached too.
@@ -163,4 +163,28 @@ pub fn settled_entries_compare()
 /// are a prefix of the entries of these.
 pub fn settled_entries_were_asked()
     ensures { SettledEntriesWereAsked }
+{}
+
+/// A value has as many entries as `count_in` says, whoever owns it.
+pub fn values_count_their_entries()
+    ensures { ValuesCountTheirEntries }
+{}
+
+/// Where no listed value is of several payments, each is one entry, and fronts, balances and
+/// statements are what they were before there were such values.
+pub fn single_entries()
+    ensures { SingleEntries }
+{}
+
+/// An account's place tells which of its values are settled wholly, and how far the next one is.
+pub fn wholly_settled()
+    ensures { WhollySettled }
+{}
+
+/// The values that are settled wholly: the book that has settled all it can tells how many they are,
+/// as lists grow they are no fewer, and their entries are settled.
+pub fn settled_values()
+    ensures told { SettledBookTellsPlaces }
+    ensures grow { SettledPlacesGrow }
+    ensures entries { SettledValuesBeginEntries }
 {}

@@ -10,15 +10,18 @@ mod decode;
 mod encode;
 mod line;
 mod payment;
+mod place;
 mod plain;
 mod settle;
 mod statements;
 
 pub use accounts::Accounts;
-pub use decode::decode_payment;
+pub use decode::{decode_payment, entries_in, entry_at};
 pub use encode::{payment_value, what_was_encoded};
 pub use line::Line;
-pub use payment::{Entry, PAYMENT_LENGTH, PAYMENT_VERSION};
+pub use payment::{
+    Entry, MOST_PAYMENTS, PAIR_LENGTH, PAYMENT_LENGTH, PAYMENT_VERSION, SEVERAL_VERSION,
+};
 pub use plain::PlainBook;
 pub use settle::Settle;
 pub use statements::statement;

@@ -1,7 +1,7 @@
 //! The plain book: once the owner may settle an entry, it looks at all accounts again after each step.
 
 ghost use Rattle.std.specs.Prelude.{◌≡◌, ◌+◌, sum};
-ghost use Rattle.pay_book.specs.Book.{IsStuck, IsBook};
+ghost use Rattle.pay_book.specs.Book.{AreCountable, IsStuck, IsBook};
 ghost use Rattle.std.specs.Bool.{OnTrue, OnFalse};
 
 use crate::accounts::Accounts;
@@ -19,7 +19,8 @@ pub struct PlainBook {
 impl PlainBook {
     /// Settles one entry of the first account that may settle one, and says whether any might.
     fn step<S: Source>(&mut self, source: &S) -> bool
-        requires { IsBook (S.lists source.now) self.old.accounts }
+        requires countable { AreCountable (S.lists source.now) self.old.accounts }
+        requires book { IsBook (S.lists source.now) self.old.accounts }
         ensures opening { self.new.accounts.opening ≡ self.old.accounts.opening }
         ensures book { IsBook (S.lists source.now) self.new.accounts }
         ensures stepped { OnTrue result
@@ -63,5 +64,9 @@ impl Settle for PlainBook {
 
     fn balance(&self, account: u16) -> u64 {
         self.accounts.balance(account)
+    }
+
+    fn place(&self, account: u16) -> (u32, u8) {
+        self.accounts.place(account)
     }
 }

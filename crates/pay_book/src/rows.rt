@@ -4,9 +4,10 @@
 ghost use Rattle.std.specs.Prelude.{◌≡◌, ◌-◌, ◌^◌, [], ◌∷◌, map, replicate, slice_index};
 ghost use Rattle.pay_book.specs.declared.payment.Entry.{Entry};
 ghost use Rattle.pay_book.specs.declared.line.Line.{Line};
-ghost use Rattle.pay_book.specs.Payment.{entry_of};
+ghost use Rattle.pay_book.specs.Payment.{entry_of, entries_in};
+ghost use Rattle.pay_book.specs.Places.{places_of};
 ghost use Rattle.pay_book.specs.Statement.{statement_of};
-ghost use Rattle.pay_book.specs.Rows.{thirty_to_1, five_to_0, five_to_1, five_to_2, five_to_3, five_to_4, unknown_version, one_byte_short, amount_zero, ten_to_0, ten_to_1, one_fifty_to_1, fifty_to_0, greatest_u64_to_1, one_to_1, greatest_total_to_1, four, lists_of, EndsAt};
+ghost use Rattle.pay_book.specs.Rows.{thirty_to_1, five_to_0, five_to_1, five_to_2, five_to_3, five_to_4, unknown_version, one_byte_short, amount_zero, ten_to_0, ten_to_1, one_fifty_to_1, fifty_to_0, greatest_u64_to_1, one_to_1, greatest_total_to_1, four_payments, five_to_1_one_to_3, no_payments, four_payments_and_more, four_payments_and_less, times_one_to_1, thirty_to_0, four, lists_of, EndsAt};
 
 /// Values of owner 3 as entries: payments, and what is void for its bytes, its payee or its amount.
 pub fn values_decode()
@@ -67,4 +68,49 @@ pub fn statement_after_circular_debts()
     ensures { statement_of 4 (lists_of (ten_to_1 ∷ []) (ten_to_0 ∷ []) [] (ten_to_0 ∷ []))
         (slice_index (four 1 1 0 1)) 0
         ≡ Line.Out 0 1 10 ∷ Line.In 1 0 10 ∷ Line.In 3 0 10 ∷ [] }
+{}
+
+/// Values of owner 3 that begin as several payments do: 1 to 32 of them, in their order, a void one
+/// among them; and what is void as a whole for its count or its length.
+pub fn several_decode()
+    ensures payments { entries_in 4 3 four_payments
+        ≡ Entry.Pay 1 30 ∷ Entry.Pay 2 50 ∷ Entry.Pay 1 40 ∷ Entry.Pay 2 20 ∷ [] }
+    ensures void_pair { entries_in 4 3 five_to_1_one_to_3 ≡ Entry.Pay 1 5 ∷ Entry.Void ∷ [] }
+    ensures most { entries_in 4 3 (times_one_to_1 32) ≡ replicate 32 (Entry.Pay 1 1) }
+    ensures too_many { entries_in 4 3 (times_one_to_1 33) ≡ Entry.Void ∷ [] }
+    ensures none { entries_in 4 3 no_payments ≡ Entry.Void ∷ [] }
+    ensures longer { entries_in 4 3 four_payments_and_more ≡ Entry.Void ∷ [] }
+    ensures shorter { entries_in 4 3 four_payments_and_less ≡ Entry.Void ∷ [] }
+{}
+
+/// Of four payments in one value the first two are covered; once more money comes, the third is.
+pub fn four_payments_in_one()
+    ensures half { EndsAt (four 100 0 0 50)
+        (lists_of (four_payments ∷ []) [] [] [])
+        (four 2 0 0 0) (four 20 30 50 50) }
+    ensures more { EndsAt (four 100 0 0 50)
+        (lists_of (four_payments ∷ []) (thirty_to_0 ∷ []) [] [])
+        (four 3 1 0 0) (four 10 40 50 50) }
+    ensures places { places_of 4 (lists_of (four_payments ∷ []) (thirty_to_0 ∷ []) [] [])
+        (slice_index (four 3 1 0 0)) ≡ (0, 3) ∷ (1, 0) ∷ (0, 0) ∷ (0, 0) ∷ [] }
+{}
+
+/// A void payment among several holds nothing back, and no more does a value without any.
+pub fn void_pair_passes()
+    ensures pair { EndsAt (four 100 0 0 50)
+        (lists_of [] [] [] (five_to_1_one_to_3 ∷ []))
+        (four 0 0 0 2) (four 100 5 0 45) }
+    ensures none { EndsAt (four 100 0 0 50)
+        (lists_of [] [] [] (no_payments ∷ []))
+        (four 0 0 0 1) (four 100 0 0 50) }
+{}
+
+/// An account's statement has a line for each settled entry, under its value's number.
+pub fn statement_of_several()
+    ensures payer { statement_of 4 (lists_of (four_payments ∷ []) (thirty_to_0 ∷ []) [] [])
+        (slice_index (four 3 1 0 0)) 0
+        ≡ Line.Out 0 1 30 ∷ Line.Out 0 2 50 ∷ Line.Out 0 1 40 ∷ Line.In 1 0 30 ∷ [] }
+    ensures payee { statement_of 4 (lists_of (four_payments ∷ []) (thirty_to_0 ∷ []) [] [])
+        (slice_index (four 3 1 0 0)) 1
+        ≡ Line.Out 0 0 30 ∷ Line.In 0 0 30 ∷ Line.In 0 0 40 ∷ [] }
 {}

@@ -1,6 +1,7 @@
 //! What a book can do, whatever it looks at to find the next payment that its owner can cover.
 
 ghost use Rattle.std.specs.Prelude.{◌≡◌, ◌+◌, ◌<◌, length, sum, slice_index, IfOk};
+ghost use Rattle.pay_book.specs.Places.{place_of};
 ghost use Rattle.pay_book.specs.Book.{Standing, fresh, IsSettled, CanSettle};
 
 use pay_channel::Source;
@@ -41,4 +42,9 @@ pub trait Settle {
     fn balance(&self, account: u16) -> u64
         requires { account < length (shows self.now).opening }
         ensures { result ≡ slice_index (shows self.now).balances account };
+
+    /// How many values of an account are settled wholly, and how many entries of its next one.
+    fn place(&self, account: u16) -> (u32, u8)
+        requires { account < length (shows self.now).opening }
+        ensures { result ≡ place_of (shows self.now).places account };
 }

@@ -2,12 +2,14 @@
 
 ghost use Rattle.std.specs.Prelude.{◌≡◌, ◌+◌, ◌<◌, ◌≤◌, ◌++◌, map, take, length, slice_index, IfOk, OnOk};
 ghost use Rattle.std.specs.List.{filter_map};
+ghost use Rattle.pay_book.specs.Payment.{entries_of};
 ghost use Rattle.pay_book.specs.Book.{IsBook};
 ghost use Rattle.pay_book.specs.Statement.{numbered_entries_of, own_line, incoming_line, statement_of};
 
-use crate::decode::decode_payment;
+use crate::decode::entry_at;
 use crate::line::Line;
 use crate::payment::Entry;
+use crate::place::place_after;
 use crate::settle::Settle;
 use pay_channel::Source;
 use std::alloc::{AllocError, Global};
@@ -50,14 +52,17 @@ fn push_own<S: Source>(
     account: u16,
     front: u32,
 ) -> Result<(), AllocError>
-    requires { front ≤ length (S.lists source.now account) }
+    requires { front ≤ length (entries_of accounts (S.lists source.now) account) }
     ensures { OnOk result (lines.new.items
         ≡ lines.old.items ++ map (λ e. own_line e.0 e.1)
         (take front (numbered_entries_of accounts (S.lists source.now) account))) }
 {
-    for seq in 0..front {
-        let entry = decode_payment(source.at(account, seq), account, accounts);
-        lines.push(own_line(seq, entry))?;
+    let mut place = (0, 0);
+    for number in 0..front {
+        let value = source.at(account, place.0);
+        let entry = entry_at(value, place.1, account, accounts);
+        lines.push(own_line(place.0, entry))?;
+        place = place_after(value, place);
     }
     Ok(())
 }
@@ -71,16 +76,19 @@ fn push_incoming<S: Source>(
     owner: u16,
     front: u32,
 ) -> Result<(), AllocError>
-    requires { front ≤ length (S.lists source.now owner) }
+    requires { front ≤ length (entries_of accounts (S.lists source.now) owner) }
     ensures { OnOk result (lines.new.items
         ≡ lines.old.items ++ filter_map (λ e. incoming_line account owner e.0 e.1)
         (take front (numbered_entries_of accounts (S.lists source.now) owner))) }
 {
-    for seq in 0..front {
-        let entry = decode_payment(source.at(owner, seq), owner, accounts);
-        if let Some(line) = incoming_line(account, owner, seq, entry) {
+    let mut place = (0, 0);
+    for number in 0..front {
+        let value = source.at(owner, place.0);
+        let entry = entry_at(value, place.1, owner, accounts);
+        if let Some(line) = incoming_line(account, owner, place.0, entry) {
             lines.push(line)?;
         }
+        place = place_after(value, place);
     }
     Ok(())
 }

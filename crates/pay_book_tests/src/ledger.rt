@@ -51,6 +51,7 @@ impl<B: Settle + Drop> Ledger<B> {
         if owner >= self.accounts || !self.lists.has_room(owner) {
             return Ok(None);
         }
+        laws::same_lists_stay_settled();
         laws::grown_list_can_settle();
         laws::group_lists_are_countable();
         self.lists.append(owner, value)?;
@@ -68,6 +69,15 @@ impl<B: Settle + Drop> Ledger<B> {
             }
         }
         true
+    }
+
+    /// Where an account stands, if there is one.
+    pub(crate) fn place(&self, account: u16) -> Option<(u32, u8)> {
+        if account < self.accounts {
+            Some(self.book.place(account))
+        } else {
+            None
+        }
     }
 
     /// Whether there is this account, with this statement.

@@ -17,6 +17,12 @@ pub(crate) enum Step {
         fronts: [u32; 4],
         balances: [u64; 4],
     },
+    /// How many of an account's values are settled wholly, and how many entries of the next one.
+    Place {
+        account: u16,
+        values: u32,
+        entries: u8,
+    },
     /// The statement of an account.
     State {
         account: u16,
@@ -38,6 +44,11 @@ impl Step {
                 settled,
             } => Ok(ledger.add(*owner, value.to_vec(alloc)?)? == Some(*settled)),
             Step::Show { fronts, balances } => Ok(ledger.shows(fronts, balances)),
+            Step::Place {
+                account,
+                values,
+                entries,
+            } => Ok(ledger.place(*account) == Some((*values, *entries))),
             Step::State { account, lines } => ledger.states(alloc, *account, lines),
         }
     }
@@ -80,47 +91,98 @@ const BYTE_SHORT: &[u8] = &[1, 0, 1, 0, 0, 0, 0, 0, 0, 0];
 
 const OTHER_VERSION: &[u8] = &[255];
 
+const THIRTY_TO_0: &[u8] = &[1, 0, 0, 0, 0, 0, 0, 0, 0, 0, 30];
+
+const FOUR_PAYMENTS: &[u8] = &[
+    2, 4, 0, 1, 0, 0, 0, 0, 0, 0, 0, 30, 0, 2, 0, 0, 0, 0, 0, 0, 0, 50, 0, 1, 0, 0, 0, 0, 0, 0, 0,
+    40, 0, 2, 0, 0, 0, 0, 0, 0, 0, 20,
+];
+
+const FIVE_TO_1_ONE_TO_3: &[u8] = &[
+    2, 2, 0, 1, 0, 0, 0, 0, 0, 0, 0, 5, 0, 3, 0, 0, 0, 0, 0, 0, 0, 1,
+];
+
+const NO_PAYMENTS: &[u8] = &[2, 0];
+
+const SEVERAL_BYTE_SHORT: &[u8] = &[2, 1, 0, 1, 0, 0, 0, 0, 0, 0, 0];
+
+const SEVERAL_BYTE_LONG: &[u8] = &[2, 1, 0, 1, 0, 0, 0, 0, 0, 0, 0, 5, 0];
+
 const LONG: &[u8] = &[255; 1024];
 
-/// Values in the list of account 3, and what they mean.
-pub(crate) const VALUES: [(&[u8], Entry); 9] = [
+/// Values in the list of account 3, and the entries that they are.
+pub(crate) const VALUES: [(&[u8], &[Entry]); 14] = [
     (
         THIRTY_TO_1,
-        Entry::Pay {
+        &[Entry::Pay {
             payee: 1,
             amount: 30,
-        },
+        }],
     ),
     (
         FIVE_TO_0,
-        Entry::Pay {
+        &[Entry::Pay {
             payee: 0,
             amount: 5,
-        },
+        }],
     ),
     (
         FIVE_TO_1,
-        Entry::Pay {
+        &[Entry::Pay {
             payee: 1,
             amount: 5,
-        },
+        }],
     ),
     (
         FIVE_TO_2,
-        Entry::Pay {
+        &[Entry::Pay {
             payee: 2,
             amount: 5,
-        },
+        }],
     ),
-    (FIVE_TO_3, Entry::Void),
-    (FIVE_TO_4, Entry::Void),
-    (OTHER_VERSION, Entry::Void),
-    (BYTE_SHORT, Entry::Void),
-    (NOTHING_TO_1, Entry::Void),
+    (FIVE_TO_3, &[Entry::Void]),
+    (FIVE_TO_4, &[Entry::Void]),
+    (OTHER_VERSION, &[Entry::Void]),
+    (BYTE_SHORT, &[Entry::Void]),
+    (NOTHING_TO_1, &[Entry::Void]),
+    (
+        FOUR_PAYMENTS,
+        &[
+            Entry::Pay {
+                payee: 1,
+                amount: 30,
+            },
+            Entry::Pay {
+                payee: 2,
+                amount: 50,
+            },
+            Entry::Pay {
+                payee: 1,
+                amount: 40,
+            },
+            Entry::Pay {
+                payee: 2,
+                amount: 20,
+            },
+        ],
+    ),
+    (
+        FIVE_TO_1_ONE_TO_3,
+        &[
+            Entry::Pay {
+                payee: 1,
+                amount: 5,
+            },
+            Entry::Void,
+        ],
+    ),
+    (NO_PAYMENTS, &[Entry::Void]),
+    (SEVERAL_BYTE_SHORT, &[Entry::Void]),
+    (SEVERAL_BYTE_LONG, &[Entry::Void]),
 ];
 
 /// Examples that every book meets.
-pub(crate) const ROWS: [Row; 6] = [
+pub(crate) const ROWS: [Row; 9] = [
     Row {
         name: "circular debts settle once money comes",
         opening: [0, 0, 0, 50],
@@ -298,6 +360,100 @@ pub(crate) const ROWS: [Row; 6] = [
             Step::Show {
                 fronts: [1, 0, 0, 0],
                 balances: [0, 9_223_372_036_854_775_807, 0, 0],
+            },
+        ],
+    },
+    Row {
+        name: "four payments in one value",
+        opening: [100, 0, 0, 50],
+        steps: &[
+            Step::Add {
+                owner: 0,
+                value: FOUR_PAYMENTS,
+                settled: 2,
+            },
+            Step::Show {
+                fronts: [2, 0, 0, 0],
+                balances: [20, 30, 50, 50],
+            },
+            Step::Place {
+                account: 0,
+                values: 0,
+                entries: 2,
+            },
+            Step::Add {
+                owner: 1,
+                value: THIRTY_TO_0,
+                settled: 2,
+            },
+            Step::Show {
+                fronts: [3, 1, 0, 0],
+                balances: [10, 40, 50, 50],
+            },
+            Step::Place {
+                account: 0,
+                values: 0,
+                entries: 3,
+            },
+            Step::Place {
+                account: 1,
+                values: 1,
+                entries: 0,
+            },
+            Step::State {
+                account: 1,
+                lines: &[
+                    Line::Out {
+                        seq: 0,
+                        payee: 0,
+                        amount: 30,
+                    },
+                    Line::In {
+                        owner: 0,
+                        seq: 0,
+                        amount: 30,
+                    },
+                    Line::In {
+                        owner: 0,
+                        seq: 0,
+                        amount: 40,
+                    },
+                ],
+            },
+        ],
+    },
+    Row {
+        name: "a void payment among several passes",
+        opening: [100, 0, 0, 50],
+        steps: &[
+            Step::Add {
+                owner: 3,
+                value: FIVE_TO_1_ONE_TO_3,
+                settled: 2,
+            },
+            Step::Show {
+                fronts: [0, 0, 0, 2],
+                balances: [100, 5, 0, 45],
+            },
+            Step::Place {
+                account: 3,
+                values: 1,
+                entries: 0,
+            },
+        ],
+    },
+    Row {
+        name: "a value of no payments is one void entry",
+        opening: [100, 0, 0, 50],
+        steps: &[
+            Step::Add {
+                owner: 3,
+                value: NO_PAYMENTS,
+                settled: 1,
+            },
+            Step::Show {
+                fronts: [0, 0, 0, 1],
+                balances: [100, 0, 0, 50],
             },
         ],
     },

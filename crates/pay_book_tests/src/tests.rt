@@ -4,16 +4,27 @@ ghost use Rattle.std.specs.Prelude.{◌<◌};
 
 use crate::ledger::Ledger;
 use crate::rows::{ROWS, Row, VALUES};
-use pay_book::{PlainBook, Settle, decode_payment};
+use pay_book::{Entry, PlainBook, Settle, decode_payment, entries_in, entry_at};
 use pay_link::Genesis;
 use std::alloc::{AllocError, Global};
 use std::process::Abort;
 use std::test::Fail;
 
+/// Whether a value in the list of account 3 is these entries.
+fn is_entries(value: &[u8], entries: &[Entry]) -> bool {
+    let count = entries_in(value);
+    for place in 0..count {
+        if entries.get(usize::from(place)) != Some(&entry_at(value, place, 3, 4)) {
+            return false;
+        }
+    }
+    usize::from(count) == entries.len() && entries.first() == Some(&decode_payment(value, 3, 4))
+}
+
 #[test]
 fn values_decode(rt: HostRuntime) {
-    for (value, entry) in VALUES {
-        assert_eq!(rt; decode_payment(value, 3, 4), entry);
+    for (value, entries) in VALUES {
+        assert!(rt; is_entries(value, entries));
     }
 }
 

@@ -15,6 +15,7 @@ use Rattle.pay_channel.specs.TakenLaws.{NothingTakenAtFirst, NextByOneMore, Next
 use Rattle.pay_channel.specs.FollowLaws.{ChannelFollows, ListsFollow}
 use Rattle.pay_channel.specs.State.{lists_of}
 use Rattle.pay_channel.specs.History.{list_of}
+use Rattle.pay_book.specs.Places.{place_of}
 use Rattle.pay_book.specs.Book.{Standing}
 use Rattle.pay_book.specs.Laws.{SettledBookIsOne}
 use Rattle.pay_link.specs.Genesis.{GenesisFields, IsGenesis}
@@ -234,13 +235,13 @@ state_from front listed mine asked seq =
 
 pub state_is :
     ListsFollow → SettledBookIsOne → (g : GenesisFields) (own : ℕ) (history : List channel.Event) (l : LedgerFields) (owner seq : ℕ) → Tracks g own history l
-    → state_from (slice_index l.book.front owner) (length (lists_of l.channel owner)) (eqb owner own) l.channel.asks seq ≡ state_of g own history owner seq
+    → state_from (place_of l.book.places owner).0 (length (lists_of l.channel owner)) (eqb owner own) l.channel.asks seq ≡ state_of g own history owner seq
 unfolding state_of
 state_is follow one g own history l owner seq tracks =
     let book = book_is follow one g own history l tracks in
-    ap (λ f. state_from f (length (lists_of l.channel owner)) (eqb owner own) l.channel.asks seq) (ap (λ (s : Standing). slice_index s.front owner) book)
-    ∙ ap (λ n. state_from (slice_index (book_after g own history).front owner) n (eqb owner own) l.channel.asks seq) (ap length (lists_are follow g own history l tracks owner))
-    ∙ ap (λ k. state_from (slice_index (book_after g own history).front owner) (length (list_of (group_in g own) history owner)) (eqb owner own) k seq) tracks.follows.asks
+    ap (λ f. state_from f (length (lists_of l.channel owner)) (eqb owner own) l.channel.asks seq) (ap (λ (s : Standing). (place_of s.places owner).0) book)
+    ∙ ap (λ n. state_from (place_of (book_after g own history).places owner).0 n (eqb owner own) l.channel.asks seq) (ap length (lists_are follow g own history l tracks owner))
+    ∙ ap (λ k. state_from (place_of (book_after g own history).places owner).0 (length (list_of (group_in g own) history owner)) (eqb owner own) k seq) tracks.follows.asks
 
 pub settled_first : (f n k seq : ℕ) (mine : Bool) → seq < f → Settled ≡ state_from f n mine k seq
 settled_first f n k seq mine below = search rules

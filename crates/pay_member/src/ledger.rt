@@ -2,6 +2,7 @@ ghost use Rattle.std.specs.Prelude.{true, ◌≡◌, ◌<◌, [], drop, take, le
 ghost use Rattle.std.specs.Option.{option_copied};
 ghost use Rattle.pay_channel.specs.History.{IsEvent, is_ask, owner_of, seqs};
 ghost use Rattle.pay_channel.specs.State.{lists_of};
+ghost use Rattle.pay_book.specs.Places.{place_of};
 ghost use Rattle.pay_book.specs.Statement.{statement_of};
 ghost use Rattle.pay_channel.specs.Applied.{event_of};
 ghost use Rattle.pay_member.specs.Ledger.{Tracks, IsSameLedger, Grows};
@@ -125,6 +126,14 @@ impl<I: Instance + Drop, B: Settle + Drop> Ledger<I, B> {
         ensures { result ≡ slice_index self.now.book.front account }
     {
         self.book.front(account)
+    }
+
+    /// How many values of an account are settled wholly, and how many entries of its next one.
+    pub fn place(&self, account: u16) -> (u32, u8)
+        requires { account < length self.now.book.opening }
+        ensures { result ≡ place_of self.now.book.places account }
+    {
+        self.book.place(account)
     }
 
     /// How many entries are settled of each account.

@@ -498,7 +498,7 @@ impl<I: Instance + Drop, B: Settle + Drop> Member<I, B> {
         self.ledger.balance(account)
     }
 
-    /// How far the payment under a number of an account has come.
+    /// How far the value under a number of an account has come.
     pub fn state(&self, owner: u16, seq: u32) -> PaymentState
         requires { owner < self.now.genesis.members }
         ensures { result
@@ -506,7 +506,7 @@ impl<I: Instance + Drop, B: Settle + Drop> Member<I, B> {
     {
         a_channel_follows();
         settled_book_is_one();
-        if seq < self.ledger.front(owner) {
+        if seq < self.ledger.place(owner).0 {
             PaymentState::Settled
         } else if seq < self.ledger.listed(owner) {
             PaymentState::Waiting

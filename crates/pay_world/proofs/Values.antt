@@ -1,15 +1,13 @@
--- The values that stand before a book's front.
-use Rattle.std.proofs.Common.{◌≡◌, ◌⊎◌, inl, inr, ⊎_elim, ℕ, ◌≤◌, min, leb, true, false, List, [], ◌∷◌, ◌++◌, length, take, drop, slice_index, sym, ap, ◌∙◌, subst, arith, leb-true}
-use Rattle.std.specs.List.{flat_map}
+-- The values that are settled wholly.
+use Rattle.std.proofs.Common.{◌≡◌, ◌⊎◌, inl, inr, ⊎_elim, ℕ, ◌≤◌, min, leb, true, false, List, ◌++◌, length, take, drop, sym, ap, ◌∙◌, subst, arith, leb-true}
 use Rattle.std.proofs.Math.Nat.{min-le_left, min-le_right}
 use Rattle.std.proofs.lemmas.Bool.{cases_Bool}
 use Rattle.std.proofs.lemmas.Bool.Decides.{nat_tests}
-use Rattle.std.proofs.lemmas.List.{take-append-drop, take-append-le, take-map, take-take, take_min}
-use Rattle.std.proofs.lemmas.List.Concat.{flat_map_single}
+use Rattle.std.proofs.lemmas.List.{take-append-drop, take-append-le, take-take, take_min}
 use Rattle.pay_channel.specs.Prefix.{IsPrefix}
 use Rattle.pay_channel.specs.Asked.{asked}
-use Rattle.pay_book.specs.Laws.{LargestGrows}
-use Rattle.pay_book.specs.Settled.{settled_front}
+use Rattle.pay_book.specs.Laws.{SettledPlacesGrow}
+use Rattle.pay_book.specs.Settled.{settled_place}
 use Rattle.pay_world.specs.Setting.{Setting, IsCorrect, HasFewFaulty}
 use Rattle.pay_world.specs.Deeds.{Deed, history_by}
 use Rattle.pay_world.specs.Genuine.{AreGenuine}
@@ -59,18 +57,13 @@ take_compares {X} m n xs ys p = subst P (take_of_prefix m xs ys p) (⊎_elim bef
 
 -- ---- settled values
 
--- where each value is one entry
-pub take_entries : {X Y : Type 0} (f : X → Y) (n : ℕ) (xs : List X) → take n (flat_map (λ x. f x ∷ []) xs) ≡ flat_map (λ x. f x ∷ []) (take n xs)
-take_entries f n xs =
-    ap (take n) (flat_map_single f xs) ∙ take-map f n xs ∙ sym (flat_map_single f (take n xs))
-
 pub settled_value_stays :
-    (below : Below) → LargestGrows → (w : Setting) (opening : List ℕ) (one deeds : List Deed) (i a : ℕ) → IsPrefix one deeds
+    (below : Below) → SettledPlacesGrow → (w : Setting) (opening : List ℕ) (one deeds : List Deed) (i a : ℕ) → IsPrefix one deeds
     → IsPrefix (settled_values_by w opening one i a) (settled_values_by w opening deeds i a)
 settled_value_stays below grows w opening one deeds i a p =
     take_grows
-    (slice_index (settled_front opening (lists_by w one i)) a)
-    (slice_index (settled_front opening (lists_by w deeds i)) a)
+    (settled_place opening (lists_by w one i) a).0
+    (settled_place opening (lists_by w deeds i) a).0
     (lists_by w one i a) (lists_by w deeds i a)
     (grows opening (lists_by w one i) (lists_by w deeds i) (λ b _. list_stays below w one deeds i b p) a)
     (list_stays below w one deeds i a p)
@@ -86,13 +79,13 @@ module _ (below : Below) (w : Setting) (opening : List ℕ) (deeds : List Deed) 
       (λ h. ⊎_elim (λ x. inr x) (λ x. inl x) (take_compares n m (lists_by w other j a) (lists_by w one i a) h))
       (no_list_forks below w deeds few are one other i j a p q ci cj) where
         m : ℕ
-        m = slice_index (settled_front opening (lists_by w one i)) a
+        m = (settled_place opening (lists_by w one i) a).0
 
         n : ℕ
-        n = slice_index (settled_front opening (lists_by w other j)) a
+        n = (settled_place opening (lists_by w other j) a).0
 
   pub settled_value_was_asked : (i a : ℕ) → IsCorrect w i → IsCorrect w a → IsPrefix (settled_values_by w opening deeds i a) (asked (history_by w deeds a))
   settled_value_was_asked i a ci ca =
       prefix_trans (settled_values_by w opening deeds i a) (lists_by w deeds i a) (asked (history_by w deeds a))
-      (take_is_prefix (slice_index (settled_front opening (lists_by w deeds i)) a) (lists_by w deeds i a))
+      (take_is_prefix (settled_place opening (lists_by w deeds i) a).0 (lists_by w deeds i a))
       (list_was_asked below w deeds few are i a ci ca)

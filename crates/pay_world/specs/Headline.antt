@@ -9,7 +9,7 @@ use Rattle.pay_book.specs.Payment.{entries_in, entries_of}
 use Rattle.pay_book.specs.Balance.{balance_at, AreBalances}
 use Rattle.pay_book.specs.Front.{IsLargest}
 use Rattle.pay_book.specs.Book.{Standing}
-use Rattle.pay_book.specs.Settled.{settled_front, settled_book, settled_entries}
+use Rattle.pay_book.specs.Settled.{settled_book, settled_values}
 use Rattle.pay_world.specs.Setting.{Setting, group_at, IsCorrect}
 use Rattle.pay_world.specs.Deeds.{Deed, history_by}
 
@@ -23,16 +23,14 @@ lists_by w deeds i = list_of (group_at w i) (history_by w deeds i)
 abbrev pub book_by : Setting → List ℕ → List Deed → ℕ → Standing
 book_by w opening deeds i = settled_book opening (lists_by w deeds i)
 
--- the entries of account a that member i has settled
+-- the entries of account a that member i has settled: the first of its list, as many as the front of
+-- its book says
 abbrev pub settled_by : Setting → List ℕ → List Deed → ℕ → ℕ → List Entry
-settled_by w opening deeds i a = settled_entries opening (lists_by w deeds i) a
+settled_by w opening deeds i a =
+    take (slice_index (book_by w opening deeds i).front a)
+    (entries_of (length opening) (lists_by w deeds i) a)
 
--- an account's settled values: those of its list before the front, void or not
-abbrev pub settled_values : List ℕ → (ℕ → List (List ℕ)) → ℕ → List (List ℕ)
-settled_values opening lists account =
-    take (slice_index (settled_front opening lists) account) (lists account)
-
--- the values of account a that member i has settled
+-- the values of account a that member i has settled wholly, void or not
 abbrev pub settled_values_by : Setting → List ℕ → List Deed → ℕ → ℕ → List (List ℕ)
 settled_values_by w opening deeds i a = settled_values opening (lists_by w deeds i) a
 

@@ -63,12 +63,12 @@ ListIsComplete =
 
 -- ---- settled values
 
--- their entries are the settled entries
-abbrev pub SettledValuesMakeEntries : Type 0
-SettledValuesMakeEntries =
+-- their entries are the first of the settled entries; the others are of one value more
+abbrev pub SettledValuesMakeBeginning : Type 0
+SettledValuesMakeBeginning =
     (w : Setting) (opening : List ℕ) (deeds : List Deed) (i a : ℕ)
-    → settled_by w opening deeds i a
-    ≡ flat_map (entries_in (length opening) a) (settled_values_by w opening deeds i a)
+    → IsPrefix (flat_map (entries_in (length opening) a) (settled_values_by w opening deeds i a))
+    (settled_by w opening deeds i a)
 
 abbrev pub NoSettledValueForks : Type 0
 NoSettledValueForks =

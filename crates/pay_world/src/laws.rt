@@ -4,12 +4,12 @@
 ghost use Rattle.pay_world.specs.Below.{Below, OfBooks};
 ghost use Rattle.pay_world.specs.DeedLaws.{NoHistoryAtFirst, HistoryByOneMore, HistoriesGrow, LegalHistoryByDeeds, NoDeedIsGenuine, GenuineByOneMore, PrefixIsGenuine, GenuineByPlace, CorrectIsTold, ForgedIsTold, NoneForgedIsTold};
 ghost use Rattle.pay_world.specs.StandLaws.{StandsAtFirst, StandsByOneMore, StandsByDeed, GenuineStands, Agreement, ListsCompare, Integrity, ListIsAsked, NothingIsTakenBack, Convergence, ListsConverge, AsksAreDelivered, ListIsAllAsked};
-ghost use Rattle.pay_world.specs.HeadlineLaws.{HeadlineHolds, BooksConverge, NoListForks, ListWasAsked, ListStays, ListsAreEqual, ListIsComplete, SettledValuesMakeEntries, NoSettledValueForks, SettledValuesStay, SettledValuesWereAsked};
+ghost use Rattle.pay_world.specs.HeadlineLaws.{HeadlineHolds, BooksConverge, NoListForks, ListWasAsked, ListStays, ListsAreEqual, ListIsComplete, SettledValuesMakeBeginning, NoSettledValueForks, SettledValuesStay, SettledValuesWereAsked};
 
 use pay_book::laws::{
-    book_keeps_total, equal_lists_equal_books, largest_grows, nobody_owes_once_settled,
-    settled_book_exists, settled_entries_compare, settled_entries_grow, settled_entries_were_asked,
-    settled_is_largest,
+    book_keeps_total, equal_lists_equal_books, nobody_owes_once_settled, settled_book_exists,
+    settled_entries_compare, settled_entries_grow, settled_entries_were_asked, settled_is_largest,
+    settled_values,
 };
 use pay_channel::laws::{
     delivered_for_good, grow_at_the_end, lists_compared, lists_grow, nothing_at_first,
@@ -173,15 +173,15 @@ pub fn lists_by_deeds()
     laws_below();
 }
 
-/// The same of settled values, void ones too, whose entries are the settled entries: of what two
-/// correct members settled of an account one is a prefix of the other, no value is taken back, and a
-/// correct owner was asked for them, in that order.
+/// The same of values that are settled wholly, void ones too, whose entries are the first of the
+/// settled entries: of what two correct members settled of an account one is a prefix of the other,
+/// no value is taken back, and a correct owner was asked for them, in that order.
 pub fn settled_values_by_deeds()
-    ensures entries { SettledValuesMakeEntries }
+    ensures entries { SettledValuesMakeBeginning }
     ensures agree { NoSettledValueForks }
     ensures for_good { SettledValuesStay }
     ensures asked { SettledValuesWereAsked }
 {
     laws_below();
-    largest_grows();
+    settled_values();
 }

@@ -1,9 +1,21 @@
-use Rattle.std.proofs.Common.{◌≡◌, ℕ, suc, ◌+◌, ◌<◌, ◌≤◌, List, length, take, ap, ap₂, subst, sym, ◌∙◌, arith}
+use Rattle.std.proofs.Common.{◌≡◌, ℕ, suc, ◌+◌, ◌<◌, ◌≤◌, List, [], length, take, refl, ap, ap₂, subst, sym, ◌∙◌, arith}
 use Rattle.pay_frame.specs.declared.limits.TheConstants.{MOST_MEMBERS, SEQS}
-use Rattle.pay_book.specs.Book.{CanSettle}
+use Rattle.pay_book.specs.Book.{Standing, fresh, IsSettled, CanSettle}
 use Rattle.pay_audit.specs.Export.{ExportFields, IsExport, list_in}
 use Rattle.pay_audit.proofs.Showing.{one_more, short}
 use Rattle.pay_audit.proofs.settling.settled.Goals as goal
+
+pub loop-owner-init : goal.loop-owner-init
+loop-owner-init g c =
+    let e = c.args.export.now in
+    let book = g.B.Settle.shows c.in_ok-book.book in
+    let same = ap (λ (x : ExportFields). x.genesis.opening) c.export.view_is in
+    let is : book ≡ fresh e.genesis.opening = c.in_ok-book.ensures ∙ ap fresh same in
+    let P : Standing → Type 0 = λ b. IsSettled (list_in []) b in
+    record {
+      opening = ap (λ (b : Standing). b.opening) is;
+      settled = subst P (sym is) (c.fresh_book_is_settled.ensures e.genesis.opening (list_in []) (λ a h. refl));
+    }
 
 pub settle-requires : goal.settle-requires
 settle-requires g c =

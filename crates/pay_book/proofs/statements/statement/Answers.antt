@@ -1,11 +1,11 @@
-use Rattle.std.proofs.Common.{◌≡◌, ◌++◌, take, ap, ◌∙◌, arith, slice_index, length, List, ℕ}
+use Rattle.std.proofs.Common.{◌≡◌, ◌≤◌, ◌++◌, take, ap, ◌∙◌, sym, subst, arith, slice_index, length, List, ℕ}
 use Rattle.std.specs.List.{flat_map, filter_map, range_with_len}
 use Rattle.std.specs.Prelude.{Option}
 use Rattle.pay_book.specs.declared.payment.Entry.{Entry}
 use Rattle.pay_book.specs.declared.line.Line.{Line}
+use Rattle.pay_book.specs.Payment.{entries_of}
 use Rattle.pay_book.specs.Book.{entries_for}
 use Rattle.pay_book.specs.Statement.{numbered_entries_of, incoming_line, own_lines, incoming_lines, statement_of}
-use Rattle.pay_book.proofs.Entries.{length-entries_of}
 use Rattle.pay_book.proofs.Reaching.{Reach-within}
 use Rattle.pay_book.proofs.Lines.{flat_map_more_owner}
 use Rattle.pay_book.proofs.statements.statement.Goals as goal
@@ -14,17 +14,17 @@ pub push_own-requires : goal.push_own-requires
 push_own-requires g c =
     let lists = g.S.Source.lists c.args.source.now in
     let book = g.B.Settle.shows c.args.book.now in
-    let within = Reach-within book.opening (entries_for book lists) c.requires.book.reached c.args.account in
-    let long = length-entries_of (length book.opening) lists c.args.account in
-    omega arith
+    let within : ℕ → Type 0 = λ accounts. slice_index book.front c.args.account ≤ length (entries_of accounts lists c.args.account) in
+    let here = subst within (sym c.requires.accounts) (Reach-within book.opening (entries_for book lists) c.requires.book.reached c.args.account) in
+    omega (arith, here, c.front.ensures)
 
 pub push_incoming-requires : goal.push_incoming-requires
 push_incoming-requires g c =
     let lists = g.S.Source.lists c.args.source.now in
     let book = g.B.Settle.shows c.args.book.now in
-    let within = Reach-within book.opening (entries_for book lists) c.requires.book.reached c.loop-owner.owner in
-    let long = length-entries_of (length book.opening) lists c.loop-owner.owner in
-    omega arith
+    let within : ℕ → Type 0 = λ accounts. slice_index book.front c.loop-owner.owner ≤ length (entries_of accounts lists c.loop-owner.owner) in
+    let here = subst within (sym c.requires.accounts) (Reach-within book.opening (entries_for book lists) c.requires.book.reached c.loop-owner.owner) in
+    omega (arith, here, c.front-in-loop-owner.ensures)
 
 pub loop-owner-preserved : goal.loop-owner-preserved
 loop-owner-preserved g c =

@@ -4,8 +4,23 @@ use Rattle.pay_book.specs.Balance.{amount_of}
 use Rattle.pay_book.specs.Book.{entries_for}
 use Rattle.pay_book.proofs.Entries.{entries_of-within, entry-within}
 use Rattle.pay_book.proofs.Conserving.{sum-balances}
-use Rattle.pay_book.proofs.OneStep.{IsBook-stepped}
+use Rattle.std.proofs.lemmas.Option.{slice_get_within}
+use Rattle.pay_book.proofs.OneStep.{IsBook-stepped, room_for_entry}
 use Rattle.pay_book.proofs.accounts.Accounts.try_step.Goals as goal
+
+pub next_place-place-requires-clause-number : goal.next_place-place-requires-clause-number
+next_place-place-requires-clause-number g c =
+    let old = c.args.self.now in
+    let lists = g.S.Source.lists c.args.source.now in
+    let there : slice_get (entries_for old lists c.args.account) (slice_index old.front c.args.account) ≡ Some c.in_ok-entry.entry = search rules in
+    room_for_entry lists old c.args.account c.requires.countable c.requires.account (slice_get_within (entries_for old lists c.args.account) (slice_index old.front c.args.account) c.in_ok-entry.entry there)
+
+pub pass-requires-clause-front : goal.pass-requires-clause-front
+pass-requires-clause-front g c =
+    let old = c.args.self.now in
+    let lists = g.S.Source.lists c.args.source.now in
+    let there : slice_get (entries_for old lists c.args.account) (slice_index old.front c.args.account) ≡ Some c.in_ok-entry.entry = search rules in
+    room_for_entry lists old c.args.account c.requires.countable c.requires.account (slice_get_within (entries_for old lists c.args.account) (slice_index old.front c.args.account) c.in_ok-entry.entry there)
 
 pub pass-requires-clause-payee : goal.pass-requires-clause-payee
 pass-requires-clause-payee g c =
@@ -24,5 +39,5 @@ returns-clause-book g c =
     let old = c.args.self.now in
     let there : slice_get (entries_for old (g.S.Source.lists c.args.source.now) c.args.account) (slice_index old.front c.args.account) ≡ Some c.in_ok-entry.entry = search rules in
     let covered : amount_of c.in_ok-entry.entry ≤ slice_index old.balances c.args.account = search rules in
-    IsBook-stepped (g.S.Source.lists c.args.source.now) old c.pass.new.self c.args.account c.in_ok-entry.entry
-    c.requires.book c.requires.account there covered c.pass.ensures.opening c.pass.ensures.front c.pass.ensures.one_for_each c.pass.ensures.balances
+    IsBook-stepped (g.S.Source.lists c.args.source.now) old c.pass.new.self c.args.account c.in_ok-entry.entry c.next_place-place.result
+    c.requires.book c.requires.account there covered c.next_place-place.ensures c.pass.ensures.opening c.pass.ensures.front c.pass.ensures.one_for_each c.pass.ensures.balances c.pass.ensures.places

@@ -22,3 +22,15 @@ invariant_of-self-2 g c = record {
   owners_are = c.append.ensures.owners ∙ c.self.invariant.owners_are;
   settled = c.settle.ensures.settled;
 }
+
+-- where memory was refused
+pub invariant_of-self : goal.invariant_of-self
+invariant_of-self g c = record {
+  count = c.self.invariant.count;
+  few = c.self.invariant.few;
+  owners_are = c.append.ensures.owners ∙ c.self.invariant.owners_are;
+  settled = c.same_lists_stay_settled.ensures
+      (values_of c.self.inside.lists.values.items) (values_of c.append.new.self.values.items)
+      (g.B.Settle.shows c.self.inside.book) (λ a _. sym (c.in_err-append.ensures.err a))
+      c.self.invariant.settled;
+}

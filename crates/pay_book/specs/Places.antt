@@ -1,0 +1,40 @@
+-- Where a front falls in an owner's list of values.
+use Rattle.std.specs.Prelude.{◌≡◌, ℕ, suc, ◌+◌, ◌-◌, ◌<◌, List, [], ◌∷◌, length, map, slice_index_or, nat_lt, nat_le, if◌then◌else◌}
+use Rattle.std.specs.List.{range_with_len}
+use Rattle.pay_book.specs.Payment.{count_in}
+
+-- A place: so many values wholly, and so many entries of the next one.
+abbrev pub Place : Type 0
+Place = ℕ × ℕ
+
+abbrev pub one_value_further : Place → Place
+one_value_further place = (suc place.0, place.1)
+
+-- The place behind this many entries, where `count` says how many entries a value has.
+unfoldable pub place_in : {X : Type 0} → (X → ℕ) → List X → ℕ → Place
+place_in count [] number = (0, number)
+place_in count (x ∷ xs) number =
+    if nat_le (count x) number
+    then one_value_further (place_in count xs (number - count x))
+    else (0, number)
+
+-- one entry further, where the value that comes next has so many
+abbrev pub place_after : ℕ → Place → Place
+place_after count place =
+    if nat_lt (place.1 + 1) count then (place.0, place.1 + 1) else (place.0 + 1, 0)
+
+-- an account's place
+abbrev pub place_of : List Place → ℕ → Place
+place_of places a = slice_index_or places a (0, 0)
+
+-- A list of places has where each account's front falls at its place.
+pub record ArePlaces (accounts : ℕ) (lists : ℕ → List (List ℕ)) (front : ℕ → ℕ)
+    (places : List Place) : Type 0 where
+  pub one_for_each : length places ≡ accounts
+  pub exact :
+      (a : ℕ) → a < accounts → place_of places a ≡ place_in count_in (lists a) (front a)
+
+-- that list
+unfoldable pub places_of : ℕ → (ℕ → List (List ℕ)) → (ℕ → ℕ) → List Place
+places_of accounts lists front =
+    map (λ a. place_in count_in (lists a) (front a)) (range_with_len 0 accounts)
