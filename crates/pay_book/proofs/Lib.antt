@@ -14,3 +14,4 @@ pub mod PlainLoops
 pub mod Lines
 pub mod Former
 pub mod Whole
+pub mod OneMore

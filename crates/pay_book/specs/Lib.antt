@@ -7,3 +7,4 @@ pub mod Settled
 pub mod Laws
 pub mod Rows
 pub mod Statement
+pub mod StepLaws

@@ -28,3 +28,4 @@ pub use statements::statement;
 
 pub mod laws;
 pub mod rows;
+pub mod step_laws;

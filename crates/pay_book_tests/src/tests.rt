@@ -1,4 +1,4 @@
-//! The plain book on all of it.
+//! Both books on all of it.
 
 ghost use Rattle.std.specs.Prelude.{◌<◌};
 
@@ -6,6 +6,7 @@ use crate::ledger::Ledger;
 use crate::rows::{ROWS, Row, VALUES};
 use pay_book::{Entry, PlainBook, Settle, decode_payment, entries_in, entry_at};
 use pay_link::Genesis;
+use pay_pending::WaitingBook;
 use std::alloc::{AllocError, Global};
 use std::process::Abort;
 use std::test::Fail;
@@ -80,4 +81,17 @@ fn plain_book_plays_rows(rt: HostRuntime) -> Result<(), Fail> {
 #[test]
 fn plain_book_settles_a_chain(rt: HostRuntime) -> Result<(), Fail> {
     settle_chain::<PlainBook>(&rt, rt.alloc())
+}
+
+#[test]
+fn waiting_book_plays_rows(rt: HostRuntime) -> Result<(), Fail> {
+    for row in &ROWS {
+        play::<WaitingBook>(&rt, rt.alloc(), row)?;
+    }
+    Ok(())
+}
+
+#[test]
+fn waiting_book_settles_a_chain(rt: HostRuntime) -> Result<(), Fail> {
+    settle_chain::<WaitingBook>(&rt, rt.alloc())
 }
