@@ -3,18 +3,17 @@
 use Rattle.std.specs.Prelude.{ℕ, Bool, false, ◌==◌, List, [], ◌∷◌, length, replicate, Option}
 use Rattle.pay_frame.specs.declared.fault.FrameFault.{FrameFault}
 use Rattle.pay_frame.specs.Frame.{FrameFields}
-use Rattle.pay_engine.specs.Handling.{Handling, IsText, state_after}
+use Rattle.pay_engine.specs.Exact.{Function, IsText, state_after}
 use Rattle.pay_link.specs.Keys.{KeyFields}
 use Rattle.pay_cli.specs.declared.progress.Progress.{Progress}
 use Rattle.pay_cli.specs.Lines.{Outcome, Taken, Wanted, Refused, outcome_of, line_of, moved, fault_line}
 
 -- a line for each frame, and the one of a fault
-abbrev pub checking : KeyFields → Handling Progress
+abbrev pub checking : KeyFields → Function Progress
 checking k = record {
-  first = [];
   after = moved k;
   text = line_of k;
-  last = λ p fault. fault_line p.line fault;
+  fault_text = λ p fault. fault_line p.line fault;
 }
 
 -- before the first line nothing was taken
@@ -29,7 +28,7 @@ known_after k p frames = state_after (checking k) p frames
 pub record IsCheckText (k : KeyFields) (bytes text : List ℕ) (ending : Option FrameFault)
     : Type 0 where
   pub known : Progress
-  pub is : IsText (checking k) (at_start k) known bytes text ending
+  pub is : IsText (checking k) [] (at_start k) known bytes text ending
 
 -- some text is it
 pub record HasCheckText (k : KeyFields) (bytes : List ℕ) : Type 0 where

@@ -1,12 +1,18 @@
 -- What the engine of `check` reads and writes, where it is known.
-use Rattle.std.specs.Prelude.{◌≡◌, ℕ, zero, suc, ◌+◌, ◌<◌, ◌^◌, List, length, slice_index, Option, Result, ⊤}
+use Rattle.std.specs.Prelude.{◌≡◌, ℕ, zero, suc, ◌+◌, ◌<◌, ◌^◌, List, [], length, slice_index, Option, Result, ⊤}
 use Rattle.pay_frame.specs.declared.engine_fault.EngineFault.{EngineFault}
 use Rattle.pay_frame.specs.Frame.{FrameFields}
-use Rattle.pay_engine.specs.Engine.{Writes as EngineWrites}
+use Rattle.pay_engine.specs.Handling.{Start}
+use Rattle.pay_engine.specs.Exact.{Writes as EngineWrites}
 use Rattle.pay_link.specs.Keys.{KeyFields}
 use Rattle.pay_cli.specs.declared.progress.Progress.{Progress}
 use Rattle.pay_cli.specs.Lines.{moved}
 use Rattle.pay_cli.specs.CheckText.{checking, at_start}
+
+-- nothing is written before the first line
+abbrev pub check_start : KeyFields → Option (List ℕ) → Option (List ℕ) → Start Progress
+check_start k input before =
+    record { first = []; state = at_start k; input = input; before = before }
 
 -- What is written, by how the engine ended: the whole text at the input's end, or up to the fault
 -- in what was read; else a beginning of it.
@@ -14,7 +20,7 @@ abbrev pub Writes :
     KeyFields → Option (List ℕ) → Option (List ℕ) → Option (List ℕ) → Option (List ℕ)
     → Result ⊤ EngineFault → Type 0
 Writes k input left before after result =
-    (known : Progress) × EngineWrites (checking k) (at_start k) known input left before after result
+    (known : Progress) × EngineWrites (checking k) (check_start k input before) known left after result
 
 -- There is a front for each member, none has come further than the lines, and one line more can be
 -- counted.

@@ -1,15 +1,16 @@
 ghost use Rattle.std.specs.Prelude.{◌+◌, ◌≤◌, IsErrOf};
 ghost use Rattle.pay_frame.specs.Device.{Gave, RoseBy};
 ghost use Rattle.pay_link.specs.Keys.{IsKeysOf};
+ghost use Rattle.pay_engine.specs.Exact.{exactly};
 ghost use Rattle.pay_cli.specs.CheckText.{checking};
 ghost use Rattle.pay_cli.specs.Engine.{HasRoom, Writes};
-ghost use Rattle.std.proofs.Common.{subst};
+ghost use Rattle.std.proofs.Common.{subst, sym};
 ghost use Rattle.std.proofs.Math.Numerals.{add-one};
 
 use crate::laws::every_text;
 use crate::lines::push_fault;
 use crate::progress::{Progress, push_line};
-use pay_engine::{Handler, run};
+use pay_engine::{FrameHandler, exact_text, handle_stream};
 use pay_frame::{EngineFault, FrameFault, FrameRef, Input, MOST_READS, Output};
 use pay_hmac::Tagger;
 use pay_link::{Genesis, Keys};
@@ -22,15 +23,17 @@ struct Checking<'a, T> {
     keys: &'a Keys,
 }
 
-impl<T: Tagger> Handler<Progress> for Checking<'_, T> {
-    ghost handling = { λ c. checking c.keys.now };
+impl<T: Tagger> FrameHandler<Progress> for Checking<'_, T> {
+    ghost handling = { λ c. exactly (checking c.keys.now) };
 
     ghost has_room = { λ c. HasRoom c.keys.now };
 
-    ghost keeps_room = { λ c p f n room. (subst (HasRoom c.keys.now p) (add-one n) room).1 f };
+    ghost keeps_room = { λ c p q f text n step room.
+        subst (λ s. HasRoom c.keys.now s n) (sym step.0)
+        ((subst (HasRoom c.keys.now p) (add-one n) room).1 f) };
 
-    fn first(&self) -> &[u8] {
-        &[]
+    fn at_once(&self) -> usize {
+        usize::MAX
     }
 
     fn handle(
@@ -39,8 +42,9 @@ impl<T: Tagger> Handler<Progress> for Checking<'_, T> {
         progress: &mut Progress,
         frame: FrameRef<'_>,
         out: &mut Vec<u8>,
-    ) -> Result<(), AllocError> {
-        push_line(out, self.tagger, self.keys, progress, frame)
+    ) -> Result<bool, AllocError> {
+        push_line(out, self.tagger, self.keys, progress, frame)?;
+        Ok(true)
     }
 
     fn end(
@@ -79,9 +83,10 @@ pub fn run_check<R: Input, W: Output, T: Tagger>(
     ensures gave { IsErrOf result EngineFault.Bound
         → Gave MOST_READS (R.remaining reader.old) (R.remaining reader.new) }
 {
-    // a law that the proof stands on: the call does nothing
+    // laws that the proof stands on: the calls do nothing
     every_text();
+    exact_text::<Progress>();
     let mut progress = Progress::new(alloc, genesis.members())?;
     let checking = Checking { tagger: t, keys };
-    run(alloc, &checking, &mut progress, reader, writer)
+    handle_stream(alloc, &checking, &mut progress, &[], reader, writer)
 }

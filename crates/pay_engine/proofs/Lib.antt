@@ -1,3 +1,2 @@
-pub mod Texts
-pub mod Pushing
-pub mod Going
+pub mod Handlings
+pub mod Exactly

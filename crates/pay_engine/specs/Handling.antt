@@ -1,43 +1,193 @@
--- What is made of the frames of a stream, and the text that comes of a whole stream.
-use Rattle.std.specs.Prelude.{◌≡◌, ℕ, List, [], ◌∷◌, ◌++◌, Option, Some, None}
+-- A stream of frames is read, and each frame handled. What is done with a frame, and which text is
+-- written of it, is said by a relation.
+use Rattle.std.specs.Prelude.{◌≡◌, ◌⊎◌, ℕ, ◌*◌, ◌≤◌, Bool, true, false, List, [], ◌∷◌, ◌++◌, length, Option, Some, None, IfSome, Result, Ok, Err, ⊤}
+use Rattle.std.specs.Io.KnownBytes.{Appends, Consumes, IsAtEnd}
+use Rattle.std.specs.declared.alloc.AllocError.{AllocError}
+use Rattle.pay_frame.specs.declared.engine_fault.EngineFault.{EngineFault}
+use Rattle.pay_frame.specs.declared.engine_fault.EngineFault.TheVariants.{Memory, Frame, Read, Write, Bound}
 use Rattle.pay_frame.specs.declared.fault.FrameFault.{FrameFault}
+use Rattle.pay_frame.specs.declared.limits.TheConstants.{GREATEST_PIECE, MOST_READS}
+use Rattle.pay_frame.specs.Device.{WroteBeginning}
 use Rattle.pay_frame.specs.Frame.{FrameFields}
-use Rattle.pay_frame.specs.Stream.{IsStream}
+use Rattle.pay_frame.specs.Reading.{IsProperBeginning}
+use Rattle.pay_frame.specs.Stream.{IsFramesThen, IsStream}
 
--- The text that is written before anything is read; what a frame makes of a state, and its text;
--- and the text of the fault that ends a stream.
-pub record Handling (S : Type 0) : Type 0 where
+-- A step takes a state to the next by a frame, and has a text. Behind which frames a stream may be
+-- left, before it ends: they have no text, and the state stays. And the text of the fault that ends
+-- a stream.
+pub record Handling (S : Type 0) : Type 1 where
+  pub step : S → S → FrameFields → List ℕ → Type 0
+  pub may_stop : S → FrameFields → Type 0
+  pub fault_text : S → FrameFault → List ℕ
+
+-- no stream is left before it ends
+abbrev pub never : {S : Type 0} → S → FrameFields → Type 0
+never s f = ⊥
+
+-- some frames' steps, one after the other, and their texts
+abbrev pub Steps : {S : Type 0} → Handling S → S → S → List FrameFields → List ℕ → Type 0
+Steps h before after [] text = (after ≡ before) × (text ≡ [])
+Steps {S} h before after (f ∷ fs) text =
+    (between : S) × (one : List ℕ) × (rest : List ℕ)
+    × h.step before between f one × Steps h between after fs rest × (text ≡ one ++ rest)
+
+abbrev pub ending_text : {S : Type 0} → Handling S → S → Option FrameFault → List ℕ
+ending_text h s None = []
+ending_text h s (Some fault) = h.fault_text s fault
+
+-- ---- what a handler does
+
+-- the first of some frames were handled
+pub record StepsPrefix {S : Type 0} (h : Handling S) (before after : S) (fs : List FrameFields)
+    : Type 0 where
+  pub first : List FrameFields
+  pub others : List FrameFields
+  pub parts : fs ≡ first ++ others
+  pub text : List ℕ
+  pub handled : Steps h before after first text
+
+-- the first of some frames were handled, and the stream is left behind the next one
+pub record StopsAmong {S : Type 0} (h : Handling S) (before after : S) (fs : List FrameFields)
+    (old new : List ℕ) : Type 0 where
+  pub first : List FrameFields
+  pub last : FrameFields
+  pub others : List FrameFields
+  pub parts : fs ≡ first ++ last ∷ others
+  pub text : List ℕ
+  pub handled : Steps h before after first text
+  pub stopped : h.may_stop after last
+  pub longer : new ≡ old ++ text
+
+-- Of one frame, with whether the stream goes on: its text stands behind what was there. Where
+-- memory is refused the step was made, or the state is as it was.
+abbrev pub HandlesOne :
+    {S : Type 0} → Handling S → S → S → FrameFields → List ℕ → List ℕ → Result Bool AllocError
+    → Type 0
+HandlesOne h before after f old new (Ok true) =
+    (text : List ℕ) × h.step before after f text × (new ≡ old ++ text)
+HandlesOne h before after f old new (Ok false) =
+    h.may_stop before f × (after ≡ before) × (new ≡ old)
+HandlesOne h before after f old new (Err _) =
+    (after ≡ before) ⊎ ((text : List ℕ) × h.step before after f text)
+
+-- Of some frames: all of them, or those before one that the stream is left behind; where memory is
+-- refused, some of them.
+abbrev pub HandlesBatch :
+    {S : Type 0} → Handling S → S → S → List FrameFields → List ℕ → List ℕ
+    → Result Bool AllocError → Type 0
+HandlesBatch h before after fs old new (Ok true) =
+    (text : List ℕ) × Steps h before after fs text × (new ≡ old ++ text)
+HandlesBatch h before after fs old new (Ok false) = StopsAmong h before after fs old new
+HandlesBatch h before after fs old new (Err _) = StepsPrefix h before after fs
+
+-- ---- a stream
+
+-- What stands before a stream is read: the text that is written first, the state, the input, and
+-- what was written.
+pub record Start (S : Type 0) : Type 0 where
   pub first : List ℕ
-  pub after : S → FrameFields → S
-  pub text : S → FrameFields → List ℕ
-  pub last : S → FrameFault → List ℕ
+  pub state : S
+  pub input : Option (List ℕ)
+  pub before : Option (List ℕ)
 
--- the state after some frames
-abbrev pub state_after : {S : Type 0} → Handling S → S → List FrameFields → S
-state_after h s [] = s
-state_after h s (f ∷ fs) = state_after h (h.after s f) fs
-
--- their texts
-abbrev pub texts_from : {S : Type 0} → Handling S → S → List FrameFields → List ℕ
-texts_from h s [] = []
-texts_from h s (f ∷ fs) = h.text s f ++ texts_from h (h.after s f) fs
-
-abbrev pub last_text : {S : Type 0} → Handling S → S → Option FrameFault → List ℕ
-last_text h s None = []
-last_text h s (Some fault) = h.last s fault
-
--- all that is written up to some frames
-abbrev pub text_to : {S : Type 0} → Handling S → S → List FrameFields → List ℕ
-text_to h s frames = h.first ++ texts_from h s frames
-
--- the texts of some frames, and of the fault behind them, if any
-abbrev pub text_from : {S : Type 0} → Handling S → S → List FrameFields → Option FrameFault → List ℕ
-text_from h s frames ending = texts_from h s frames ++ last_text h (state_after h s frames) ending
-
--- the text of these bytes, the fault that they end with, and the state behind them
-pub record IsText {S : Type 0} (h : Handling S) (old new : S) (bytes text : List ℕ)
-    (ending : Option FrameFault) : Type 0 where
+-- All that was read is frames and an end, and so is all of the input. All of the frames were
+-- handled, and all texts are written.
+pub record HandledAll {S : Type 0} (h : Handling S) (start : Start S) (state : S)
+    (left after : Option (List ℕ)) (ending : Option FrameFault) : Type 0 where
+  pub read : List ℕ
+  pub consumed : Consumes start.input left read
   pub frames : List FrameFields
-  pub stream : IsStream bytes frames ending
-  pub texts : text ≡ h.first ++ text_from h old frames ending
-  pub state : new ≡ state_after h old frames
+  pub stream : IsStream read frames ending
+  pub whole : IfSome start.input (λ bytes. IsStream bytes frames ending)
+  pub text : List ℕ
+  pub handled : Steps h start.state state frames text
+  pub written :
+      Appends start.before after (start.first ++ (text ++ ending_text h state ending))
+
+-- What follows the frames that were handled: more of what was read, of which nothing is said; or
+-- the fault that it ends with, and its text.
+pub data IsTail {S : Type 0} (h : Handling S) (input : Option (List ℕ)) (state : S)
+    (read : List ℕ) (frames : List FrameFields) : List ℕ → Type 0 where
+  Open : (rest : List ℕ) → IsFramesThen read frames rest → IsTail h input state read frames []
+  Ended :
+      (fault : FrameFault) → IsStream read frames (Some fault)
+      → IfSome input (λ bytes. IsStream bytes frames (Some fault))
+      → IsTail h input state read frames (h.fault_text state fault)
+
+-- The first frames of what was read were handled, and a beginning of the texts is written.
+pub record HandledPrefix {S : Type 0} (h : Handling S) (start : Start S) (state : S)
+    (left after : Option (List ℕ)) : Type 0 where
+  pub read : List ℕ
+  pub consumed : Consumes start.input left read
+  pub frames : List FrameFields
+  pub text : List ℕ
+  pub tail : List ℕ
+  pub follows : IsTail h start.input state read frames tail
+  pub handled : Steps h start.state state frames text
+  pub written : WroteBeginning start.before after (start.first ++ (text ++ tail))
+
+-- The first frames of what was read were handled, the stream is left behind the next one, and all
+-- texts are written.
+pub record HandledUpTo {S : Type 0} (h : Handling S) (start : Start S) (state : S)
+    (left after : Option (List ℕ)) : Type 0 where
+  pub read : List ℕ
+  pub consumed : Consumes start.input left read
+  pub frames : List FrameFields
+  pub last : FrameFields
+  pub rest : List ℕ
+  pub cut : IsFramesThen read (frames ++ last ∷ []) rest
+  pub text : List ℕ
+  pub handled : Steps h start.state state frames text
+  pub stopped : h.may_stop state last
+  pub written : Appends start.before after (start.first ++ text)
+
+-- Between two reads: what was read, in so many reads that each gave something, is some frames and
+-- then what is held. The frames were handled, and their texts are written.
+pub record InProgress {S : Type 0} (h : Handling S) (start : Start S) (state : S)
+    (left after : Option (List ℕ)) (held : List ℕ) (reads : ℕ) : Type 0 where
+  pub read : List ℕ
+  pub consumed : Consumes start.input left read
+  pub frames : List FrameFields
+  pub cut : IsFramesThen read frames held
+  pub text : List ℕ
+  pub handled : Steps h start.state state frames text
+  pub written : Appends start.before after (start.first ++ text)
+  pub few : length read ≤ reads * GREATEST_PIECE
+  pub many : reads ≤ length read
+
+-- All that so many reads gave was handled, but for the beginning of a frame, and all texts are
+-- written.
+abbrev pub HandledRead :
+    {S : Type 0} → Handling S → Start S → S → Option (List ℕ) → Option (List ℕ) → ℕ → Type 0
+HandledRead h start state left after reads =
+    (held : List ℕ) × InProgress h start state left after held reads × IsProperBeginning held
+
+-- By how it ended: all was handled where the input ended or is at fault, or all up to a frame that
+-- the stream may be left behind; all that was read before a read failed or the bound was met; and
+-- else the first frames of what was read.
+abbrev pub HasHandled :
+    {S : Type 0} → Handling S → Start S → S → Option (List ℕ) → Option (List ℕ)
+    → Result ⊤ EngineFault → Type 0
+HasHandled h start state left after (Ok _) =
+    (HandledAll h start state left after None × IsAtEnd left)
+    ⊎ HandledUpTo h start state left after
+HasHandled h start state left after (Err (Frame fault)) =
+    HandledAll h start state left after (Some fault)
+HasHandled h start state left after (Err Memory) = HandledPrefix h start state left after
+HasHandled h start state left after (Err Read) =
+    (reads : ℕ) × HandledRead h start state left after reads
+HasHandled h start state left after (Err Write) = HandledPrefix h start state left after
+HasHandled h start state left after (Err Bound) = HandledRead h start state left after MOST_READS
+
+-- ---- what its parts do
+
+-- of one read, or of all whole frames that are held
+abbrev pub HandlesOnce :
+    {S : Type 0} → Handling S → Start S → S → Option (List ℕ) → Option (List ℕ) → List ℕ → ℕ
+    → Result Bool EngineFault → Type 0
+HandlesOnce h start state left after held reads (Ok true) =
+    InProgress h start state left after held reads
+HandlesOnce h start state left after held reads (Ok false) =
+    HasHandled h start state left after (Ok tt)
+HandlesOnce h start state left after held reads (Err fault) =
+    HasHandled h start state left after (Err fault)

@@ -1,9 +1,11 @@
-//! What the engines share that read frames and write what is made of them: pieces are read and cut
-//! into frames, a [`Handler`] makes a text of each, and the texts are written.
+//! The loop that all share who read a stream of frames: pieces are read and cut into frames, a
+//! [`FrameHandler`] takes them, and the texts that it makes of them are written.
 #![tactic(auto)]
 
-mod engine;
-mod handler;
+mod frame_handler;
+mod laws;
+mod stream;
 
-pub use engine::run;
-pub use handler::Handler;
+pub use frame_handler::FrameHandler;
+pub use laws::exact_text;
+pub use stream::handle_stream;

@@ -11,6 +11,7 @@ pub mod Written
 pub mod EveryReading
 pub mod FaultStays
 pub mod Streams
+pub mod Fronts
 pub mod Early
 pub mod WholeFrame
 pub mod Computed

@@ -1,11 +1,12 @@
 -- A stream is cut into frames, in whatever pieces it comes. What a cutter holds is a list of bytes,
 -- and its calls are said by that list.
-use Rattle.std.specs.Prelude.{◌≡◌, ℕ, ◌-◌, ◌<◌, ◌⊎◌, List, [], ◌∷◌, ◌++◌, length, min, take, is_some, if◌then◌else◌, Option, Some, None, Result, Ok, Err}
+use Rattle.std.specs.Prelude.{◌≡◌, ℕ, ◌-◌, ◌<◌, ◌≤◌, ◌⊎◌, List, [], ◌∷◌, ◌++◌, length, min, take, is_some, if◌then◌else◌, Option, Some, None, Result, Ok, Err}
 use Rattle.pay_frame.specs.declared.limits.TheConstants.{CUTTER_ROOM}
 use Rattle.pay_frame.specs.declared.fault.FrameFault.{FrameFault}
 use Rattle.pay_frame.specs.declared.fault.FrameFault.TheVariants.{Truncated}
 use Rattle.pay_frame.specs.Frame.{FrameFields, frame_bytes, IsFrame}
 use Rattle.pay_frame.specs.Reading.{HasFrame, IsProperBeginning, IsFault}
+use Rattle.pay_frame.specs.Stream.{IsFramesThen}
 
 -- the bytes of the frame that was handed out last, those not yet handed out, and the fault met, if
 -- any
@@ -31,6 +32,23 @@ HandsOut old (Ok None) new =
 HandsOut old (Err fault) new =
     ((old.met ≡ Some fault) ⊎ ((old.met ≡ None) × IsFault old.bytes fault))
     × (new.bytes ≡ old.bytes) × (new.met ≡ Some fault)
+
+-- no whole frame is in front of these bytes: less than one is, or a fault
+abbrev pub IsNoFrame : List ℕ → Type 0
+IsNoFrame bytes = IsProperBeginning bytes ⊎ ((fault : FrameFault) × IsFault bytes fault)
+
+-- Whole frames are asked for: so many of those in front, and fewer than the most only where no
+-- further one is whole. They are lent, and just they are taken away.
+pub record PassesFrames (old new : Held) (most count : ℕ) : Type 0 where
+  pub frames : List FrameFields
+  pub cut : IsFramesThen old.bytes frames new.bytes
+  pub given : IsFramesThen new.given frames []
+  pub counted : count ≡ length frames
+  pub within : count ≤ most
+  pub all : count < most → IsNoFrame new.bytes
+  pub none : count ≡ 0 → IsProperBeginning new.bytes
+  pub unmet : old.met ≡ None
+  pub met : new.met ≡ None
 
 -- the bytes are at fault, or are cut off
 abbrev pub IsUnfinished : List ℕ → FrameFault → Type 0

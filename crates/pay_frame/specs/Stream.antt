@@ -47,8 +47,7 @@ end_of (Ok _) = None
 end_of (Err fault) = Some fault
 
 -- ---- the laws that engines use, by name: `read` is what was read so far, `first` the frames that
--- were
--- handed out, `held` what is left of it, and `more` what wasn't read yet
+-- were handed out, `held` what is left of it, and `more` what wasn't read yet
 
 abbrev pub EveryStream : Type 0
 EveryStream = (bytes : List ℕ) → IsBytes bytes → HasStream bytes

@@ -1,10 +1,12 @@
-ghost use Rattle.std.specs.Prelude.{◌≡◌, ◌≤◌, drop, vec_len};
+ghost use Rattle.std.specs.Prelude.{◌≡◌, ◌<◌, ◌≤◌, IfErr, IfOk, drop, vec_len};
 ghost use Rattle.std.specs.Vec.{vec_capacity};
+ghost use Rattle.pay_frame.specs.Passing.{IsFront};
+ghost use Rattle.pay_frame.specs.Reading.{IsFault};
 
 use crate::fault::FrameFault;
 use crate::frame_ref::FrameRef;
 use crate::limits::CUTTER_ROOM;
-use crate::reading::{frame_of, read, size_in_front};
+use crate::reading::{frame_of, read};
 use std::alloc::{AllocError, Global};
 use std::marker::Model;
 
@@ -44,7 +46,7 @@ impl Cutter {
     ghost use denote.Follow.{follows_so};
     ghost use Rattle.pay_frame.specs.contracts.cutter.Cutter.{the_row};
     ghost use Rattle.pay_frame.specs.Reading.{HasFrame};
-    ghost use Rattle.pay_frame.specs.Cutting.{Held, Feeds, HandsOut, EndsWith, IsDrained, nothing_held};
+    ghost use Rattle.pay_frame.specs.Cutting.{Held, Feeds, HandsOut, PassesFrames, EndsWith, IsDrained, nothing_held};
     ghost use Rattle.pay_frame.specs.Places.{IsWhole};
     ghost use Rattle.pay_frame.specs.Frame.{frame_bytes};
     ghost use Rattle.pay_frame.specs.Lent.{fields_of, given_of};
@@ -95,6 +97,36 @@ impl Cutter {
         }
     }
 
+    /// Removes the complete frames in front, at most so many, and returns how many these are, as
+    /// that many calls of `next` would. `given` lends their bytes.
+    pub fn pass_frames(&mut self, most: usize) -> Result<usize, FrameFault>
+        requires most { 0 < most }
+        ensures passes { IfOk result (PassesFrames self.old self.new most) }
+        ensures fault { IfErr result (λ fault. HandsOut self.old (Err fault) self.new) }
+    {
+        if let Some(fault) = self.met {
+            return Err(fault);
+        }
+        match frames_in_front(self.held(), most) {
+            Ok((size, count)) => {
+                self.given = self.start;
+                self.start += size;
+                Ok(count)
+            }
+            Err(fault) => {
+                self.met = Some(fault);
+                Err(fault)
+            }
+        }
+    }
+
+    /// The bytes of the frames that were removed last.
+    pub fn given(&self) -> &[u8]
+        ensures { result.now ≡ self.now.given }
+    {
+        &self.buffer[self.given..self.start]
+    }
+
     /// Whether the stream may end here, with no complete frame in front: `Ok` if nothing is
     /// buffered, else the fault of the buffered bytes, or `Truncated`.
     pub fn end(&self) -> Result<(), FrameFault>
@@ -123,21 +155,7 @@ impl Cutter {
         ensures passed { IfOk result (Passes self.old self.new) }
         ensures fault { IfErr result (λ fault. HandsOut self.old (Err fault) self.new) }
     {
-        if let Some(fault) = self.met {
-            return Err(fault);
-        }
-        match size_in_front(self.held()) {
-            Ok(Some(size)) => {
-                self.given = self.start;
-                self.start += size;
-                Ok(true)
-            }
-            Ok(None) => Ok(false),
-            Err(fault) => {
-                self.met = Some(fault);
-                Err(fault)
-            }
-        }
+        Ok(self.pass_frames(1)? > 0)
     }
 
     /// The frame that `pass` moved past.
@@ -145,8 +163,27 @@ impl Cutter {
         requires { IsWhole self.now.given }
         ensures { frame_bytes (fields_of result) ≡ self.now.given }
     {
-        frame_of(&self.buffer[self.given..self.start])
+        frame_of(self.given())
     }
+}
+
+/// The size of the complete frames in front, at most so many, and how many these are: a fault only
+/// where it is in front of all.
+fn frames_in_front(bytes: &[u8], most: usize) -> Result<(usize, usize), FrameFault>
+    requires most { 0 < most }
+    ensures front { IfOk result (λ found. IsFront bytes.now most found.0 found.1) }
+    ensures fault { IfErr result (IsFault bytes.now) }
+{
+    let mut size = 0;
+    for count in 0..most {
+        match read(&bytes[size..]) {
+            Ok(Some((_, next))) => size += next,
+            Ok(None) => return Ok((size, count)),
+            Err(fault) if count == 0 => return Err(fault),
+            Err(_) => return Ok((size, count)),
+        }
+    }
+    Ok((size, most))
 }
 
 /// Removes the first bytes.

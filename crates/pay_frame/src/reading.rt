@@ -40,7 +40,7 @@ pub fn read_one(bytes: &[u8]) -> Result<FrameRef<'_>, FrameFault>
 }
 
 /// The size of the frame in front, if it is complete.
-pub(crate) fn size_in_front(bytes: &[u8]) -> Result<Option<usize>, FrameFault>
+fn size_in_front(bytes: &[u8]) -> Result<Option<usize>, FrameFault>
     ensures frame { IfOk result (λ found. IfSome found (IsSizeOf bytes.now)) }
     ensures beginning { IfOk result (λ found. IfNone found (IsProperBeginning bytes.now)) }
     ensures fault { IfErr result (IsFault bytes.now) }

@@ -2,7 +2,8 @@
 -- answers go out.
 use Rattle.std.specs.Prelude.{ℕ, List, [], Option, Some, None, option_map}
 use Rattle.pay_frame.specs.Frame.{FrameFields, frame_bytes}
-use Rattle.pay_engine.specs.Handling.{Handling}
+use Rattle.pay_engine.specs.Handling.{Start}
+use Rattle.pay_engine.specs.Exact.{Function}
 use Rattle.pay_channel.specs.Taken.{next}
 use Rattle.pay_link.specs.Opening.{judgement}
 use Rattle.pay_link.specs.Sealing.{wanted}
@@ -31,11 +32,16 @@ abbrev pub bytes_of : Option (List ℕ) → List ℕ
 bytes_of None = []
 bytes_of (Some bytes) = bytes
 
--- A first WANT, and then, frame by frame, that of the answer. A fault is not answered to the peer.
-abbrev pub serving : ℕ → List ℕ → Handling MemberFields
-serving stamp first = record {
-  first = first;
+-- Frame by frame, the WANT of the answer. A fault is not answered to the peer.
+abbrev pub serving : ℕ → Function MemberFields
+serving stamp = record {
   after = after_frame stamp;
   text = λ m f. bytes_of (want_of stamp m f);
-  last = λ m fault. [];
+  fault_text = λ m fault. [];
 }
+
+-- the first WANT comes before all of them
+abbrev pub serve_start :
+    MemberFields → ℕ → Option (List ℕ) → Option (List ℕ) → Start MemberFields
+serve_start m peer input before =
+    record { first = first_want m peer; state = m; input = input; before = before }

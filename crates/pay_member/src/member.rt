@@ -310,7 +310,7 @@ impl<I: Instance + Drop, B: Settle + Drop> Member<I, B> {
 
     /// Takes a frame that opened for this member and is no WANT, and answers with the WANT for what
     /// is next. Where memory is refused, the member is unchanged.
-    pub fn take_opened<T: Tagger>(
+    fn take_opened<T: Tagger>(
         &mut self,
         alloc: Global,
         stamp: u16,

@@ -3,16 +3,16 @@
 ghost use Rattle.std.specs.Prelude.{◌≡◌, ◌+◌, ◌≤◌, ℕ, IsErrOf};
 ghost use Rattle.pay_frame.specs.Device.{Gave, RoseBy};
 ghost use Rattle.pay_link.specs.Keys.{IsPeer};
-ghost use Rattle.pay_engine.specs.Engine.{Takes, Writes};
-ghost use Rattle.pay_member.specs.Serving.{first_want, serving};
+ghost use Rattle.pay_engine.specs.Exact.{Takes, Writes, exactly};
+ghost use Rattle.pay_member.specs.Serving.{serve_start, serving};
 
 use crate::member::Member;
 use pay_book::Settle;
 use pay_echo::Instance;
-use pay_engine::{Handler, run};
+use pay_engine::{FrameHandler, exact_text, handle_stream};
 use pay_frame::{EngineFault, FrameFault, FrameRef, Input, MOST_READS, Output};
 use pay_hmac::Tagger;
-use pay_link::{WANT_LEN, want};
+use pay_link::want;
 use std::alloc::{AllocError, Global};
 
 /// Brings each frame to a member, and writes the WANT of its answer.
@@ -20,18 +20,18 @@ use std::alloc::{AllocError, Global};
 struct Feeding<'a, T> {
     stamp: u16,
     tagger: &'a T,
-    first: [u8; WANT_LEN],
 }
 
-impl<I: Instance + Drop, B: Settle + Drop, T: Tagger> Handler<Member<I, B>> for Feeding<'_, T> {
-    ghost handling = { λ f. serving f.stamp f.first };
+impl<I: Instance + Drop, B: Settle + Drop, T: Tagger> FrameHandler<Member<I, B>>
+    for Feeding<'_, T> {
+    ghost handling = { λ f. exactly (serving f.stamp) };
 
     ghost has_room = { λ _ _ _. Unit {0} };
 
-    ghost keeps_room = { λ _ _ _ _ _. tt };
+    ghost keeps_room = { λ _ _ _ _ _ _ _ _. tt };
 
-    fn first(&self) -> &[u8] {
-        &self.first
+    fn at_once(&self) -> usize {
+        usize::MAX
     }
 
     fn handle(
@@ -40,12 +40,12 @@ impl<I: Instance + Drop, B: Settle + Drop, T: Tagger> Handler<Member<I, B>> for 
         member: &mut Member<I, B>,
         frame: FrameRef<'_>,
         out: &mut Vec<u8>,
-    ) -> Result<(), AllocError> {
+    ) -> Result<bool, AllocError> {
         let brought = member.bring_frame(alloc, self.stamp, self.tagger, frame)?;
-        match brought.want {
-            Some(want) => out.extend_from_slice(&want),
-            None => Ok(()),
+        if let Some(want) = brought.want {
+            out.extend_from_slice(&want)?;
         }
+        Ok(true)
     }
 
     fn end(
@@ -79,11 +79,12 @@ where
     R: Input,
     W: Output,
     requires { IsPeer member.old.keys peer }
-    ensures text { Writes (serving stamp (first_want member.old peer)) member.old member.new
-        (R.remaining reader.old) (R.remaining reader.new)
-        (W.contents writer.old) (W.contents writer.new) result }
-    ensures took { Takes (serving stamp (first_want member.old peer)) member.old member.new
-        (R.remaining reader.old) }
+    ensures text { Writes (serving stamp)
+        (serve_start member.old peer (R.remaining reader.old) (W.contents writer.old))
+        member.new (R.remaining reader.new) (W.contents writer.new) result }
+    ensures took { Takes (serving stamp)
+        (serve_start member.old peer (R.remaining reader.old) (W.contents writer.old))
+        member.new }
     ensures read { IsErrOf result EngineFault.Read
         → RoseBy 1 (R.failure_count reader.old) (R.failure_count reader.new) }
     ensures write { IsErrOf result EngineFault.Write
@@ -94,10 +95,15 @@ where
     ensures gave { IsErrOf result EngineFault.Bound
         → Gave MOST_READS (R.remaining reader.old) (R.remaining reader.new) }
 {
-    let feeding = Feeding {
-        stamp,
-        tagger,
-        first: want(tagger, member.keys(), peer, member.next(peer)),
-    };
-    run(alloc, &feeding, member, reader, writer)
+    // a law that the proof stands on: the call does nothing
+    exact_text::<Member<I, B>>();
+    let first = want(tagger, member.keys(), peer, member.next(peer));
+    handle_stream(
+        alloc,
+        &Feeding { stamp, tagger },
+        member,
+        &first,
+        reader,
+        writer,
+    )
 }

@@ -1,7 +1,8 @@
-use Rattle.std.proofs.Common.{◌≡◌, ◌∙◌, ℕ, Err, sym, ap, subst, rules}
+use Rattle.std.proofs.Common.{◌≡◌, ◌∙◌, ℕ, [], Err, sym, ap, subst, rules}
 use Rattle.std.specs.Prelude.{replicate}
 use Rattle.pay_frame.specs.declared.engine_fault.EngineFault.TheVariants.{Memory}
-use Rattle.pay_engine.specs.Engine.{Writes as EngineWrites}
+use Rattle.pay_engine.specs.Handling.{Start}
+use Rattle.pay_engine.specs.Exact.{Writes as EngineWrites}
 use Rattle.pay_cli.specs.declared.progress.Progress.{Progress}
 use Rattle.pay_cli.specs.CheckText.{checking, at_start}
 use Rattle.pay_cli.specs.Engine.{HasRoom}
@@ -15,8 +16,8 @@ returns-in_err-progress-clause-text g c =
     let memory : c.from_residual.result ≡ Err Memory = search rules in
     rw memory (at_start k, nothing_written k (c.every_text.ensures.law k) (g.R.Input.remaining c.args.reader.now) (g.W.Output.contents c.args.writer.now))
 
-pub run-requires : goal.run-requires
-run-requires g c =
+pub handle_stream-requires : goal.handle_stream-requires
+handle_stream-requires g c =
     let k = c.args.keys.now in
     let start : c.in_ok-progress.progress ≡ at_start k = c.in_ok-progress.ensures.start ∙ ap (λ (n : ℕ). let p : Progress = record { fronts = replicate n 0; line = 1 } in p) (c.members.ensures.value ∙ sym c.requires.keys) in
     record { room = λ n few. subst (λ (p : Progress). HasRoom k p n) (sym start) (room_at_start k n few) }
@@ -26,5 +27,7 @@ returns-clause-text g c =
     let k = c.args.keys.now in
     let remaining = g.R.Input.remaining in
     let contents = g.W.Output.contents in
+    let from : Progress → Start Progress = λ p. record { first = []; state = p; input = remaining c.args.reader.now; before = contents c.args.writer.now } in
     let start : c.in_ok-progress.progress ≡ at_start k = c.in_ok-progress.ensures.start ∙ ap (λ (n : ℕ). let p : Progress = record { fronts = replicate n 0; line = 1 } in p) (c.members.ensures.value ∙ sym c.requires.keys) in
-    (c.run.new.state, subst (λ (p : Progress). EngineWrites (checking k) p c.run.new.state (remaining c.args.reader.now) (remaining c.run.new.reader) (contents c.args.writer.now) (contents c.run.new.writer) c.run.result) start c.run.ensures.text)
+    let text = c.exact_text.ensures.text (checking k) _ _ _ _ _ c.handle_stream.ensures.handled in
+    (c.handle_stream.new.state, subst (λ (p : Progress). EngineWrites (checking k) (from p) c.handle_stream.new.state (remaining c.handle_stream.new.reader) (contents c.handle_stream.new.writer) c.handle_stream.result) start text)

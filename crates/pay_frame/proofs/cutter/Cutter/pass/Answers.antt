@@ -1,14 +1,14 @@
-use Rattle.std.proofs.Common.{rules, ◌≡◌, ◌∙◌, sym, ap, None, drop}
-use Rattle.pay_frame.specs.Cutting.{Held}
-use Rattle.pay_frame.specs.Places.{IsSizeOf}
-use Rattle.pay_frame.proofs.Windows.{passed_at}
+use Rattle.std.proofs.Common.{ℕ, zero, suc, refl, sym, subst, arith}
+use Rattle.std.specs.Prelude.{nat_lt}
+use Rattle.std.proofs.lemmas.Bool.{le-leb}
+use Rattle.pay_frame.specs.Cutting.{Held, PassesFrames}
+use Rattle.pay_frame.specs.Passing.{Passes}
+use Rattle.pay_frame.proofs.Fronts.{first_passed, none_passed}
 use Rattle.pay_frame.proofs.cutter.Cutter.pass.Goals as goal
 
-pub returns-in-Ok-Some-clause-passed : goal.returns-in-Ok-Some-clause-passed
-returns-in-Ok-Some-clause-passed c =
-    let inside = c.self.inside in
-    let bytes : drop inside.start inside.buffer.items ≡ c.args.self.now.bytes = ap (λ (h : Held). h.bytes) c.self.view_is in
-    let none : inside.met ≡ None = search rules in
-    let found : IsSizeOf c.args.self.now.bytes c.in-Ok-Some.size = rw c.held.ensures at (rw c.in-Ok-Some.field-0-is at c.in-Ok-Some.ensures.frame) in
-    let passed = passed_at inside.buffer.items c.args.self.now.bytes inside.start c.in-Ok-Some.size bytes found in
-    (sym (ap (λ (h : Held). h.met) c.self.view_is) ∙ none, passed.parts, passed.whole, none)
+by_count : (old new : Held) (count : ℕ) → PassesFrames old new 1 count → Passes old new (nat_lt 0 count)
+by_count old new zero passed = none_passed old new zero passed refl
+by_count old new (suc count) passed = subst (Passes old new) (sym (le-leb 1 (suc count) (omega arith))) (first_passed old new (suc count) passed (omega arith))
+
+pub returns-clause-passed : goal.returns-clause-passed
+returns-clause-passed c = by_count c.args.self.now c.pass_frames.new.self c.in_ok-pass_frames.field-0 c.in_ok-pass_frames.ensures.passes

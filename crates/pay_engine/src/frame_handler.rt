@@ -1,0 +1,76 @@
+ghost use Rattle.std.specs.Prelude.{◌≡◌, ◌+◌, ◌++◌, ◌<◌, ◌≤◌, ℕ, List, [], OnOk, length};
+ghost use Rattle.pay_frame.specs.Frame.{FrameFields};
+ghost use Rattle.pay_frame.specs.Lent.{fields_of};
+ghost use Rattle.pay_frame.specs.Stream.{IsFramesThen};
+ghost use Rattle.pay_engine.specs.Handling.{Handling, HandlesBatch, HandlesOne};
+
+use pay_frame::{FrameFault, FrameRef, frame_sizes, read, read_again};
+use std::alloc::{AllocError, Global};
+
+/// What is done with the frames of a stream.
+pub trait FrameHandler<S> {
+    ghost handling: { Self → Handling S };
+
+    // The state allows so many frames more.
+    ghost has_room: { Self → S → ℕ → Type 0 };
+
+    /// How many frames are handled at most before their texts are written.
+    fn at_once(&self) -> usize
+        ensures some { 0 < result };
+
+    /// Handles a frame, and writes its text behind what stands in `out`. Returns whether the stream
+    /// goes on. Where memory is refused the frame was handled, or the state is as it was.
+    fn handle(
+        &self,
+        alloc: Global,
+        state: &mut S,
+        frame: FrameRef<'_>,
+        out: &mut Vec<u8>,
+    ) -> Result<bool, AllocError>
+        requires room { has_room self.now state.old 1 }
+        ensures handles { HandlesOne (handling self.now) state.old state.new
+            (fields_of frame.entry) out.old.items out.new.items result };
+
+    /// Handles the frames that the bytes are, and writes their texts behind what stands in `out`.
+    /// Returns whether the stream goes on. They are handled one after the other, where a handler
+    /// has no better way.
+    fn handle_batch(
+        &self,
+        alloc: Global,
+        state: &mut S,
+        frames: &[u8],
+        out: &mut Vec<u8>,
+    ) -> Result<bool, AllocError>
+        requires room { (n : ℕ) → n ≤ length frames.now → has_room self.now state.old n }
+        requires whole { (fs : List FrameFields) × IsFramesThen frames.now fs [] }
+        ensures handles { (fs : List FrameFields) → IsFramesThen frames.now fs []
+            → HandlesBatch (handling self.now) state.old state.new fs
+            out.old.items out.new.items result }
+    {
+        // laws that the proof stands on: the calls do nothing
+        frame_sizes();
+        read_again();
+        let mut rest = frames;
+        'frames: loop {
+            match read(rest) {
+                Ok(Some((frame, size))) => {
+                    if !self.handle(alloc, state, frame, out)? {
+                        return Ok(false);
+                    }
+                    rest = &rest[size..];
+                }
+                Ok(None) => return Ok(true),
+                Err(_) => return Ok(true),
+            }
+        }
+    }
+
+    /// Writes the text of the fault that ends a stream.
+    fn end(&self, state: &S, fault: FrameFault, out: &mut Vec<u8>) -> Result<(), AllocError>
+        ensures text { OnOk result (out.new.items
+            ≡ out.old.items ++ (handling self.now).fault_text state.now fault) };
+
+    // A frame takes the room of one.
+    ghost keeps_room: { (h : Self) (s t : S) (f : FrameFields) (text : List ℕ) (n : ℕ)
+        → (handling h).step s t f text → has_room h s (n + 1) → has_room h t n };
+}

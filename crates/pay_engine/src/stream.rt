@@ -1,0 +1,220 @@
+ghost use Rattle.std.specs.Prelude.{◌≡◌, ◌+◌, ◌≤◌, ◌<◌, ◌^◌, ℕ, List, Option, [], length, IfErr, IfOk, IfSome, IsErr, IsErrOf, IsTrue, OnErr, OnOk};
+ghost use Rattle.std.specs.Io.KnownBytes.{Appends, Consumes};
+ghost use Rattle.pay_frame.specs.Device.{Gave, RoseBy, WroteBeginning, counted};
+ghost use Rattle.pay_frame.specs.Reading.{IsProperBeginning};
+ghost use Rattle.pay_frame.specs.Stream.{IsStream};
+ghost use Rattle.pay_engine.specs.Handling.{HandlesOnce, HasHandled, InProgress, Start};
+
+use crate::frame_handler::FrameHandler;
+use pay_frame::{
+    Cutter, EngineFault, FrameFault, GREATEST_PIECE, Input, MOST_READS, Output,
+    beginning_is_drained, cutter_follows_stream, fault_is_for_good, frame_sizes,
+    nothing_is_a_beginning, stream_grows, write_all,
+};
+use std::alloc::Global;
+
+/// What is held between two reads, and what is written next.
+#[derive(Drop)]
+struct Work {
+    cutter: Cutter,
+    out: Vec<u8>,
+}
+
+/// Writes a first text, then reads frames, has them handled and writes their texts: to the input's
+/// end, or to a frame that the handler leaves the stream behind.
+///
+/// A fault in the frames ends it with its own text, and is returned. Where a read failed or no more
+/// may be made, all frames that were read were handled. After another fault a prefix of them was,
+/// and a prefix of their texts is written.
+pub fn handle_stream<S, H: FrameHandler<S>, In: Input, Out: Output>(
+    alloc: Global,
+    handler: &H,
+    state: &mut S,
+    first: &[u8],
+    reader: &mut In,
+    writer: &mut Out,
+) -> Result<(), EngineFault>
+    requires room { (n : ℕ) → n < 2 ^ 32 → H.has_room handler.now state.old n }
+    ensures handled { HasHandled (H.handling handler.now)
+        (record {
+          first = first.now;
+          state = state.old;
+          input = In.remaining reader.old;
+          before = Out.contents writer.old;
+        })
+        state.new (In.remaining reader.new) (Out.contents writer.new) result }
+    ensures read { IsErrOf result EngineFault.Read
+        → RoseBy 1 (In.failure_count reader.old) (In.failure_count reader.new) }
+    ensures write { IsErrOf result EngineFault.Write
+        → RoseBy 1 (Out.failure_count writer.old) (Out.failure_count writer.new) }
+    ensures most { In.call_count reader.new ≤ In.call_count reader.old + MOST_READS }
+    ensures bound { IsErrOf result EngineFault.Bound
+        → RoseBy MOST_READS (In.call_count reader.old) (In.call_count reader.new) }
+    ensures gave { IsErrOf result EngineFault.Bound
+        → Gave MOST_READS (In.remaining reader.old) (In.remaining reader.new) }
+{
+    // laws that the proof stands on: the calls do nothing
+    nothing_is_a_beginning();
+    frame_sizes();
+    stream_grows();
+    let cutter = Cutter::new(alloc)?;
+    let mut work = Work {
+        cutter,
+        out: Vec::new(alloc),
+    };
+    write_out(writer, first)?;
+    for _ in 0..MOST_READS {
+        if !read_once(alloc, handler, state, &mut work, reader, writer)? {
+            return Ok(());
+        }
+    }
+    Err(EngineFault::Bound)
+}
+
+/// Reads a piece, and handles the frames that it completes. Returns whether the stream goes on.
+fn read_once<S, H: FrameHandler<S>, In: Input, Out: Output>(
+    alloc: Global,
+    handler: &H,
+    state: &mut S,
+    work: &mut Work,
+    reader: &mut In,
+    writer: &mut Out,
+) -> Result<bool, EngineFault>
+    requires room { (n : ℕ) → n ≤ length work.old.cutter.bytes + GREATEST_PIECE + 1
+        → H.has_room handler.now state.old n }
+    requires begins { IsProperBeginning work.old.cutter.bytes }
+    requires met { work.old.cutter.met ≡ None }
+    ensures handles { (start : Start S) (reads : ℕ)
+        → InProgress (H.handling handler.now) start state.old (In.remaining reader.old)
+        (Out.contents writer.old) work.old.cutter.bytes reads
+        → HandlesOnce (H.handling handler.now) start state.new
+        (In.remaining reader.new) (Out.contents writer.new) work.new.cutter.bytes (reads + 1) result }
+    ensures begins { IfOk result (λ on. IsTrue on → IsProperBeginning work.new.cutter.bytes) }
+    ensures met { IfOk result (λ on. IsTrue on → work.new.cutter.met ≡ None) }
+    ensures called { In.call_count reader.new ≡ counted (In.call_count reader.old) }
+    ensures bound { ¬ (IsErrOf result EngineFault.Bound) }
+    ensures read { IsErrOf result EngineFault.Read
+        → In.failure_count reader.new ≡ counted (In.failure_count reader.old) }
+    ensures write { IsErrOf result EngineFault.Write
+        → Out.failure_count writer.new ≡ counted (Out.failure_count writer.old) }
+    ensures none_failed { OnOk result (In.failure_count reader.new ≡ In.failure_count reader.old) }
+    ensures all_written { OnOk result
+        (Out.failure_count writer.new ≡ Out.failure_count writer.old) }
+{
+    // laws that the proof stands on: the calls do nothing
+    beginning_is_drained();
+    cutter_follows_stream();
+    frame_sizes();
+    stream_grows();
+    let mut buffer = [0u8; GREATEST_PIECE];
+    let count = match reader.read(&mut buffer) {
+        Ok(count) => count,
+        Err(_) => return Err(EngineFault::Read),
+    };
+    if count == 0 {
+        return match work.cutter.end() {
+            Ok(()) => Ok(false),
+            Err(fault) => end_at(handler, state, &mut work.out, writer, fault),
+        };
+    }
+    work.cutter.feed(&buffer[..count]);
+    handle_held(
+        alloc,
+        handler,
+        state,
+        &mut work.cutter,
+        &mut work.out,
+        writer,
+    )
+}
+
+/// Handles the whole frames that are held, all or up to one that the stream is left behind, and
+/// returns the fault behind them. Returns whether the stream goes on.
+fn handle_held<S, H: FrameHandler<S>, Out: Output>(
+    alloc: Global,
+    handler: &H,
+    state: &mut S,
+    cutter: &mut Cutter,
+    out: &mut Vec<u8>,
+    writer: &mut Out,
+) -> Result<bool, EngineFault>
+    requires room { (n : ℕ) → n ≤ length cutter.old.bytes + 1
+        → H.has_room handler.now state.old n }
+    requires met { cutter.old.met ≡ None }
+    ensures handles { (start : Start S) (left : Option (List ℕ)) (reads : ℕ)
+        → InProgress (H.handling handler.now) start state.old left (Out.contents writer.old)
+        cutter.old.bytes reads
+        → HandlesOnce (H.handling handler.now) start state.new left
+        (Out.contents writer.new) cutter.new.bytes reads result }
+    ensures begins { IfOk result (λ on. IsTrue on → IsProperBeginning cutter.new.bytes) }
+    ensures met { IfOk result (λ on. IsTrue on → cutter.new.met ≡ None) }
+    ensures bound { ¬ (IsErrOf result EngineFault.Bound) }
+    ensures read { ¬ (IsErrOf result EngineFault.Read) }
+    ensures write { IsErrOf result EngineFault.Write
+        → Out.failure_count writer.new ≡ counted (Out.failure_count writer.old) }
+    ensures all_written { OnOk result
+        (Out.failure_count writer.new ≡ Out.failure_count writer.old) }
+{
+    // laws that the proof stands on: the calls do nothing
+    cutter_follows_stream();
+    fault_is_for_good();
+    frame_sizes();
+    stream_grows();
+    'batches: loop {
+        match cutter.pass_frames(handler.at_once()) {
+            Ok(passed) => {
+                if passed == 0 {
+                    return Ok(true);
+                }
+                out.clear();
+                let goes_on = handler.handle_batch(alloc, state, cutter.given(), out)?;
+                write_out(writer, out)?;
+                if !goes_on {
+                    return Ok(false);
+                }
+            }
+            Err(fault) => return end_at(handler, state, out, writer, fault),
+        }
+    }
+}
+
+/// Writes the text of the fault that ends the stream, and returns that fault.
+fn end_at<S, H: FrameHandler<S>, Out: Output>(
+    handler: &H,
+    state: &S,
+    out: &mut Vec<u8>,
+    writer: &mut Out,
+    fault: FrameFault,
+) -> Result<bool, EngineFault>
+    ensures handles { (start : Start S) (left rest : Option (List ℕ)) (held : List ℕ) (reads later : ℕ)
+        → (g : InProgress (H.handling handler.now) start state.now left (Out.contents writer.old) held reads)
+        → Consumes left rest [] → IsStream g.read g.frames (Some fault)
+        → IfSome start.input (λ bytes. IsStream bytes g.frames (Some fault))
+        → HandlesOnce (H.handling handler.now) start state.now rest (Out.contents writer.new) held later result }
+    ensures bound { ¬ (IsErrOf result EngineFault.Bound) }
+    ensures read { ¬ (IsErrOf result EngineFault.Read) }
+    ensures err { IsErr result }
+    ensures write { IsErrOf result EngineFault.Write
+        → Out.failure_count writer.new ≡ counted (Out.failure_count writer.old) }
+{
+    out.clear();
+    handler.end(state, fault, out)?;
+    write_out(writer, out)?;
+    Err(EngineFault::Frame(fault))
+}
+
+/// Writes a text.
+fn write_out<Out: Output>(writer: &mut Out, text: &[u8]) -> Result<(), EngineFault>
+    ensures ok { OnOk result (Appends (Out.contents writer.old) (Out.contents writer.new) text.now) }
+    ensures err { OnErr result (WroteBeginning (Out.contents writer.old) (Out.contents writer.new) text.now) }
+    ensures write { IfErr result (λ e. e ≡ EngineFault.Write) }
+    ensures failed { OnErr result
+        (Out.failure_count writer.new ≡ counted (Out.failure_count writer.old)) }
+    ensures all_written { OnOk result
+        (Out.failure_count writer.new ≡ Out.failure_count writer.old) }
+{
+    match write_all(writer, text) {
+        Ok(()) => Ok(()),
+        Err(_) => Err(EngineFault::Write),
+    }
+}
