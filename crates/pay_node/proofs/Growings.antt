@@ -12,8 +12,8 @@ use Rattle.pay_member.specs.Bringing.{judged}
 use Rattle.pay_node.specs.declared.receipt.Receipt.{Receipt}
 use Rattle.pay_node.specs.Nodes.{IsAnsweredAs}
 use Rattle.pay_node.specs.Seats.{SeatFields, with_receipts}
-use Rattle.pay_node.specs.Feeding.{HasFed, IsFed}
-use Rattle.pay_node.specs.Handling.{AreHandled, Run}
+use Rattle.pay_engine.specs.Handling.{Steps, Start}
+use Rattle.pay_node.specs.Feeding.{HasFed, feeding}
 use Rattle.pay_node.specs.Growing.{Grows}
 
 pub grows_on : (a b c : SeatFields) → Grows a b → Grows b c → Grows a c
@@ -29,16 +29,16 @@ answered_grows : (k : KeyFields) (before after : SeatFields) (r : Result OpenedF
 answered_grows k before after (Ok opened) b is = record { more = _; is = is.answered.receipt }
 answered_grows k before after (Err o) b is = same_grows before after is.2
 
-fed_grows : (k : KeyFields) (before after : SeatFields) (fs : List FrameFields) (text : List ℕ) → AreHandled (IsFed k) before after fs text → Grows before after
+fed_grows : (k : KeyFields) (before after : SeatFields) (fs : List FrameFields) (text : List ℕ) → Steps (feeding k) before after fs text → Grows before after
 fed_grows k before after [] text are = same_grows before after are.0
 fed_grows k before after (f ∷ fs) text are =
     grows_on before are.0 after (answered_grows k before are.0 (judged (judgement k f)) are.3.brought are.3.is) (fed_grows k are.0 after fs are.2 are.4)
 
-pub run_grows : (k : KeyFields) (run : Run SeatFields) (seat : SeatFields) (left after : Option (List ℕ)) (r : Result ⊤ EngineFault) → HasFed k run seat left after r → Grows run.state seat
-run_grows k run seat left after (Ok _) (inl is) = fed_grows k run.state seat is.0.frames is.0.text is.0.handled
-run_grows k run seat left after (Ok _) (inr is) = absurd is.ended
-run_grows k run seat left after (Err (Frame fault)) is = fed_grows k run.state seat is.frames is.text is.handled
-run_grows k run seat left after (Err Memory) is = fed_grows k run.state seat is.frames is.text is.handled
-run_grows k run seat left after (Err Read) is = fed_grows k run.state seat is.frames is.text is.handled
-run_grows k run seat left after (Err Write) is = fed_grows k run.state seat is.frames is.text is.handled
-run_grows k run seat left after (Err Bound) is = fed_grows k run.state seat is.frames is.text is.handled
+pub run_grows : (k : KeyFields) (start : Start SeatFields) (seat : SeatFields) (left after : Option (List ℕ)) (r : Result ⊤ EngineFault) → HasFed k start seat left after r → Grows start.state seat
+run_grows k start seat left after (Ok _) (inl is) = fed_grows k start.state seat is.0.frames is.0.text is.0.handled
+run_grows k start seat left after (Ok _) (inr is) = absurd is.stopped
+run_grows k start seat left after (Err (Frame fault)) is = fed_grows k start.state seat is.frames is.text is.handled
+run_grows k start seat left after (Err Memory) is = fed_grows k start.state seat is.frames is.text is.handled
+run_grows k start seat left after (Err Read) is = fed_grows k start.state seat is.1.1.frames is.1.1.text is.1.1.handled
+run_grows k start seat left after (Err Write) is = fed_grows k start.state seat is.frames is.text is.handled
+run_grows k start seat left after (Err Bound) is = fed_grows k start.state seat is.1.frames is.1.text is.1.handled

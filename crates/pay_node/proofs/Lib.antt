@@ -2,7 +2,6 @@ pub mod Counted
 pub mod Feedings
 pub mod Fresh
 pub mod Growings
-pub mod Handlings
 pub mod Judged
 pub mod Replayed
 pub mod Replays

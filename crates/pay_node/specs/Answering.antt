@@ -13,7 +13,7 @@ use Rattle.pay_member.specs.Events.{events}
 use Rattle.pay_member.specs.Group.{group_in}
 use Rattle.pay_member.specs.Legal.{Legal}
 use Rattle.pay_member.specs.Member.{MemberFields}
-use Rattle.pay_node.specs.Handling.{Does, Ends, HasHandled}
+use Rattle.pay_engine.specs.Handling.{Handling, HasHandled}
 
 -- all bodies that a member sent to all, oldest first
 abbrev pub sent_by : MemberFields → List BodyFields
@@ -41,16 +41,21 @@ pub record IsReplyTo {X : Type 0} (k : KeyFields) (seats : List (ℕ × X)) (f :
 
 -- ---- one connection
 
--- what is written of a frame, whatever came before: the frame that it asks for, or nothing where it is no such WANT
-abbrev pub replies : {X : Type 0} → KeyFields → List (ℕ × X) → Does ⊤
-replies k seats before after f text =
-    IsReplyTo k seats f text ⊎ (((from number : ℕ) → ¬ (IsWant k seats f from number)) × (text ≡ []))
+-- What is written of a frame: the frame that it asks for, or nothing where it is no such WANT. The
+-- stream may be left behind such a WANT, with no reply to it.
+abbrev pub answering : {X : Type 0} → KeyFields → List (ℕ × X) → Handling ⊤
+answering k seats = record {
+  step = λ before after f text.
+      IsReplyTo k seats f text
+      ⊎ (((from number : ℕ) → ¬ (IsWant k seats f from number)) × (text ≡ []));
+  may_stop = λ s f. (from : ℕ) × (number : ℕ) × IsWant k seats f from number;
+  fault_text = λ s fault. [];
+}
 
--- it may end behind such a WANT, with no reply to it
-abbrev pub stops : {X : Type 0} → KeyFields → List (ℕ × X) → Ends ⊤
-stops k seats before after f = (from : ℕ) × (number : ℕ) × IsWant k seats f from number
-
--- The frames of an input are replied to, one after the other, and the replies written behind what was.
-abbrev pub HasAnswered : {X : Type 0} → KeyFields → List (ℕ × X) → Option (List ℕ) → Option (List ℕ) → Option (List ℕ) → Option (List ℕ) → Result ⊤ EngineFault → Type 0
+-- The frames are replied to, one after the other, and the replies written behind what was.
+abbrev pub HasAnswered :
+    {X : Type 0} → KeyFields → List (ℕ × X) → Option (List ℕ) → Option (List ℕ)
+    → Option (List ℕ) → Option (List ℕ) → Result ⊤ EngineFault → Type 0
 HasAnswered k seats input left before after =
-    HasHandled (replies k seats) (stops k seats) (record { first = []; state = tt; input = input; before = before }) tt left after
+    HasHandled (answering k seats)
+    (record { first = []; state = tt; input = input; before = before }) tt left after

@@ -1,5 +1,5 @@
 -- How a node is fed from a peer's stream: each frame is brought to it, and the WANTs of its answers go out.
-use Rattle.std.specs.Prelude.{◌≡◌, ℕ, List, Option, Result, ⊤}
+use Rattle.std.specs.Prelude.{◌≡◌, ℕ, List, [], Option, Result, ⊤}
 use Rattle.pay_frame.specs.declared.engine_fault.EngineFault.{EngineFault}
 use Rattle.pay_frame.specs.Frame.{FrameFields, frame_bytes}
 use Rattle.pay_link.specs.Keys.{KeyFields}
@@ -8,13 +8,13 @@ use Rattle.pay_link.specs.Sealing.{wanted}
 use Rattle.pay_member.specs.declared.brought.Brought.{Brought}
 use Rattle.pay_member.specs.Bringing.{judged}
 use Rattle.pay_member.specs.Serving.{bytes_of}
-use Rattle.pay_node.specs.Handling.{HasHandled, Run, never}
+use Rattle.pay_engine.specs.Handling.{Handling, HasHandled, Start, never}
 use Rattle.pay_node.specs.Nodes.{IsAnsweredAs}
 use Rattle.pay_node.specs.Seats.{SeatFields}
 
 -- the WANT to a peer for all that it sent
-unfoldable pub first_want : KeyFields → ℕ → List ℕ
-first_want k peer = frame_bytes (wanted k peer 0)
+unfoldable pub want_for_all : KeyFields → ℕ → List ℕ
+want_for_all k peer = frame_bytes (wanted k peer 0)
 
 -- a frame was brought from a seat, and this is the WANT of the answer, if there is one
 pub record IsFed (k : KeyFields) (before after : SeatFields) (f : FrameFields) (text : List ℕ) : Type 0 where
@@ -22,6 +22,13 @@ pub record IsFed (k : KeyFields) (before after : SeatFields) (f : FrameFields) (
   pub is : IsAnsweredAs k before after (judged (judgement k f)) brought
   pub want : text ≡ bytes_of brought.want
 
--- The frames of the input were brought one after the other, and the WANTs written; it ends at the input's end alone.
-abbrev pub HasFed : KeyFields → Run SeatFields → SeatFields → Option (List ℕ) → Option (List ℕ) → Result ⊤ EngineFault → Type 0
-HasFed k = HasHandled (IsFed k) never
+-- each frame is brought, and its WANT written; no frame ends it, and a fault has no text
+abbrev pub feeding : KeyFields → Handling SeatFields
+feeding k = record { step = IsFed k; may_stop = never; fault_text = λ s fault. [] }
+
+-- The frames were brought one after the other, and the WANTs written. It ends at the input's end
+-- alone.
+abbrev pub HasFed :
+    KeyFields → Start SeatFields → SeatFields → Option (List ℕ) → Option (List ℕ)
+    → Result ⊤ EngineFault → Type 0
+HasFed k = HasHandled (feeding k)

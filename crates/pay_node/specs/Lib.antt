@@ -2,7 +2,6 @@ pub mod Shown
 pub mod Receipts
 pub mod Seats
 pub mod Nodes
-pub mod Handling
 pub mod Feeding
 pub mod Growing
 pub mod Judging

@@ -1,75 +1,80 @@
 //! How a node is fed from a peer's stream.
 
 ghost use Rattle.std.specs.Prelude.{◌≡◌, ◌+◌, ◌≤◌, IsErrOf};
-ghost use Rattle.pay_frame.specs.Device.{RoseBy};
+ghost use Rattle.pay_frame.specs.Device.{Gave, RoseBy};
 ghost use Rattle.pay_link.specs.Keys.{IsPeer};
-ghost use Rattle.pay_node.specs.Feeding.{HasFed, first_want};
+ghost use Rattle.pay_node.specs.Feeding.{HasFed, feeding, want_for_all};
 
 use crate::gate::Gate;
-use crate::handling::{Handle, handle_stream};
 use crate::node::Node;
 use crate::seat::Seat;
 use pay_book::Settle;
 use pay_echo::Instance;
-use pay_frame::{EngineFault, FrameRef, Input, MOST_READS, Output, write_all};
+use pay_engine::{FrameHandler, handle_stream};
+use pay_frame::{EngineFault, FrameFault, FrameRef, Input, MOST_READS, Output};
 use pay_hmac::Tagger;
 use pay_link::want;
-use std::alloc::Global;
+use std::alloc::{AllocError, Global};
 use std::sync::Wait;
 
 /// Brings each frame to a node from a seat, and writes the WANT of the answer.
 #[derive(Drop)]
-struct Feeding<'a, R, I: Instance + Drop, B: Settle + Drop, T, G> {
+struct FromPeer<'a, R, I: Instance + Drop, B: Settle + Drop, T, G> {
     rt: &'a R,
     node: &'a Node<I, B>,
     tagger: &'a T,
     gate: &'a G,
 }
 
-impl<R, I, B, T, G, Out> Handle<Seat, Out> for Feeding<'_, R, I, B, T, G>
+impl<R, I, B, T, G> FrameHandler<Seat> for FromPeer<'_, R, I, B, T, G>
 where
     R: Wait,
     I: Instance + Drop,
     B: Settle + Drop,
     T: Tagger,
     G: Gate,
-    Out: Output,
 {
-    ghost use Rattle.pay_node.specs.Feeding.{IsFed};
-    ghost use Rattle.pay_node.specs.Handling.{never};
+    ghost handling = { λ f. feeding f.node.now.keys };
 
-    ghost does = { λ f. IsFed f.node.now.keys };
+    ghost has_room = { λ _ _ _. Unit {0} };
 
-    ghost ends = { λ _. never };
+    ghost keeps_room = { λ _ _ _ _ _ _ _ _. tt };
+
+    // Its texts go out before the next frame is handled.
+    fn at_once(&self) -> usize {
+        1
+    }
 
     fn handle(
         &self,
         alloc: Global,
         seat: &mut Seat,
         frame: FrameRef<'_>,
-        writer: &mut Out,
-    ) -> Result<bool, EngineFault> {
+        out: &mut Vec<u8>,
+    ) -> Result<bool, AllocError> {
         let brought = self
             .node
-            .bring_frame(self.rt, alloc, seat, self.tagger, self.gate, frame);
-        let Ok(brought) = brought else {
-            return Err(EngineFault::Memory);
-        };
+            .bring_frame(self.rt, alloc, seat, self.tagger, self.gate, frame)?;
         match brought.want {
             None => Ok(true),
-            Some(want) => match write_all(writer, &want) {
-                Ok(()) => Ok(true),
-                Err(_) => Err(EngineFault::Write),
-            },
+            Some(want) => {
+                out.extend_from_slice(&want)?;
+                Ok(true)
+            }
         }
+    }
+
+    fn end(&self, _seat: &Seat, _fault: FrameFault, _out: &mut Vec<u8>) -> Result<(), AllocError> {
+        Ok(())
     }
 }
 
-/// Feeds a node from a peer's stream: writes the WANT for all that the peer sent, then brings each frame that is
-/// read, and writes the WANT of the answer, if any.
+/// Feeds a node from a peer's stream: writes the WANT for all that the peer sent, then brings each
+/// frame that is read, and writes the WANT of the answer, if any.
 ///
-/// A fault in the frames ends it, and is answered. After another fault a beginning of the frames was brought, and
-/// a prefix of their WANTs is written.
+/// A fault in the frames ends it, and is returned. Where a read failed or no more may be made, all
+/// frames that were read were brought. After another fault a prefix of them was, and a prefix of
+/// their WANTs is written.
 pub fn read_peer<I, B, R, T, G, In, Out>(
     rt: &R,
     alloc: Global,
@@ -92,7 +97,7 @@ where
     requires { IsPeer node.now.keys peer }
     ensures fed { HasFed node.now.keys
         (record {
-          first = first_want node.now.keys peer;
+          first = want_for_all node.now.keys peer;
           state = seat.old;
           input = In.remaining reader.old;
           before = Out.contents writer.old;
@@ -105,13 +110,15 @@ where
     ensures most { In.call_count reader.new ≤ In.call_count reader.old + MOST_READS }
     ensures bound { IsErrOf result EngineFault.Bound
         → RoseBy MOST_READS (In.call_count reader.old) (In.call_count reader.new) }
+    ensures gave { IsErrOf result EngineFault.Bound
+        → Gave MOST_READS (In.remaining reader.old) (In.remaining reader.new) }
 {
-    let feeding = Feeding {
+    let from_peer = FromPeer {
         rt,
         node,
         tagger,
         gate,
     };
     let first = want(tagger, node.keys(), peer, 0);
-    handle_stream(alloc, &feeding, seat, &first, reader, writer)
+    handle_stream(alloc, &from_peer, seat, &first, reader, writer)
 }

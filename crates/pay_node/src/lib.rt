@@ -8,7 +8,6 @@ mod close_fault;
 mod closing;
 mod feeding;
 mod gate;
-mod handling;
 mod judging;
 mod node;
 mod once;

@@ -37,8 +37,9 @@ pub enum Dialed<In, Out> {
     Stop,
 }
 
-/// Runs a worker for each peer and its seat, which dials and feeds the node from what it gets, again and again,
-/// until it is told to stop. Returns once all have ended.
+/// Runs a worker for each peer and its seat, which dials and feeds the node from what it gets, again
+/// and again, until it is told to stop or dialed [`MOST_IDLE`] times in a row for nothing. Returns
+/// once all have ended.
 pub fn run_readers<H, I, B, T, G, D, In, Out>(
     rt: &H,
     alloc: Global,

@@ -1,26 +1,24 @@
 //! How a peer's WANTs are answered on one connection.
 
-ghost use Rattle.std.specs.Prelude.{◌≡◌, ◌+◌, ◌≤◌, IsErrOf, OnOk};
-ghost use Rattle.pay_frame.specs.Device.{RoseBy, counted};
-ghost use Rattle.pay_frame.specs.Lent.{fields_of};
-ghost use Rattle.pay_node.specs.Answering.{HasAnswered, replies, stops};
-ghost use Rattle.pay_node.specs.Handling.{HandlesOne};
+ghost use Rattle.std.specs.Prelude.{◌+◌, ◌≤◌, IsErrOf};
+ghost use Rattle.pay_frame.specs.Device.{Gave, RoseBy};
+ghost use Rattle.pay_node.specs.Answering.{HasAnswered, answering};
 
-use crate::handling::{Handle, handle_stream};
 use crate::node::Node;
 use crate::seat::Seat;
 use crate::wanted::open_want;
 use pay_book::Settle;
 use pay_echo::Instance;
-use pay_frame::{EngineFault, FrameRef, Input, MOST_READS, Output, write_all};
+use pay_engine::{FrameHandler, handle_stream};
+use pay_frame::{EngineFault, FrameFault, FrameRef, Input, MOST_READS, Output};
 use pay_hmac::Tagger;
-use std::alloc::Global;
+use std::alloc::{AllocError, Global};
 use std::sync::atomic::AtomicBool;
 use std::sync::{Mutex, Wait};
 
 /// Writes the frame that each WANT asks for.
 #[derive(Drop)]
-struct Answering<'a, R, I: Instance + Drop, B: Settle + Drop, T> {
+struct ToPeer<'a, R, I: Instance + Drop, B: Settle + Drop, T> {
     rt: &'a R,
     node: &'a Node<I, B>,
     seats: &'a [(u16, Mutex<Seat>)],
@@ -28,72 +26,61 @@ struct Answering<'a, R, I: Instance + Drop, B: Settle + Drop, T> {
     stop: &'a AtomicBool,
 }
 
-impl<R: Wait, I: Instance + Drop, B: Settle + Drop, T: Tagger> Answering<'_, R, I, B, T> {
-    // Writes the reply to a frame that asks for one. Answers whether the connection goes on: it ends where there is none,
-    // which comes of being told to stop.
-    fn answer_one<Out: Output>(
+impl<R, I, B, T> FrameHandler<()> for ToPeer<'_, R, I, B, T>
+where
+    R: Wait,
+    I: Instance + Drop,
+    B: Settle + Drop,
+    T: Tagger,
+{
+    ghost handling = { λ a. answering a.node.now.keys a.seats.now };
+
+    ghost has_room = { λ _ _ _. Unit {0} };
+
+    ghost keeps_room = { λ _ _ _ _ _ _ _ _. tt };
+
+    // Its texts go out before the next frame is handled.
+    fn at_once(&self) -> usize {
+        1
+    }
+
+    // Writes the reply to a frame that asks for one. The connection ends where there is none, which
+    // comes of being told to stop.
+    fn handle(
         &self,
         alloc: Global,
+        _nothing: &mut (),
         frame: FrameRef<'_>,
-        writer: &mut Out,
-    ) -> Result<bool, EngineFault>
-        ensures answers { HandlesOne (replies self.now.node.now.keys self.now.seats.now)
-            (stops self.now.node.now.keys self.now.seats.now) tt tt (fields_of frame.entry)
-            (Out.contents writer.old) (Out.contents writer.new) result }
-        ensures write { IsErrOf result EngineFault.Write
-            → Out.failure_count writer.new ≡ counted (Out.failure_count writer.old) }
-        ensures all_written { OnOk result
-            (Out.failure_count writer.new ≡ Out.failure_count writer.old) }
-    {
+        out: &mut Vec<u8>,
+    ) -> Result<bool, AllocError> {
         let wanted = match open_want(self.tagger, self.node.keys(), self.seats, frame) {
             Some(wanted) => wanted,
             None => return Ok(true),
         };
         let answer = self
             .node
-            .answer_want(self.rt, alloc, self.tagger, self.stop, &wanted);
+            .answer_want(self.rt, alloc, self.tagger, self.stop, &wanted)?;
         match answer {
-            Err(_) => Err(EngineFault::Memory),
-            Ok(None) => Ok(false),
-            Ok(Some(bytes)) => match write_all(writer, &bytes) {
-                Ok(()) => Ok(true),
-                Err(_) => Err(EngineFault::Write),
-            },
+            None => Ok(false),
+            Some(bytes) => {
+                out.extend_from_slice(&bytes)?;
+                Ok(true)
+            }
         }
     }
-}
 
-impl<R, I, B, T, Out> Handle<(), Out> for Answering<'_, R, I, B, T>
-where
-    R: Wait,
-    I: Instance + Drop,
-    B: Settle + Drop,
-    T: Tagger,
-    Out: Output,
-{
-    ghost use Rattle.pay_node.specs.Answering.{replies, stops};
-
-    ghost does = { λ a. replies a.node.now.keys a.seats.now };
-
-    ghost ends = { λ a. stops a.node.now.keys a.seats.now };
-
-    fn handle(
-        &self,
-        alloc: Global,
-        _nothing: &mut (),
-        frame: FrameRef<'_>,
-        writer: &mut Out,
-    ) -> Result<bool, EngineFault> {
-        self.answer_one(alloc, frame, writer)
+    fn end(&self, _nothing: &(), _fault: FrameFault, _out: &mut Vec<u8>) -> Result<(), AllocError> {
+        Ok(())
     }
 }
 
-/// Answers a peer's WANTs on one connection: reads frames, and writes the frame that each WANT asks for, once the
-/// member sent it.
+/// Answers a peer's WANTs on one connection: reads frames, and writes the frame that each WANT asks
+/// for, once the member sent it.
 ///
-/// A frame that doesn't open, is no WANT, or is one of a sender without a seat, is answered by nothing, and the
-/// connection goes on. It ends well at the input's end, and behind a WANT that waits as it is told to stop. A fault in
-/// the frames ends it, and is answered. After another fault a prefix of the replies is written.
+/// A frame that doesn't open, is no WANT, or is one of a sender without a seat, is answered by
+/// nothing, and the connection goes on. It ends well at the input's end, and behind a WANT that
+/// waits as it is told to stop. A fault in the frames ends it, and is returned. After another fault
+/// a prefix of the replies is written.
 pub fn write_peer<I, B, R, T, In, Out>(
     rt: &R,
     alloc: Global,
@@ -121,13 +108,15 @@ where
     ensures most { In.call_count reader.new ≤ In.call_count reader.old + MOST_READS }
     ensures bound { IsErrOf result EngineFault.Bound
         → RoseBy MOST_READS (In.call_count reader.old) (In.call_count reader.new) }
+    ensures gave { IsErrOf result EngineFault.Bound
+        → Gave MOST_READS (In.remaining reader.old) (In.remaining reader.new) }
 {
-    let answering = Answering {
+    let to_peer = ToPeer {
         rt,
         node,
         seats,
         tagger,
         stop,
     };
-    handle_stream(alloc, &answering, &mut (), &[], reader, writer)
+    handle_stream(alloc, &to_peer, &mut (), &[], reader, writer)
 }
