@@ -35,6 +35,9 @@ Sums = collections.namedtuple("Sums", "code whole")
 Look = collections.namedtuple("Look", "now files")
 Kept = collections.namedtuple("Kept", "program toolchain")
 
+# The folders that this process works in.
+at_work = []
+
 
 class BuildError(Exception):
     """Why there is no program to run."""
@@ -57,16 +60,19 @@ def named(of, made_by):
     return f"of sources {of.whole[:16]}, by {made_by}"
 
 
-class Stopped(BaseException):
-    """A signal asked this process to end."""
+def stop(number, _):
+    """Ends this process as the signal wants it, and at once: what it started ends with it."""
+    if sys.stderr.isatty():
+        print("\r\033[K", end="", file=sys.stderr)
+    say("stopped; nothing is kept of this")
+    for folder in at_work:
+        shutil.rmtree(folder, ignore_errors=True)
+    signal.signal(number, signal.SIG_DFL)
+    os.kill(os.getpid(), number)
 
 
 def run_script(main):
-    """Ends with the status that the script's main returns, or as the signal wants that stopped it."""
-
-    def stop(number, _):
-        raise Stopped(number)
-
+    """Ends with the status that the script's main returns, or that its error has."""
     for number in (signal.SIGINT, signal.SIGTERM, signal.SIGHUP):
         if signal.getsignal(number) is not signal.SIG_IGN:
             signal.signal(number, stop)
@@ -81,11 +87,6 @@ def run_script(main):
     except OSError as error:
         say(f"{error.filename}: {error.strerror}" if error.filename else error)
         status = NO_PROGRAM
-    except Stopped as stopped:
-        say("stopped; nothing is kept of this")
-        (number,) = stopped.args
-        signal.signal(number, signal.SIG_DFL)
-        os.kill(os.getpid(), number)
     sys.exit(status)
 
 
@@ -270,7 +271,9 @@ def alone(kind, waits):
         # a run that was killed leaves its own
         shutil.rmtree(folder, ignore_errors=True)
         os.mkdir(folder)
+        at_work.append(folder)
         try:
             yield folder
         finally:
+            at_work.remove(folder)
             shutil.rmtree(folder, ignore_errors=True)

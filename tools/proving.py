@@ -85,7 +85,8 @@ def error_of(crate, status, said):
     """
     verdict = VERDICT.search(said)
     if verdict is None and (status < 0 or status > 128):
-        return BuildError(f"no verdict on {crate.name}, whose check was stopped, most likely for memory: prove it again")
+        why = "whose check was stopped, most likely for memory: prove it again"
+        return BuildError(f"no verdict on {crate.name}, {why}")
     if verdict is None and (status == COULD_NOT_TELL or NO_VERDICT.search(said)):
         return BuildError(f"no verdict on {crate.name}, of which the prover could not tell")
     if verdict and verdict[1] == "not-proved":
@@ -123,11 +124,11 @@ def build_libraries(rt, crates, progress):
         raise kind("; ".join(str(it) for it in errors))
 
 
-def build_program(crate, progress):
+def build_program(rt, crate, progress):
     """Proves and builds the program over its built libraries; it is run once, on nothing."""
     progress.begin(crate)
     how = {"stdin": subprocess.DEVNULL, "stdout": subprocess.PIPE, "stderr": subprocess.STDOUT, "errors": "replace"}
-    ran = subprocess.run(["rt", "run"], cwd=crate.folder, **how)
+    ran = subprocess.run([*rt.rtlib.guarded(), "rt", "run"], cwd=crate.folder, **how)
     error = progress.end(crate, ran.returncode, ran.stdout)
     if error:
         raise error
@@ -139,7 +140,7 @@ def build(rt, crate):
         build_libraries(rt, crate.below(), progress)
         for it in held:
             os.close(it)
-        build_program(crate, progress)
+        build_program(rt, crate, progress)
 
 
 def forget(crate, paths):
