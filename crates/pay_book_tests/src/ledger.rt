@@ -71,6 +71,20 @@ impl<B: Settle + Drop> Ledger<B> {
         true
     }
 
+    /// Whether each account stands as in another book, at the same front, balance and place.
+    pub(crate) fn stands_as<C: Settle + Drop>(&self, other: &Ledger<C>) -> bool {
+        for account in 0..self.accounts {
+            if account >= other.accounts
+                || self.book.front(account) != other.book.front(account)
+                || self.book.balance(account) != other.book.balance(account)
+                || self.book.place(account) != other.book.place(account)
+            {
+                return false;
+            }
+        }
+        self.accounts == other.accounts
+    }
+
     /// Where an account stands, if there is one.
     pub(crate) fn place(&self, account: u16) -> Option<(u32, u8)> {
         if account < self.accounts {
