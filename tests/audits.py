@@ -16,6 +16,11 @@ A = payment(payee=0, amount=5).hex()
 B = payment(payee=1, amount=5).hex()
 
 
+def several(*pairs):
+    """The value of several payments, each a payee and an amount."""
+    return bytes([2, len(pairs)]) + b"".join(payee.to_bytes(2, "big") + amount.to_bytes(8, "big") for payee, amount in pairs)
+
+
 def export(opening, lists, front, balances, member=0, faults=None):
     members = len(opening)
     return {
@@ -34,6 +39,8 @@ def export(opening, lists, front, balances, member=0, faults=None):
 PAID = export([0, 0, 0, 50], [[], [], [], [A]], [0, 0, 0, 1], [5, 0, 0, 45])
 FRESH = export([0, 0, 0, 50], [[], [], [], []], [0, 0, 0, 0], [0, 0, 0, 50], member=1)
 FORKED = export([0, 0, 0, 50], [[], [], [], [B]], [0, 0, 0, 1], [0, 5, 0, 45], member=2)
+# Two payments in one value, of which the second is void.
+SEVERAL = export([100, 0, 0, 50], [[], [], [], [several((1, 5), (3, 1)).hex()]], [0, 0, 0, 2], [100, 5, 0, 45])
 
 # Exports, and the line that their audit has to print.
 ROWS = [
@@ -54,6 +61,9 @@ ROWS = [
     ([PAID, PAID, {**PAID, "faults": 0}], "1 genesis 2"),
     ([{**PAID, "front": [0, 0, 0, 0]}, export([7], [[]], [0], [7])], "1 genesis 1"),
     ([{**PAID, "lists": [[], [], [], [A, "ff"]], "front": [0, 0, 0, 2]}, PAID], "clean"),
+    ([SEVERAL], "clean"),
+    ([{**SEVERAL, "front": [0, 0, 0, 1]}], "2 front 0 account 3"),
+    ([{**SEVERAL, "lists": [[], [], [], ["0200"]], "front": [0, 0, 0, 1], "balances": [100, 0, 0, 50]}], "clean"),
     ([{**PAID, "lists": [[], [], [], [A.upper(), ""]], "front": [0, 0, 0, 2]}, PAID], "clean"),
 ]
 
@@ -102,12 +112,16 @@ def changed(members):
 # ---- the model
 
 
-def entry(value, owner, members):
-    """Payee and amount of a value, or None where it moves nothing."""
-    if len(value) != 11 or value[0] != 1:
-        return None
-    payee, amount = int.from_bytes(value[1:3], "big"), int.from_bytes(value[3:], "big")
-    return None if payee >= members or payee == owner or amount == 0 else (payee, amount)
+def entries_in(value, owner, members):
+    """Payee and amount of each entry of a value, or None where it moves nothing."""
+    if len(value) == 11 and value[0] == 1:
+        pairs = [value[1:]]
+    elif value[:1] == b"\2" and len(value) > 2 and value[1] <= 32 and len(value) == 2 + 10 * value[1]:
+        pairs = [value[at : at + 10] for at in range(2, len(value), 10)]
+    else:
+        return [None]
+    read = [(int.from_bytes(pair[:2], "big"), int.from_bytes(pair[2:], "big")) for pair in pairs]
+    return [None if payee >= members or payee == owner or amount == 0 else (payee, amount) for payee, amount in read]
 
 
 def balance(given, front, account):
@@ -120,7 +134,10 @@ def balance(given, front, account):
 
 def entries_of(given):
     members = given["members"]
-    return [[entry(bytes.fromhex(text), owner, members) for text in texts] for owner, texts in enumerate(given["lists"])]
+    return [
+        [it for text in texts for it in entries_in(bytes.fromhex(text), owner, members)]
+        for owner, texts in enumerate(given["lists"])
+    ]
 
 
 def largest_front(given):
@@ -168,7 +185,9 @@ def verdict(exports):
 
 def random_value(random, members):
     if random.random() < 0.15:
-        return random.choice(["", "ff", "01000100000000000000", "0100010000000000000000"])
+        return random.choice(["", "ff", "01000100000000000000", "0100010000000000000000", "0200", "0201000100000000000000"])
+    if random.random() < 0.15:
+        return several(*[(random.randrange(members + 1), random.randrange(8)) for _ in range(2)]).hex()
     return payment(payee=random.randrange(members + 1), amount=random.randrange(1, 12)).hex()
 
 
