@@ -15,3 +15,5 @@ pub mod Lines
 pub mod Former
 pub mod Whole
 pub mod OneMore
+pub mod Encoding
+pub mod Numbers

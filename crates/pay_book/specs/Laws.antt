@@ -1,12 +1,14 @@
 -- The laws of settling, over any entries; src/laws.rt says each in words.
-use Rattle.std.specs.Prelude.{◌≡◌, ◌⊎◌, ◌↔◌, ℕ, ◌+◌, ◌*◌, ◌^◌, ◌<◌, ◌≤◌, max, pos, ◌≤ℤ◌, false, List, ◌++◌, length, map, take, slice_index, slice_get, sum, Some, All}
+use Rattle.std.specs.Prelude.{◌≡◌, ◌⊎◌, ◌↔◌, ℕ, ◌+◌, ◌*◌, ◌^◌, ◌<◌, ◌≤◌, max, pos, ◌≤ℤ◌, false, List, [], ◌∷◌, ◌++◌, length, map, take, slice_index, slice_get, sum, Some, All}
 use Rattle.std.specs.List.{flat_map, filter_map, enumerate_from, range_with_len}
 use Rattle.pay_frame.specs.declared.limits.TheConstants.{SEQS, MOST_MEMBERS}
 use Rattle.pay_channel.specs.Prefix.{IsPrefix}
 use Rattle.pay_channel.specs.Source.{GrowsOnly}
 use Rattle.pay_book.specs.declared.payment.Entry.{Entry}
 use Rattle.pay_book.specs.declared.line.Line.{Line}
-use Rattle.pay_book.specs.Payment.{most_entries, entry_of, is_several, count_in, entries_in, entries_of}
+use Rattle.pay_book.specs.declared.payment.Payment.{Payment}
+use Rattle.pay_book.specs.declared.payment.TheConstants.{MOST_PAYMENTS}
+use Rattle.pay_book.specs.Payment.{most_entries, payment, entry_of, payment_value, payments_value, is_several, count_in, entries_in, entries_of}
 use Rattle.pay_book.specs.Places.{place_in, place_of}
 use Rattle.pay_book.specs.Statement.{own_line, incoming_line, statement_of}
 use Rattle.pay_book.specs.Balance.{balance_at, AreBalances}
@@ -291,3 +293,37 @@ SettledValuesBeginEntries =
     (opening : List ℕ) (lists : ℕ → List (List ℕ)) (a : ℕ) →
     IsPrefix (flat_map (entries_in (length opening) a) (settled_values opening lists a))
     (settled_entries opening lists a)
+
+-- ---- values that were encoded
+
+-- a payment's numbers are those that its bytes hold
+abbrev pub FitsBytes : Payment → Type 0
+FitsBytes p = (p.payee < 2 ^ 16) × (p.amount < 2 ^ 64)
+
+-- what it means in the list of this owner
+abbrev pub entry_for : ℕ → ℕ → Payment → Entry
+entry_for accounts owner p = payment accounts owner p.payee p.amount
+
+-- A value of one payment is that payment.
+abbrev pub OneIsEncoded : Type 0
+OneIsEncoded =
+    (accounts owner : ℕ) (p : Payment) → FitsBytes p →
+    entries_in accounts owner (payment_value p.payee p.amount) ≡ entry_for accounts owner p ∷ []
+
+-- A value of 1 to 32 payments is these payments, in their order.
+abbrev pub SeveralAreEncoded : Type 0
+SeveralAreEncoded =
+    (accounts owner : ℕ) (payments : List Payment) → All FitsBytes payments →
+    0 < length payments → length payments ≤ MOST_PAYMENTS →
+    entries_in accounts owner (payments_value payments) ≡ map (entry_for accounts owner) payments
+
+-- Different payments have different values, and no value of one payment is a value of several.
+pub record AreApart : Type 0 where
+  pub one :
+      (p q : Payment) → FitsBytes p → FitsBytes q →
+      payment_value p.payee p.amount ≡ payment_value q.payee q.amount → p ≡ q
+  pub several :
+      (ps qs : List Payment) → All FitsBytes ps → All FitsBytes qs →
+      payments_value ps ≡ payments_value qs → ps ≡ qs
+  pub versions :
+      (p : Payment) (qs : List Payment) → payment_value p.payee p.amount ≡ payments_value qs → ⊥

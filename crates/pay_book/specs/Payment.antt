@@ -1,8 +1,9 @@
 -- What broadcast values mean to the book: this project's own format, stated in docs/DEFINITIONS.md.
-use Rattle.std.specs.Prelude.{ℕ, ◌+◌, ◌*◌, Bool, List, [], ◌∷◌, ◌++◌, length, map, slice_index, slice_range, nat_lt, nat_le, ◌==◌, ◌&&◌, not, if◌then◌else◌}
-use Rattle.std.specs.List.{flat_map, range_with_len}
+use Rattle.std.specs.Prelude.{ℕ, ◌+◌, ◌*◌, ◌^◌, Option, Some, None, Bool, List, [], ◌∷◌, ◌++◌, length, map, slice_index, slice_range, nat_lt, nat_le, ◌==◌, ◌&&◌, not, if◌then◌else◌}
+use Rattle.std.specs.List.{flat_map, list_all, range_with_len}
 use Rattle.std.specs.Int.{from_be_bytes, to_be_bytes, w16, w64}
 use Rattle.pay_book.specs.declared.payment.Entry.{Entry}
+use Rattle.pay_book.specs.declared.payment.Payment.{Payment}
 use Rattle.pay_book.specs.declared.payment.TheConstants.{PAYMENT_LENGTH, PAYMENT_VERSION, SEVERAL_VERSION, MOST_PAYMENTS, PAIR_LENGTH}
 use Rattle.pay_book.specs.declared.payment.Entry.TheVariants.{Pay, Void}
 
@@ -31,6 +32,14 @@ entry_of accounts owner value =
 -- the value of this payment
 unfoldable pub payment_value : ℕ → ℕ → List ℕ
 payment_value payee amount = PAYMENT_VERSION ∷ to_be_bytes w16 payee ++ to_be_bytes w64 amount
+
+-- the pair of a payment
+abbrev pub pair_bytes : Payment → List ℕ
+pair_bytes p = to_be_bytes w16 p.payee ++ to_be_bytes w64 p.amount
+
+-- the value of these payments
+unfoldable pub payments_value : List Payment → List ℕ
+payments_value payments = SEVERAL_VERSION ∷ length payments ∷ flat_map pair_bytes payments
 
 -- A value of several payments: its own version, how many they are, and a pair for each.
 unfoldable pub is_several : List ℕ → Bool
@@ -63,3 +72,18 @@ entries_in accounts owner value =
 -- The entries of an owner's list: those of its values, joined in order.
 unfoldable pub entries_of : ℕ → (ℕ → List (List ℕ)) → ℕ → List Entry
 entries_of accounts lists owner = flat_map (entries_in accounts owner) (lists owner)
+
+-- ---- payments by numbers, as texts name them
+
+-- whether a value can name such a payee
+abbrev pub names_payee : ℕ × ℕ → Bool
+names_payee pair = nat_lt pair.0 (2 ^ 16)
+
+-- the payment of this amount to this payee
+abbrev pub payment_named : ℕ × ℕ → Payment
+payment_named pair = record { payee = pair.0; amount = pair.1 }
+
+-- these payments, where values can name their payees
+unfoldable pub payments_named : List (ℕ × ℕ) → Option (List Payment)
+payments_named pairs =
+    if list_all names_payee pairs then Some (map payment_named pairs) else None

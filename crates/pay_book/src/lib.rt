@@ -9,6 +9,7 @@ mod accounts;
 mod decode;
 mod encode;
 mod line;
+mod naming;
 mod payment;
 mod place;
 mod plain;
@@ -17,10 +18,11 @@ mod statements;
 
 pub use accounts::Accounts;
 pub use decode::{decode_payment, entries_in, entry_at};
-pub use encode::{payment_value, what_was_encoded};
+pub use encode::{payment_value, payments_value, what_was_encoded};
 pub use line::Line;
+pub use naming::payments_named;
 pub use payment::{
-    Entry, MOST_PAYMENTS, PAIR_LENGTH, PAYMENT_LENGTH, PAYMENT_VERSION, SEVERAL_VERSION,
+    Entry, MOST_PAYMENTS, PAIR_LENGTH, PAYMENT_LENGTH, PAYMENT_VERSION, Payment, SEVERAL_VERSION,
 };
 pub use plain::PlainBook;
 pub use settle::Settle;

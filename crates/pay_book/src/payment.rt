@@ -16,6 +16,13 @@ pub const MOST_PAYMENTS: u8 = 32;
 /// The bytes of each of several payments: two of the payee and eight of the amount.
 pub const PAIR_LENGTH: usize = 10;
 
+/// One of several payments: whom it pays, and how much.
+#[derive(Clone, Copy, Debug, PartialEq, Eq)]
+pub struct Payment {
+    pub payee: u16,
+    pub amount: u64,
+}
+
 /// What a broadcast value asks of the book, once or several times.
 #[derive(Clone, Copy, Debug, PartialEq, Eq)]
 pub enum Entry {

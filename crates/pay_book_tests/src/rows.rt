@@ -98,7 +98,7 @@ const FOUR_PAYMENTS: &[u8] = &[
     40, 0, 2, 0, 0, 0, 0, 0, 0, 0, 20,
 ];
 
-const FIVE_TO_1_ONE_TO_3: &[u8] = &[
+pub(crate) const FIVE_TO_1_ONE_TO_3: &[u8] = &[
     2, 2, 0, 1, 0, 0, 0, 0, 0, 0, 0, 5, 0, 3, 0, 0, 0, 0, 0, 0, 0, 1,
 ];
 

@@ -3,8 +3,10 @@
 ghost use Rattle.std.specs.Prelude.{◌<◌};
 
 use crate::ledger::Ledger;
-use crate::rows::{ROWS, Row, VALUES};
-use pay_book::{Entry, PlainBook, Settle, decode_payment, entries_in, entry_at};
+use crate::rows::{FIVE_TO_1_ONE_TO_3, ROWS, Row, VALUES};
+use pay_book::{
+    Entry, PlainBook, Settle, decode_payment, entries_in, entry_at, payments_named, payments_value,
+};
 use pay_link::Genesis;
 use pay_pending::WaitingBook;
 use std::alloc::{AllocError, Global};
@@ -27,6 +29,16 @@ fn values_decode(rt: HostRuntime) {
     for (value, entries) in VALUES {
         assert!(rt; is_entries(value, entries));
     }
+}
+
+/// What is written of two payments are their bytes.
+#[test]
+fn values_are_written(rt: HostRuntime) -> Result<(), Fail> {
+    let pairs = [(1, 5), (3, 1)];
+    let payments = payments_named(rt.alloc(), &pairs)?.ok_or("a payee beyond all")?;
+    let value = payments_value(rt.alloc(), payments.as_slice())?;
+    assert_eq!(rt; value.as_slice(), FIVE_TO_1_ONE_TO_3);
+    Ok(())
 }
 
 /// Plays an example on a new book.

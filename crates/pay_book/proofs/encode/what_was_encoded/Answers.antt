@@ -1,8 +1,11 @@
-use Rattle.std.proofs.lemmas.Nat.{from_be_bytes-to_be_bytes_2, from_be_bytes-to_be_bytes_8}
-use Rattle.pay_book.specs.Payment.{pair_entry, entry_of, payment_value}
+use Rattle.pay_book.proofs.Encoding.{entries_in-one, entries_in-encoded, payment_value-same, payments_value-same, values-apart}
 use Rattle.pay_book.proofs.encode.what_was_encoded.Goals as goal
 
-pub returns : goal.returns
-unfolding pair_entry entry_of payment_value
-returns c accounts owner payee amount low high =
-    rw (from_be_bytes-to_be_bytes_2 payee low, from_be_bytes-to_be_bytes_8 amount high)
+pub returns-clause-one : goal.returns-clause-one
+returns-clause-one c = entries_in-one
+
+pub returns-clause-several : goal.returns-clause-several
+returns-clause-several c = entries_in-encoded
+
+pub returns-clause-apart : goal.returns-clause-apart
+returns-clause-apart c = record { one = payment_value-same; several = payments_value-same; versions = values-apart }
