@@ -28,6 +28,11 @@ def payment(payee, amount):
     return struct.pack(">BHQ", 1, payee, amount)
 
 
+def payments(pairs):
+    """A payment value of several payments, 1 to 32 of them, each a payee and an amount."""
+    return bytes([2, len(pairs)]) + b"".join(struct.pack(">HQ", payee, amount) for payee, amount in pairs)
+
+
 def fault_at(place, byte, head):
     """Why no frame has this byte at this place behind these bytes, if none has."""
     length = int.from_bytes(head[:2], "big")

@@ -7,18 +7,13 @@ shares no code with the crates.
 import json
 import random
 
-from frames import payment
-from model import Ended, World
+from frames import payment, payments
+from model import Ended, World, pairs_in
 from runs import run, same, shows, test, with_files
 from scripts import RandomScripts
 
 A = payment(payee=0, amount=5).hex()
 B = payment(payee=1, amount=5).hex()
-
-
-def several(*pairs):
-    """The value of several payments, each a payee and an amount."""
-    return bytes([2, len(pairs)]) + b"".join(payee.to_bytes(2, "big") + amount.to_bytes(8, "big") for payee, amount in pairs)
 
 
 def export(opening, lists, front, balances, member=0, faults=None):
@@ -39,8 +34,9 @@ def export(opening, lists, front, balances, member=0, faults=None):
 PAID = export([0, 0, 0, 50], [[], [], [], [A]], [0, 0, 0, 1], [5, 0, 0, 45])
 FRESH = export([0, 0, 0, 50], [[], [], [], []], [0, 0, 0, 0], [0, 0, 0, 50], member=1)
 FORKED = export([0, 0, 0, 50], [[], [], [], [B]], [0, 0, 0, 1], [0, 5, 0, 45], member=2)
-# Two payments in one value, of which the second is void.
-SEVERAL = export([100, 0, 0, 50], [[], [], [], [several((1, 5), (3, 1)).hex()]], [0, 0, 0, 2], [100, 5, 0, 45])
+
+# One of an account that pays five, and nothing to itself, in one value: that is two entries.
+TWO_ENTRIES = export([100, 0, 0, 50], [[], [], [], [payments([(1, 5), (3, 1)]).hex()]], [0, 0, 0, 2], [100, 5, 0, 45])
 
 # Exports, and the line that their audit has to print.
 ROWS = [
@@ -61,10 +57,12 @@ ROWS = [
     ([PAID, PAID, {**PAID, "faults": 0}], "1 genesis 2"),
     ([{**PAID, "front": [0, 0, 0, 0]}, export([7], [[]], [0], [7])], "1 genesis 1"),
     ([{**PAID, "lists": [[], [], [], [A, "ff"]], "front": [0, 0, 0, 2]}, PAID], "clean"),
-    ([SEVERAL], "clean"),
-    ([{**SEVERAL, "front": [0, 0, 0, 1]}], "2 front 0 account 3"),
-    ([{**SEVERAL, "lists": [[], [], [], ["0200"]], "front": [0, 0, 0, 1], "balances": [100, 0, 0, 50]}], "clean"),
     ([{**PAID, "lists": [[], [], [], [A.upper(), ""]], "front": [0, 0, 0, 2]}, PAID], "clean"),
+    ([TWO_ENTRIES], "clean"),
+    ([{**TWO_ENTRIES, "front": [0, 0, 0, 1]}], "2 front 0 account 3"),
+    ([{**TWO_ENTRIES, "front": [0, 0, 0, 3]}], "2 front 0 account 3"),
+    ([TWO_ENTRIES, {**TWO_ENTRIES, "balances": [100, 0, 0, 50]}], "3 balance 1 account 1"),
+    ([{**TWO_ENTRIES, "lists": [[], [], [], ["0200"]], "front": [0, 0, 0, 1], "balances": [100, 0, 0, 50]}], "clean"),
 ]
 
 # An export's members changed, and the fault of its file.
@@ -112,21 +110,17 @@ def changed(members):
 # ---- the model
 
 
-def entries_in(value, owner, members):
-    """Payee and amount of each entry of a value, or None where it moves nothing."""
-    if len(value) == 11 and value[0] == 1:
-        pairs = [value[1:]]
-    elif value[:1] == b"\2" and len(value) > 2 and value[1] <= 32 and len(value) == 2 + 10 * value[1]:
-        pairs = [value[at : at + 10] for at in range(2, len(value), 10)]
-    else:
+def entries(value, owner, members):
+    """The entries of a value: payee and amount of each, or None where it moves nothing."""
+    pairs = pairs_in(value)
+    if pairs is None:
         return [None]
-    read = [(int.from_bytes(pair[:2], "big"), int.from_bytes(pair[2:], "big")) for pair in pairs]
-    return [None if payee >= members or payee == owner or amount == 0 else (payee, amount) for payee, amount in read]
+    return [None if payee >= members or payee == owner or not amount else (payee, amount) for payee, amount in pairs]
 
 
-def balance(given, front, account):
-    entries = entries_of(given)
-    settled = [(owner, e) for owner, es in enumerate(entries) for e in es[: front[owner]] if e]
+def balance(given, front, account, accounts=None):
+    accounts = accounts or entries_of(given)
+    settled = [(owner, e) for owner, es in enumerate(accounts) for e in es[: front[owner]] if e]
     came = sum(amount for _, (payee, amount) in settled if payee == account)
     went = sum(amount for owner, (_, amount) in settled if owner == account)
     return given["opening"][account] + came - went
@@ -135,24 +129,24 @@ def balance(given, front, account):
 def entries_of(given):
     members = given["members"]
     return [
-        [it for text in texts for it in entries_in(bytes.fromhex(text), owner, members)]
+        [it for text in texts for it in entries(bytes.fromhex(text), owner, members)]
         for owner, texts in enumerate(given["lists"])
     ]
 
 
 def largest_front(given):
     """The one of all fronts that steps reach which is as far as each other at every account."""
-    entries = entries_of(given)
-    reached, left = set(), [tuple(0 for _ in entries)]
+    accounts = entries_of(given)
+    reached, left = set(), [tuple(0 for _ in accounts)]
     while left:
         front = left.pop()
         if front in reached:
             continue
         reached.add(front)
         for account, place in enumerate(front):
-            if place < len(entries[account]):
-                e = entries[account][place]
-                if e is None or balance(given, front, account) >= e[1]:
+            if place < len(accounts[account]):
+                e = accounts[account][place]
+                if e is None or balance(given, front, account, accounts) >= e[1]:
                     left.append(front[:account] + (place + 1,) + front[account + 1 :])
     return max(reached, key=sum)
 
@@ -186,8 +180,8 @@ def verdict(exports):
 def random_value(random, members):
     if random.random() < 0.15:
         return random.choice(["", "ff", "01000100000000000000", "0100010000000000000000", "0200", "0201000100000000000000"])
-    if random.random() < 0.15:
-        return several(*[(random.randrange(members + 1), random.randrange(8)) for _ in range(2)]).hex()
+    if random.random() < 0.25:
+        return payments([(random.randrange(members + 1), random.randrange(6)) for _ in range(random.randrange(1, 4))]).hex()
     return payment(payee=random.randrange(members + 1), amount=random.randrange(1, 12)).hex()
 
 

@@ -33,6 +33,14 @@ def desk_answers_an_exchange():
 
 
 @test
+def several_on_one_line():
+    lines, answers = zip(*desks.SEVERAL)
+    shows(desk(lines_of(lines)), 0, lines_of(answers))
+    model = desks.Desk(0, GENESIS["opening"])
+    same([model.answer(line.encode()) for line in lines], list(answers), "the model")
+
+
+@test
 def example_of_a_desk():
     with open(os.path.join(TOP, "examples", "desk.txt"), encoding="ascii") as lines:
         text = lines.read()
@@ -51,13 +59,27 @@ def lines_that_are_no_command():
 
 @test
 def long_lines_of_a_desk():
-    for size in (127, 128, 129, 130, 4095, 4096, 4097, 100000):
+    for size in (128, 129, 1023, 1024, 1025, 1026, 4095, 4096, 4097, 100000):
         for filler in (b"x", b" ", b"0", b"9"):
             text = size * filler
             shows(desk(text), 0, "refused 1 BadLine\n", of=f"{size} bytes {filler} alone")
             wanted = "refused 1 BadLine\nfront 0 0 0 0\n"
             shows(desk(text + b"\nFRONT"), 0, wanted, of=f"{size} bytes {filler}")
-    within = b"PAY 1 1 1 " + 118 * b"x"
+    # 32 payments, to a payee of as many digits as the bound leaves: the longest line that may be a command
+    for size, answer in ((1024, desks.NO_ACCOUNT), (1025, desks.BAD_LINE)):
+        words = [b"PAYS 18446744073709551615", *32 * [b"1 18446744073709551615"]]
+        line = b" ".join(words)
+        at = 26
+        while len(line) < size:
+            # a digit more for one payee, up to 20, then for the next one
+            end = line.index(b" ", at)
+            if end - at == 20:
+                at = line.index(b" ", end + 1) + 1
+                continue
+            line = line[:end] + b"0" + line[end:]
+        same(len(line), size, "the length of a line")
+        shows(desk(line + b"\nFRONT\n"), 0, f"{answer}\nfront 0 0 0 0\n", of=f"{size} bytes of payments")
+    within = b"PAY 1 1 1 " + 1014 * b"x"
     shows(desk(b"FRONT\n" + within + b"\n\nFRONT\n"), 0, "front 0 0 0 0\n" + 2 * "refused 1 BadLine\n" + "front 0 0 0 0\n")
 
 

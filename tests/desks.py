@@ -4,7 +4,8 @@ It is written from docs/DEFINITIONS.md and shares no code with the crates. Witho
 group of several, and alone there is nobody to pay: so no balance moves.
 """
 
-MOST_LINE = 128
+MOST_LINE = 1024
+MOST_PAYMENTS = 32
 ASKS = 65536
 
 BAD_LINE = "refused 1 BadLine"
@@ -56,6 +57,42 @@ EXCHANGE = [
     ("FRONT", "front 0 0 0 0"),
 ]
 
+# Lines of several payments to a fresh desk of the same member, and their answers.
+SEVERAL = [
+    ("PAYS 11 1 30 2 20", "asked 11 seq 0"),
+    ("PAYS 11 1 30 2 20", "asked 11 seq 0"),
+    ("PAY 11 1 30", ID_USED),
+    ("PAYS 12 0 5 4 5", NO_ACCOUNT),
+    ("PAYS 12 1 5 0 5", ZERO_OR_SELF),
+    ("PAYS 12 1", BAD_LINE),
+    ("PAYS 12", BAD_LINE),
+    (f"PAYS 12 {' '.join(33 * ['1 1'])}", BAD_LINE),
+    # the payments that were asked for, in their order, and no others
+    ("PAYS 11 2 20 1 30", ID_USED),
+    ("PAYS 11 1 30", ID_USED),
+    ("PAYS 11 1 30 2 20 2 20", ID_USED),
+    ("PAYS 11 1 30 2 21", ID_USED),
+    ("PAYS 11 65537 30 2 20", ID_USED),
+    ("PAYS 11 1 30 99 20", ID_USED),
+    ("PAYS 11 0 0", ID_USED),
+    ("PAYS 11 1 30 2", BAD_LINE),
+    # all accounts are looked at before any amount
+    ("PAYS 12 1 0 65536 5", NO_ACCOUNT),
+    ("PAYS 12 65537 5", NO_ACCOUNT),
+    ("PAYS 12 1 5 2 0", ZERO_OR_SELF),
+    # one payment and several that are one have different values
+    ("PAY 7 1 30", "asked 7 seq 1"),
+    ("PAYS 7 1 30", ID_USED),
+    ("PAYS 8 1 30", "asked 8 seq 2"),
+    ("PAY 8 1 30", ID_USED),
+    ("PAYS 8 1 30", "asked 8 seq 2"),
+    (f"PAYS 12 {' '.join(32 * ['3 18446744073709551615'])}", "asked 12 seq 3"),
+    (f"PAYS 12 {' '.join(32 * ['3 18446744073709551615'])}", "asked 12 seq 3"),
+    (f"PAYS 12 {' '.join(31 * ['3 18446744073709551615'])}", ID_USED),
+    ("STATE 0 3", "state 0 3 asked"),
+    ("STATE 0 4", "state 0 4 unknown"),
+]
+
 # Lines that are no command.
 BAD_LINES = [
     "",
@@ -63,7 +100,21 @@ BAD_LINES = [
     "\t",
     "\r",
     "pay 1 1 1",
-    "PAYS 1 1 1",
+    "pays 1 1 1",
+    "PAYS",
+    "PAYS ",
+    "PAYS 1",
+    "PAYS 1 ",
+    "PAYS 1 1",
+    "PAYS 1 1 1 ",
+    "PAYS 1 1 1 1",
+    "PAYS  1 1 1",
+    "PAYS 1 1 01",
+    "PAYS 1 1 1 01 1",
+    "PAYS 1 1 1 1 18446744073709551616",
+    "PAYS 1 18446744073709551616 1",
+    "PAYS 1 1 1\r",
+    f"PAYS 1 {' '.join(33 * ['1 1'])}",
     "PAY",
     "PAY ",
     "PAY 1 1",
@@ -126,25 +177,33 @@ class Desk:
     def answer(self, line):
         """What is answered to a line of bytes, without its line feed."""
         words = line.split(b" ")
-        counts = {b"PAY": 3, b"BALANCE": 1, b"STATE": 2, b"STATEMENT": 1, b"FRONT": 0}
+        several = range(3, 2 + 2 * MOST_PAYMENTS, 2)
+        counts = {b"PAY": [3], b"PAYS": several, b"BALANCE": [1], b"STATE": [2], b"STATEMENT": [1], b"FRONT": [0]}
         numbers = [number(word) for word in words[1:]]
-        if len(line) > MOST_LINE or counts.get(words[0]) != len(numbers) or None in numbers:
+        if len(line) > MOST_LINE or len(numbers) not in counts.get(words[0], []) or None in numbers:
             return BAD_LINE
         if words[0] == b"STATE" and numbers[1] > 65535:
             return BAD_LINE
         return getattr(self, words[0].decode().lower())(*numbers)
 
     def pay(self, order, to, amount):
+        return self.ask(order, "one", [(to, amount)])
+
+    def pays(self, order, *numbers):
+        return self.ask(order, "several", list(zip(numbers[::2], numbers[1::2])))
+
+    def ask(self, order, *wanted):
         if order in self.kept:
             *same, seq = self.kept[order]
-            return f"asked {order} seq {seq}" if same == [to, amount] else ID_USED
-        if to >= len(self.opening):
+            return f"asked {order} seq {seq}" if same == list(wanted) else ID_USED
+        pairs = wanted[1]
+        if any(to >= len(self.opening) for to, _ in pairs):
             return NO_ACCOUNT
-        if amount == 0 or to == self.own:
+        if any(amount == 0 or to == self.own for to, amount in pairs):
             return ZERO_OR_SELF
         if len(self.kept) == ASKS:
             return SPENT
-        self.kept[order] = (to, amount, len(self.kept))
+        self.kept[order] = (*wanted, len(self.kept))
         return f"asked {order} seq {len(self.kept) - 1}"
 
     def balance(self, account):
@@ -176,8 +235,11 @@ def random_lines(seeded, accounts, count):
     def line():
         kind = seeded.randrange(10)
         if kind < 5:
-            amount = seeded.choice([0, 1, 2, 30, 2**64 - 1])
-            return f"PAY {seeded.randrange(40)} {some(65536, 65537)} {amount}"
+            count = seeded.choice([1, 1, 2, 3, 31, 32, 33])
+            pairs = [f"{some(65536, 65537)} {seeded.choice([0, 1, 2, 30, 2**64 - 1])}" for _ in range(count)]
+            if kind < 2:
+                return f"PAYS {seeded.randrange(40)} {' '.join(pairs)}"
+            return f"PAY {seeded.randrange(40)} {pairs[0]}"
         return (
             f"BALANCE {some(2**64 - 1)}",
             f"STATE {some(65536)} {seeded.choice([0, 1, 5, 20, 65535, 65536])}",

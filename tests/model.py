@@ -9,15 +9,28 @@ import inspect
 import json
 import re
 
-from frames import ECHO, READY, SEND, WANT, frame, payment, read_frame, test_key
+from frames import ECHO, READY, SEND, WANT, frame, payment, payments, read_frame, test_key
 
 GREATEST_VALUE = 1024
 SEQS = 65536
+MOST_PAYMENTS = 32
 NUMBER = 2**64
 LIMIT = 1_000_000
 LONGEST_LINE = 4096
 
 KINDS = {"send": SEND, "echo": ECHO, "ready": READY, "want": WANT}
+
+
+def pairs_in(value):
+    """Payee and amount of each payment that a value's bytes say, or None where they say none."""
+    if value[:1] == b"\x01" and len(value) == 11:
+        body = value[1:]
+    elif value[:1] == b"\x02" and len(value) > 1 and 1 <= value[1] <= MOST_PAYMENTS and len(value) == 2 + 10 * value[1]:
+        body = value[2:]
+    else:
+        return None
+    pairs = [body[at : at + 10] for at in range(0, len(body), 10)]
+    return [(int.from_bytes(pair[:2], "big"), int.from_bytes(pair[2:], "big")) for pair in pairs]
 
 
 class Member:
@@ -141,32 +154,34 @@ class Member:
 
     # ---- the book
 
-    def entry(self, value, owner):
-        """Payee and amount of a payment, or None of a void entry."""
-        if len(value) != 11 or value[0] != 1:
-            return None
-        payee, amount = int.from_bytes(value[1:3], "big"), int.from_bytes(value[3:], "big")
-        return (payee, amount) if payee < self.members and payee != owner and amount > 0 else None
+    def entries(self, value, owner):
+        """The entries of a value: payee and amount of each payment, and None of each void entry."""
+        pairs = pairs_in(value)
+        if pairs is None:
+            return [None]
+        return [pair if pair[0] < self.members and pair[0] != owner and pair[1] > 0 else None for pair in pairs]
 
-    def balances(self, lists, front):
+    def entry_lists(self, lists):
+        return [[it for value in values for it in self.entries(value, owner)] for owner, values in enumerate(lists)]
+
+    def balances(self, entries, front):
         balances = list(self.opening)
-        for owner, values in enumerate(lists):
-            for value in values[: front[owner]]:
-                entry = self.entry(value, owner)
+        for owner, settled in enumerate(front):
+            for entry in entries[owner][:settled]:
                 if entry:
                     balances[owner] -= entry[1]
                     balances[entry[0]] += entry[1]
         return balances
 
-    def front(self, lists):
+    def front(self, entries):
         """The largest front: since reached fronts have a common later one, any order of steps leads to it."""
         front = [0] * self.members
         while True:
-            balances = self.balances(lists, front)
-            for account, values in enumerate(lists):
-                if front[account] == len(values):
+            balances = self.balances(entries, front)
+            for account, own in enumerate(entries):
+                if front[account] == len(own):
                     continue
-                entry = self.entry(values[front[account]], account)
+                entry = own[front[account]]
                 if entry is None or entry[1] <= balances[account]:
                     front[account] += 1
                     break
@@ -174,9 +189,9 @@ class Member:
                 return front
 
     def book(self, history=None):
-        lists = self.lists(history)
-        front = self.front(lists)
-        return front, self.balances(lists, front)
+        entries = self.entry_lists(self.lists(history))
+        front = self.front(entries)
+        return front, self.balances(entries, front)
 
     # ---- events
 
@@ -314,16 +329,30 @@ class World:
             return []
         name, *words = line.split(" ")
         command = getattr(self, f"command_{name}", None)
-        if command is None or len(words) != len(inspect.signature(command).parameters):
+        if command is None:
             raise BadLine
+        try:
+            inspect.signature(command).bind(*words)
+        except TypeError as error:
+            raise BadLine from error
         return command(*words)
 
     def command_ask(self, member, payee, amount):
         member, payee, amount = number_in(member, 128), number_in(payee, 65536), number_in(amount)
+        return self.ask(member, payment(payee, amount))
+
+    def command_asks(self, member, *words):
+        if not 2 <= len(words) <= 2 * MOST_PAYMENTS or len(words) % 2:
+            raise BadLine
+        member = number_in(member, 128)
+        pairs = [(number_in(payee, 65536), number_in(amount)) for payee, amount in zip(words[::2], words[1::2])]
+        return self.ask(member, payments(pairs))
+
+    def ask(self, member, value):
         self.count_event()
         if member not in self.members:
             return ["ignored"]
-        return [self.members[member].ask(payment(payee, amount))]
+        return [self.members[member].ask(value)]
 
     def command_bring(self, sender, receiver, number):
         sender, receiver, number = number_in(sender, 128), number_in(receiver, 128), number_in(number)

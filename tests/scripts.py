@@ -3,7 +3,7 @@
 import json
 import random
 
-from frames import payment
+from frames import payment, payments
 
 FOUR_ONE_LIAR = '{"faults":1,"liars":[3],"members":4,"opening":[100,0,0,50]}'
 SEVEN_TWO_LIARS = '{"faults":2,"liars":[5,6],"members":7,"opening":[7,0,0,0,0,9,0]}'
@@ -11,6 +11,10 @@ ALONE = '{"faults":0,"liars":[],"members":1,"opening":[7]}'
 
 A = payment(payee=1, amount=5).hex()
 B = payment(payee=2, amount=5).hex()
+
+# Several payments: of account 3 to itself the second is void.
+FIVE_AND_VOID = payments([(1, 5), (3, 1)]).hex()
+ONE_OF_SEVERAL = payments([(1, 5)]).hex()
 
 
 def four_honest(*opening):
@@ -148,6 +152,65 @@ WORKED = [
         0,
     ),
     (
+        "four payments in one",
+        FOUR_ONE_LIAR,
+        ["asks 0 1 30 2 50 1 40 2 20", "all", "show", "ask 1 0 30", "all", "show"],
+        [
+            "asked 0 seq 0",
+            "brought 14",
+            "converged",
+            *shown(3, "2 0 0 0", "20 30 50 50"),
+            "asked 1 seq 0",
+            "brought 14",
+            "converged",
+            *shown(3, "3 1 0 0", "10 40 50 50"),
+        ],
+        0,
+    ),
+    *(
+        (
+            f"{name} of account 3",
+            FOUR_ONE_LIAR,
+            [*(f"lie 3 {it} next send 3 0 {value}" for it in range(3)), "all", "show"],
+            [*["took echo"] * 3, "brought 12", "converged", *shown(3, front, balances)],
+            0,
+        )
+        for name, value, front, balances in (
+            ("a void pair", FIVE_AND_VOID, "0 0 0 2", "100 5 0 45"),
+            ("no pairs", "0200", "0 0 0 1", "100 0 0 50"),
+            ("one pair", ONE_OF_SEVERAL, "0 0 0 1", "100 5 0 45"),
+            ("a byte less", ONE_OF_SEVERAL[:-2], "0 0 0 1", "100 0 0 50"),
+            ("a byte more", ONE_OF_SEVERAL + "00", "0 0 0 1", "100 0 0 50"),
+            ("a pair less than it says", "0202" + ONE_OF_SEVERAL[4:], "0 0 0 1", "100 0 0 50"),
+            ("a pair more than it says", "0201" + 2 * ONE_OF_SEVERAL[4:], "0 0 0 1", "100 0 0 50"),
+            ("32 pairs", payments(32 * [(1, 1)]).hex(), "0 0 0 32", "100 32 0 18"),
+            ("33 pairs", payments(33 * [(1, 1)]).hex(), "0 0 0 1", "100 0 0 50"),
+            ("void pairs alone", payments([(3, 1), (4, 1), (1, 0)]).hex(), "0 0 0 3", "100 0 0 50"),
+            ("of which one waits", payments([(1, 5), (1, 46), (1, 1)]).hex(), "0 0 0 1", "100 5 0 45"),
+        )
+    ),
+    (
+        "32 payments and a value of one",
+        FOUR_ONE_LIAR,
+        [f"asks 0 {' '.join(32 * ['1 3'])}", "asks 1 2 96", "ask 0 2 4", "all", "show"],
+        [
+            "asked 0 seq 0",
+            "asked 1 seq 0",
+            "asked 0 seq 1",
+            "brought 42",
+            "converged",
+            *shown(3, "33 1 0 0", "0 0 100 50"),
+        ],
+        0,
+    ),
+    (
+        "several asked of one that lies, and of nobody",
+        FOUR_ONE_LIAR,
+        ["asks 3 1 5", "asks 4 1 5", "asks 127 65535 0 0 18446744073709551615"],
+        3 * ["ignored"],
+        0,
+    ),
+    (
         "hostile frames",
         FOUR_ONE_LIAR,
         [
@@ -224,6 +287,20 @@ WORKED = [
             "ask 0 65536 30",
             "ask 0 1 18446744073709551616",
             "ASK 0 1 30",
+            "asks",
+            "asks 0",
+            "asks 0 ",
+            "asks 0 1",
+            "asks 0 1 ",
+            "asks 0 1 30 ",
+            "asks 0 1 30 2",
+            "asks 0 1 30 2 050",
+            "asks 0 1 30 65536 50",
+            "asks 0 1 18446744073709551616",
+            "asks 128 1 30",
+            "asks 0  1 30",
+            f"asks 0 {' '.join(33 * ['1 1'])}",
+            "ASKS 0 1 30",
             "bring 0 1",
             "bring 0 1 next",
             "raw 0",
@@ -267,8 +344,14 @@ class RandomScripts:
 
     def value(self):
         if self.random.random() < 0.15:
-            return self.random.choice(["-", "ff", "0100", "02" * 12])
+            return self.random.choice(["-", "ff", "0100", "02" * 12, "0200", ONE_OF_SEVERAL[:-2], ONE_OF_SEVERAL + "00"])
+        if self.random.random() < 0.3:
+            return payments(self.pairs()).hex()
         return payment(self.random.randrange(3), self.random.choice([1, 5, 9, 30])).hex()
+
+    def pairs(self):
+        count = self.random.choice([1, 2, 2, 3, 5])
+        return [(self.member(), self.random.choice([0, 1, 5, 20, 60])) for _ in range(count)]
 
     def lie(self):
         sender = self.random.choice(self.liars) if self.liars and self.random.random() < 0.97 else self.member()
@@ -281,6 +364,8 @@ class RandomScripts:
 
     def command(self):
         chance = self.random.random()
+        if chance < 0.08:
+            return f"asks {self.member()} {' '.join(f'{payee} {amount}' for payee, amount in self.pairs())}"
         if chance < 0.25:
             return f"ask {self.member()} {self.member()} {self.random.choice([0, 1, 5, 20, 60, 200])}"
         if chance < 0.55:

@@ -2,7 +2,6 @@
 use Rattle.std.proofs.Common.{◌≡◌, ℕ, Bool, true, false, List, [], ◌∷◌, ◌++◌, map, refl, sym, ◌∙◌, ap, subst, append-nil, append_assoc, Some, None, Ok, Err, inl, inr}
 use Rattle.std.specs.Prelude.{Option, Result}
 use Rattle.std.proofs.lemmas.List.{map-append}
-use Rattle.pay_book.specs.Payment.{payment_value}
 use Rattle.pay_text.specs.Answers as text
 use Rattle.pay_desk.specs.declared.command.Command.{Command}
 use Rattle.pay_desk.specs.declared.command.Command.TheVariants.{Pay, Balance, State, Statement, Front}
@@ -17,7 +16,11 @@ use Rattle.pay_desk.specs.Calls as call
 use Rattle.pay_desk.specs.Calls.{Call, Reply, asked_by, only_reads}
 use Rattle.pay_desk.specs.Desk.{DeskSays, command_at}
 use Rattle.pay_desk.specs.Kept.{kept_after, kept_under}
-use Rattle.pay_desk.specs.Laws.{AreUnderFreeIds, AsksOnce, value_of}
+use Rattle.pay_desk.specs.Laws.{AreUnderFreeIds, AsksOnce}
+use Rattle.pay_desk.specs.Payments.{pairs_of, value_of}
+
+abbrev asked_of : Kept → List ℕ
+asked_of k = k.value
 
 module _ {T : Type 0} (says : T → Call → Reply → T → Type 0) (asked : T → List (List ℕ)) (only_asks : (old new : T) (called : Call) (reply : Reply) → says old called reply new → asked new ≡ asked old ++ asked_by called reply) where
   -- nothing is broadcast, and nothing kept
@@ -45,28 +48,29 @@ module _ {T : Type 0} (says : T → Call → Reply → T → Type 0) (asked : T 
         by_outcome (Err NoAccount) s = said (call.Refused NoAccount) s
         by_outcome (Err Spent) s = said (call.Refused Spent) s
 
-  by_paid : (order : Order) (old new : Desk T) (outcome : Result ℕ TellerFault) → kept_under order.id old.kept ≡ None
-      → call.Replies says old.teller (call.Ask (payment_value order.to order.amount)) call.Asked outcome new.teller
-      → new.kept ≡ kept_after old.kept order outcome → AsksOnce asked old new
-  by_paid order old new (Ok seq) free said kept = record {
-    more = record { order = order; seq = seq } ∷ [];
+  by_paid : (id : ℕ) (value : List ℕ) (old new : Desk T) (outcome : Result ℕ TellerFault) → kept_under id old.kept ≡ None
+      → call.Replies says old.teller (call.Ask value) call.Asked outcome new.teller
+      → new.kept ≡ kept_after old.kept id value outcome → AsksOnce asked old new
+  by_paid id value old new (Ok seq) free said kept = record {
+    more = record { id = id; value = value; seq = seq } ∷ [];
     kept = kept;
-    broadcast = only_asks old.teller new.teller (call.Ask (payment_value order.to order.amount)) (call.Asked seq) said;
+    broadcast = only_asks old.teller new.teller (call.Ask value) (call.Asked seq) said;
     free = (free, tt);
   }
-  by_paid order old new (Err Memory) free same kept =
+  by_paid id value old new (Err Memory) free same kept =
       nothing old new kept (ap asked same ∙ sym (append-nil (asked old.teller)))
-  by_paid order old new (Err NoAccount) free said kept =
-      nothing old new kept (only_asks old.teller new.teller (call.Ask (payment_value order.to order.amount)) (call.Refused NoAccount) said)
-  by_paid order old new (Err Spent) free said kept =
-      nothing old new kept (only_asks old.teller new.teller (call.Ask (payment_value order.to order.amount)) (call.Refused Spent) said)
+  by_paid id value old new (Err NoAccount) free said kept =
+      nothing old new kept (only_asks old.teller new.teller (call.Ask value) (call.Refused NoAccount) said)
+  by_paid id value old new (Err Spent) free said kept =
+      nothing old new kept (only_asks old.teller new.teller (call.Ask value) (call.Refused Spent) said)
 
   by_found : (order : Order) (old new : Desk T) (t : List ℕ) (found : Option Kept) → kept_under order.id old.kept ≡ found
       → AnswersPay says found order old t new → AsksOnce asked old new
   by_found order old new t (Some k) known answer = unchanged old new answer.same
   by_found order old new t None free answer =
-      by_unless (pay_fault old.accounts old.own order) old new t (Pays says order old t new)
-      (λ pays. by_paid order old new pays.outcome free pays.replied pays.kept) answer
+      let value = value_of order.payments in
+      by_unless (pay_fault old.accounts old.own (pairs_of order.payments)) old new t (Pays says order.id value old t new)
+      (λ pays. by_paid order.id value old new pays.outcome free pays.replied pays.kept) answer
 
   by_answer : (command : Option Command) (old new : Desk T) (t : List ℕ) → Answers says command old t new → AsksOnce asked old new
   by_answer None old new t refused = unchanged old new refused.same
@@ -108,9 +112,9 @@ module _ {T : Type 0} (says : T → Call → Reply → T → Type 0) (asked : T 
   joined old mid new p q = record {
     more = p.more ++ q.more;
     kept = q.kept ∙ ap (λ ks. ks ++ q.more) p.kept ∙ append_assoc old.kept p.more q.more;
-    broadcast = q.broadcast ∙ ap (λ vs. vs ++ map value_of q.more) p.broadcast
-        ∙ append_assoc (asked old.teller) (map value_of p.more) (map value_of q.more)
-        ∙ ap (λ vs. asked old.teller ++ vs) (sym (map-append value_of p.more q.more));
+    broadcast = q.broadcast ∙ ap (λ vs. vs ++ map asked_of q.more) p.broadcast
+        ∙ append_assoc (asked old.teller) (map asked_of p.more) (map asked_of q.more)
+        ∙ ap (λ vs. asked old.teller ++ vs) (sym (map-append asked_of p.more q.more));
     free = free_joined old.kept p.more q.more p.free (subst (λ ks. AreUnderFreeIds ks q.more) p.kept q.free);
   }
 

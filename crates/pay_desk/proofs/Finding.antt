@@ -14,19 +14,19 @@ kept_of p = p.kept
 
 -- whether a payment is kept under an id
 abbrev pub has_id : ℕ → ById → Bool
-has_id id p = nat_eq id p.kept.order.id
+has_id id p = nat_eq id p.kept.id
 
 pub found : (id : ℕ) (ps : List ById) → kept_under id (map kept_of ps) ≡ option_map kept_of (find (has_id id) ps)
 unfolding kept_under
 found id [] = refl
 found id (p ∷ ps) =
-    (elim (nat_eq id p.kept.order.id)
-    as (λ b. nat_eq id p.kept.order.id ≡ b → cond (nat_eq p.kept.order.id id) (Some p.kept) (kept_under id (map kept_of ps)) ≡ option_map kept_of (cond b (Some p) (find (has_id id) ps))) [
+    (elim (nat_eq id p.kept.id)
+    as (λ b. nat_eq id p.kept.id ≡ b → cond (nat_eq p.kept.id id) (Some p.kept) (kept_under id (map kept_of ps)) ≡ option_map kept_of (cond b (Some p) (find (has_id id) ps))) [
       | true ↦ λ same.
-          let s : nat_eq p.kept.order.id id ≡ true = grind (arith, nat_tests) in
+          let s : nat_eq p.kept.id id ≡ true = grind (arith, nat_tests) in
           rw s refl
       | false ↦ λ other.
-          let o : nat_eq p.kept.order.id id ≡ false = grind (arith, nat_tests) in
+          let o : nat_eq p.kept.id id ≡ false = grind (arith, nat_tests) in
           rw o (found id ps)
     ]) refl
 
@@ -35,20 +35,20 @@ absent : (id : ℕ) (ps : List ById) → kept_under id (map kept_of ps) ≡ None
 unfolding kept_under
 absent id [] none = refl
 absent id (p ∷ ps) none =
-    (elim (nat_eq id p.kept.order.id)
-    as (λ b. nat_eq id p.kept.order.id ≡ b → (b || list_any (has_id id) ps) ≡ false) [
+    (elim (nat_eq id p.kept.id)
+    as (λ b. nat_eq id p.kept.id ≡ b → (b || list_any (has_id id) ps) ≡ false) [
       | true ↦ λ same.
-          let s : nat_eq p.kept.order.id id ≡ true = grind (arith, nat_tests) in
+          let s : nat_eq p.kept.id id ≡ true = grind (arith, nat_tests) in
           absurd (let bad = rw s at none in cc)
       | false ↦ λ other.
-          let o : nat_eq p.kept.order.id id ≡ false = grind (arith, nat_tests) in
+          let o : nat_eq p.kept.id id ≡ false = grind (arith, nat_tests) in
           absent id ps (rw o at none)
     ]) refl
 
 -- a payment more is kept behind the others
-pub kept_behind : (old mid : List ById) (p : ById) → mid ≡ old → kept_under p.kept.order.id (map kept_of old) ≡ None
-    → map kept_of (insert_key (λ a b. nat_eq a.kept.order.id b.kept.order.id) mid p) ≡ map kept_of old ++ p.kept ∷ []
+pub kept_behind : (old mid : List ById) (p : ById) → mid ≡ old → kept_under p.kept.id (map kept_of old) ≡ None
+    → map kept_of (insert_key (λ a b. nat_eq a.kept.id b.kept.id) mid p) ≡ map kept_of old ++ p.kept ∷ []
 kept_behind old mid p same none =
-    ap (map kept_of) (ap (λ b. if b then mid else mid ++ p ∷ []) (ap (list_any (has_id p.kept.order.id)) same ∙ absent p.kept.order.id old none))
+    ap (map kept_of) (ap (λ b. if b then mid else mid ++ p ∷ []) (ap (list_any (has_id p.kept.id)) same ∙ absent p.kept.id old none))
     ∙ ap (λ ps. map kept_of (ps ++ p ∷ [])) same
     ∙ map-append kept_of old (p ∷ [])

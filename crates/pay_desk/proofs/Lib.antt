@@ -1,3 +1,6 @@
 mod Finding
 mod Running
 mod AskingOnce
+mod Naming
+mod Causes
+mod Apart

@@ -1,7 +1,7 @@
 -- What a desk answers to a line, as a function of what it keeps, the line, and what its teller replies.
-use Rattle.std.specs.Prelude.{◌≡◌, ℕ, ◌==◌, ◌||◌, nat_lt, true, List, Option, Some, None, Result, Ok, Err, if◌then◌else◌, ◌⊎◌}
+use Rattle.std.specs.Prelude.{◌≡◌, ℕ, ◌==◌, ◌||◌, nat_lt, Bool, true, List, Option, Some, None, Result, Ok, Err, if◌then◌else◌, ◌⊎◌}
+use Rattle.std.specs.List.{list_all, list_any}
 use Rattle.pay_book.specs.declared.line.Line.{Line}
-use Rattle.pay_book.specs.Payment.{payment_value}
 use Rattle.pay_desk.specs.declared.command.Command.{Command}
 use Rattle.pay_desk.specs.declared.command.Command.TheVariants.{Pay, Balance, State, Statement, Front}
 use Rattle.pay_desk.specs.declared.command.Order.{Order}
@@ -13,7 +13,8 @@ use Rattle.pay_desk.specs.declared.teller_fault.TellerFault.{TellerFault}
 use Rattle.pay_desk.specs.Calls as call
 use Rattle.pay_desk.specs.Calls.{Call, Reply, Replies, only_reads}
 use Rattle.pay_desk.specs.Faults.{desk_fault_of}
-use Rattle.pay_desk.specs.Kept.{kept_under, is_same, kept_after}
+use Rattle.pay_desk.specs.Kept.{kept_under, is_value, kept_after}
+use Rattle.pay_desk.specs.Payments.{pairs_of, value_of, if_named}
 use Rattle.pay_desk.specs.Words.{refused_words, asked_words, balance_words, state_words, statement_words, front_words}
 
 -- ---- the words by what the teller replied
@@ -26,19 +27,28 @@ told_or_refused words (Err fault) = refused_words (desk_fault_of fault)
 abbrev pub stated_words : ℕ → List Line × ℕ → List ℕ
 stated_words account (lines, balance) = statement_words account lines balance
 
--- a kept id: the same payment has the answer that it had, and another one none
-abbrev pub kept_words : Kept → Order → List ℕ
-kept_words kept order = if is_same kept.order order then asked_words order.id kept.seq else refused_words IdUsed
+-- a kept id: the value that was asked for has the answer that it had, and another one none
+abbrev pub kept_words : Kept → ℕ → Option (List ℕ) → List ℕ
+kept_words kept id value = if is_value value kept.value then asked_words id kept.seq else refused_words IdUsed
 
 -- ---- refusals before the teller is asked
 
 abbrev pub account_fault : ℕ → ℕ → Option DeskFault
 account_fault accounts account = if nat_lt account accounts then None else Some NoAccount
 
-abbrev pub pay_fault : ℕ → ℕ → Order → Option DeskFault
-pay_fault accounts own order =
-    if nat_lt order.to accounts
-    then (if (order.amount == 0) || (order.to == own) then Some ZeroOrSelf else None)
+-- of a payee and an amount: the payee is there
+abbrev pub is_account : ℕ → ℕ × ℕ → Bool
+is_account accounts pair = nat_lt pair.0 accounts
+
+-- nothing is paid, or to the own account
+abbrev pub is_void : ℕ → ℕ × ℕ → Bool
+is_void own pair = (pair.1 == 0) || (pair.0 == own)
+
+-- All payees are looked at before any amount.
+abbrev pub pay_fault : ℕ → ℕ → List (ℕ × ℕ) → Option DeskFault
+pay_fault accounts own pairs =
+    if list_all (is_account accounts) pairs
+    then (if list_any (is_void own) pairs then Some ZeroOrSelf else None)
     else Some NoAccount
 
 -- ---- answers
@@ -60,23 +70,24 @@ pub record Calls {T X : Type 0} (says : T → Call → Reply → T → Type 0) (
   pub told : text ≡ told_or_refused words outcome
   pub same : new ≡ record old { teller = new.teller }
 
--- The teller is asked to broadcast the payment, which is kept unless it is refused.
-pub record Pays {T : Type 0} (says : T → Call → Reply → T → Type 0) (order : Order) (old : Desk T) (text : List ℕ) (new : Desk T) : Type 0 where
+-- The teller is asked to broadcast a value, which is kept under its id unless it is refused.
+pub record Pays {T : Type 0} (says : T → Call → Reply → T → Type 0) (id : ℕ) (value : List ℕ) (old : Desk T) (text : List ℕ) (new : Desk T) : Type 0 where
   pub outcome : Result ℕ TellerFault
-  pub replied : Replies says old.teller (call.Ask (payment_value order.to order.amount)) call.Asked outcome new.teller
-  pub told : text ≡ told_or_refused (asked_words order.id) outcome
-  pub kept : new.kept ≡ kept_after old.kept order outcome
+  pub replied : Replies says old.teller (call.Ask value) call.Asked outcome new.teller
+  pub told : text ≡ told_or_refused (asked_words id) outcome
+  pub kept : new.kept ≡ kept_after old.kept id value outcome
   pub same : new ≡ record old { teller = new.teller; kept = new.kept }
 
 -- the words of what is kept, and nothing changes
 pub record IsKeptAnswer {T : Type 0} (kept : Kept) (order : Order) (old : Desk T) (text : List ℕ) (new : Desk T) : Type 0 where
-  pub words : text ≡ kept_words kept order
+  pub words : text ≡ kept_words kept order.id (if_named order.payments (value_of order.payments))
   pub same : new ≡ old
 
 abbrev pub AnswersPay : {T : Type 0} → (T → Call → Reply → T → Type 0) → Option Kept → Order → Desk T → List ℕ → Desk T → Type 0
 AnswersPay says (Some kept) order old text new = IsKeptAnswer kept order old text new
 AnswersPay says None order old text new =
-    Unless (pay_fault old.accounts old.own order) old text new (Pays says order old text new)
+    Unless (pay_fault old.accounts old.own (pairs_of order.payments)) old text new
+    (Pays says order.id (value_of order.payments) old text new)
 
 abbrev pub AnswersBalance : {T : Type 0} → (T → Call → Reply → T → Type 0) → ℕ → Desk T → List ℕ → Desk T → Type 0
 AnswersBalance says account old text new =

@@ -1,12 +1,16 @@
 -- What the lines of a desk ask for, word by word.
-use Rattle.std.specs.Prelude.{ℕ, nat_le, nat_lt, List, length, drop, codes, if◌then◌else◌, Option, Some, None, option_and_then}
+use Rattle.std.specs.Prelude.{⊤, ℕ, nat_le, nat_lt, List, length, drop, codes, if◌then◌else◌, Option, Some, None, option_and_then, option_map}
 use Rattle.std.specs.Str.{bytes_eq}
 use Rattle.pay_frame.specs.declared.limits.TheConstants.{SEQS}
 use Rattle.pay_text.specs.Words.{words_of, first_word, is_none}
 use Rattle.pay_text.specs.Numbers.{first_number}
+use Rattle.pay_text.specs.Pairs.{pairs_within}
+use Rattle.pay_book.specs.declared.payment.TheConstants.{MOST_PAYMENTS}
 use Rattle.pay_desk.specs.declared.command.Command.{Command}
 use Rattle.pay_desk.specs.declared.command.Command.TheVariants.{Pay, Balance, State, Statement, Front}
 use Rattle.pay_desk.specs.declared.command.TheConstants.{MOST_LINE}
+use Rattle.pay_desk.specs.declared.payments.Payments.TheVariants.{One, Several}
+use Rattle.pay_desk.specs.Payments.{HasFew}
 
 -- the numbers that payments of an account have
 abbrev pub if_seq : ℕ → Option ℕ
@@ -25,9 +29,16 @@ if_last words x = if is_none words then Some x else None
 unfoldable pub pay_in : List (List ℕ) → Option Command
 pay_in words =
     option_and_then (λ id. option_and_then (λ to. option_and_then (λ amount.
-    if_last (drop 1 (drop 1 (drop 1 words))) (Pay (record { id = id; to = to; amount = amount })))
+    if_last (drop 1 (drop 1 (drop 1 words))) (Pay (record { id = id; payments = One to amount })))
     (first_number (drop 1 (drop 1 words))))
     (first_number (drop 1 words)))
+    (first_number words)
+
+-- `ID TO AMOUNT ..`, of 1 to 32 payments
+unfoldable pub pays_in : List (List ℕ) → Option Command
+pays_in words =
+    option_and_then (λ id. option_map (λ pairs. Pay (record { id = id; payments = Several pairs }))
+    (pairs_within MOST_PAYMENTS (drop 1 words)))
     (first_number words)
 
 -- `OWNER SEQ`
@@ -50,6 +61,7 @@ statement_in words = option_and_then (λ account. if_last (drop 1 words) (Statem
 abbrev pub command_of : List (List ℕ) → List ℕ → Option Command
 command_of words name =
     if bytes_eq name (codes "PAY") then pay_in words
+    else if bytes_eq name (codes "PAYS") then pays_in words
     else if bytes_eq name (codes "BALANCE") then balance_in words
     else if bytes_eq name (codes "STATE") then state_in words
     else if bytes_eq name (codes "STATEMENT") then statement_in words
@@ -63,3 +75,11 @@ command_by words = option_and_then (command_of (drop 1 words)) (first_word words
 -- what a line asks for; one over the bound is no command, whatever it says
 unfoldable pub command_in : List ℕ → Option Command
 command_in line = if nat_le (length line) MOST_LINE then command_by (words_of line) else None
+
+-- What is asked to be paid is no more than a value holds.
+abbrev pub AsksFew : Command → Type 0
+AsksFew (Pay order) = HasFew order.payments
+AsksFew (Balance account) = ⊤
+AsksFew (State owner seq) = ⊤
+AsksFew (Statement account) = ⊤
+AsksFew Front = ⊤

@@ -1,19 +1,20 @@
--- What a desk keeps: each payment that it asked for, oldest first, and the number that it got.
-use Rattle.std.specs.Prelude.{ℕ, ◌==◌, ◌&&◌, Bool, List, [], ◌∷◌, ◌++◌, Option, Result, Ok, Err}
+-- What a desk keeps: each value that it asked for, oldest first, with its id and the number that it got.
+use Rattle.std.specs.Prelude.{ℕ, ◌==◌, Bool, false, List, [], ◌∷◌, ◌++◌, Option, Some, None, Result, Ok, Err}
 use Rattle.std.specs.List.{find}
-use Rattle.pay_desk.specs.declared.command.Order.{Order}
+use Rattle.std.specs.Str.{bytes_eq}
 use Rattle.pay_desk.specs.declared.kept.Kept.{Kept}
 use Rattle.pay_desk.specs.declared.teller_fault.TellerFault.{TellerFault}
 
 -- what is kept under an id, if it was asked with
 unfoldable pub kept_under : ℕ → List Kept → Option Kept
-kept_under id kept = find (λ k. k.order.id == id) kept
+kept_under id kept = find (λ k. k.id == id) kept
 
--- the same payee and the same amount
-abbrev pub is_same : Order → Order → Bool
-is_same a b = (a.to == b.to) && (a.amount == b.amount)
+-- whether it is this value
+abbrev pub is_value : Option (List ℕ) → List ℕ → Bool
+is_value None kept = false
+is_value (Some value) kept = bytes_eq value kept
 
 -- after an ask: a refused one keeps nothing
-abbrev pub kept_after : List Kept → Order → Result ℕ TellerFault → List Kept
-kept_after kept order (Ok seq) = kept ++ record { order = order; seq = seq } ∷ []
-kept_after kept order (Err fault) = kept
+abbrev pub kept_after : List Kept → ℕ → List ℕ → Result ℕ TellerFault → List Kept
+kept_after kept id value (Ok seq) = kept ++ record { id = id; value = value; seq = seq } ∷ []
+kept_after kept id value (Err fault) = kept

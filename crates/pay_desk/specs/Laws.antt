@@ -1,15 +1,15 @@
 -- When a desk refuses, and what holds of it over all lines, as statements. Each is proved as a public law.
-use Rattle.std.specs.Prelude.{◌≡◌, ◌↔◌, ◌⊎◌, ℕ, ◌<◌, ◌≤◌, Bool, List, [], ◌∷◌, ◌++◌, map, None, Option, Some, ⊤}
-use Rattle.pay_book.specs.Payment.{payment_value}
+use Rattle.std.specs.Prelude.{◌≡◌, ◌↔◌, ◌⊎◌, ℕ, ◌<◌, ◌≤◌, ◌^◌, Bool, true, All, Any, List, [], ◌∷◌, ◌++◌, map, None, Option, Some, ⊤}
 use Rattle.pay_text.specs.Answers.{Answers}
-use Rattle.pay_desk.specs.declared.command.Order.{Order}
 use Rattle.pay_desk.specs.declared.desk.Desk.{Desk}
 use Rattle.pay_desk.specs.declared.fault.DeskFault.TheVariants.{NoAccount, ZeroOrSelf}
 use Rattle.pay_desk.specs.declared.kept.Kept.{Kept}
+use Rattle.pay_desk.specs.declared.payments.Payments.{Payments}
 use Rattle.pay_desk.specs.Answers.{account_fault, pay_fault}
 use Rattle.pay_desk.specs.Calls.{Call, Reply}
 use Rattle.pay_desk.specs.Desk.{DeskSays}
-use Rattle.pay_desk.specs.Kept.{kept_under}
+use Rattle.pay_desk.specs.Kept.{kept_under, is_value}
+use Rattle.pay_desk.specs.Payments.{pairs_of, value_of, if_named}
 
 -- ---- refusals
 
@@ -17,35 +17,44 @@ use Rattle.pay_desk.specs.Kept.{kept_under}
 abbrev pub AccountCause : Type 0
 AccountCause = (accounts account : ℕ) → (account_fault accounts account ≡ Some NoAccount) ↔ (accounts ≤ account)
 
--- of a payment: the payee is no account
+-- of payments: some payee is no account
 abbrev pub PayeeCause : Type 0
 PayeeCause =
-    (accounts own : ℕ) (order : Order)
-    → (pay_fault accounts own order ≡ Some NoAccount) ↔ (accounts ≤ order.to)
+    (accounts own : ℕ) (pairs : List (ℕ × ℕ))
+    → (pay_fault accounts own pairs ≡ Some NoAccount) ↔ Any (λ p. accounts ≤ p.0) pairs
 
--- the payee is one, and nothing is paid or it is the payer
+-- all payees are, and somewhere nothing is paid or the payee is the payer
 abbrev pub PaymentCause : Type 0
 PaymentCause =
-    (accounts own : ℕ) (order : Order)
-    → (pay_fault accounts own order ≡ Some ZeroOrSelf)
-    ↔ ((order.to < accounts) × ((order.amount ≡ 0) ⊎ (order.to ≡ own)))
+    (accounts own : ℕ) (pairs : List (ℕ × ℕ))
+    → (pay_fault accounts own pairs ≡ Some ZeroOrSelf)
+    ↔ (All (λ p. p.0 < accounts) pairs × Any (λ p. (p.1 ≡ 0) ⊎ (p.0 ≡ own)) pairs)
+
+-- ---- kept ids
+
+-- numbers of a line
+abbrev pub AreOfLine : Payments → Type 0
+AreOfLine payments = All (λ p. p.1 < 2 ^ 64) (pairs_of payments)
+
+-- A kept id has its answer for the very payments that were asked for: no others have their value.
+abbrev pub KeptAnswersItsOwn : Type 0
+KeptAnswersItsOwn =
+    (asked again : Payments) → AreOfLine asked → AreOfLine again
+    → if_named asked (value_of asked) ≡ Some (value_of asked)
+    → is_value (if_named again (value_of again)) (value_of asked) ≡ true → again ≡ asked
 
 -- ---- all lines
 
--- the value that pays what was ordered
-abbrev pub value_of : Kept → List ℕ
-value_of k = payment_value k.order.to k.order.amount
-
--- these payments are kept behind the others, each under an id that was free until then
+-- these values are kept behind the others, each under an id that was free until then
 abbrev pub AreUnderFreeIds : List Kept → List Kept → Type 0
 AreUnderFreeIds kept [] = ⊤
-AreUnderFreeIds kept (k ∷ more) = (kept_under k.order.id kept ≡ None) × AreUnderFreeIds (kept ++ k ∷ []) more
+AreUnderFreeIds kept (k ∷ more) = (kept_under k.id kept ≡ None) × AreUnderFreeIds (kept ++ k ∷ []) more
 
 -- What a desk had its teller broadcast is just what it keeps since then, in order, each under an id that was free.
 pub record AsksOnce {T : Type 0} (asked : T → List (List ℕ)) (old new : Desk T) : Type 0 where
   pub more : List Kept
   pub kept : new.kept ≡ old.kept ++ more
-  pub broadcast : asked new.teller ≡ asked old.teller ++ map value_of more
+  pub broadcast : asked new.teller ≡ asked old.teller ++ map (λ k. k.value) more
   pub free : AreUnderFreeIds old.kept more
 
 abbrev pub LineAsksOnce : {T : Type 0} → (T → Call → Reply → T → Type 0) → (T → List (List ℕ)) → Type 0

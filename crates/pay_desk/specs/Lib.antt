@@ -1,3 +1,4 @@
+pub mod Payments
 pub mod Commands
 pub mod Faults
 pub mod Calls

@@ -5,39 +5,39 @@ ghost use Rattle.std.specs.Hash as fed;
 ghost use Rattle.std.specs.Cmp.Rules.{comparing, hashing};
 ghost use Rattle.std.proofs.Common.{rules};
 
-use crate::command::Order;
 use crate::kept::Kept;
+use pay_frame::Bytes;
+use std::alloc::Global;
 use std::hash::{Hash, Hasher};
 
-/// A payment that is kept. Two are equal where their ids are.
-#[derive(Clone, Copy)]
+/// What is kept. Two are equal where their ids are.
+#[derive(Drop)]
 pub(crate) struct ById {
     pub(crate) kept: Kept,
 }
 
 impl ById {
-    /// What any payment under this id is equal to.
-    pub(crate) fn of_id(id: u64) -> ById
-        ensures { result.kept.order.id ≡ id }
+    /// What all that is kept under this id is equal to.
+    pub(crate) fn of_id(alloc: Global, id: u64) -> ById
+        ensures { result.kept.id ≡ id }
     {
-        let order = Order {
-            id,
-            to: 0,
-            amount: 0,
-        };
         ById {
-            kept: Kept { order, seq: 0 },
+            kept: Kept {
+                id,
+                value: Bytes::new(Vec::new(alloc)),
+                seq: 0,
+            },
         }
     }
 }
 
 impl PartialEq for ById {
-    ghost eq = { λ a b. a.kept.order.id == b.kept.order.id };
+    ghost eq = { λ a b. a.kept.id == b.kept.id };
 
     ghost laws = { Prim.search (comparing, rules) };
 
     fn eq(&self, other: &ById) -> bool {
-        self.kept.order.id == other.kept.order.id
+        self.kept.id == other.kept.id
     }
 }
 
@@ -46,11 +46,11 @@ impl Eq for ById {
 }
 
 impl Hash for ById {
-    ghost hash_input = { λ a. fed.u64 a.kept.order.id };
+    ghost hash_input = { λ a. fed.u64 a.kept.id };
 
     ghost respects_eq = { Prim.search (hashing, rules) };
 
     fn hash<H: Hasher>(&self, state: &mut H) {
-        self.kept.order.id.hash(state);
+        self.kept.id.hash(state);
     }
 }

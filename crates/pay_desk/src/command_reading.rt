@@ -1,58 +1,85 @@
 //! How the lines of a desk are read.
 
-ghost use Rattle.std.specs.Prelude.{◌≡◌, drop};
+ghost use Rattle.std.specs.Prelude.{◌≡◌, drop, IfOk, IfSome};
 ghost use Rattle.std.specs.Str.{bytes_eq};
-ghost use Rattle.pay_desk.specs.Commands.{balance_in, command_by, command_in, first_seq, if_last, pay_in, state_in, statement_in};
+ghost use Rattle.pay_desk.specs.Commands.{AsksFew, balance_in, command_by, command_in, first_seq, if_last, pay_in, pays_in, state_in, statement_in};
 
 use crate::command::{Command, MOST_LINE, Order};
+use crate::payments::Payments;
+use pay_book::MOST_PAYMENTS;
 use pay_frame::SEQS;
-use pay_text::Words;
+use pay_text::{Words, read_pairs};
+use std::alloc::{AllocError, Global};
 
 /// What a line asks for, or `None` where it is no command.
 #[tactic(auto, unfolding(crate::specs::Commands::command_in))]
-pub fn read_command(line: &[u8]) -> Option<Command>
-    ensures { result ≡ command_in line.now }
+pub fn read_command(alloc: Global, line: &[u8]) -> Result<Option<Command>, AllocError>
+    ensures command { IfOk result (λ command. command ≡ command_in line.now) }
+    ensures few { IfOk result (λ command. IfSome command AsksFew) }
 {
     if line.len() > MOST_LINE {
-        return None;
+        return Ok(None);
     }
-    read_words(Words::new(line))
+    read_words(alloc, Words::new(line))
 }
 
 #[tactic(auto, unfolding(crate::specs::Commands::command_by))]
-fn read_words(words: Words) -> Option<Command>
-    ensures { result ≡ command_by words.entry }
+fn read_words(alloc: Global, words: Words) -> Result<Option<Command>, AllocError>
+    ensures command { IfOk result (λ command. command ≡ command_by words.entry) }
+    ensures few { IfOk result (λ command. IfSome command AsksFew) }
 {
     let mut words = words;
-    let name = words.next_word()?;
+    let Some(name) = words.next_word() else {
+        return Ok(None);
+    };
     if is_word(name, "PAY") {
-        read_pay(&mut words)
+        Ok(read_pay(&mut words))
+    } else if is_word(name, "PAYS") {
+        read_pays(alloc, &mut words)
     } else if is_word(name, "BALANCE") {
-        read_balance(&mut words)
+        Ok(read_balance(&mut words))
     } else if is_word(name, "STATE") {
-        read_state(&mut words)
+        Ok(read_state(&mut words))
     } else if is_word(name, "STATEMENT") {
-        read_statement(&mut words)
+        Ok(read_statement(&mut words))
     } else if is_word(name, "FRONT") {
-        if_last(&words, Command::Front)
+        Ok(if_last(&words, Command::Front))
     } else {
-        None
+        Ok(None)
     }
 }
 
 #[tactic(auto, unfolding(crate::specs::Commands::pay_in))]
 fn read_pay(words: &mut Words) -> Option<Command>
-    ensures { result ≡ pay_in words.old }
+    ensures command { result ≡ pay_in words.old }
+    ensures few { IfSome result AsksFew }
 {
     let id = words.next_number()?;
     let to = words.next_number()?;
     let amount = words.next_number()?;
-    if_last(words, Command::Pay(Order { id, to, amount }))
+    let payments = Payments::One { to, amount };
+    if_last(words, Command::Pay(Order { id, payments }))
+}
+
+#[tactic(auto, unfolding(crate::specs::Commands::pays_in))]
+fn read_pays(alloc: Global, words: &mut Words) -> Result<Option<Command>, AllocError>
+    ensures command { IfOk result (λ command. command ≡ pays_in words.old) }
+    ensures few { IfOk result (λ command. IfSome command AsksFew) }
+{
+    let Some(id) = words.next_number() else {
+        return Ok(None);
+    };
+    let Some(pairs) = read_pairs(alloc, words, usize::from(MOST_PAYMENTS))? else {
+        return Ok(None);
+    };
+    let payments = Payments::Several(pairs);
+    Ok(Some(Command::Pay(Order { id, payments })))
 }
 
 #[tactic(auto, unfolding(crate::specs::Commands::balance_in))]
 fn read_balance(words: &mut Words) -> Option<Command>
-    ensures { result ≡ balance_in words.old }
+    ensures command { result ≡ balance_in words.old }
+    ensures few { IfSome result AsksFew }
 {
     let account = words.next_number()?;
     if_last(words, Command::Balance(account))
@@ -60,7 +87,8 @@ fn read_balance(words: &mut Words) -> Option<Command>
 
 #[tactic(auto, unfolding(crate::specs::Commands::state_in))]
 fn read_state(words: &mut Words) -> Option<Command>
-    ensures { result ≡ state_in words.old }
+    ensures command { result ≡ state_in words.old }
+    ensures few { IfSome result AsksFew }
 {
     let owner = words.next_number()?;
     let seq = next_seq(words)?;
@@ -69,7 +97,8 @@ fn read_state(words: &mut Words) -> Option<Command>
 
 #[tactic(auto, unfolding(crate::specs::Commands::statement_in))]
 fn read_statement(words: &mut Words) -> Option<Command>
-    ensures { result ≡ statement_in words.old }
+    ensures command { result ≡ statement_in words.old }
+    ensures few { IfSome result AsksFew }
 {
     let account = words.next_number()?;
     if_last(words, Command::Statement(account))

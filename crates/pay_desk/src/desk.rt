@@ -1,5 +1,7 @@
-ghost use Rattle.std.specs.Prelude.{◌≡◌, [], IfOk, OnErr, None, Some, MatchResult};
-ghost use Rattle.pay_desk.specs.Answers.{Answers, AnswersBalance, AnswersFront, AnswersPay, AnswersState, AnswersStatement, Calls, GaveUp, Pays, account_fault, pay_fault, stated_words};
+ghost use Rattle.std.specs.Prelude.{◌≡◌, ◌≤◌, [], length, IfOk, IfSome, OnErr, None, Some, MatchResult};
+ghost use Rattle.std.specs.List.{list_all, list_any};
+ghost use Rattle.pay_desk.specs.Answers.{Answers, AnswersBalance, AnswersFront, AnswersPay, AnswersState, AnswersStatement, Calls, GaveUp, Pays, account_fault, is_account, is_void, pay_fault, stated_words};
+ghost use Rattle.pay_desk.specs.Payments.{HasFew, if_named, pairs_of, value_of};
 ghost use Rattle.pay_desk.specs.Calls as call;
 ghost use Rattle.pay_desk.specs.Commands.{command_in};
 ghost use Rattle.pay_desk.specs.Kept.{kept_under};
@@ -8,28 +10,28 @@ ghost use Rattle.pay_desk.specs.Words.{balance_words, state_words};
 use crate::command::{Command, Order};
 use crate::command_reading::read_command;
 use crate::fault::DeskFault;
-use crate::kept::KeptOrders;
+use crate::kept::KeptValues;
+use crate::payments::Payments;
 use crate::putting::{
     kept_text, put_asked, put_balance, put_refused, put_state, refused_text, room,
 };
 use crate::teller::Teller;
 use crate::teller_fault::TellerFault;
 use crate::words::{push_front, push_statement};
-use pay_book::payment_value;
-use pay_frame::Bytes;
+use pay_frame::{Bytes, GREATEST_VALUE};
 use std::alloc::{AllocError, Global};
 
 /// How many bytes a number of an answer takes at most in a front, with the blank before it.
 const MOST_NUMBER: usize = 11;
 
-/// A desk: a teller, how many accounts there are and which one is the own, and all payments that
+/// A desk: a teller, how many accounts there are and which one is the own, and all values that
 /// were asked for.
 #[derive(Drop)]
 pub struct Desk<T> {
     teller: T,
     accounts: u16,
     own: u16,
-    kept: KeptOrders,
+    kept: KeptValues,
 }
 
 impl<T: Teller> Desk<T> {
@@ -41,7 +43,7 @@ impl<T: Teller> Desk<T> {
             teller,
             accounts,
             own,
-            kept: KeptOrders::new(alloc),
+            kept: KeptValues::new(alloc),
         }
     }
 
@@ -67,7 +69,7 @@ impl<T: Teller> Desk<T> {
             Answers T.says (command_in line.now) self.old text.items self.new) }
         ensures err { OnErr result (GaveUp T.says self.old self.new) }
     {
-        let Some(command) = read_command(line) else {
+        let Some(command) = read_command(alloc, line)? else {
             return refused_text(alloc, DeskFault::BadLine);
         };
         match command {
@@ -81,40 +83,60 @@ impl<T: Teller> Desk<T> {
 
     // An id that is kept has its answer; another one is looked at.
     fn pay(&mut self, alloc: Global, order: Order) -> Result<Vec<u8>, AllocError>
+        requires { HasFew order.payments }
         ensures text { IfOk result (λ text.
             AnswersPay T.says (kept_under order.id self.old.kept) order
             self.old text.items self.new) }
         ensures err { OnErr result (self.new ≡ self.old) }
     {
-        match self.kept.find(order.id) {
-            Some(kept) => kept_text(alloc, kept, order),
-            None => self.pay_anew(alloc, order),
+        let value = order.payments.value(alloc)?;
+        match self.kept.find(alloc, order.id) {
+            Some(kept) => kept_text(alloc, kept, order.id, &value),
+            None => self.pay_anew(alloc, &order, value),
         }
     }
 
-    fn pay_anew(&mut self, alloc: Global, order: Order) -> Result<Vec<u8>, AllocError>
-        requires { kept_under order.id self.old.kept ≡ None }
+    fn pay_anew(
+        &mut self,
+        alloc: Global,
+        order: &Order,
+        value: Option<Bytes>,
+    ) -> Result<Vec<u8>, AllocError>
+        requires fresh { kept_under order.now.id self.old.kept ≡ None }
+        requires value { value ≡ if_named order.now.payments (value_of order.now.payments) }
+        requires short { IfSome value (λ v. length v ≤ GREATEST_VALUE) }
         ensures text { IfOk result (λ text.
-            AnswersPay T.says None order self.old text.items self.new) }
+            AnswersPay T.says None order.now self.old text.items self.new) }
         ensures err { OnErr result (self.new ≡ self.old) }
     {
-        match self.payee(order) {
-            Ok(payee) => self.ask(alloc, order, payee),
-            Err(fault) => refused_text(alloc, fault),
+        if let Some(fault) = self.fault(&order.payments) {
+            return refused_text(alloc, fault);
+        }
+        let value = value_to_accounts(self.accounts, self.own, &order.payments, value);
+        self.ask(alloc, order.id, value)
+    }
+
+    // Why payments aren't asked for, if they aren't.
+    fn fault(&self, payments: &Payments) -> Option<DeskFault>
+        ensures { result ≡ pay_fault self.now.accounts self.now.own (pairs_of payments.now) }
+    {
+        match payments {
+            Payments::One { to, amount } => self.fault_of(&[(*to, *amount)]),
+            Payments::Several(pairs) => self.fault_of(pairs.as_slice()),
         }
     }
 
-    // Whom a payment pays, or why it isn't asked for.
-    fn payee(&self, order: Order) -> Result<u16, DeskFault>
-        ensures { MatchResult result
-            (λ payee. (pay_fault self.now.accounts self.now.own order ≡ None) × (payee ≡ order.to))
-            (λ fault. pay_fault self.now.accounts self.now.own order ≡ Some fault) }
+    // All payees are looked at before any amount.
+    fn fault_of(&self, pairs: &[(u64, u64)]) -> Option<DeskFault>
+        ensures { result ≡ pay_fault self.now.accounts self.now.own pairs.now }
     {
-        let payee = self.account(order.to)?;
-        if order.amount == 0 || payee == self.own {
-            return Err(DeskFault::ZeroOrSelf);
+        if !are_accounts(self.accounts, pairs) {
+            Some(DeskFault::NoAccount)
+        } else if has_void(self.own, pairs) {
+            Some(DeskFault::ZeroOrSelf)
+        } else {
+            None
         }
-        Ok(payee)
     }
 
     // The account of this number, if there is one.
@@ -130,16 +152,16 @@ impl<T: Teller> Desk<T> {
         }
     }
 
-    fn ask(&mut self, alloc: Global, order: Order, payee: u16) -> Result<Vec<u8>, AllocError>
-        requires fresh { kept_under order.id self.old.kept ≡ None }
-        requires payee { payee ≡ order.to }
-        ensures text { IfOk result (λ text. Pays T.says order self.old text.items self.new) }
+    fn ask(&mut self, alloc: Global, id: u64, value: Bytes) -> Result<Vec<u8>, AllocError>
+        requires fresh { kept_under id self.old.kept ≡ None }
+        requires short { length value ≤ GREATEST_VALUE }
+        ensures text { IfOk result (λ text.
+            Pays T.says id value self.old text.items self.new) }
         ensures err { OnErr result (self.new ≡ self.old) }
     {
         let mut text = room(alloc)?;
-        let value = Bytes::from_slice(alloc, &payment_value(payee, order.amount))?;
-        match self.kept.ask(alloc, &mut self.teller, order, value) {
-            Ok(seq) => put_asked(&mut text, order.id, seq),
+        match self.kept.ask(alloc, &mut self.teller, id, value) {
+            Ok(seq) => put_asked(&mut text, id, seq),
             Err(TellerFault::Memory) => return Err(AllocError),
             Err(fault) => put_refused(&mut text, DeskFault::from(fault)),
         }
@@ -236,6 +258,31 @@ impl<T: Teller> Desk<T> {
         }
         Ok(text)
     }
+}
+
+// The value of payments that nothing is wrong with: a value can name all accounts that there are.
+fn value_to_accounts(accounts: u16, own: u16, payments: &Payments, value: Option<Bytes>) -> Bytes
+    requires fine { pay_fault accounts own (pairs_of payments.now) ≡ None }
+    requires value { value ≡ if_named payments.now (value_of payments.now) }
+    ensures { value ≡ Some result }
+{
+    let Some(value) = value else { unreachable!() };
+    value
+}
+
+fn are_accounts(accounts: u16, pairs: &[(u64, u64)]) -> bool
+    ensures { result ≡ list_all (is_account accounts) pairs.now }
+{
+    pairs.iter().all(|pair| pair.0 < u64::from(accounts))
+}
+
+// Whether one of these payments would be a void entry of this account.
+fn has_void(own: u16, pairs: &[(u64, u64)]) -> bool
+    ensures { result ≡ list_any (is_void own) pairs.now }
+{
+    pairs
+        .iter()
+        .any(|pair| pair.1 == 0 || pair.0 == u64::from(own))
 }
 
 // How many bytes the numbers of so many accounts take at most, each behind a blank.

@@ -1,9 +1,10 @@
 //! Laws of a desk's refusals, and of a desk over all lines: each function's contract is the law, and its body does
 //! nothing.
 
-ghost use Rattle.pay_desk.specs.Laws.{AccountCause, LineAsksOnce, LinesAskOnce, PayeeCause, PaymentCause};
+ghost use Rattle.pay_desk.specs.Laws.{AccountCause, KeptAnswersItsOwn, LineAsksOnce, LinesAskOnce, PayeeCause, PaymentCause};
 
 use crate::teller::Teller;
+use pay_book::what_was_encoded;
 
 /// Each refusal before the teller is asked comes exactly where its own cause holds and no earlier one.
 pub fn refusals_before_the_teller()
@@ -12,8 +13,16 @@ pub fn refusals_before_the_teller()
     ensures payment { PaymentCause }
 {}
 
+/// No two different payments have one value, so a kept id has its answer only for what was asked for
+/// under it.
+pub fn a_kept_id_answers_its_own()
+    ensures { KeptAnswersItsOwn }
+{
+    what_was_encoded();
+}
+
 /// By one line, and by any lines one after the other, a desk has its teller broadcast just the
-/// payments that it keeps since then, in their order, each under an id that was free until then. So
+/// values that it keeps since then, in their order, each under an id that was free until then. So
 /// no id is asked with twice.
 pub fn a_desk_asks_once<T: Teller>()
     ensures line { LineAsksOnce T.says T.asked }

@@ -1,7 +1,7 @@
 //! What the owner of an account types: commands to pay and to look, each answered by a line or
 //! more.
 //!
-//! A [`Desk`] stands over any [`Teller`], as over a member that is its own. It keeps each payment
+//! A [`Desk`] stands over any [`Teller`], as over a member that is its own. It keeps each value
 //! that it asked for under the id that its owner gave it, so that a line may be given again.
 #![tactic(auto)]
 
@@ -14,6 +14,7 @@ mod fault;
 mod kept;
 mod laws;
 mod one_member;
+mod payments;
 mod putting;
 mod teller;
 mod teller_fault;
@@ -24,8 +25,9 @@ pub use command_reading::read_command;
 pub use desk::Desk;
 pub use engine::run_desk;
 pub use fault::DeskFault;
-pub use kept::{Kept, KeptOrders};
-pub use laws::{a_desk_asks_once, refusals_before_the_teller};
+pub use kept::{Kept, KeptValues};
+pub use laws::{a_desk_asks_once, a_kept_id_answers_its_own, refusals_before_the_teller};
 pub use one_member::OneMember;
+pub use payments::Payments;
 pub use teller::Teller;
 pub use teller_fault::TellerFault;

@@ -3,12 +3,13 @@
 
 ghost use Rattle.std.specs.Prelude.{◌≡◌, ◌+◌, ◌++◌, ◌≤◌, [], IfOk, decimal, length, vec_capacity, vec_len};
 ghost use Rattle.pay_desk.specs.Answers.{kept_words};
+ghost use Rattle.pay_desk.specs.Kept.{is_value};
 ghost use Rattle.pay_desk.specs.Words.{asked_words, balance_words, refused_words, state_name, state_words};
 
-use crate::command::Order;
 use crate::fault::DeskFault;
 use crate::kept::Kept;
 use itoa::Buffer;
+use pay_frame::Bytes;
 use pay_member::PaymentState;
 use std::alloc::{AllocError, Global};
 
@@ -118,15 +119,30 @@ pub(crate) fn refused_text(alloc: Global, fault: DeskFault) -> Result<Vec<u8>, A
     Ok(text)
 }
 
-/// What is answered to an id that is kept: the same payment gets the answer that it got.
-pub(crate) fn kept_text(alloc: Global, kept: Kept, order: Order) -> Result<Vec<u8>, AllocError>
-    ensures { IfOk result (λ text. text.items ≡ kept_words kept order) }
+/// What is answered to an id that is kept: the value that was asked for gets the answer that it got.
+pub(crate) fn kept_text(
+    alloc: Global,
+    kept: &Kept,
+    id: u64,
+    value: &Option<Bytes>,
+) -> Result<Vec<u8>, AllocError>
+    ensures { IfOk result (λ text. text.items ≡ kept_words kept.now id value.now) }
 {
     let mut text = room(alloc)?;
-    if kept.order.to == order.to && kept.order.amount == order.amount {
-        put_asked(&mut text, order.id, kept.seq);
+    if is_kept(kept, value) {
+        put_asked(&mut text, id, kept.seq);
     } else {
         put_refused(&mut text, DeskFault::IdUsed);
     }
     Ok(text)
+}
+
+// Whether this is the value that was asked for.
+fn is_kept(kept: &Kept, value: &Option<Bytes>) -> bool
+    ensures { result ≡ is_value value.now kept.now.value }
+{
+    match value {
+        Some(value) => value.as_slice() == kept.value.as_slice(),
+        None => false,
+    }
 }

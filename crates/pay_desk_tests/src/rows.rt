@@ -73,6 +73,12 @@ pub(crate) const ROWS: [Row; 4] = [
             ("PAY 10 4 0", "refused 2 NoAccount\n"),
             ("PAY 010 1 5", "refused 1 BadLine\n"),
             ("PAY 10 1 5", "asked 10 seq 1\n"),
+            ("PAYS 11 1 30 2 20", "asked 11 seq 2\n"),
+            ("PAYS 11 1 30 2 20", "asked 11 seq 2\n"),
+            ("PAYS 11 1 30", "refused 4 IdUsed\n"),
+            ("PAYS 12 0 5 4 5", "refused 2 NoAccount\n"),
+            ("PAYS 12 1 5 0 5", "refused 3 ZeroOrSelf\n"),
+            ("PAYS 12", "refused 1 BadLine\n"),
         ],
     },
     Row {

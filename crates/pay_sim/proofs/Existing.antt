@@ -250,7 +250,7 @@ module _ (on : Ground) (c : Group) (group : IsGroup c) where
   lie_small es from to None small room = next_below on.laws c group es from to room
 
   obeys_exists : (es : List WorldEvent) (command : Command) → FitsFrame command → (told : Told) × Obeys c es command told
-  obeys_exists es (Ask member payee amount) fits = tells_exists c es _ tt
+  obeys_exists es (Ask member value) fits = tells_exists c es _ tt
   obeys_exists es (Bring from to number) fits = bring_exists es from to number fits
   obeys_exists es (Lie from to number body) fits =
       tells_exists c es (event.Bring to (lie_frame c es from to number body))

@@ -17,9 +17,10 @@ use Rattle.pay_text.specs.Numbers.{first_number, number_of}
 use Rattle.pay_text.specs.Words.{first_word, is_none, words_of}
 use Rattle.std.specs.Str.Parse.{digits_value}
 use Rattle.pay_sim.specs.declared.command.Command.{Command}
+use Rattle.pay_book.specs.Payment.{payment_value}
 use Rattle.pay_sim.specs.declared.command.Command.TheVariants.{Ask, Bring, Lie, Raw, All, Show}
 use Rattle.pay_sim.specs.declared.command.TheConstants.{MEMBERS, ACCOUNTS}
-use Rattle.pay_sim.specs.Commands.{alone_in, ask_in, below, body_in, bring_in, bytes_of, command_in, command_of, decoded, first_bytes, first_kind, first_turn, if_below, if_body, if_last, lie_in, raw_in, turn_of}
+use Rattle.pay_sim.specs.Commands.{alone_in, ask_in, asks_in, below, body_in, bring_in, bringing_in, bytes_of, command_in, command_of, decoded, first_bytes, first_kind, first_turn, if_below, if_body, if_last, lie_in, raw_in, several_in, turn_of}
 
 -- the number that a lie says, if it says one, has 64 bits
 abbrev pub IsTurn : Option ℕ → Type 0
@@ -28,7 +29,7 @@ IsTurn (Some number) = number < 2 ^ 64
 
 -- what such a command brings may be read
 abbrev pub FitsFrame : Command → Type 0
-FitsFrame (Ask member payee amount) = Unit {0}
+FitsFrame (Ask member value) = Unit {0}
 FitsFrame (Bring from to number) = number < 2 ^ 64
 FitsFrame (Lie from to number body) = (from < MEMBERS) × (to < MEMBERS) × IsTurn number × IsBody body
 FitsFrame (Raw to bytes) = IsBytes bytes
@@ -212,7 +213,14 @@ ask_fits words command is =
     let member = then_is _ (below MEMBERS words) command is in
     let payee = then_is _ (below ACCOUNTS (drop 1 words)) command member.2 in
     let amount = then_is _ (first_number (drop 1 (drop 1 words))) command payee.2 in
-    subst FitsFrame (last_is (drop 1 (drop 1 (drop 1 words))) (Ask member.0 payee.0 amount.0) command amount.2) tt
+    subst FitsFrame (last_is (drop 1 (drop 1 (drop 1 words))) (Ask member.0 (payment_value payee.0 amount.0)) command amount.2) tt
+
+asks_fits : (words : List (List ℕ)) (command : Command) → asks_in words ≡ Some command → FitsFrame command
+unfolding asks_in
+asks_fits words command is =
+    let member = then_is _ (below MEMBERS words) command is in
+    let value = map_is (Ask member.0) (several_in (drop 1 words)) command member.2 in
+    subst FitsFrame value.2 tt
 
 bring_fits : (words : List (List ℕ)) (command : Command) → bring_in words ≡ Some command → FitsFrame command
 unfolding bring_in
@@ -247,14 +255,21 @@ alone_fits name words command is = go (bytes_eq name _) (bytes_eq name _) is whe
   go false true is = subst FitsFrame (last_is words Show command is) tt
   go false false is = absurd cc
 
+bringing_fits : (name : List ℕ) (words : List (List ℕ)) (command : Command) → bringing_in name words ≡ Some command → FitsFrame command
+unfolding bringing_in
+bringing_fits name words command is = go (bytes_eq name _) (bytes_eq name _) (bytes_eq name _) is where
+  go : (b d e : Bool) → cond b (bring_in words) (cond d (lie_in words) (cond e (raw_in words) (alone_in name words))) ≡ Some command → FitsFrame command
+  go true d e is = bring_fits words command is
+  go false true e is = lie_fits words command is
+  go false false true is = raw_fits words command is
+  go false false false is = alone_fits name words command is
+
 named_fits : (words : List (List ℕ)) (name : List ℕ) (command : Command) → command_of words name ≡ Some command → FitsFrame command
-named_fits words name command is = go (bytes_eq name _) (bytes_eq name _) (bytes_eq name _) (bytes_eq name _) is where
-  go : (a b d e : Bool) → cond a (ask_in words) (cond b (bring_in words) (cond d (lie_in words) (cond e (raw_in words) (alone_in name words)))) ≡ Some command → FitsFrame command
-  go true b d e is = ask_fits words command is
-  go false true d e is = bring_fits words command is
-  go false false true e is = lie_fits words command is
-  go false false false true is = raw_fits words command is
-  go false false false false is = alone_fits name words command is
+named_fits words name command is = go (bytes_eq name _) (bytes_eq name _) is where
+  go : (a s : Bool) → cond a (ask_in words) (cond s (asks_in words) (bringing_in name words)) ≡ Some command → FitsFrame command
+  go true s is = ask_fits words command is
+  go false true is = asks_fits words command is
+  go false false is = bringing_fits name words command is
 
 command_fits : (line : List ℕ) (command : Command) → command_in line ≡ Some command → FitsFrame command
 unfolding command_in

@@ -14,3 +14,4 @@ mod AllTaken
 mod GroupLimits
 mod Fitting
 mod Existing
+mod Several

@@ -203,7 +203,7 @@ module _ (unique : OneReading) (c : Group) where
   all_tells_one es (Stops stop) (Stops halt) (last, x) (end, y) = ap Stops (some_same stop halt (all_one x y).1)
 
   obeys_one : (es : List WorldEvent) (command : Command) (one other : Told) → Obeys c es command one → Obeys c es command other → one ≡ other
-  obeys_one es (Ask member payee amount) one other x y = tells_one es _ one other x y
+  obeys_one es (Ask member value) one other x y = tells_one es _ one other x y
   obeys_one es (Bring from to number) one other x y = sent_one es to (frame_for c es from to number) one other x y
   obeys_one es (Lie from to number body) one other x y = tells_one es (event.Bring to (lie_frame c es from to number body)) one other x y
   obeys_one es (Raw to bytes) one other x y = tells_one es (event.Bring to bytes) one other x y

@@ -10,6 +10,9 @@ use Rattle.pay_frame.specs.Frame.{BodyFields}
 use Rattle.pay_frame.specs.OneFrame.{is_body}
 use Rattle.pay_text.specs.Words.{words_of, first_word, is_none}
 use Rattle.pay_text.specs.Numbers.{number_of, first_number}
+use Rattle.pay_text.specs.Pairs.{pairs_within}
+use Rattle.pay_book.specs.declared.payment.TheConstants.{MOST_PAYMENTS}
+use Rattle.pay_book.specs.Payment.{payment_value, payments_named, payments_value}
 use Rattle.pay_sim.specs.declared.command.Command.{Command}
 use Rattle.pay_sim.specs.declared.command.Command.TheVariants.{Ask, Bring, Lie, Raw, All, Show}
 use Rattle.pay_sim.specs.declared.command.TheConstants.{MEMBERS, ACCOUNTS}
@@ -64,9 +67,20 @@ if_last words x = if is_none words then Some x else None
 unfoldable pub ask_in : List (List ℕ) → Option Command
 ask_in words =
     option_and_then (λ member. option_and_then (λ payee. option_and_then (λ amount.
-    if_last (drop 1 (drop 1 (drop 1 words))) (Ask member payee amount))
+    if_last (drop 1 (drop 1 (drop 1 words))) (Ask member (payment_value payee amount)))
     (first_number (drop 1 (drop 1 words))))
     (below ACCOUNTS (drop 1 words)))
+    (below MEMBERS words)
+
+-- `PAYEE AMOUNT ..`, which are the last words: the value of 1 to 32 payments
+unfoldable pub several_in : List (List ℕ) → Option (List ℕ)
+several_in words =
+    option_map payments_value (option_and_then payments_named (pairs_within MOST_PAYMENTS words))
+
+-- `I PAYEE AMOUNT ..`
+unfoldable pub asks_in : List (List ℕ) → Option Command
+asks_in words =
+    option_and_then (λ member. option_map (Ask member) (several_in (drop 1 words)))
     (below MEMBERS words)
 
 -- `FROM TO M`
@@ -117,14 +131,20 @@ alone_in name words =
     else if bytes_eq name (codes "show") then if_last words Show
     else None
 
+-- the command of a name by which something is brought, or that is a command by itself
+unfoldable pub bringing_in : List ℕ → List (List ℕ) → Option Command
+bringing_in name words =
+    if bytes_eq name (codes "bring") then bring_in words
+    else if bytes_eq name (codes "lie") then lie_in words
+    else if bytes_eq name (codes "raw") then raw_in words
+    else alone_in name words
+
 -- the command of this name
 abbrev pub command_of : List (List ℕ) → List ℕ → Option Command
 command_of words name =
     if bytes_eq name (codes "ask") then ask_in words
-    else if bytes_eq name (codes "bring") then bring_in words
-    else if bytes_eq name (codes "lie") then lie_in words
-    else if bytes_eq name (codes "raw") then raw_in words
-    else alone_in name words
+    else if bytes_eq name (codes "asks") then asks_in words
+    else bringing_in name words
 
 unfoldable pub command_in : List ℕ → Option Command
 command_in line = option_and_then (command_of (drop 1 (words_of line))) (first_word (words_of line))

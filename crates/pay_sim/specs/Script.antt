@@ -5,7 +5,6 @@ use Rattle.std.specs.Io.KnownBytes.{Appends, IsAtEnd}
 use Rattle.pay_frame.specs.declared.engine_fault.EngineFault.{EngineFault}
 use Rattle.pay_frame.specs.Device.{WroteBeginning}
 use Rattle.pay_frame.specs.Frame.{BodyFields}
-use Rattle.pay_book.specs.Payment.{payment_value}
 use Rattle.pay_member.specs.Book.{book_after}
 use Rattle.pay_text.specs.Answers.{Answers}
 use Rattle.pay_text.specs.Engine.{AnswersFirst}
@@ -91,8 +90,7 @@ unfoldable pub show_text : Group → List WorldEvent → List ℕ
 show_text c es = flat_map (shown c es) (range_with_len 0 c.genesis.members)
 
 abbrev pub Obeys : Group → List WorldEvent → Command → Told → Type 0
-Obeys c es (Ask member payee amount) told =
-    Tells c es (event.Ask member (payment_value payee amount)) told
+Obeys c es (Ask member value) told = Tells c es (event.Ask member value) told
 Obeys c es (Bring from to number) told = TellsBring c es from to number told
 Obeys c es (Lie from to number body) told =
     Tells c es (event.Bring to (lie_frame c es from to number body)) told

@@ -9,11 +9,10 @@ pub const ACCOUNTS: u32 = 65_536;
 /// What a line of a script asks for.
 #[derive(Debug, Drop)]
 pub enum Command {
-    /// A member is asked to pay.
+    /// A member is asked to broadcast the value of a payment, or of several.
     Ask {
         member: u8,
-        payee: u16,
-        amount: u64,
+        value: Bytes,
     },
     /// The frame at a place of a member's sent list is brought to another.
     Bring {

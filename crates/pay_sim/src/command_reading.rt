@@ -3,12 +3,13 @@
 ghost use Rattle.std.specs.Prelude.{◌≡◌, ◌≤◌, IfOk, drop};
 ghost use Rattle.std.specs.Str.{bytes_eq};
 ghost use Rattle.pay_frame.specs.OneFrame.{is_body};
-ghost use Rattle.pay_sim.specs.Commands.{alone_in, ask_in, below, body_in, bring_in, bytes_of, command_in, first_bytes, first_kind, first_turn, if_last, kind_of, lie_in, raw_in, turn_of};
+ghost use Rattle.pay_sim.specs.Commands.{alone_in, ask_in, asks_in, below, body_in, bring_in, bringing_in, bytes_of, command_in, first_bytes, first_kind, first_turn, if_last, kind_of, lie_in, raw_in, several_in, turn_of};
 
 use crate::command::{ACCOUNTS, Command, MEMBERS};
 use hex::{FromHexError, decode};
+use pay_book::{MOST_PAYMENTS, payment_value, payments_named, payments_value};
 use pay_frame::{Body, Bytes, GREATEST_VALUE, Kind, SEQS};
-use pay_text::{Words, number};
+use pay_text::{Words, number, read_pairs};
 use std::alloc::{AllocError, Global};
 
 /// What a line of a script asks for, or `None` where it is no command.
@@ -21,33 +22,74 @@ pub fn read_command(alloc: Global, line: &[u8]) -> Result<Option<Command>, Alloc
         return Ok(None);
     };
     if is_word(name, "ask") {
-        Ok(read_ask(&mut words))
-    } else if is_word(name, "bring") {
-        Ok(read_bring(&mut words))
-    } else if is_word(name, "lie") {
-        read_lie(alloc, &mut words)
-    } else if is_word(name, "raw") {
-        read_raw(alloc, &mut words)
+        read_ask(alloc, &mut words)
+    } else if is_word(name, "asks") {
+        read_asks(alloc, &mut words)
     } else {
-        Ok(read_alone(name, &words))
+        read_bringing(alloc, name, &mut words)
+    }
+}
+
+// A command by which something is brought, or one that is its name alone.
+#[tactic(auto, unfolding(crate::specs::Commands::bringing_in))]
+fn read_bringing(
+    alloc: Global,
+    name: &[u8],
+    words: &mut Words,
+) -> Result<Option<Command>, AllocError>
+    ensures { IfOk result (λ command. command ≡ bringing_in name.now words.old) }
+{
+    if is_word(name, "bring") {
+        Ok(read_bring(words))
+    } else if is_word(name, "lie") {
+        read_lie(alloc, words)
+    } else if is_word(name, "raw") {
+        read_raw(alloc, words)
+    } else {
+        Ok(read_alone(name, words))
     }
 }
 
 #[tactic(auto, unfolding(crate::specs::Commands::ask_in))]
-fn read_ask(words: &mut Words) -> Option<Command>
-    ensures { result ≡ ask_in words.old }
+fn read_ask(alloc: Global, words: &mut Words) -> Result<Option<Command>, AllocError>
+    ensures { IfOk result (λ command. command ≡ ask_in words.old) }
 {
-    let member = next_member(words)?;
-    let payee = next_below(words, ACCOUNTS)?;
-    let amount = words.next_number()?;
-    if_last(
-        words,
-        Command::Ask {
-            member,
-            payee,
-            amount,
-        },
-    )
+    let (Some(member), Some(payee), Some(amount)) = (
+        next_member(words),
+        next_below(words, ACCOUNTS),
+        words.next_number(),
+    ) else {
+        return Ok(None);
+    };
+    let value = Bytes::from_slice(alloc, &payment_value(payee, amount))?;
+    Ok(if_last(words, Command::Ask { member, value }))
+}
+
+#[tactic(auto, unfolding(crate::specs::Commands::asks_in))]
+fn read_asks(alloc: Global, words: &mut Words) -> Result<Option<Command>, AllocError>
+    ensures { IfOk result (λ command. command ≡ asks_in words.old) }
+{
+    let Some(member) = next_member(words) else {
+        return Ok(None);
+    };
+    let Some(value) = several_value(alloc, words)? else {
+        return Ok(None);
+    };
+    Ok(Some(Command::Ask { member, value }))
+}
+
+// The value of the payments that the last words say.
+#[tactic(auto, unfolding(crate::specs::Commands::several_in))]
+fn several_value(alloc: Global, words: &mut Words) -> Result<Option<Bytes>, AllocError>
+    ensures { IfOk result (λ value. value ≡ several_in words.old) }
+{
+    let Some(pairs) = read_pairs(alloc, words, usize::from(MOST_PAYMENTS))? else {
+        return Ok(None);
+    };
+    let Some(payments) = payments_named(alloc, pairs.as_slice())? else {
+        return Ok(None);
+    };
+    Ok(Some(payments_value(alloc, payments.as_slice())?))
 }
 
 #[tactic(auto, unfolding(crate::specs::Commands::bring_in))]

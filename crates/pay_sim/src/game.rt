@@ -5,7 +5,6 @@ ghost use Rattle.pay_world.specs.declared.event.WorldEvent.{WorldEvent};
 ghost use Rattle.pay_world.specs.Answer.{receiver};
 ghost use Rattle.pay_world.specs.Liars.{AreLiarsOf};
 ghost use Rattle.pay_world.specs.Passing.{MayPass, frame_of, passing};
-ghost use Rattle.pay_book.specs.Payment.{payment_value};
 ghost use Rattle.pay_sim.specs.declared.group.Group.{Group};
 ghost use Rattle.pay_sim.specs.Made.{frame_for, next_number, sent_frame, untaken};
 ghost use Rattle.pay_sim.specs.All.{BringsAll, Draws, Feeds, Passes};
@@ -18,7 +17,7 @@ use crate::group::Group;
 use crate::reply_words::push_reply;
 use crate::stop::{Halt, Stop};
 use crate::test_frames::{PairTagger, test_frame};
-use pay_book::{Settle, payment_value};
+use pay_book::Settle;
 use pay_echo::Instance;
 use pay_frame::{Body, Bytes};
 use pay_link::laws::shared_test_keys;
@@ -84,11 +83,9 @@ impl<I: Instance + Drop, B: Settle + Drop> Game<I, B> {
             → IsDone (Obeys c es command) c out.old.items out.new.items self.new result }
     {
         match command {
-            Command::Ask {
-                member,
-                payee,
-                amount,
-            } => self.ask(alloc, u16::from(member), payee, amount, out),
+            Command::Ask { member, value } => {
+                self.tell(alloc, WorldEvent::Ask(u16::from(member), value), out)
+            }
             Command::Bring { from, to, number } => {
                 self.bring(alloc, u16::from(from), u16::from(to), number, out)
             }
@@ -148,22 +145,6 @@ impl<I: Instance + Drop, B: Settle + Drop> Game<I, B> {
         let reply = self.make(alloc, event)?;
         push_reply(out, member, reply)?;
         Ok(())
-    }
-
-    fn ask(
-        &mut self,
-        alloc: Global,
-        member: u16,
-        payee: u16,
-        amount: u64,
-        out: &mut Vec<u8>,
-    ) -> Result<(), Halt>
-        ensures { (c : Group) (es : List WorldEvent) → IsBehind c es self.old
-            → IsDone (Tells c es (WorldEvent.Ask member (payment_value payee amount))) c
-            out.old.items out.new.items self.new result }
-    {
-        let value = Bytes::from_slice(alloc, &payment_value(payee, amount))?;
-        self.tell(alloc, WorldEvent::Ask(member, value), out)
     }
 
     fn bring(

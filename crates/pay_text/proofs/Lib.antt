@@ -3,3 +3,4 @@ pub mod Splitting
 pub mod Following
 pub mod Answering
 pub mod Rounds
+pub mod Pairing

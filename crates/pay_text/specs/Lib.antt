@@ -4,3 +4,4 @@ pub mod Lines
 pub mod Cutting
 pub mod Answers
 pub mod Engine
+pub mod Pairs

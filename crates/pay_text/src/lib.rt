@@ -7,6 +7,7 @@ mod cutter;
 mod engine;
 mod laws;
 mod numbers;
+mod pairs;
 mod words;
 mod writing;
 
@@ -15,5 +16,6 @@ pub use cutter::LineCutter;
 pub use engine::run_lines;
 pub use laws::{a_word_is_one_number, lines_come_in_order, words_are_joined};
 pub use numbers::number;
+pub use pairs::{Pairs, read_pairs};
 pub use words::Words;
 pub use writing::{push_number, push_word};

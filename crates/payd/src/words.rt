@@ -67,15 +67,18 @@ const DESK_ABOUT: &str =
     "Reads commands on standard input and answers each, for an account's owner";
 
 const DESK_HELP: &str = "\
-Input: a command a line, words with one blank between them and decimal numbers, 128 bytes at most.
+Input: a command a line, words with one blank between them and decimal numbers, 1,024 bytes at
+most.
   PAY ID TO AMOUNT   pays an account, once under this ID: the same line again has the same answer
+  PAYS ID TO AMOUNT ..
+                     the same, of 1 to 32 payments in one value
   BALANCE A          an account's balance
   STATE OWNER SEQ    what became of the payment under a number of an account
   STATEMENT A        all that settled of an account, and what was paid to it
   FRONT              how many entries of each account are settled
 
 Output: the answer to each line.
-  asked ID seq S                  the payment has the number S
+  asked ID seq S                  the value has the number S
   balance A B
   state OWNER SEQ WORD            unknown, asked, waiting or settled
   out SEQ to PAYEE AMOUNT, void SEQ, in OWNER SEQ AMOUNT, end A balance B
@@ -138,6 +141,7 @@ const SIM_HELP: &str = "\
 Input: a first line that says the group, as JSON with members, faults, opening and liars, and then a
 command a line, 4,096 bytes at most. An empty line is none.
   ask I PAYEE AMOUNT                   member I is asked to pay
+  asks I PAYEE AMOUNT ..               the same, of 1 to 32 payments in one value
   bring FROM TO M                      frame M of FROM's list is brought to TO
   lie FROM TO M KIND OWNER SEQ VALUE   that frame is tagged and brought to TO; M may be next
   raw TO HEX                           bytes are brought to TO; - is none

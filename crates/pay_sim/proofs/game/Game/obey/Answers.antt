@@ -1,5 +1,4 @@
 use Rattle.std.proofs.Common.{ℕ, sym, subst}
-use Rattle.pay_book.specs.Payment.{payment_value}
 use Rattle.pay_world.specs.declared.event.WorldEvent.TheVariants as event
 use Rattle.pay_sim.specs.declared.command.Command.{Command}
 use Rattle.pay_sim.specs.Script.{Obeys, Tells, TellsBring, lie_frame}
@@ -8,9 +7,9 @@ use Rattle.pay_sim.proofs.game.Game.obey.Goals as goal
 
 pub returns-in-Ask : goal.returns-in-Ask
 returns-in-Ask g c = λ group es b.
-    subst (λ (x : Command). IsDone (Obeys group es x) group c.args.out.now.items c.ask.new.out.items c.ask.new.self c.ask.result) (sym c.in-Ask.is)
-    (subst (λ (i : ℕ). IsDone (Tells group es (event.Ask i (payment_value c.in-Ask.payee c.in-Ask.amount))) group c.args.out.now.items c.ask.new.out.items c.ask.new.self c.ask.result) c.from.ensures
-    (c.ask.ensures group es b))
+    subst (λ (x : Command). IsDone (Obeys group es x) group c.args.out.now.items c.tell.new.out.items c.tell.new.self c.tell.result) (sym c.in-Ask.is)
+    (subst (λ (i : ℕ). IsDone (Tells group es (event.Ask i c.in-Ask.value)) group c.args.out.now.items c.tell.new.out.items c.tell.new.self c.tell.result) c.from.ensures
+    (c.tell.ensures group es b))
 
 pub returns-in-Bring : goal.returns-in-Bring
 returns-in-Bring g c = λ group es b.
@@ -28,6 +27,6 @@ returns-in-Lie g c = λ group es b.
 
 pub returns-in-Raw : goal.returns-in-Raw
 returns-in-Raw g c = λ group es b.
-    subst (λ (x : Command). IsDone (Obeys group es x) group c.args.out.now.items c.tell.new.out.items c.tell.new.self c.tell.result) (sym c.in-Raw.is)
-    (subst (λ (to : ℕ). IsDone (Tells group es (event.Bring to c.in-Raw.bytes)) group c.args.out.now.items c.tell.new.out.items c.tell.new.self c.tell.result) c.from-in-Raw.ensures
-    (c.tell.ensures group es b))
+    subst (λ (x : Command). IsDone (Obeys group es x) group c.args.out.now.items c.tell-in-Raw.new.out.items c.tell-in-Raw.new.self c.tell-in-Raw.result) (sym c.in-Raw.is)
+    (subst (λ (to : ℕ). IsDone (Tells group es (event.Bring to c.in-Raw.bytes)) group c.args.out.now.items c.tell-in-Raw.new.out.items c.tell-in-Raw.new.self c.tell-in-Raw.result) c.from-in-Raw.ensures
+    (c.tell-in-Raw.ensures group es b))

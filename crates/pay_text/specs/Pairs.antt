@@ -1,0 +1,26 @@
+-- Numbers two by two.
+use Rattle.std.specs.Prelude.{ℕ, nat_lt, nat_le, ◌&&◌, List, [], ◌∷◌, length, if◌then◌else◌, Option, Some, None, option_and_then, option_map}
+use Rattle.pay_text.specs.Numbers.{number_of}
+
+-- what two words beside each other are, if both are numbers
+abbrev pub pair_of : List ℕ → List ℕ → Option (ℕ × ℕ)
+pair_of first second = option_and_then (λ m. option_map (λ n. (m, n)) (number_of second)) (number_of first)
+
+abbrev pub first_pair : List (List ℕ) → Option (ℕ × ℕ)
+first_pair [] = None
+first_pair (word ∷ []) = None
+first_pair (first ∷ second ∷ words) = pair_of first second
+
+-- The pairs that words are, if all of them are in one.
+unfoldable pub pairs_of : List (List ℕ) → Option (List (ℕ × ℕ))
+pairs_of [] = Some []
+pairs_of (word ∷ []) = None
+pairs_of (first ∷ second ∷ words) =
+    option_and_then (λ pair. option_map (λ pairs. pair ∷ pairs) (pairs_of words)) (pair_of first second)
+
+-- at least one, and at most so many
+abbrev pub if_within : ℕ → List (ℕ × ℕ) → Option (List (ℕ × ℕ))
+if_within most pairs = if nat_lt 0 (length pairs) && nat_le (length pairs) most then Some pairs else None
+
+unfoldable pub pairs_within : ℕ → List (List ℕ) → Option (List (ℕ × ℕ))
+pairs_within most words = option_and_then (if_within most) (pairs_of words)
