@@ -12,7 +12,6 @@ mod words;
 use clap::error::ErrorKind;
 use files::{exports_of, genesis_of, keys_of};
 use pay_audit::{Verdict, export_text};
-use pay_book::PlainBook;
 use pay_cli::run_check;
 use pay_desk::{Desk, OneMember, run_desk};
 use pay_echo::PlainInstance;
@@ -21,6 +20,7 @@ use pay_hmac::PreparedHmac;
 use pay_link::{Genesis, Keys};
 use pay_member::Member;
 use pay_net::{NodeFault, Ports, run_node};
+use pay_pending::WaitingBook;
 use pay_sim::{SimEnd, run_sim};
 use ports::ports_of;
 use std::alloc::{AllocError, Global};
@@ -34,8 +34,8 @@ use std::{env, io};
 use stop::Stop;
 use words::{Job, NOT_UTF8, job_of};
 
-/// A member in the plain forms of its parts.
-type Plain = Member<PlainInstance, PlainBook>;
+/// A member, in the forms of its parts that the program runs.
+type OwnMember = Member<PlainInstance, WaitingBook>;
 
 fn main(rt: HostRuntime) -> ExitCode {
     let words = match env::args(&rt) {
@@ -93,7 +93,7 @@ fn serve_desk<'a>(
     let genesis = genesis_of(alloc, rt, Some(genesis))?;
     let keys = keys_of(alloc, rt, &genesis, Some(keys))?;
     let (accounts, own) = (genesis.members(), keys.own());
-    let member: Plain = Member::new(alloc, genesis, keys)?;
+    let member: OwnMember = Member::new(alloc, genesis, keys)?;
     let teller = OneMember { member, stamp: 0 };
     let mut desk = Desk::new(alloc, teller, accounts, own);
     let mut reader = Reader::new(rt.reader());
@@ -128,7 +128,7 @@ fn meet_peers<R>(
     genesis: Genesis,
     keys: Keys,
     ports: &Ports,
-) -> Result<Plain, NodeFault>
+) -> Result<OwnMember, NodeFault>
 where
     R: Input + Print + Threads + Wait + Clock + Sync,
     R: Net<Listener = TcpListener, Stream = TcpStream>,
@@ -143,7 +143,7 @@ where
 }
 
 /// Writes a member's export as a line.
-fn print_export(alloc: Global, rt: &impl Print, member: &Plain) -> Result<(), EngineFault> {
+fn print_export(alloc: Global, rt: &impl Print, member: &OwnMember) -> Result<(), EngineFault> {
     let text = export_text(alloc, member)?;
     println!(rt; "{text}").map_err(|_| EngineFault::Write)?;
     Ok(())
@@ -165,7 +165,7 @@ fn audit<'a>(
 fn sim(alloc: Global, rt: &(impl Input + Print)) -> Result<SimEnd, EngineFault> {
     let mut reader = Reader::new(rt.reader());
     let mut writer = Writer::new(io::writer(rt));
-    run_sim::<PlainInstance, PlainBook, _, _>(alloc, &mut reader, &mut writer)
+    run_sim::<PlainInstance, WaitingBook, _, _>(alloc, &mut reader, &mut writer)
 }
 
 /// Tags with the keys of all peers prepared.
