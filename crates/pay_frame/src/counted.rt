@@ -1,7 +1,11 @@
 ghost use Rattle.std.specs.Prelude.{◌≡◌};
+ghost use Rattle.std.specs.Io.{ReadsAtMost};
+ghost use Rattle.std.specs.Io.KnownBytes.{ReadConsumes};
 
 use crate::device::{DeviceFailed, Input, Output};
-use std::io::{Read, Write};
+use crate::limits::MOST_TRIES;
+use std::io;
+use std::io::{ErrorKind, Read, Write};
 
 /// A `std` reader or writer, with counts of its calls and failures: an `Input` over a reader, and an
 /// `Output` over a writer. It never flushes.
@@ -48,7 +52,7 @@ impl<R: Read> Input for Counted<R> {
 
     fn read(&mut self, buffer: &mut [u8]) -> Result<usize, DeviceFailed> {
         self.calls = self.calls.saturating_add(1);
-        match self.inner.read(buffer) {
+        match read_retrying(&mut self.inner, buffer) {
             Ok(count) => Ok(count),
             Err(_) => {
                 self.failures = self.failures.saturating_add(1);
@@ -91,4 +95,20 @@ impl<W: Write> Output for Counted<W> {
     fn failures(&self) -> u64 {
         self.failures
     }
+}
+
+/// Reads, and tries again where the system interrupted it, `MOST_TRIES` times at most.
+fn read_retrying<R: Read>(reader: &mut R, buffer: &mut [u8]) -> io::Result<usize>
+    ensures bound { ReadsAtMost result buffer.new }
+    ensures bytes { ReadConsumes (R.remaining reader.old) (R.remaining reader.new)
+        result buffer.new }
+{
+    for _ in 1..MOST_TRIES {
+        match reader.read(buffer) {
+            Ok(count) => return Ok(count),
+            Err(fault) if fault.kind() == ErrorKind::Interrupted => {}
+            Err(fault) => return Err(fault),
+        }
+    }
+    reader.read(buffer)
 }

@@ -36,7 +36,7 @@ pub use laws::{
 };
 pub use limits::{
     CUTTER_ROOM, GREATEST_FRAME, GREATEST_PIECE, GREATEST_VALUE, HEAD_LEN, LEAST_LENGTH,
-    MOST_MEMBERS, MOST_READS, SEQS, TAG_LEN,
+    MOST_MEMBERS, MOST_READS, MOST_TRIES, SEQS, TAG_LEN,
 };
 pub use reading::{read, read_one};
 pub use stream_laws::{

@@ -25,6 +25,9 @@ pub const GREATEST_PIECE: usize = CUTTER_ROOM - GREATEST_FRAME;
 /// How many reads an engine makes at most.
 pub const MOST_READS: u32 = 1_000_000;
 
+/// How often a read is tried at most that the system interrupts each time.
+pub const MOST_TRIES: u32 = 1_000;
+
 /// How many sequence numbers an owner has, counted from 0.
 pub const SEQS: u32 = 65_536;
 

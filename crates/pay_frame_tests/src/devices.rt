@@ -1,12 +1,31 @@
 //! Readers and writers of std as devices: what they count, and what goes out before a failure.
 
-use pay_frame::{DeviceFailed, Input, Output, Reader, Writer, write_all};
+use pay_frame::{DeviceFailed, Input, MOST_TRIES, Output, Reader, Writer, write_all};
 use std::io;
 use std::io::{Read, Write};
 use std::process::Abort;
 use std::test::Fail;
 
 const TEXT: &[u8; 11] = b"hello world";
+
+/// A reader whose first calls the system interrupts.
+#[derive(Drop)]
+struct Interrupted<R> {
+    inner: R,
+    left: u32,
+}
+
+impl<R: Read> Read for Interrupted<R> {
+    fn read(&mut self, buffer: &mut [u8]) -> io::Result<usize> {
+        match self.left.checked_sub(1) {
+            None => self.inner.read(buffer),
+            Some(left) => {
+                self.left = left;
+                Err(io::Error::from(io::ErrorKind::Interrupted))
+            }
+        }
+    }
+}
 
 /// A device that moves at most so many bytes a call, and of whose calls one fails, counted from 1.
 #[derive(Drop)]
@@ -94,6 +113,24 @@ fn failed_reads_are_counted(rt: HostRuntime) -> Result<(), Fail> {
         (b"world------", Ok(5), (3, 1)),
         (b"-----------", Ok(0), (4, 1)),
         (b"", Ok(0), (5, 1)),
+    ];
+    try_reads(&rt, &mut reader, &rows)
+}
+
+#[test]
+fn interrupted_reads_are_tried_again(rt: HostRuntime) -> Result<(), Fail> {
+    let mut reader = Reader::new(Interrupted {
+        inner: TEXT.as_slice(),
+        left: MOST_TRIES - 1,
+    });
+    try_reads(&rt, &mut reader, &[(b"hello world-", Ok(11), (1, 0))])?;
+    let mut reader = Reader::new(Interrupted {
+        inner: TEXT.as_slice(),
+        left: MOST_TRIES,
+    });
+    let rows: [ReadRow; 2] = [
+        (b"-----------", Err(DeviceFailed), (1, 1)),
+        (b"hello world", Ok(11), (2, 1)),
     ];
     try_reads(&rt, &mut reader, &rows)
 }
