@@ -128,6 +128,55 @@ answers_gap g k before c told mine answers =
     sym (ap (answered g k.own before c.frame)
     (turned_gap (next c.frame.from before) c.frame.number told (subst (λ o. Answers o (Err (Gap told))) (refusal_for g k before c mine) answers)))
 
+-- ---- memory is asked for where the frame is the next one
+
+some_none : {X : Type 0} (x : X) → Some x ≡ None → ⊥
+some_none x same = cc
+
+in_turn : (before : List channel.Event) (f : FrameFields) → f.number ≡ next f.from before → event_of before f ≢ None
+in_turn before f same =
+    let is : event_of before f ≡ Some (channel.From f.from f.body) = search rules in
+    λ none. some_none (channel.From f.from f.body) (sym is ∙ none)
+
+pub judged_next : (before : List channel.Event) (f : FrameFields) → turn (next f.from before) f.number ≡ Ok tt → event_of before f ≢ None
+judged_next before f is = go (cases_order f.number n) where
+  n : ℕ
+  n = next f.from before
+
+  go : (f.number ≡ n) ⊎ ((f.number < n) ⊎ (n < f.number)) → event_of before f ≢ None
+  go (inl same) = in_turn before f same
+  go (inr (inl below)) =
+      let here : turn n f.number ≡ Err (link.Repeat n) = search rules in
+      absurd (ok_err tt (link.Repeat n) (sym is ∙ here))
+  go (inr (inr above)) =
+      let here : turn n f.number ≡ Err (link.Gap n) = search rules in
+      absurd (ok_err tt (link.Gap n) (sym is ∙ here))
+
+-- a frame that isn't has its fault for an answer
+pub judged_not :
+    (g : GenesisFields) (own : ℕ) (before : List channel.Event) (f : FrameFields) (fault : LinkFault)
+    → turn (next f.from before) f.number ≡ Err fault → outcome.Link fault ≡ answer_to g own before f
+unfolding answer_to
+judged_not g own before f fault is = sym (ap (answered g own before f) is)
+
+pub answers_memory :
+    (g : GenesisFields) (k : KeyFields) (before : List channel.Event) (c : CheckedFields) → IsFor k c
+    → Answers (refusal g k before (Taken c)) (Err Memory) → event_of before c.frame ≢ None
+answers_memory g k before c mine answers = go (cases_order c.frame.number n) where
+  n : ℕ
+  n = next c.frame.from before
+
+  At : Option MemberFault → Type 0
+  At o = Answers o (Err Memory)
+
+  turned : At (turn_refusal n c.frame.number)
+  turned = subst At (refusal_for g k before c mine) answers
+
+  go : (c.frame.number ≡ n) ⊎ ((c.frame.number < n) ⊎ (n < c.frame.number)) → event_of before c.frame ≢ None
+  go (inl same) = in_turn before c.frame same
+  go (inr (inl below)) = absurd (repeat_no_memory n (sym (err_is {A = Took} Memory (Repeat n) (subst At (below_repeats n c.frame.number below) turned))))
+  go (inr (inr above)) = absurd (gap_no_memory n (sym (err_is {A = Took} Memory (Gap n) (subst At (above_gaps n c.frame.number above) turned))))
+
 -- ---- what the member is then
 
 -- its keys are the same
@@ -189,6 +238,12 @@ pub some_taken :
     → event_in k before bytes ≡ event_of before f
 unfolding event_in
 some_taken k before bytes f some = ap (option_and_then (event_of before)) some
+
+-- bytes are an event where what opened of them is
+pub event_opened :
+    (k : KeyFields) (before : List channel.Event) (bytes : List ℕ) (f : FrameFields) → opened_in k bytes ≡ Some f
+    → event_of before f ≢ None → event_in k before bytes ≢ None
+event_opened k before bytes f some is = λ none. is (sym (some_taken k before bytes f some) ∙ none)
 
 pub some_not_none : (k : KeyFields) (bytes : List ℕ) (f : FrameFields) → opened_in k bytes ≡ Some f → opened_in k bytes ≢ None
 some_not_none k bytes f some = λ none. no (sym some ∙ none) where

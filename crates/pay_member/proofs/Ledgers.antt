@@ -79,6 +79,10 @@ pub on_err : {T E P : Type 0} (r : Result T E) → P → OnErr r P
 on_err (Ok x) p = tt
 on_err (Err e) p = p
 
+pub on_err_by : {T E P Q : Type 0} (r : Result T E) → (P → Q) → OnErr r P → OnErr r Q
+on_err_by (Ok x) f p = tt
+on_err_by (Err e) f p = f p
+
 -- ---- what a ledger tracks
 
 pub tracks_more :

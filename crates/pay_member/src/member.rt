@@ -3,6 +3,7 @@ ghost use Rattle.std.specs.Option.{option_copied, option_map, option_to_list};
 ghost use Rattle.pay_link.specs.Keys.{IsKeysOf};
 ghost use Rattle.pay_frame.specs.Lent.{fields_of};
 ghost use Rattle.pay_link.specs.Checked.{IsFor, bytes_of, checked_fields};
+ghost use Rattle.pay_link.specs.Fronts.{turn};
 ghost use Rattle.pay_link.specs.Genesis.{IsGenesis};
 ghost use Rattle.pay_book.specs.Statement.{statement_of};
 ghost use Rattle.pay_channel.specs.History.{From, asks, list_of, out};
@@ -16,7 +17,7 @@ ghost use Rattle.pay_member.specs.Answer.{IsAnswer};
 ghost use Rattle.pay_member.specs.Reading.{state_of, fetched};
 ghost use Rattle.pay_member.specs.Legal.{Legal};
 ghost use Rattle.pay_member.specs.Member.{with_entry};
-ghost use Rattle.pay_member.specs.Bringing.{IsOutcome, answer_to, opened_in, event_in, want_for, want_after, with_taken, with_brought};
+ghost use Rattle.pay_member.specs.Bringing.{IsOutcome, answer_to, opened_in, event_in, event_of, want_for, want_after, with_taken, with_brought};
 ghost use Rattle.pay_member.specs.Serving.{after_frame, want_of};
 
 use crate::bringing::{open_bytes, open_frame};
@@ -180,7 +181,8 @@ impl<I: Instance + Drop, B: Settle + Drop> Member<I, B> {
     /// Reads and opens bytes, and takes the frame that they are.
     ///
     /// Where a frame opened that is no WANT, the answer has the WANT to its sender for what is next
-    /// after the call. Memory can be refused only there, and leaves the member unchanged.
+    /// after the call. Memory can be refused only to a frame that is the next one, and leaves the
+    /// member unchanged.
     pub fn bring<T: Tagger>(
         &mut self,
         alloc: Global,
@@ -197,7 +199,8 @@ impl<I: Instance + Drop, B: Settle + Drop> Member<I, B> {
             ≡ with_brought self.old stamp brought.outcome (opened_in self.old.keys bytes.now)) }
         ensures events { IfOk result (λ _. events self.new.history ≡ events self.old.history
             ++ option_to_list (event_in self.old.keys (events self.old.history) bytes.now)) }
-        ensures memory { OnErr result (opened_in self.old.keys bytes.now ≢ None) }
+        ensures memory { OnErr result
+            (event_in self.old.keys (events self.old.history) bytes.now ≢ None) }
         ensures err { OnErr result (self.new ≡ self.old) }
     {
         one_frame_is();
@@ -226,7 +229,8 @@ impl<I: Instance + Drop, B: Settle + Drop> Member<I, B> {
             ≡ with_brought self.old stamp outcome (opened_in self.old.keys bytes.now)) }
         ensures events { IfOk result (λ _. events self.new.history ≡ events self.old.history
             ++ option_to_list (event_in self.old.keys (events self.old.history) bytes.now)) }
-        ensures memory { OnErr result (opened_in self.old.keys bytes.now ≢ None) }
+        ensures memory { OnErr result
+            (event_in self.old.keys (events self.old.history) bytes.now ≢ None) }
         ensures err { OnErr result (self.new ≡ self.old) }
     {
         one_frame_is();
@@ -254,7 +258,8 @@ impl<I: Instance + Drop, B: Settle + Drop> Member<I, B> {
         ensures events { IfOk result (λ _. events self.new.history ≡ events self.old.history
             ++ option_to_list
             (event_in self.old.keys (events self.old.history) (bytes_of owned))) }
-        ensures memory { OnErr result (opened_in self.old.keys (bytes_of owned) ≢ None) }
+        ensures memory { OnErr result
+            (event_in self.old.keys (events self.old.history) (bytes_of owned) ≢ None) }
         ensures err { OnErr result (self.new ≡ self.old) }
     {
         one_frame_is();
@@ -263,7 +268,8 @@ impl<I: Instance + Drop, B: Settle + Drop> Member<I, B> {
         self.take_mine(alloc, stamp, owned)
     }
 
-    // Takes a frame that opened for this member and is no WANT.
+    // Takes a frame that opened for this member and is no WANT. One that isn't the next from its
+    // sender isn't owned first.
     fn take_unanswered(
         &mut self,
         alloc: Global,
@@ -277,10 +283,24 @@ impl<I: Instance + Drop, B: Settle + Drop> Member<I, B> {
             opened.now.frame) }
         ensures entry { IfOk result (λ outcome. self.new
             ≡ with_taken self.old stamp (checked_fields opened.now) outcome) }
+        ensures memory { OnErr result
+            (event_of (events self.old.history) opened.now.frame ≢ None) }
         ensures err { OnErr result (self.new ≡ self.old) }
     {
+        let frame = opened.frame();
+        if let Err(fault) = self.judge(frame.from(), frame.number()) {
+            return Ok(Outcome::Link(fault));
+        }
         let checked = opened.own(alloc)?;
         self.take_mine(alloc, stamp, checked)
+    }
+
+    // Whether this is the next number from a member.
+    fn judge(&self, from: u16, number: u64) -> Result<(), LinkFault>
+        requires { from < length self.now.keys.keys }
+        ensures { result ≡ turn (next from (events self.now.history)) number }
+    {
+        self.fronts.judge(from, number)
     }
 
     // Takes a frame that was read already.
@@ -309,7 +329,8 @@ impl<I: Instance + Drop, B: Settle + Drop> Member<I, B> {
     }
 
     /// Takes a frame that opened for this member and is no WANT, and answers with the WANT for what
-    /// is next. Where memory is refused, the member is unchanged.
+    /// is next. Memory can be refused only to a frame that is the next one, and leaves the member
+    /// unchanged.
     fn take_opened<T: Tagger>(
         &mut self,
         alloc: Global,
@@ -326,6 +347,8 @@ impl<I: Instance + Drop, B: Settle + Drop> Member<I, B> {
             ≡ Some (want_for self.old.keys (events self.new.history) opened.now.frame)) }
         ensures entry { IfOk result (λ brought. self.new
             ≡ with_taken self.old stamp (checked_fields opened.now) brought.outcome) }
+        ensures memory { OnErr result
+            (event_of (events self.old.history) opened.now.frame ≢ None) }
         ensures err { OnErr result (self.new ≡ self.old) }
     {
         let from = opened.frame().from();
@@ -349,6 +372,7 @@ impl<I: Instance + Drop, B: Settle + Drop> Member<I, B> {
             checked.frame) }
         ensures entry { IfOk result (λ outcome.
             self.new ≡ with_taken self.old stamp checked outcome) }
+        ensures memory { OnErr result (event_of (events self.old.history) checked.frame ≢ None) }
         ensures err { OnErr result (self.new ≡ self.old) }
     {
         match self.take(alloc, stamp, checked) {
@@ -395,6 +419,10 @@ impl<I: Instance + Drop, B: Settle + Drop> Member<I, B> {
     /// Hands an event in: asks, takes or queries. A refused event is dropped, and the member is
     /// unchanged.
     pub fn hand_in(&mut self, alloc: Global, stamp: u16, event: Event) -> Result<Reply, MemberFault>
+        ensures refused { MatchOption
+            (refusal self.old.genesis self.old.keys (events self.old.history) event)
+            (IsOkUnless result MemberFault.Memory)
+            (λ fault. result ≡ Err fault) }
         ensures answer { IsAnswer self.old event result }
         ensures entry { IfOk result (λ reply. self.new ≡ with_entry self.old
             (record { stamp = stamp; event = event; reply = reply })) }

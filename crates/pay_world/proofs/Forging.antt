@@ -1,5 +1,5 @@
 -- Which bytes are a forged frame, by the members of a world.
-use Rattle.std.proofs.Common.{◌≡◌, ℕ, Bool, true, false, not, ◌&&◌, List, [], slice_get, Option, None, Some, is_some, option_map, option_and_then, Result, Ok, Err, refl, sym, ap, ◌∙◌}
+use Rattle.std.proofs.Common.{◌≡◌, ℕ, Bool, true, false, not, ◌&&◌, List, [], slice_get, Option, None, Some, is_some, option_map, option_and_then, Result, Ok, Err, OnErr, refl, sym, ap, ◌∙◌}
 use Rattle.std.specs.Option.{option_map_or}
 use Rattle.pay_frame.specs.Frame.{FrameFields}
 use Rattle.pay_frame.specs.OneFrame.{IsOneFrame}
@@ -100,6 +100,11 @@ ok_same x y same = cc
 
 pub err_ok : {A E : Type 0} (e : E) (x : A) → ◌≡◌ {A = Result A E} (Err e) (Ok x) → ⊥
 err_ok e x same = cc
+
+-- what an error brings with it
+pub on_fault : {A E P : Type 0} (r : Result A E) (e : E) → r ≡ Err e → OnErr r P → P
+on_fault (Ok x) e is p = absurd (err_ok e x (sym is))
+on_fault (Err d) e is p = p
 
 pub is_some-map : {X Y : Type 0} (f : X → Y) (o : Option X) → is_some (option_map f o) ≡ is_some o
 is_some-map f None = refl

@@ -14,6 +14,7 @@ pub mod Forging
 pub mod Answering
 pub mod Passing
 pub mod Stored
+pub mod Recorded
 pub mod UnderWay
 pub mod Running
 pub mod GroupKeyLemmas

@@ -44,7 +44,7 @@ ask_counts g k faulty before v taken =
       go false false t = refl
 
 -- a frame that isn't refused is for the member, and in turn
-frame_taken :
+pub frame_taken :
     (mine : Bool) (o : Option MemberFault) → cond mine o (Some WrongKey) ≡ None → (mine ≡ true) × (o ≡ None)
 frame_taken true o t = (refl, t)
 frame_taken false o t = absurd (some_none WrongKey t)

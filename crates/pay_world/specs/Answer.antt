@@ -94,6 +94,14 @@ IsReplyFrom member e reply = MatchOption member (reply ≡ Ignored) (λ m. IsRep
 abbrev pub IsReply : WorldFields → WorldEvent → Reply → Type 0
 IsReply w e reply = IsReplyFrom (member_in w (receiver e)) e reply
 
+-- Whether the member takes the event, if it is there: nothing refuses the value, and the bytes are a
+-- frame whose number is the next one.
+abbrev pub IsTakenBy : WorldEvent → Option MemberFields → Type 0
+IsTakenBy (Ask i v) member =
+    MatchOption member ⊥ (λ m. refusal m.genesis m.keys (events m.history) (entry.Ask v) ≡ None)
+IsTakenBy (Bring i bytes) member =
+    MatchOption member ⊥ (λ m. event_in m.keys (events m.history) bytes ≢ None)
+
 -- ---- what becomes of the members
 
 abbrev pub after_ask : MemberFields → List ℕ → Reply → MemberFields

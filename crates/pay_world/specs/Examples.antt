@@ -2,14 +2,19 @@
 use Rattle.std.specs.Prelude.{ℕ, ◌==◌, ◌||◌, List, [], ◌∷◌, Option}
 use Rattle.pay_frame.specs.declared.kind.Kind.{Kind}
 use Rattle.pay_frame.specs.declared.kind.Kind.TheVariants.{Send, Echo, Ready}
-use Rattle.pay_frame.specs.Frame.{frame_of_parts}
+use Rattle.pay_frame.specs.Frame.{FrameFields, frame_bytes, frame_of_parts}
 use Rattle.pay_channel.specs.History.{body_of, delivered_at}
+use Rattle.pay_link.specs.Sealing.{sealed}
+use Rattle.pay_link.specs.TestKeys.{test_keys_of}
 use Rattle.pay_member.specs.declared.event.Event.{Event as MemberEvent}
 use Rattle.pay_member.specs.declared.event.Event.TheVariants as entry
 use Rattle.pay_member.specs.declared.reply.Reply.TheVariants as entry_reply
 use Rattle.pay_member.specs.declared.entry.HistoryEntry.{HistoryEntry}
+use Rattle.pay_world.specs.declared.event.WorldEvent.{WorldEvent}
+use Rattle.pay_world.specs.declared.event.WorldEvent.TheVariants.{Ask, Bring}
 use Rattle.pay_world.specs.Setting.{Setting, group_at}
 use Rattle.pay_world.specs.Deeds.{Deed, Asks, Brings, history_by}
+use Rattle.pay_world.specs.Liars.{LiarFields}
 
 abbrev pub A : List ℕ
 A = 65 ∷ []
@@ -106,3 +111,20 @@ send_at_1 number =
 abbrev pub stored_at_1 : ℕ → List HistoryEntry
 stored_at_1 number =
     entry_with (entry.Ask B) ∷ entry_with (entry.Query 0) ∷ entry_with (send_at_1 number) ∷ []
+
+-- ---- events in bytes
+
+-- members 0 to 3, of which one may lie, and 3 does
+abbrev pub liar_of_four : LiarFields
+liar_of_four = record { members = 4; faults = 1; liars = 3 ∷ [] }
+
+-- the SEND of 0's A to 1, sealed with their test key
+abbrev pub sealed_send : FrameFields
+sealed_send = sealed (test_keys_of 4 0) 1 0 (body_of Send 0 0 A)
+
+-- 1 is asked for B and 0 for A, and that SEND comes to 1 twice
+abbrev pub in_bytes : List WorldEvent
+in_bytes =
+    Ask 1 B ∷ Ask 0 A
+    ∷ Bring 1 (frame_bytes sealed_send) ∷ Bring 1 (frame_bytes sealed_send)
+    ∷ []

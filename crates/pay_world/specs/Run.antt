@@ -1,9 +1,18 @@
 -- A list of events of a group, and the world after them.
 use Rattle.std.specs.Prelude.{◌≡◌, ℕ, ◌-◌, ◌^◌, min, List, length, take, slice_get, Option, Some, None, if◌then◌else◌}
+use Rattle.std.specs.List.{filter_map}
+use Rattle.pay_frame.specs.Stream.{IsBytes}
 use Rattle.pay_channel.specs.History.{Event}
 use Rattle.pay_link.specs.Genesis.{GenesisFields}
+use Rattle.pay_link.specs.Checked.{bytes_of}
 use Rattle.pay_link.specs.Keys.{KeyFields}
+use Rattle.pay_member.specs.declared.event.Event.{Event as MemberEvent}
+use Rattle.pay_member.specs.declared.event.Event.TheVariants as entry
+use Rattle.pay_member.specs.declared.entry.HistoryEntry.{HistoryEntry}
+use Rattle.pay_member.specs.Events as stored
+use Rattle.pay_member.specs.Legal.{Legal}
 use Rattle.pay_world.specs.declared.event.WorldEvent.{WorldEvent}
+use Rattle.pay_world.specs.declared.event.WorldEvent.TheVariants.{Ask, Bring}
 use Rattle.pay_world.specs.Deeds.{Deed, history_by}
 use Rattle.pay_world.specs.Genuine.{IsGenuine, AreGenuine}
 use Rattle.pay_world.specs.Liars.{LiarFields, is_listed, setting_of}
@@ -42,3 +51,27 @@ pub record IsWorldAfter (g : GenesisFields) (keys : List KeyFields) (l : LiarFie
   pub histories : (i : ℕ) → history_in w i ≡ history_of keys l events i
   pub genuine : AreGenuine (setting_of l) (deeds_by keys l events)
   pub count : w.answered ≡ min (length events) (2 ^ 64 - 1)
+
+-- ---- stored histories
+
+-- The member with these keys can have a stored history by which it took these events.
+pub record MayHaveTaken (g : GenesisFields) (k : KeyFields) (taken : List Event) : Type 0 where
+  pub history : List HistoryEntry
+  pub legal : Legal g k history
+  pub took : stored.events history ≡ taken
+
+-- what an event of member i's history is to the group: a frame's bytes are brought to that member,
+-- and a query is nothing
+abbrev pub event_at : ℕ → MemberEvent → Option WorldEvent
+event_at i (entry.Ask v) = Some (Ask i v)
+event_at i (entry.Taken c) = Some (Bring i (bytes_of c))
+event_at i (entry.Query a) = None
+
+-- The asks and the frames that stand in member i's history, as events of the group, in their order.
+unfoldable pub events_of : ℕ → List HistoryEntry → List WorldEvent
+events_of i history = filter_map (λ e. event_at i e.event) history
+
+-- what is asked for or brought are bytes
+abbrev pub IsOfBytes : WorldEvent → Type 0
+IsOfBytes (Ask i v) = IsBytes v
+IsOfBytes (Bring i bytes) = IsBytes bytes

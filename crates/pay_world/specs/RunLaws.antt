@@ -1,15 +1,18 @@
 -- What holds of worlds behind lists of events, as statements. Each is proved as a public law.
-use Rattle.std.specs.Prelude.{◌≡◌, ℕ, true, false, List, [], ◌∷◌, ◌++◌, Result, Ok, Err, IsOkUnless, MatchOption}
+use Rattle.std.specs.Prelude.{◌≡◌, ℕ, true, false, List, [], ◌∷◌, ◌++◌, Some, Result, Ok, Err, IsOkUnless, MatchOption, All}
 use Rattle.pay_link.specs.Genesis.{GenesisFields}
-use Rattle.pay_link.specs.Keys.{KeyFields}
+use Rattle.pay_link.specs.Keys.{IsKeysOf, KeyFields}
+use Rattle.pay_member.specs.declared.entry.HistoryEntry.{HistoryEntry}
+use Rattle.pay_member.specs.Events as stored
+use Rattle.pay_member.specs.Legal.{Legal}
 use Rattle.pay_world.specs.declared.event.WorldEvent.{WorldEvent}
 use Rattle.pay_world.specs.declared.fault.WorldFault.{WorldFault}
 use Rattle.pay_world.specs.declared.fault.WorldFault.TheVariants.{Memory, Forged}
 use Rattle.pay_world.specs.declared.reply.Reply.{Reply}
-use Rattle.pay_world.specs.Liars.{LiarFields}
+use Rattle.pay_world.specs.Liars.{AreLiarsOf, LiarFields}
 use Rattle.pay_world.specs.World.{WorldFields, AreKeysOf, fresh_world}
 use Rattle.pay_world.specs.Answer.{Answers, forgery, is_forged_at, one_more}
-use Rattle.pay_world.specs.Run.{IsWorldAfter}
+use Rattle.pay_world.specs.Run.{IsOfBytes, IsWorldAfter, MayHaveTaken, correct_keys, events_of, history_of}
 
 -- a new world is behind none
 abbrev pub NoEventsMakeFresh : Type 0
@@ -24,6 +27,23 @@ WorldByOneMore =
     (old new : WorldFields) (e : WorldEvent) (reply : Reply)
     → IsWorldAfter g keys l events old → Answers old new e reply → is_forged_at old e ≡ false
     → new.answered ≡ one_more old.answered → IsWorldAfter g keys l (events ++ e ∷ []) new
+
+-- By any events each correct member took what it can have taken: nothing refused it, and its
+-- replies were those that it owed.
+abbrev pub HistoryIsLegal : Type 0
+HistoryIsLegal =
+    (g : GenesisFields) (keys : List KeyFields) (l : LiarFields) (es : List WorldEvent) (i : ℕ)
+    (k : KeyFields)
+    → correct_keys keys l i ≡ Some k → All IsOfBytes es → MayHaveTaken g k (history_of keys l es i)
+
+-- And whatever a correct member can have taken, it takes by its own asks and the bytes of its
+-- frames, with nobody else's part in it.
+abbrev pub LegalHistoryByEvents : Type 0
+LegalHistoryByEvents =
+    (g : GenesisFields) (keys : List KeyFields) (l : LiarFields) (k : KeyFields)
+    (history : List HistoryEntry)
+    → AreLiarsOf g l → IsKeysOf g k → correct_keys keys l k.own ≡ Some k → Legal g k history
+    → stored.events history ≡ history_of keys l (events_of k.own history) k.own
 
 -- what a world says to an event: that it is forged, or anything else but that
 abbrev pub IsSaidTo : WorldFields → WorldEvent → Result Reply WorldFault → Type 0

@@ -3,15 +3,23 @@
 
 ghost use Rattle.std.specs.Prelude.{◌≡◌, ◌≢◌, ◌≤◌, true, [], ◌∷◌, Some, None};
 ghost use Rattle.pay_frame.specs.declared.kind.Kind.TheVariants.{Send, Ready};
+ghost use Rattle.pay_frame.specs.Frame.{frame_bytes, frame_of_parts};
+ghost use Rattle.pay_channel.specs.History.{Ask, From, body_of};
 ghost use Rattle.pay_echo.specs.Broadcast.{size};
 ghost use Rattle.pay_member.specs.Events.{events};
 ghost use Rattle.pay_world.specs.Setting.{HasFewFaulty};
 ghost use Rattle.pay_world.specs.Deeds.{Asks, history_by, deeds_in};
 ghost use Rattle.pay_world.specs.Genuine.{AreGenuine, is_forged};
 ghost use Rattle.pay_world.specs.Convergence.{AllTaken};
-ghost use Rattle.pay_world.specs.Examples.{A, B, of_3, of_0, first_of, four, two_liars, three, with_a_liar, by_two_liars, by_a_forged_frame, of_three, stored_at_1};
+ghost use Rattle.pay_world.specs.GroupKeys.{group_test_keys};
+ghost use Rattle.pay_world.specs.Run.{events_of, history_of};
+ghost use Rattle.pay_world.specs.Examples.{A, B, of_3, of_0, first_of, four, two_liars, three, with_a_liar, by_two_liars, by_a_forged_frame, of_three, stored_at_1, liar_of_four, in_bytes};
 
+use crate::event::WorldEvent;
 use crate::laws::forged_is_told;
+use pay_hmac::laws::tag_length;
+use pay_link::laws::shared_test_keys;
+use pay_member::laws::what_is_brought;
 
 /// Of four members one lies, frames come twice and too early, and all premises are met: the
 /// correct members deliver the same.
@@ -63,3 +71,19 @@ pub fn stored_history_of_four()
     ensures same { events (stored_at_1 0) ≡ history_by four (deeds_in 1 (stored_at_1 0)) 1 }
     ensures early { events (stored_at_1 1) ≢ history_by four (deeds_in 1 (stored_at_1 1)) 1 }
 {}
+
+/// Of events in bytes, where all have their test keys, a member takes its own ask and the frame
+/// that opens and is in turn, but neither another's ask nor that frame again. As events, the stored
+/// history is the ask and the bytes of its frame.
+pub fn events_of_four_in_bytes()
+    ensures taken { history_of (group_test_keys 4) liar_of_four in_bytes 1
+        ≡ Ask B ∷ From 0 (body_of Send 0 0 A) ∷ [] }
+    ensures stored { events_of 1 (stored_at_1 0)
+        ≡ WorldEvent.Ask 1 B
+        ∷ WorldEvent.Bring 1 (frame_bytes (frame_of_parts 0 1 0 (body_of Send 0 0 A) []))
+        ∷ [] }
+{
+    what_is_brought();
+    shared_test_keys();
+    tag_length();
+}

@@ -13,7 +13,7 @@ ghost use Rattle.pay_member.specs.Member.{MemberFields};
 ghost use Rattle.pay_world.specs.Genuine.{is_body};
 ghost use Rattle.pay_world.specs.Liars.{AreLiarsOf};
 ghost use Rattle.pay_world.specs.World.{AreKeysOf, IsWorld, fresh_place, fresh_world, history_in, member_in};
-ghost use Rattle.pay_world.specs.Answer.{Answers, IsGrownBy, IsReplyFrom, forgery, is_forged_at, is_unsent, member_after, one_more};
+ghost use Rattle.pay_world.specs.Answer.{Answers, IsGrownBy, IsReplyFrom, IsTakenBy, forgery, is_forged_at, is_unsent, member_after, one_more, receiver};
 ghost use Rattle.pay_world.specs.Passing.{MayPass, frame_of, passing};
 
 use crate::event::WorldEvent;
@@ -97,7 +97,7 @@ impl<I: Instance + Drop, B: Settle + Drop> World<I, B> {
     ///
     /// Refuses a frame in the name of a correct member that didn't send it (`Forged`), with the
     /// count of the events answered before, which stays at the greatest number that it can hold. A
-    /// refused event changes nothing.
+    /// refused event changes nothing. Memory can be refused only to an event that its member takes.
     pub fn apply<T: Tagger>(
         &mut self,
         alloc: Global,
@@ -107,6 +107,8 @@ impl<I: Instance + Drop, B: Settle + Drop> World<I, B> {
         ensures refused { MatchOption (forgery self.old event)
             (IsOkUnless result WorldFault.Memory)
             (λ fault. result ≡ Err fault) }
+        ensures memory { result ≡ Err WorldFault.Memory
+            → IsTakenBy event (member_in self.old (receiver event)) }
         ensures answers { IfOk result (Answers self.old self.new event) }
         ensures count { OnOk result (self.new.answered ≡ one_more self.old.answered) }
         ensures prefix { (i : ℕ) → IsPrefix (history_in self.old i) (history_in self.new i) }
@@ -127,6 +129,8 @@ impl<I: Instance + Drop, B: Settle + Drop> World<I, B> {
         ensures refused { MatchOption (forgery self.old event)
             (IsOkUnless result WorldFault.Memory)
             (λ fault. result ≡ Err fault) }
+        ensures memory { result ≡ Err WorldFault.Memory
+            → IsTakenBy event (member_in self.old (receiver event)) }
         ensures answers { IfOk result (Answers self.old self.new event) }
         ensures count { self.new.answered ≡ self.old.answered }
         ensures err { OnErr result (self.new ≡ self.old) }
@@ -144,6 +148,8 @@ impl<I: Instance + Drop, B: Settle + Drop> World<I, B> {
         ensures refused { MatchOption (forgery self.old (WorldEvent.Ask member value))
             (IsOkUnless result WorldFault.Memory)
             (λ fault. result ≡ Err fault) }
+        ensures memory { result ≡ Err WorldFault.Memory
+            → IsTakenBy (WorldEvent.Ask member value) (member_in self.old member) }
         ensures answers { IfOk result (Answers self.old self.new (WorldEvent.Ask member value)) }
         ensures count { self.new.answered ≡ self.old.answered }
         ensures err { OnErr result (self.new ≡ self.old) }
@@ -169,6 +175,8 @@ impl<I: Instance + Drop, B: Settle + Drop> World<I, B> {
         ensures refused { MatchOption (forgery self.old (WorldEvent.Bring member bytes.now))
             (IsOkUnless result WorldFault.Memory)
             (λ fault. result ≡ Err fault) }
+        ensures memory { result ≡ Err WorldFault.Memory
+            → IsTakenBy (WorldEvent.Bring member bytes.now) (member_in self.old member) }
         ensures answers { IfOk result
             (Answers self.old self.new (WorldEvent.Bring member bytes.now)) }
         ensures count { self.new.answered ≡ self.old.answered }
@@ -357,6 +365,7 @@ fn ask_place<I: Instance + Drop, B: Settle + Drop>(
     ensures after { IfOk result (λ reply. place.new
         ≡ option_map (member_after (WorldEvent.Ask 0 value) reply) place.old) }
     ensures memory { IsOkUnless result WorldFault.Memory }
+    ensures taken { OnErr result (IsTakenBy (WorldEvent.Ask 0 value) place.old) }
     ensures err { OnErr result (place.new ≡ place.old) }
 {
     let Some(member) = place else {
@@ -381,6 +390,7 @@ fn bring_place<I: Instance + Drop, B: Settle + Drop, T: Tagger>(
         ≡ option_map (member_after (WorldEvent.Bring 0 bytes.now) reply) place.old) }
     ensures grown { IfOk result (λ _. IsGrownBy place.old place.new bytes.now) }
     ensures memory { IsOkUnless result WorldFault.Memory }
+    ensures taken { OnErr result (IsTakenBy (WorldEvent.Bring 0 bytes.now) place.old) }
     ensures err { OnErr result (place.new ≡ place.old) }
 {
     let Some(member) = place else {

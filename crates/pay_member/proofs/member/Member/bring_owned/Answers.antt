@@ -5,9 +5,9 @@ use Rattle.pay_link.specs.Checked.{CheckedFields, bytes_of}
 use Rattle.pay_member.specs.Events.{events}
 use Rattle.pay_member.specs.Member.{MemberFields}
 use Rattle.pay_member.specs.Bringing.{outcome_of, with_taken, with_brought}
-use Rattle.pay_member.proofs.Ledgers.{on_err}
+use Rattle.pay_member.proofs.Ledgers.{on_err_by}
 use Rattle.pay_member.proofs.Openings.{is_owned}
-use Rattle.pay_member.proofs.Bringings.{events_taken, some_taken, some_not_none}
+use Rattle.pay_member.proofs.Bringings.{events_taken, some_taken, event_opened}
 use Rattle.pay_member.proofs.Servings.{if_ok, if_ok_both}
 use Rattle.pay_member.proofs.member.Member.bring_owned.Goals as goal
 
@@ -39,6 +39,6 @@ returns-clause-events g c =
 
 pub returns-clause-memory : goal.returns-clause-memory
 returns-clause-memory g c =
-    let k = c.args.self.now.keys in
-    let is = is_owned c.one_frame_is.ensures.law c.owned.ensures.opens_again c.owned.ensures.one_frame k c.args.owned c.taken_is_kept.ensures.0 c.requires in
-    on_err c.take_mine.result (some_not_none k (bytes_of c.args.owned) c.args.owned.frame is.opened)
+    let m = c.args.self.now in
+    let is = is_owned c.one_frame_is.ensures.law c.owned.ensures.opens_again c.owned.ensures.one_frame m.keys c.args.owned c.taken_is_kept.ensures.0 c.requires in
+    on_err_by c.take_mine.result (event_opened m.keys (events m.history) (bytes_of c.args.owned) c.args.owned.frame is.opened) c.take_mine.ensures.memory

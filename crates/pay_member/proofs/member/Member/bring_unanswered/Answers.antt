@@ -6,9 +6,9 @@ use Rattle.pay_link.specs.Checked.{CheckedFields, checked_fields}
 use Rattle.pay_member.specs.Events.{events}
 use Rattle.pay_member.specs.Member.{MemberFields}
 use Rattle.pay_member.specs.Bringing.{IsOpening, outcome_of, with_taken, with_brought}
-use Rattle.pay_member.proofs.Ledgers.{on_err}
+use Rattle.pay_member.proofs.Ledgers.{on_err_by}
 use Rattle.pay_member.proofs.Openings.{HasOpened, none_opened, has_opened, some_opened, opened_checked, no_want_opened, opened_is_for}
-use Rattle.pay_member.proofs.Bringings.{events_taken, none_taken, some_taken, some_not_none}
+use Rattle.pay_member.proofs.Bringings.{events_taken, none_taken, some_taken, event_opened}
 use Rattle.pay_member.proofs.Servings.{if_ok, if_ok_both}
 use Rattle.pay_member.proofs.member.Member.bring_unanswered.Goals as goal
 
@@ -72,5 +72,6 @@ pub returns-in-Ok-clause-memory : goal.returns-in-Ok-clause-memory
 returns-in-Ok-clause-memory g c =
     let o = c.in-Ok.opened in
     let has = subst (λ (k : KeyFields). HasOpened k c.args.bytes.now o) c.keys.ensures.value (has_opened c.keys.result.now c.args.bytes.now o c.in-Ok.ensures.opening) in
-    let some = some_opened c.one_frame_is.ensures.law c.args.self.now.keys c.args.bytes.now o has in
-    on_err c.take_unanswered.result (some_not_none c.args.self.now.keys c.args.bytes.now o.frame some)
+    let m = c.args.self.now in
+    let some = some_opened c.one_frame_is.ensures.law m.keys c.args.bytes.now o has in
+    on_err_by c.take_unanswered.result (event_opened m.keys (events m.history) c.args.bytes.now o.frame some) c.take_unanswered.ensures.memory

@@ -1,10 +1,12 @@
-use Rattle.std.proofs.Common.{◌≡◌, ◌<◌, length, slice_get, Some, IfOk, OnErr, sym, ap, ◌∙◌, subst, arith, rules}
+use Rattle.std.proofs.Common.{◌≡◌, ◌<◌, length, slice_get, Some, option_and_then, IfOk, OnErr, sym, ap, ◌∙◌, subst, arith, rules}
 use Rattle.std.proofs.lemmas.Grind.{common_steps}
 use Rattle.std.proofs.lemmas.Option.{slice_get-get_or}
 use Rattle.pay_world.specs.declared.event.WorldEvent.TheVariants.{Ask}
 use Rattle.pay_world.specs.Setting.{HasFewFaulty}
-use Rattle.pay_world.specs.World.{WorldFields, setting_in}
-use Rattle.pay_world.specs.Answer.{Answers}
+use Rattle.pay_world.specs.declared.fault.WorldFault.TheVariants.{Memory}
+use Rattle.pay_world.specs.World.{WorldFields, member_in, setting_in}
+use Rattle.pay_world.specs.Answer.{Answers, IsTakenBy}
+use Rattle.pay_world.proofs.Forging.{on_fault}
 use Rattle.pay_world.proofs.WorldLemmas.{few_lie}
 use Rattle.pay_world.proofs.Answering.{with_place, ask_any}
 use Rattle.pay_world.proofs.world.World.ask.Goals as goal
@@ -42,3 +44,14 @@ returns-clause-err g c =
     let any = ask_any c.events_in_order.ensures.one_more c.correct_members_stand.ensures.deed w i c.args.value c.index_mut.result.now c.ask_place.new.place c.ask_place.result
     c.self.invariant few here c.ask_place.ensures.reply c.ask_place.ensures.after c.ask_place.ensures.err in
     subst (λ (x : WorldFields). OnErr c.ask_place.result (with_place w i c.ask_place.new.place ≡ x)) c.self.view_is any.err
+
+pub returns-clause-memory : goal.returns-clause-memory
+returns-clause-memory g c = λ lacks.
+    let w : WorldFields = record { genesis = c.self.inside.genesis; liars = c.self.inside.liars; members = c.self.inside.members.items; answered = c.self.inside.answered } in
+    let i = c.from-place.result in
+    let inside : i < length w.members = first_of (omega arith, grind (arith, common_steps), search rules) in
+    let here : slice_get w.members i ≡ Some c.index_mut.result.now = slice_get-get_or w.members i c.index_mut.result.now inside ∙ ap Some (sym c.index_mut.ensures.value) in
+    let taken : IsTakenBy (Ask i c.args.value) c.index_mut.result.now = on_fault c.ask_place.result Memory lacks c.ask_place.ensures.taken in
+    subst (λ (x : WorldFields). IsTakenBy (Ask c.args.member c.args.value) (member_in x c.args.member)) c.self.view_is
+    (subst (λ n. IsTakenBy (Ask n c.args.value) (member_in w n)) c.from-place.ensures
+    (subst (IsTakenBy (Ask i c.args.value)) (sym (ap (option_and_then (λ x. x)) here)) taken))

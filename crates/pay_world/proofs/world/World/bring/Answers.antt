@@ -1,10 +1,12 @@
-use Rattle.std.proofs.Common.{◌≡◌, ◌<◌, length, slice_get, Some, false, IfOk, OnErr, sym, ap, ◌∙◌, subst, arith, rules}
+use Rattle.std.proofs.Common.{◌≡◌, ◌<◌, length, slice_get, Some, option_and_then, false, IfOk, OnErr, sym, ap, ◌∙◌, subst, arith, rules}
 use Rattle.std.proofs.lemmas.Grind.{common_steps}
 use Rattle.std.proofs.lemmas.Option.{slice_get-get_or}
 use Rattle.pay_world.specs.declared.event.WorldEvent.TheVariants.{Bring}
 use Rattle.pay_world.specs.Setting.{HasFewFaulty}
-use Rattle.pay_world.specs.World.{WorldFields, setting_in}
-use Rattle.pay_world.specs.Answer.{Answers, is_forged_at}
+use Rattle.pay_world.specs.declared.fault.WorldFault.TheVariants.{Memory}
+use Rattle.pay_world.specs.World.{WorldFields, member_in, setting_in}
+use Rattle.pay_world.specs.Answer.{Answers, IsTakenBy, is_forged_at}
+use Rattle.pay_world.proofs.Forging.{on_fault}
 use Rattle.pay_world.proofs.WorldLemmas.{few_lie}
 use Rattle.pay_world.proofs.Answering.{with_place, bring_any}
 use Rattle.pay_world.proofs.world.World.bring.Goals as goal
@@ -51,3 +53,14 @@ returns-clause-err g c =
     let any = bring_any c.what_opens.ensures c.forged_is_told.ensures.forged c.correct_members_stand.ensures.deed w i c.args.bytes.now c.index_mut.result.now c.bring_place.new.place c.bring_place.result
     c.self.invariant few here unforged c.bring_place.ensures.reply c.bring_place.ensures.after c.bring_place.ensures.grown c.bring_place.ensures.err in
     subst (λ (x : WorldFields). OnErr c.bring_place.result (with_place w i c.bring_place.new.place ≡ x)) c.self.view_is any.err
+
+pub returns-clause-memory : goal.returns-clause-memory
+returns-clause-memory g c = λ lacks.
+    let w : WorldFields = record { genesis = c.self.inside.genesis; liars = c.self.inside.liars; members = c.self.inside.members.items; answered = c.self.inside.answered } in
+    let i = c.from-place.result in
+    let inside : i < length w.members = first_of (omega arith, grind (arith, common_steps), search rules) in
+    let here : slice_get w.members i ≡ Some c.index_mut.result.now = slice_get-get_or w.members i c.index_mut.result.now inside ∙ ap Some (sym c.index_mut.ensures.value) in
+    let taken : IsTakenBy (Bring i c.args.bytes.now) c.index_mut.result.now = on_fault c.bring_place.result Memory lacks c.bring_place.ensures.taken in
+    subst (λ (x : WorldFields). IsTakenBy (Bring c.args.member c.args.bytes.now) (member_in x c.args.member)) c.self.view_is
+    (subst (λ n. IsTakenBy (Bring n c.args.bytes.now) (member_in w n)) c.from-place.ensures
+    (subst (IsTakenBy (Bring i c.args.bytes.now)) (sym (ap (option_and_then (λ x. x)) here)) taken))
