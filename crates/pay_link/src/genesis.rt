@@ -112,6 +112,15 @@ impl Genesis {
         self.opening[usize::from(account)]
     }
 
+    /// Whether both say the same.
+    pub fn is_same(&self, other: &Genesis) -> bool
+        ensures { IsTrue result ↔ (self.now ≡ other.now) }
+    {
+        self.members == other.members
+            && self.faults == other.faults
+            && self.opening.as_slice() == other.opening.as_slice()
+    }
+
     /// An equal genesis.
     pub fn copy(&self, alloc: Global) -> Result<Genesis, AllocError>
         ensures { IfOk result (λ copy. copy ≡ self.now) }

@@ -123,6 +123,13 @@ impl Keys {
         Bytes::new(Vec::new(*self.keys.allocator()))
     }
 
+    /// Whether they are the same member's, and the same keys.
+    pub fn is_same(&self, other: &Keys) -> bool
+        ensures { IsTrue result ↔ (self.now ≡ other.now) }
+    {
+        self.own == other.own && are_same(self.keys.as_slice(), other.keys.as_slice())
+    }
+
     /// Equal keys.
     pub fn copy(&self, alloc: Global) -> Result<Keys, AllocError>
         ensures { IfOk result (λ copy. copy ≡ self.now) }
@@ -133,6 +140,26 @@ impl Keys {
             keys,
         })
     }
+}
+
+fn are_same(a: &[[u8; 32]], b: &[[u8; 32]]) -> bool
+    ensures { IsTrue result ↔ (a.now ≡ b.now) }
+{
+    if a.len() != b.len() {
+        return false;
+    }
+    for k in 0..a.len() {
+        if !is_same_key(&a[k], &b[k]) {
+            return false;
+        }
+    }
+    true
+}
+
+fn is_same_key(a: &[u8; 32], b: &[u8; 32]) -> bool
+    ensures { IsTrue result ↔ (a.now ≡ b.now) }
+{
+    a == b
 }
 
 /// The place of a member, where there is a key for each member of the genesis.

@@ -1,5 +1,6 @@
 ghost use Rattle.std.specs.Prelude.{◌≡◌, ◌+◌, ◌-◌, ◌*◌, ◌<◌, ℕ, [], Some, IfErr, IfOk, length, slice_get};
-ghost use Rattle.pay_net.specs.Running.{IsClosed, NamesPort};
+ghost use Rattle.pay_node.specs.Closing.{AllSettled};
+ghost use Rattle.pay_net.specs.Running.{IsClosed, NamesPort, node_of};
 
 use crate::accepting::{Answering, MOST_CONNECTIONS, accept_all};
 use crate::dialing::Dialer;
@@ -68,7 +69,7 @@ where
     Out: Output,
     requires fresh { member.history ≡ [] }
     requires ports { length ports.now ≡ length member.keys.keys }
-    ensures closed { IfOk result (IsClosed (length member.keys.keys)) }
+    ensures closed { IfOk result (IsClosed (node_of member)) }
     ensures port { IfErr result (λ fault. (port : ℕ) → NamesPort fault port
         → slice_get ports.now member.keys.own ≡ Some port) }
 {
@@ -86,7 +87,7 @@ where
     let seats = run_threads(
         rt, alloc, &node, tagger, ports, &listening, seats, reader, writer,
     )?;
-    closed(alloc, members, node, seats.as_slice())
+    closed(alloc, node, seats.as_slice())
 }
 
 // Runs the threads of a node until the input of its desk ends, and hands all seats back.
@@ -132,15 +133,14 @@ where
     Ok(gathered(alloc, seats)?)
 }
 
-// The member of a node in a group of so many that no thread calls any more, if it bears out all receipts.
+// The member of a node that no thread calls any more, if it is the node's own and bears out all receipts.
 fn closed<I: Instance + Drop, B: Settle + Drop>(
     alloc: Global,
-    members: u16,
     node: Node<I, B>,
     seats: &[Seat],
 ) -> Result<Member<I, B>, NodeFault>
-    requires { node.seats ≡ 2 * members - 1 }
-    ensures closed { IfOk result (IsClosed members) }
+    ensures settled { IfOk result (λ member. AllSettled member node.seats seats.now) }
+    ensures closed { IfOk result (IsClosed node) }
     ensures port { IfErr result (λ fault. (port : ℕ) → NamesPort fault port → ⊥) }
 {
     match node.stop().close(alloc, seats) {

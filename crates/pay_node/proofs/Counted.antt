@@ -10,14 +10,14 @@ use Rattle.pay_channel.specs.TakenLaws.{NextIsCount}
 use Rattle.pay_link.specs.Checked.{CheckedFields}
 use Rattle.pay_member.specs.Answer.{IsAnswer}
 use Rattle.pay_member.specs.declared.entry.HistoryEntry.{HistoryEntry}
-use Rattle.pay_member.specs.declared.event.Event.{Event}
-use Rattle.pay_member.specs.declared.event.Event.TheVariants.{Ask, Taken, Query}
+use Rattle.pay_member.specs.declared.event.Event.TheVariants.{Taken}
 use Rattle.pay_member.specs.declared.fault.MemberFault.{MemberFault}
-use Rattle.pay_member.specs.declared.reply.Reply.{Reply}
+use Rattle.pay_member.specs.declared.reply.Reply.TheVariants as reply
+use Rattle.pay_member.specs.declared.took.Took.{Took}
 use Rattle.pay_member.specs.Events.{channel_event, events}
 use Rattle.pay_member.specs.Member.{MemberFields, with_entry}
 use Rattle.pay_member.specs.Refusal.{refusal, is_for, turn_refusal}
-use Rattle.pay_node.specs.Nodes.{HasNext}
+use Rattle.pay_node.specs.Nodes.{taken}
 
 length-events : (history : List HistoryEntry) → length (events history) ≤ length history
 unfolding events
@@ -49,20 +49,16 @@ taken_in_turn m c is = go (cases_Bool (is_for m.keys c)) where
   go (inr other) = absurd (some_none _ (sym (cond-false _ _ _ other) ∙ is))
 
 pub has_next :
-    NextIsCount → (m now : MemberFields) (stamp : ℕ) (event : Event) (answer : Result Reply MemberFault) → IsAnswer m event answer
-    → IfOk answer (λ reply. now ≡ with_entry m (record { stamp = stamp; event = event; reply = reply }))
-    → length now.history < 2 ^ 64 → IfOk answer (λ _. HasNext event)
-has_next count m now stamp event (Err fault) is entry few = tt
-has_next count m now stamp event (Ok reply) is entry few = go event is.0 (length_push m.history (record { stamp = stamp; event = event; reply = reply })) (ap (λ (x : MemberFields). length x.history) entry) where
-  go : (e : Event) → refusal m.genesis m.keys (events m.history) e ≡ None
-      → length (m.history ++ (record { stamp = stamp; event = event; reply = reply }) ∷ []) ≡ length m.history + 1
-      → length now.history ≡ length (m.history ++ (record { stamp = stamp; event = event; reply = reply }) ∷ [])
-      → HasNext e
-  go (Ask v) none more same = tt
-  go (Query a) none more same = tt
-  go (Taken c) none more same =
-      let turn = taken_in_turn m c none in
-      let counted = count c.frame.from (events m.history) in
-      let few_from = count_by-le-length (is_from c.frame.from) (events m.history) in
-      let few_events = length-events m.history in
-      omega arith
+    NextIsCount → (m now : MemberFields) (stamp : ℕ) (c : CheckedFields) (answer : Result Took MemberFault) → IsAnswer m (Taken c) (taken answer)
+    → IfOk (taken answer) (λ reply. now ≡ with_entry m (record { stamp = stamp; event = Taken c; reply = reply }))
+    → length now.history < 2 ^ 64 → IfOk answer (λ _. c.frame.number + 1 < 2 ^ 64)
+has_next count m now stamp c (Err fault) is entry few = tt
+has_next count m now stamp c (Ok took) is entry few =
+    let e : HistoryEntry = record { stamp = stamp; event = Taken c; reply = reply.Took took } in
+    let turn = taken_in_turn m c is.0 in
+    let counted = count c.frame.from (events m.history) in
+    let few_from = count_by-le-length (is_from c.frame.from) (events m.history) in
+    let few_events = length-events m.history in
+    let more = length_push m.history e in
+    let same = ap (λ (x : MemberFields). length x.history) entry in
+    omega arith

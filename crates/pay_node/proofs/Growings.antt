@@ -4,13 +4,12 @@ use Rattle.std.proofs.Common.{◌≡◌, List, [], ◌∷◌, ◌++◌, Option, 
 use Rattle.pay_frame.specs.declared.engine_fault.EngineFault.{EngineFault}
 use Rattle.pay_frame.specs.declared.engine_fault.EngineFault.TheVariants.{Memory, Frame, Read, Write, Bound}
 use Rattle.pay_frame.specs.Frame.{FrameFields}
-use Rattle.pay_link.specs.Keys.{KeyFields}
 use Rattle.pay_link.specs.Opening.{OpenedFields, judgement}
 use Rattle.pay_member.specs.declared.brought.Brought.{Brought}
 use Rattle.pay_member.specs.declared.outcome.Outcome.{Outcome}
 use Rattle.pay_member.specs.Bringing.{judged}
 use Rattle.pay_node.specs.declared.receipt.Receipt.{Receipt}
-use Rattle.pay_node.specs.Nodes.{IsAnsweredAs}
+use Rattle.pay_node.specs.Nodes.{IsAnsweredAs, NodeFields}
 use Rattle.pay_node.specs.Seats.{SeatFields, with_receipts}
 use Rattle.pay_engine.specs.Handling.{Steps, Start}
 use Rattle.pay_node.specs.Feeding.{HasFed, feeding}
@@ -25,20 +24,20 @@ grows_on a b c one two = record {
 same_grows : (a b : SeatFields) → b ≡ a → Grows a b
 same_grows a b same = record { more = []; is = same ∙ ap (λ (l : List Receipt). record a { receipts = l }) (sym (append-nil a.receipts)) }
 
-answered_grows : (k : KeyFields) (before after : SeatFields) (r : Result OpenedFields Outcome) (b : Brought) → IsAnsweredAs k before after r b → Grows before after
-answered_grows k before after (Ok opened) b is = record { more = _; is = is.answered.receipt }
-answered_grows k before after (Err o) b is = same_grows before after is.2
+answered_grows : (n : NodeFields) (before after : SeatFields) (r : Result OpenedFields Outcome) (b : Brought) → IsAnsweredAs n before after r b → Grows before after
+answered_grows n before after (Ok opened) b is = record { more = _; is = is.answered.receipt }
+answered_grows n before after (Err o) b is = same_grows before after is.2
 
-fed_grows : (k : KeyFields) (before after : SeatFields) (fs : List FrameFields) (text : List ℕ) → Steps (feeding k) before after fs text → Grows before after
-fed_grows k before after [] text are = same_grows before after are.0
-fed_grows k before after (f ∷ fs) text are =
-    grows_on before are.0 after (answered_grows k before are.0 (judged (judgement k f)) are.3.brought are.3.is) (fed_grows k are.0 after fs are.2 are.4)
+fed_grows : (n : NodeFields) (before after : SeatFields) (fs : List FrameFields) (text : List ℕ) → Steps (feeding n) before after fs text → Grows before after
+fed_grows n before after [] text are = same_grows before after are.0
+fed_grows n before after (f ∷ fs) text are =
+    grows_on before are.0 after (answered_grows n before are.0 (judged (judgement n.keys f)) are.3.brought are.3.is) (fed_grows n are.0 after fs are.2 are.4)
 
-pub run_grows : (k : KeyFields) (start : Start SeatFields) (seat : SeatFields) (left after : Option (List ℕ)) (r : Result ⊤ EngineFault) → HasFed k start seat left after r → Grows start.state seat
-run_grows k start seat left after (Ok _) (inl is) = fed_grows k start.state seat is.0.frames is.0.text is.0.handled
-run_grows k start seat left after (Ok _) (inr is) = absurd is.stopped
-run_grows k start seat left after (Err (Frame fault)) is = fed_grows k start.state seat is.frames is.text is.handled
-run_grows k start seat left after (Err Memory) is = fed_grows k start.state seat is.frames is.text is.handled
-run_grows k start seat left after (Err Read) is = fed_grows k start.state seat is.1.1.frames is.1.1.text is.1.1.handled
-run_grows k start seat left after (Err Write) is = fed_grows k start.state seat is.frames is.text is.handled
-run_grows k start seat left after (Err Bound) is = fed_grows k start.state seat is.1.frames is.1.text is.1.handled
+pub run_grows : (n : NodeFields) (start : Start SeatFields) (seat : SeatFields) (left after : Option (List ℕ)) (r : Result ⊤ EngineFault) → HasFed n start seat left after r → Grows start.state seat
+run_grows n start seat left after (Ok _) (inl is) = fed_grows n start.state seat is.0.frames is.0.text is.0.handled
+run_grows n start seat left after (Ok _) (inr is) = absurd is.stopped
+run_grows n start seat left after (Err (Frame fault)) is = fed_grows n start.state seat is.frames is.text is.handled
+run_grows n start seat left after (Err Memory) is = fed_grows n start.state seat is.frames is.text is.handled
+run_grows n start seat left after (Err Read) is = fed_grows n start.state seat is.1.1.frames is.1.1.text is.1.1.handled
+run_grows n start seat left after (Err Write) is = fed_grows n start.state seat is.frames is.text is.handled
+run_grows n start seat left after (Err Bound) is = fed_grows n start.state seat is.1.frames is.1.text is.1.handled

@@ -1,5 +1,5 @@
 -- What the WANT of a peer is answered.
-use Rattle.std.specs.Prelude.{◌≡◌, ◌⊎◌, ℕ, List, [], slice_get, Option, Some, Result, Err, ⊤}
+use Rattle.std.specs.Prelude.{◌≡◌, ◌⊎◌, ℕ, List, [], ◌∷◌, slice_get, Option, Some, Result, Err, ⊤}
 use Rattle.std.specs.List.{Any}
 use Rattle.pay_frame.specs.declared.engine_fault.EngineFault.{EngineFault}
 use Rattle.pay_frame.specs.Frame.{BodyFields, FrameFields, frame_bytes}
@@ -11,21 +11,30 @@ use Rattle.pay_member.specs.declared.outcome.Outcome.TheVariants.{Wanted}
 use Rattle.pay_member.specs.Bringing.{judged}
 use Rattle.pay_member.specs.Events.{events}
 use Rattle.pay_member.specs.Group.{group_in}
-use Rattle.pay_member.specs.Legal.{Legal}
 use Rattle.pay_member.specs.Member.{MemberFields}
 use Rattle.pay_engine.specs.Handling.{Handling, HasHandled}
+use Rattle.pay_node.specs.declared.question.Question.TheVariants as question
+use Rattle.pay_node.specs.declared.shown.Shown.TheVariants as shown
+use Rattle.pay_node.specs.Nodes.{IsShown, NodeFields}
+use Rattle.pay_node.specs.Seats.{SeatFields}
 
 -- all bodies that a member sent to all, oldest first
 abbrev pub sent_by : MemberFields → List BodyFields
 sent_by m = out (group_in m.genesis m.keys.own) (events m.history)
 
--- The frame to a peer with the body that stands at this place of all that a member with some legal history sent.
-pub record IsSentTo (k : KeyFields) (to number : ℕ) (bytes : List ℕ) : Type 0 where
-  pub member : MemberFields
-  pub legal : Legal member.genesis member.keys member.history
+-- The frame to a peer with the body that stands at this place of all that the node's member sent, as it was shown at
+-- a seat, which has the receipt.
+pub record IsSentFrom (n : NodeFields) (to number : ℕ) (before after : SeatFields) (bytes : List ℕ) : Type 0 where
   pub body : BodyFields
-  pub place : slice_get (sent_by member) number ≡ Some body
-  pub is : bytes ≡ frame_bytes (sealed k to number body)
+  pub told : IsShown n before after (question.Sent number 1) (shown.Sent (body ∷ []))
+  pub place : slice_get (sent_by told.member) number ≡ Some body
+  pub is : bytes ≡ frame_bytes (sealed n.keys to number body)
+
+-- so from some seat
+pub record IsSentTo (n : NodeFields) (to number : ℕ) (bytes : List ℕ) : Type 0 where
+  pub before : SeatFields
+  pub after : SeatFields
+  pub is : IsSentFrom n to number before after bytes
 
 -- The frame is a WANT that opens, of a peer which has a seat among these.
 pub record IsWant {X : Type 0} (k : KeyFields) (seats : List (ℕ × X)) (f : FrameFields) (from number : ℕ) : Type 0 where
@@ -33,29 +42,29 @@ pub record IsWant {X : Type 0} (k : KeyFields) (seats : List (ℕ × X)) (f : Fr
   pub seated : Any (λ s. s.0 ≡ from) seats
 
 -- the frame that such a WANT asks for
-pub record IsReplyTo {X : Type 0} (k : KeyFields) (seats : List (ℕ × X)) (f : FrameFields) (bytes : List ℕ) : Type 0 where
+pub record IsReplyTo {X : Type 0} (n : NodeFields) (seats : List (ℕ × X)) (f : FrameFields) (bytes : List ℕ) : Type 0 where
   pub from : ℕ
   pub number : ℕ
-  pub want : IsWant k seats f from number
-  pub sent : IsSentTo k from number bytes
+  pub want : IsWant n.keys seats f from number
+  pub sent : IsSentTo n from number bytes
 
 -- ---- one connection
 
 -- What is written of a frame: the frame that it asks for, or nothing where it is no such WANT. The
 -- stream may be left behind such a WANT, with no reply to it.
-abbrev pub answering : {X : Type 0} → KeyFields → List (ℕ × X) → Handling ⊤
-answering k seats = record {
+abbrev pub answering : {X : Type 0} → NodeFields → List (ℕ × X) → Handling ⊤
+answering n seats = record {
   step = λ before after f text.
-      IsReplyTo k seats f text
-      ⊎ (((from number : ℕ) → ¬ (IsWant k seats f from number)) × (text ≡ []));
-  may_stop = λ s f. (from : ℕ) × (number : ℕ) × IsWant k seats f from number;
+      IsReplyTo n seats f text
+      ⊎ (((from number : ℕ) → ¬ (IsWant n.keys seats f from number)) × (text ≡ []));
+  may_stop = λ s f. (from : ℕ) × (number : ℕ) × IsWant n.keys seats f from number;
   fault_text = λ s fault. [];
 }
 
 -- The frames are replied to, one after the other, and the replies written behind what was.
 abbrev pub HasAnswered :
-    {X : Type 0} → KeyFields → List (ℕ × X) → Option (List ℕ) → Option (List ℕ)
+    {X : Type 0} → NodeFields → List (ℕ × X) → Option (List ℕ) → Option (List ℕ)
     → Option (List ℕ) → Option (List ℕ) → Result ⊤ EngineFault → Type 0
-HasAnswered k seats input left before after =
-    HasHandled (answering k seats)
+HasAnswered n seats input left before after =
+    HasHandled (answering n seats)
     (record { first = []; state = tt; input = input; before = before }) tt left after

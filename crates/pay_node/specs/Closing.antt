@@ -1,9 +1,10 @@
 -- When all seats of a node agree with its member's history.
-use Rattle.std.specs.Prelude.{◌≡◌, ◌≢◌, ℕ, ◌<◌, ◌≤◌, ◌==◌, ◌&&◌, nat_le, nat_lt, Bool, true, false, if◌then◌else◌, List, [], ◌∷◌, Option, Some, None, ⊤}
+use Rattle.std.specs.Prelude.{◌≡◌, ◌≢◌, ◌⊎◌, ℕ, ◌<◌, ◌≤◌, ◌==◌, ◌&&◌, nat_le, nat_lt, Bool, true, false, if◌then◌else◌, List, [], ◌∷◌, Option, Some, None, ⊤}
 use Rattle.std.specs.List.{All, filter}
 use Rattle.pay_member.specs.Member.{MemberFields}
 use Rattle.pay_node.specs.declared.close_fault.CloseFault.{CloseFault}
 use Rattle.pay_node.specs.declared.close_fault.CloseFault.TheVariants.{Memory, Mismatch}
+use Rattle.pay_node.specs.Nodes.{IsOwn, NodeFields}
 use Rattle.pay_node.specs.Seats.{SeatFields, Right}
 
 abbrev pub seats_with : ℕ → List SeatFields → List SeatFields
@@ -38,10 +39,12 @@ abbrev pub IsVerdict : MemberFields → ℕ → List SeatFields → Option ℕ �
 IsVerdict m count seats None = AllSettled m count seats
 IsVerdict m count seats (Some stamp) = IsLeastWrong m count seats stamp
 
--- why a node isn't closed; of refused memory nothing is said
-abbrev pub IsFault : MemberFields → ℕ → List SeatFields → CloseFault → Type 0
-IsFault m count seats Memory = ⊤
-IsFault m count seats (Mismatch stamp) = IsLeastWrong m count seats stamp
+-- Why a node isn't closed: the member isn't its own, so that the very first stamp is wrong, or it is and this stamp is
+-- the least that isn't settled. Of refused memory nothing is said.
+abbrev pub IsFault : NodeFields → MemberFields → List SeatFields → CloseFault → Type 0
+IsFault n m seats Memory = ⊤
+IsFault n m seats (Mismatch stamp) =
+    (¬ (IsOwn n m) × (stamp ≡ 0)) ⊎ (IsOwn n m × IsLeastWrong m n.seats seats stamp)
 
 -- ---- how the judge finds it
 

@@ -9,7 +9,7 @@ use Rattle.pay_member.specs.declared.brought.Brought.{Brought}
 use Rattle.pay_member.specs.Bringing.{judged}
 use Rattle.pay_member.specs.Serving.{bytes_of}
 use Rattle.pay_engine.specs.Handling.{Handling, HasHandled, Start, never}
-use Rattle.pay_node.specs.Nodes.{IsAnsweredAs}
+use Rattle.pay_node.specs.Nodes.{IsAnsweredAs, NodeFields}
 use Rattle.pay_node.specs.Seats.{SeatFields}
 
 -- the WANT to a peer for all that it sent
@@ -17,18 +17,18 @@ unfoldable pub want_for_all : KeyFields → ℕ → List ℕ
 want_for_all k peer = frame_bytes (wanted k peer 0)
 
 -- a frame was brought from a seat, and this is the WANT of the answer, if there is one
-pub record IsFed (k : KeyFields) (before after : SeatFields) (f : FrameFields) (text : List ℕ) : Type 0 where
+pub record IsFed (n : NodeFields) (before after : SeatFields) (f : FrameFields) (text : List ℕ) : Type 0 where
   pub brought : Brought
-  pub is : IsAnsweredAs k before after (judged (judgement k f)) brought
+  pub is : IsAnsweredAs n before after (judged (judgement n.keys f)) brought
   pub want : text ≡ bytes_of brought.want
 
 -- each frame is brought, and its WANT written; no frame ends it, and a fault has no text
-abbrev pub feeding : KeyFields → Handling SeatFields
-feeding k = record { step = IsFed k; may_stop = never; fault_text = λ s fault. [] }
+abbrev pub feeding : NodeFields → Handling SeatFields
+feeding n = record { step = IsFed n; may_stop = never; fault_text = λ s fault. [] }
 
 -- The frames were brought one after the other, and the WANTs written. It ends at the input's end
 -- alone.
 abbrev pub HasFed :
-    KeyFields → Start SeatFields → SeatFields → Option (List ℕ) → Option (List ℕ)
+    NodeFields → Start SeatFields → SeatFields → Option (List ℕ) → Option (List ℕ)
     → Result ⊤ EngineFault → Type 0
-HasFed k = HasHandled (feeding k)
+HasFed n = HasHandled (feeding n)

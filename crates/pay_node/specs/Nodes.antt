@@ -1,6 +1,7 @@
 -- What a node's calls answer, and what they leave at their seat.
-use Rattle.std.specs.Prelude.{◌≡◌, ℕ, ◌+◌, ◌<◌, ◌^◌, List, [], length, slice_get, Option, Some, None, Result, Ok, Err, ⊤}
+use Rattle.std.specs.Prelude.{◌≡◌, ℕ, ◌+◌, ◌<◌, List, [], length, slice_get, Option, Some, None, Result, Ok, Err, ⊤}
 use Rattle.pay_frame.specs.Frame.{FrameFields, frame_bytes}
+use Rattle.pay_link.specs.Genesis.{GenesisFields}
 use Rattle.pay_link.specs.Keys.{KeyFields}
 use Rattle.pay_link.specs.Checked.{checked_fields}
 use Rattle.pay_link.specs.Opening.{OpenedFields}
@@ -8,7 +9,7 @@ use Rattle.pay_link.specs.Sealing.{wanted}
 use Rattle.pay_link.specs.declared.link_fault.LinkFault.TheVariants as link
 use Rattle.pay_member.specs.declared.brought.Brought.{Brought}
 use Rattle.pay_member.specs.declared.event.Event.{Event}
-use Rattle.pay_member.specs.declared.event.Event.TheVariants.{Ask, Taken, Query}
+use Rattle.pay_member.specs.declared.event.Event.TheVariants.{Taken}
 use Rattle.pay_member.specs.declared.fault.MemberFault.{MemberFault}
 use Rattle.pay_member.specs.declared.fault.MemberFault.TheVariants.{Memory, Spent, TooLong, Repeat, Gap, WrongKey, NoAccount}
 use Rattle.pay_member.specs.declared.outcome.Outcome.{Outcome}
@@ -26,8 +27,10 @@ use Rattle.pay_node.specs.declared.shown.Shown.{Shown}
 use Rattle.pay_node.specs.Receipts.{HadMemory, shown_of, receipts_of, reading_receipt}
 use Rattle.pay_node.specs.Seats.{SeatFields, with_receipts}
 
--- What is known of a node without its lock: the keys with which it opens frames, and how many seats it has.
+-- What is known of a node without its lock: its group's genesis, the keys with which it opens frames, and how many
+-- seats it has.
 pub record NodeFields : Type 0 where
+  pub genesis : GenesisFields
   pub keys : KeyFields
   pub seats : ℕ
 
@@ -35,6 +38,11 @@ pub record NodeFields : Type 0 where
 pub record StoppedFields : Type 0 where
   pub member : MemberFields
   pub node : NodeFields
+
+-- a member of the node's group, with the node's keys
+pub record IsOwn (n : NodeFields) (m : MemberFields) : Type 0 where
+  pub genesis : m.genesis ≡ n.genesis
+  pub keys : m.keys ≡ n.keys
 
 -- a seat from which nothing was called
 abbrev pub fresh_seat : ℕ → SeatFields
@@ -47,16 +55,18 @@ pub record AreFresh (count : ℕ) (seats : List SeatFields) : Type 0 where
 
 -- ---- answers
 
--- A member with some legal history answers so to the event, and the seat has the receipt.
-pub record IsAnswered (before after : SeatFields) (event : Event) (answer : Result Reply MemberFault) : Type 0 where
+-- The node's member, with some legal history, answers so to the event, and the seat has the receipt.
+pub record IsAnswered (n : NodeFields) (before after : SeatFields) (event : Event) (answer : Result Reply MemberFault) : Type 0 where
   pub member : MemberFields
+  pub own : IsOwn n member
   pub legal : Legal member.genesis member.keys member.history
   pub is : IsAnswer member event answer
   pub receipt : after ≡ with_receipts before (receipts_of (length member.history) event answer)
 
--- A member with some legal history shows this, and the seat has the receipt.
-pub record IsShown (before after : SeatFields) (question : Question) (shown : Shown) : Type 0 where
+-- The node's member, with some legal history, shows this, and the seat has the receipt.
+pub record IsShown (n : NodeFields) (before after : SeatFields) (question : Question) (shown : Shown) : Type 0 where
   pub member : MemberFields
+  pub own : IsOwn n member
   pub legal : Legal member.genesis member.keys member.history
   pub is : shown ≡ shown_of member question
   pub receipt : after ≡ with_receipts before (reading_receipt (length member.history) question shown)
@@ -72,12 +82,6 @@ taken (Err fault) = Err fault
 abbrev pub told : Result Told MemberFault → Result Reply MemberFault
 told (Ok state) = Ok (reply.Told state)
 told (Err fault) = Err fault
-
--- a frame's number can be counted on from
-abbrev pub HasNext : Event → Type 0
-HasNext (Ask v) = ⊤
-HasNext (Taken c) = c.frame.number + 1 < 2 ^ 64
-HasNext (Query a) = ⊤
 
 -- ---- what is brought
 
@@ -104,20 +108,20 @@ want_of k f (Err TooLong) = None
 want_of k f (Err NoAccount) = None
 
 -- A frame that opened was handed to the member, whose answer this is; that memory was refused is no answer.
-pub record IsTaken (k : KeyFields) (before after : SeatFields) (opened : OpenedFields) (b : Brought) : Type 0 where
+pub record IsTaken (n : NodeFields) (before after : SeatFields) (opened : OpenedFields) (b : Brought) : Type 0 where
   pub answer : Result Took MemberFault
   pub memory : HadMemory answer
-  pub answered : IsAnswered before after (Taken (checked_fields opened)) (taken answer)
+  pub answered : IsAnswered n before after (Taken (checked_fields opened)) (taken answer)
   pub outcome : b.outcome ≡ outcome_of answer
-  pub want : b.want ≡ want_of k opened.frame answer
+  pub want : b.want ≡ want_of n.keys opened.frame answer
 
 -- what doesn't open, or is a WANT, is answered at once and leaves no receipt
-abbrev pub IsAnsweredAs : KeyFields → SeatFields → SeatFields → Result OpenedFields Outcome → Brought → Type 0
-IsAnsweredAs k before after (Ok opened) b = IsTaken k before after opened b
-IsAnsweredAs k before after (Err o) b = (b.outcome ≡ o) × (b.want ≡ None) × (after ≡ before)
+abbrev pub IsAnsweredAs : NodeFields → SeatFields → SeatFields → Result OpenedFields Outcome → Brought → Type 0
+IsAnsweredAs n before after (Ok opened) b = IsTaken n before after opened b
+IsAnsweredAs n before after (Err o) b = (b.outcome ≡ o) × (b.want ≡ None) × (after ≡ before)
 
 -- bytes by the one reading that they have
-pub record IsBrought (k : KeyFields) (bytes : List ℕ) (before after : SeatFields) (b : Brought) : Type 0 where
+pub record IsBrought (n : NodeFields) (bytes : List ℕ) (before after : SeatFields) (b : Brought) : Type 0 where
   pub opened : Result OpenedFields Outcome
-  pub opening : IsOpening k bytes opened
-  pub is : IsAnsweredAs k before after opened b
+  pub opening : IsOpening n.keys bytes opened
+  pub is : IsAnsweredAs n before after opened b

@@ -11,55 +11,56 @@ use Rattle.pay_node.specs.declared.receipt.Call.{Call}
 use Rattle.pay_node.specs.declared.receipt.Call.TheVariants.{Handed, Read}
 use Rattle.pay_node.specs.declared.receipt.Receipt.{Receipt}
 use Rattle.pay_node.specs.declared.shown.Shown.TheVariants as shown
-use Rattle.pay_node.specs.Nodes.{IsAnswered, IsShown}
+use Rattle.pay_node.specs.Nodes.{IsAnswered, IsShown, NodeFields}
 use Rattle.pay_node.specs.Seats.{SeatFields}
 
--- What a seat is told of a desk's call: a member with some legal history answers so, and the seat has the receipt.
-abbrev pub SeatSays : SeatFields → desk.Call → desk.Reply → SeatFields → Type 0
-SeatSays old (desk.Ask value) (desk.Asked seq) new = IsAnswered old new (event.Ask value) (Ok (reply.Asked seq))
-SeatSays old (desk.Ask value) (desk.Refused teller.Spent) new = IsAnswered old new (event.Ask value) (Err fault.Spent)
-SeatSays old (desk.Ask value) (desk.Refused teller.Memory) new = ⊥
-SeatSays old (desk.Ask value) (desk.Refused teller.NoAccount) new = ⊥
-SeatSays old (desk.Ask value) (desk.Queried told) new = ⊥
-SeatSays old (desk.Ask value) (desk.Stood state) new = ⊥
-SeatSays old (desk.Ask value) (desk.Stated lines balance) new = ⊥
-SeatSays old (desk.Ask value) (desk.Settled fronts) new = ⊥
-SeatSays old (desk.Query account) (desk.Queried told) new = IsAnswered old new (event.Query account) (Ok (reply.Told told))
-SeatSays old (desk.Query account) (desk.Refused teller.NoAccount) new =
-    IsAnswered old new (event.Query account) (Err fault.NoAccount)
-SeatSays old (desk.Query account) (desk.Refused teller.Memory) new = ⊥
-SeatSays old (desk.Query account) (desk.Refused teller.Spent) new = ⊥
-SeatSays old (desk.Query account) (desk.Asked seq) new = ⊥
-SeatSays old (desk.Query account) (desk.Stood state) new = ⊥
-SeatSays old (desk.Query account) (desk.Stated lines balance) new = ⊥
-SeatSays old (desk.Query account) (desk.Settled fronts) new = ⊥
-SeatSays old (desk.State owner seq) (desk.Stood state) new =
-    IsShown old new (question.State owner seq) (shown.State (Ok state))
-SeatSays old (desk.State owner seq) (desk.Refused teller.NoAccount) new =
-    IsShown old new (question.State owner seq) (shown.State (Err fault.NoAccount))
-SeatSays old (desk.State owner seq) (desk.Refused teller.Memory) new = ⊥
-SeatSays old (desk.State owner seq) (desk.Refused teller.Spent) new = ⊥
-SeatSays old (desk.State owner seq) (desk.Asked number) new = ⊥
-SeatSays old (desk.State owner seq) (desk.Queried told) new = ⊥
-SeatSays old (desk.State owner seq) (desk.Stated lines balance) new = ⊥
-SeatSays old (desk.State owner seq) (desk.Settled fronts) new = ⊥
-SeatSays old (desk.Statement account) (desk.Stated lines balance) new =
-    IsShown old new (question.Statement account)
+-- What a seat is told of a desk's call: the node's member, with some legal history, answers so, and the seat has the
+-- receipt.
+abbrev pub SeatSays : NodeFields → SeatFields → desk.Call → desk.Reply → SeatFields → Type 0
+SeatSays n old (desk.Ask value) (desk.Asked seq) new = IsAnswered n old new (event.Ask value) (Ok (reply.Asked seq))
+SeatSays n old (desk.Ask value) (desk.Refused teller.Spent) new = IsAnswered n old new (event.Ask value) (Err fault.Spent)
+SeatSays n old (desk.Ask value) (desk.Refused teller.Memory) new = ⊥
+SeatSays n old (desk.Ask value) (desk.Refused teller.NoAccount) new = ⊥
+SeatSays n old (desk.Ask value) (desk.Queried told) new = ⊥
+SeatSays n old (desk.Ask value) (desk.Stood state) new = ⊥
+SeatSays n old (desk.Ask value) (desk.Stated lines balance) new = ⊥
+SeatSays n old (desk.Ask value) (desk.Settled fronts) new = ⊥
+SeatSays n old (desk.Query account) (desk.Queried told) new = IsAnswered n old new (event.Query account) (Ok (reply.Told told))
+SeatSays n old (desk.Query account) (desk.Refused teller.NoAccount) new =
+    IsAnswered n old new (event.Query account) (Err fault.NoAccount)
+SeatSays n old (desk.Query account) (desk.Refused teller.Memory) new = ⊥
+SeatSays n old (desk.Query account) (desk.Refused teller.Spent) new = ⊥
+SeatSays n old (desk.Query account) (desk.Asked seq) new = ⊥
+SeatSays n old (desk.Query account) (desk.Stood state) new = ⊥
+SeatSays n old (desk.Query account) (desk.Stated lines balance) new = ⊥
+SeatSays n old (desk.Query account) (desk.Settled fronts) new = ⊥
+SeatSays n old (desk.State owner seq) (desk.Stood state) new =
+    IsShown n old new (question.State owner seq) (shown.State (Ok state))
+SeatSays n old (desk.State owner seq) (desk.Refused teller.NoAccount) new =
+    IsShown n old new (question.State owner seq) (shown.State (Err fault.NoAccount))
+SeatSays n old (desk.State owner seq) (desk.Refused teller.Memory) new = ⊥
+SeatSays n old (desk.State owner seq) (desk.Refused teller.Spent) new = ⊥
+SeatSays n old (desk.State owner seq) (desk.Asked number) new = ⊥
+SeatSays n old (desk.State owner seq) (desk.Queried told) new = ⊥
+SeatSays n old (desk.State owner seq) (desk.Stated lines balance) new = ⊥
+SeatSays n old (desk.State owner seq) (desk.Settled fronts) new = ⊥
+SeatSays n old (desk.Statement account) (desk.Stated lines balance) new =
+    IsShown n old new (question.Statement account)
     (shown.Statement (Ok (record { lines = lines; balance = balance })))
-SeatSays old (desk.Statement account) (desk.Refused teller.NoAccount) new =
-    IsShown old new (question.Statement account) (shown.Statement (Err fault.NoAccount))
-SeatSays old (desk.Statement account) (desk.Refused teller.Memory) new = ⊥
-SeatSays old (desk.Statement account) (desk.Refused teller.Spent) new = ⊥
-SeatSays old (desk.Statement account) (desk.Asked seq) new = ⊥
-SeatSays old (desk.Statement account) (desk.Queried told) new = ⊥
-SeatSays old (desk.Statement account) (desk.Stood state) new = ⊥
-SeatSays old (desk.Statement account) (desk.Settled fronts) new = ⊥
-SeatSays old desk.Fronts (desk.Settled fronts) new = IsShown old new question.Fronts (shown.Fronts fronts)
-SeatSays old desk.Fronts (desk.Refused fault) new = ⊥
-SeatSays old desk.Fronts (desk.Asked seq) new = ⊥
-SeatSays old desk.Fronts (desk.Queried told) new = ⊥
-SeatSays old desk.Fronts (desk.Stood state) new = ⊥
-SeatSays old desk.Fronts (desk.Stated lines balance) new = ⊥
+SeatSays n old (desk.Statement account) (desk.Refused teller.NoAccount) new =
+    IsShown n old new (question.Statement account) (shown.Statement (Err fault.NoAccount))
+SeatSays n old (desk.Statement account) (desk.Refused teller.Memory) new = ⊥
+SeatSays n old (desk.Statement account) (desk.Refused teller.Spent) new = ⊥
+SeatSays n old (desk.Statement account) (desk.Asked seq) new = ⊥
+SeatSays n old (desk.Statement account) (desk.Queried told) new = ⊥
+SeatSays n old (desk.Statement account) (desk.Stood state) new = ⊥
+SeatSays n old (desk.Statement account) (desk.Settled fronts) new = ⊥
+SeatSays n old desk.Fronts (desk.Settled fronts) new = IsShown n old new question.Fronts (shown.Fronts fronts)
+SeatSays n old desk.Fronts (desk.Refused fault) new = ⊥
+SeatSays n old desk.Fronts (desk.Asked seq) new = ⊥
+SeatSays n old desk.Fronts (desk.Queried told) new = ⊥
+SeatSays n old desk.Fronts (desk.Stood state) new = ⊥
+SeatSays n old desk.Fronts (desk.Stated lines balance) new = ⊥
 
 -- the value that a call broadcast, if it did
 abbrev pub value_told : Call → Option (List ℕ)

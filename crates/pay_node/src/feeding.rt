@@ -34,7 +34,7 @@ where
     T: Tagger,
     G: Gate,
 {
-    ghost handling = { λ f. feeding f.node.now.keys };
+    ghost handling = { λ f. feeding f.node.now };
 
     ghost has_room = { λ _ _ _. Unit {0} };
 
@@ -95,7 +95,7 @@ where
     In: Input,
     Out: Output,
     requires { IsPeer node.now.keys peer }
-    ensures fed { HasFed node.now.keys
+    ensures fed { HasFed node.now
         (record {
           first = want_for_all node.now.keys peer;
           state = seat.old;

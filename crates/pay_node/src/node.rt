@@ -1,35 +1,37 @@
-ghost use Rattle.std.specs.Prelude.{◌≡◌, ◌≢◌, ◌+◌, ◌<◌, ◌≤◌, ◌^◌, [], IfOk, IfErr, IfSome, OnErr};
+ghost use Rattle.std.specs.Prelude.{◌≡◌, ◌≢◌, ◌↔◌, ◌+◌, ◌<◌, ◌≤◌, ◌^◌, Ok, [], IfOk, IfErr, IfSome, IsTrue, OnErr};
 ghost use Rattle.pay_frame.specs.Lent.{fields_of};
 ghost use Rattle.pay_link.specs.Keys.{IsPeer};
-ghost use Rattle.pay_link.specs.Opening.{judgement};
-ghost use Rattle.pay_member.specs.Bringing.{judged};
+ghost use Rattle.pay_link.specs.Opening.{OpenedFields, judgement};
+ghost use Rattle.pay_member.specs.declared.event.Event.TheVariants.{Ask, Query, Taken};
+ghost use Rattle.pay_member.specs.Bringing.{IsOpening, judged};
 ghost use Rattle.pay_member.specs.Legal.{Legal};
-ghost use Rattle.pay_node.specs.Answering.{IsReplyTo, IsSentTo};
+ghost use Rattle.std.specs.Sync.Mutex.{mutex_guard_value};
+ghost use Rattle.pay_node.specs.Answering.{IsSentFrom, IsSentTo};
 ghost use Rattle.pay_node.specs.Closing.{AllSettled, IsFault};
 ghost use Rattle.pay_node.specs.Receipts.{HadMemory, LackedMemory};
-ghost use Rattle.pay_node.specs.Nodes.{AreFresh, HasNext, IsAnswered, IsAnsweredAs, IsBrought, IsShown, IsTaken, asked, outcome_of, taken, told, want_of};
+ghost use Rattle.pay_node.specs.Nodes.{AreFresh, IsAnswered, IsAnsweredAs, IsBrought, IsOwn, IsShown, IsTaken, asked, outcome_of, taken, told, want_of};
 
 use crate::close_fault::CloseFault;
-use crate::gate::{Gate, OpenGate};
+use crate::gate::Gate;
 use crate::question::Question;
 use crate::seat::Seat;
-use crate::shown::{Shown, Statement};
+use crate::showing::{copy_of_statement, state_of, statement_of};
+use crate::shown::{Bodies, Fronts, Shown, Statement};
 use crate::stopped::Stopped;
-use crate::wanted::{Wanted, open_want};
+use crate::wanted::Wanted;
 use pay_book::Settle;
 use pay_channel::laws::taken_in_order;
 use pay_echo::Instance;
 use pay_frame::{Body, Bytes, FrameRef, Kind};
 use pay_hmac::Tagger;
-use pay_link::{Checked, Keys, LinkFault, Opened, seal, want};
+use pay_link::{Checked, Genesis, Keys, LinkFault, Opened, seal, want};
 use pay_member::{
-    Brought, Event, Member, MemberFault, Outcome, PaymentState, Reply, Told, Took, open_bytes,
-    open_frame,
+    Brought, Member, MemberFault, Outcome, PaymentState, Told, Took, open_bytes, open_frame,
 };
 use std::alloc::{AllocError, Global};
 use std::marker::Model;
 use std::sync::atomic::{AtomicBool, Ordering};
-use std::sync::{Condvar, Mutex, Wait};
+use std::sync::{Condvar, Mutex, MutexGuard, Wait};
 
 /// How many seats a node has at most.
 pub const MOST_SEATS: u16 = 256;
@@ -37,11 +39,12 @@ pub const MOST_SEATS: u16 = 256;
 /// One member that many threads call, each from a seat of its own.
 ///
 /// A call locks the member for one event or one reading. Bytes are read, opened and answered outside of the lock,
-/// with the node's own keys.
+/// with the node's own keys. Whatever is answered is answered by a member of the node's own group that has its keys.
 #[derive(Drop)]
 pub struct Node<I: Instance + Drop, B: Settle + Drop> {
     member: Mutex<Member<I, B>>,
     changed: Condvar,
+    genesis: Genesis,
     keys: Keys,
     seats: u16,
 }
@@ -54,7 +57,7 @@ impl<I: Instance + Drop, B: Settle + Drop> Model for Node<I, B> {
 
     ghost Value = { NodeFields };
 
-    ghost view = { λ n. record { keys = n.keys; seats = n.seats } };
+    ghost view = { λ n. record { genesis = n.genesis; keys = n.keys; seats = n.seats } };
 }
 
 impl<I: Instance + Drop, B: Settle + Drop> Node<I, B> {
@@ -67,22 +70,28 @@ impl<I: Instance + Drop, B: Settle + Drop> Node<I, B> {
         requires fresh { member.history ≡ [] }
         requires few { seats ≤ MOST_SEATS }
         ensures node { IfOk result (λ made.
-            made.0 ≡ record { keys = member.keys; seats = seats }) }
+            made.0 ≡ record { genesis = member.genesis; keys = member.keys; seats = seats }) }
         ensures seats { IfOk result (λ made. AreFresh seats made.1.items) }
         ensures err { IfErr result (λ back. back.0 ≡ member) }
     {
         match parts(alloc, &member, seats) {
-            Ok((keys, made)) => Ok((Node::of_parts(member, keys, seats), made)),
+            Ok((genesis, keys, made)) => Ok((Node::of_parts(member, genesis, keys, seats), made)),
             Err(error) => Err((member, error)),
         }
     }
 
-    pub(crate) fn of_parts(member: Member<I, B>, keys: Keys, seats: u16) -> Node<I, B>
-        ensures { result ≡ record { keys = keys; seats = seats } }
+    pub(crate) fn of_parts(
+        member: Member<I, B>,
+        genesis: Genesis,
+        keys: Keys,
+        seats: u16,
+    ) -> Node<I, B>
+        ensures { result ≡ record { genesis = genesis; keys = keys; seats = seats } }
     {
         Node {
             member: Mutex::new(member),
             changed: Condvar::new(),
+            genesis,
             keys,
             seats,
         }
@@ -97,7 +106,8 @@ impl<I: Instance + Drop, B: Settle + Drop> Node<I, B> {
 
     /// Reads and opens bytes, and hands the frame that they are to the member.
     ///
-    /// Bytes that don't open, and a WANT, are answered at once: no lock is taken, and no receipt is left.
+    /// Bytes that don't open, and a WANT, are answered at once, whatever memory there is: no lock is taken, and no receipt
+    /// is left.
     pub fn bring<R: Wait, T: Tagger, G: Gate>(
         &self,
         rt: &R,
@@ -108,8 +118,10 @@ impl<I: Instance + Drop, B: Settle + Drop> Node<I, B> {
         bytes: &[u8],
     ) -> Result<Brought, AllocError>
         ensures brought { IfOk result (λ brought.
-            IsBrought self.now.keys bytes.now seat.old seat.new brought) }
+            IsBrought self.now bytes.now seat.old seat.new brought) }
         ensures err { OnErr result (seat.new ≡ seat.old) }
+        ensures memory { OnErr result
+            ((opened : OpenedFields) × IsOpening self.now.keys bytes.now (Ok opened)) }
     {
         match open_bytes(tagger, &self.keys, bytes) {
             Ok(opened) => self.take_opened(rt, alloc, seat, tagger, gate, &opened),
@@ -129,14 +141,16 @@ impl<I: Instance + Drop, B: Settle + Drop> Node<I, B> {
         value: Bytes,
     ) -> Result<u32, MemberFault>
         ensures answered { HadMemory result
-            → IsAnswered seat.old seat.new (Event.Ask value) (asked result) }
+            → IsAnswered self.now seat.old seat.new (Ask value) (asked result) }
         ensures memory { LackedMemory result → seat.new ≡ seat.old }
     {
-        match self.hand_in(rt, alloc, seat, &OpenGate, Event::Ask(value)) {
-            Ok(Reply::Asked(seq)) => Ok(seq),
-            Err(fault) => Err(fault),
-            Ok(Reply::Took(_) | Reply::Told(_)) => unreachable!(),
-        }
+        let copy = value.copy(alloc)?;
+        seat.make_room()?;
+        let mut member = self.locked(rt);
+        let answer = seat.ask(alloc, &mut *member, value, copy);
+        drop(member);
+        self.changed.notify_all();
+        answer
     }
 
     /// Has the member tell the state of an account, and note that it was asked for.
@@ -148,14 +162,12 @@ impl<I: Instance + Drop, B: Settle + Drop> Node<I, B> {
         account: u16,
     ) -> Result<Told, MemberFault>
         ensures answered { HadMemory result
-            → IsAnswered seat.old seat.new (Event.Query account) (told result) }
+            → IsAnswered self.now seat.old seat.new (Query account) (told result) }
         ensures memory { LackedMemory result → seat.new ≡ seat.old }
     {
-        match self.hand_in(rt, alloc, seat, &OpenGate, Event::Query(account)) {
-            Ok(Reply::Told(state)) => Ok(state),
-            Err(fault) => Err(fault),
-            Ok(Reply::Asked(_) | Reply::Took(_)) => unreachable!(),
-        }
+        seat.make_room()?;
+        let mut member = self.locked(rt);
+        seat.query(alloc, &mut *member, account)
     }
 
     /// Copies of the bodies that the member sent to all, from a place on: at most `max`, and at most 16.
@@ -167,14 +179,16 @@ impl<I: Instance + Drop, B: Settle + Drop> Node<I, B> {
         from: usize,
         max: usize,
     ) -> Result<Vec<Body>, AllocError>
-        ensures shown { IfOk result (λ bodies. IsShown seat.old seat.new
+        ensures shown { IfOk result (λ bodies. IsShown self.now seat.old seat.new
             (Question.Sent from max) (Shown.Sent bodies.items)) }
         ensures err { OnErr result (seat.new ≡ seat.old) }
     {
-        match self.show(rt, alloc, seat, Question::Sent { from, max })? {
-            Shown::Sent(bodies) => Ok(bodies.into_vec()),
-            Shown::State(_) | Shown::Statement(_) | Shown::Fronts(_) => unreachable!(),
-        }
+        seat.make_room()?;
+        let member = self.locked(rt);
+        let bodies = Bodies::new(member.fetch(alloc, from, max)?);
+        let copy = bodies.copy(alloc)?;
+        seat.note(&*member, Question::Sent { from, max }, Shown::Sent(copy))?;
+        Ok(bodies.into_vec())
     }
 
     /// How far the payment under a number of an account has come.
@@ -187,13 +201,18 @@ impl<I: Instance + Drop, B: Settle + Drop> Node<I, B> {
         seq: u32,
     ) -> Result<PaymentState, MemberFault>
         ensures shown { HadMemory result
-            → IsShown seat.old seat.new (Question.State owner seq) (Shown.State result) }
+            → IsShown self.now seat.old seat.new (Question.State owner seq) (Shown.State result) }
         ensures memory { LackedMemory result → seat.new ≡ seat.old }
     {
-        match self.show(rt, alloc, seat, Question::State { owner, seq })? {
-            Shown::State(state) => state,
-            Shown::Sent(_) | Shown::Statement(_) | Shown::Fronts(_) => unreachable!(),
-        }
+        seat.make_room()?;
+        let member = self.locked(rt);
+        let answer = state_of(&*member, owner, seq);
+        seat.note(
+            &*member,
+            Question::State { owner, seq },
+            Shown::State(answer),
+        )?;
+        answer
     }
 
     /// The lines of an account's statement, and its balance.
@@ -205,13 +224,19 @@ impl<I: Instance + Drop, B: Settle + Drop> Node<I, B> {
         account: u16,
     ) -> Result<Statement, MemberFault>
         ensures shown { HadMemory result
-            → IsShown seat.old seat.new (Question.Statement account) (Shown.Statement result) }
+            → IsShown self.now seat.old seat.new (Question.Statement account) (Shown.Statement result) }
         ensures memory { LackedMemory result → seat.new ≡ seat.old }
     {
-        match self.show(rt, alloc, seat, Question::Statement(account))? {
-            Shown::Statement(statement) => statement,
-            Shown::Sent(_) | Shown::State(_) | Shown::Fronts(_) => unreachable!(),
-        }
+        seat.make_room()?;
+        let member = self.locked(rt);
+        let answer = statement_of(alloc, &*member, account)?;
+        let copy = copy_of_statement(alloc, &answer)?;
+        seat.note(
+            &*member,
+            Question::Statement(account),
+            Shown::Statement(copy),
+        )?;
+        answer
     }
 
     /// How many entries are settled of each account.
@@ -221,37 +246,16 @@ impl<I: Instance + Drop, B: Settle + Drop> Node<I, B> {
         alloc: Global,
         seat: &mut Seat,
     ) -> Result<Vec<u32>, AllocError>
-        ensures shown { IfOk result (λ fronts. IsShown seat.old seat.new
+        ensures shown { IfOk result (λ fronts. IsShown self.now seat.old seat.new
             Question.Fronts (Shown.Fronts fronts.items)) }
         ensures err { OnErr result (seat.new ≡ seat.old) }
     {
-        match self.show(rt, alloc, seat, Question::Fronts)? {
-            Shown::Fronts(fronts) => Ok(fronts.into_vec()),
-            Shown::Sent(_) | Shown::State(_) | Shown::Statement(_) => unreachable!(),
-        }
-    }
-
-    /// The frame that a peer's WANT asks for, once the member sent it to all. Waits until then, or until it is told
-    /// to stop, which it answers by no frame.
-    ///
-    /// The body is fetched from the sender's seat among those lent, which is locked for that fetch alone. A frame
-    /// that doesn't open, or is no WANT, has no answer, nor has one from a sender without a seat.
-    pub fn answer<R: Wait, T: Tagger>(
-        &self,
-        rt: &R,
-        alloc: Global,
-        seats: &[(u16, Mutex<Seat>)],
-        tagger: &T,
-        stop: &AtomicBool,
-        frame: FrameRef<'_>,
-    ) -> Result<Option<Vec<u8>>, AllocError>
-        ensures reply { IfOk result (λ reply. IfSome reply (λ bytes.
-            IsReplyTo self.now.keys seats.now (fields_of frame.entry) bytes.items)) }
-    {
-        match open_want(tagger, self.keys(), seats, frame) {
-            Some(wanted) => self.answer_want(rt, alloc, tagger, stop, &wanted),
-            None => Ok(None),
-        }
+        seat.make_room()?;
+        let member = self.locked(rt);
+        let fronts = Fronts::new(member.fronts(alloc)?);
+        let copy = fronts.copy(alloc)?;
+        seat.note(&*member, Question::Fronts, Shown::Fronts(copy))?;
+        Ok(fronts.into_vec())
     }
 
     /// The frame that a WANT asks for, once its body is sent, or none once it is told to stop.
@@ -265,7 +269,7 @@ impl<I: Instance + Drop, B: Settle + Drop> Node<I, B> {
     ) -> Result<Option<Vec<u8>>, AllocError>
         requires { IsPeer self.now.keys wanted.now.from }
         ensures { IfOk result (λ reply. IfSome reply (λ bytes.
-            IsSentTo self.now.keys wanted.now.from wanted.now.number bytes.items)) }
+            IsSentTo self.now wanted.now.from wanted.now.number bytes.items)) }
     {
         if !self.waited_for(rt, wanted.number, stop) {
             return Ok(None);
@@ -273,13 +277,28 @@ impl<I: Instance + Drop, B: Settle + Drop> Node<I, B> {
         self.sealed_for(rt, alloc, wanted.seat, tagger, wanted.from, wanted.number)
     }
 
-    /// Tells those to stop who wait for what the member has still to send: a writer in [`Node::answer`] then has no
+    /// Tells those to stop who wait for what the member has still to send: a writer then has no
     /// answer. No clause can say so, for none names a flag or what a lock keeps; it is tested.
     pub fn stop_waiting<R: Wait>(&self, rt: &R, stop: &AtomicBool) {
         let member = self.member.lock(rt);
         stop.store(true, Ordering::SeqCst);
         drop(member);
         self.changed.notify_all();
+    }
+
+    // Locks the member, which is the node's own: whoever found another one there would wait for it.
+    fn locked<R: Wait>(&self, rt: &R) -> MutexGuard<'_, Member<I, B>>
+        ensures { IsOwn self.now (mutex_guard_value result) }
+    {
+        self.changed
+            .wait_while(rt, self.member.lock(rt), |member| !self.is_own(member))
+    }
+
+    // Whether a member is of the node's group, and has its keys.
+    fn is_own(&self, member: &Member<I, B>) -> bool
+        ensures { IsTrue result ↔ IsOwn self.now member.now }
+    {
+        self.genesis.is_same(member.genesis()) && self.keys.is_same(member.keys())
     }
 
     // Waits until a place is sent, or until it is told to stop. Answers whether the place is sent.
@@ -302,11 +321,27 @@ impl<I: Instance + Drop, B: Settle + Drop> Node<I, B> {
     ) -> Result<Option<Vec<u8>>, AllocError>
         requires { IsPeer self.now.keys to }
         ensures { IfOk result (λ reply. IfSome reply (λ bytes.
-            IsSentTo self.now.keys to number bytes.items)) }
+            IsSentTo self.now to number bytes.items)) }
     {
         let mut seat = seat.lock(rt);
-        let bodies = self.fetch(rt, alloc, &mut *seat, number as usize, 1)?;
-        drop(seat);
+        self.sealed_from(rt, alloc, &mut *seat, tagger, to, number)
+    }
+
+    // The same from a seat that is lent: what is sealed is what its receipt says.
+    fn sealed_from<R: Wait, T: Tagger>(
+        &self,
+        rt: &R,
+        alloc: Global,
+        seat: &mut Seat,
+        tagger: &T,
+        to: u16,
+        number: u64,
+    ) -> Result<Option<Vec<u8>>, AllocError>
+        requires { IsPeer self.now.keys to }
+        ensures { IfOk result (λ reply. IfSome reply (λ bytes.
+            IsSentFrom self.now to number seat.old seat.new bytes.items)) }
+    {
+        let bodies = self.fetch(rt, alloc, seat, number as usize, 1)?;
         match bodies.first() {
             Some(body) => Ok(Some(seal(alloc, tagger, self.keys(), to, number, body)?)),
             None => Ok(None),
@@ -322,6 +357,7 @@ impl<I: Instance + Drop, B: Settle + Drop> Node<I, B> {
         let _history = member.history();
         Stopped {
             member,
+            genesis: self.genesis,
             keys: self.keys,
             seats: self.seats,
         }
@@ -333,9 +369,9 @@ impl<I: Instance + Drop, B: Settle + Drop> Node<I, B> {
         alloc: Global,
         seats: &[Seat],
     ) -> Result<Member<I, B>, (CloseFault, Stopped<I, B>)>
+        ensures own { IfOk result (IsOwn self) }
         ensures closed { IfOk result (λ member. AllSettled member self.seats seats.now) }
-        ensures fault { IfErr result (λ back.
-            IsFault back.1.member self.seats seats.now back.0) }
+        ensures fault { IfErr result (λ back. IsFault self back.1.member seats.now back.0) }
         ensures back { IfErr result (λ back. back.1.node ≡ self) }
     {
         self.stop().close(alloc, seats)
@@ -351,9 +387,11 @@ impl<I: Instance + Drop, B: Settle + Drop> Node<I, B> {
         gate: &G,
         frame: FrameRef<'_>,
     ) -> Result<Brought, AllocError>
-        ensures brought { IfOk result (λ brought. IsAnsweredAs self.now.keys seat.old seat.new
+        ensures brought { IfOk result (λ brought. IsAnsweredAs self.now seat.old seat.new
             (judged (judgement self.now.keys (fields_of frame.entry))) brought) }
         ensures err { OnErr result (seat.new ≡ seat.old) }
+        ensures memory { OnErr result ((opened : OpenedFields)
+            × (judged (judgement self.now.keys (fields_of frame.entry)) ≡ Ok opened)) }
     {
         match open_frame(tagger, &self.keys, frame) {
             Ok(opened) => self.take_opened(rt, alloc, seat, tagger, gate, &opened),
@@ -377,7 +415,7 @@ impl<I: Instance + Drop, B: Settle + Drop> Node<I, B> {
         requires peer { IsPeer self.now.keys opened.now.frame.from }
         requires kind { opened.now.frame.body.kind ≢ Kind.Want }
         ensures taken { IfOk result (λ brought.
-            IsTaken self.now.keys seat.old seat.new opened.now brought) }
+            IsTaken self.now seat.old seat.new opened.now brought) }
         ensures err { OnErr result (seat.new ≡ seat.old) }
     {
         let checked = opened.own(alloc)?;
@@ -385,7 +423,7 @@ impl<I: Instance + Drop, B: Settle + Drop> Node<I, B> {
         brought_of(tagger, &self.keys, opened, answer)
     }
 
-    // Hands a frame to the member.
+    // Hands a frame to the member, between the gate's two calls.
     fn take<R: Wait, G: Gate>(
         &self,
         rt: &R,
@@ -395,97 +433,62 @@ impl<I: Instance + Drop, B: Settle + Drop> Node<I, B> {
         checked: Checked,
     ) -> Result<Took, MemberFault>
         ensures answered { HadMemory result
-            → IsAnswered seat.old seat.new (Event.Taken checked) (taken result) }
-        ensures next { IfOk result (λ _. HasNext (Event.Taken checked)) }
+            → IsAnswered self.now seat.old seat.new (Taken checked) (taken result) }
+        ensures next { IfOk result (λ _. checked.frame.number + 1 < 2 ^ 64) }
         ensures memory { LackedMemory result → seat.new ≡ seat.old }
     {
-        match self.hand_in(rt, alloc, seat, gate, Event::Taken(checked)) {
-            Ok(Reply::Took(took)) => Ok(took),
-            Err(fault) => Err(fault),
-            Ok(Reply::Asked(_) | Reply::Told(_)) => unreachable!(),
-        }
-    }
-
-    // Hands an event to the member, between the gate's two calls.
-    fn hand_in<R: Wait, G: Gate>(
-        &self,
-        rt: &R,
-        alloc: Global,
-        seat: &mut Seat,
-        gate: &G,
-        event: Event,
-    ) -> Result<Reply, MemberFault>
-        ensures answered { HadMemory result
-            → IsAnswered seat.old seat.new event result }
-        ensures next { IfOk result (λ _. HasNext event) }
-        ensures memory { LackedMemory result → seat.new ≡ seat.old }
-    {
-        let copy = event.copy(alloc)?;
+        let copy = checked.copy(alloc)?;
         seat.make_room()?;
         gate.pass(seat.stamp());
-        let answer = self.hand_locked(rt, alloc, seat, event, copy);
+        let answer = self.take_locked(rt, alloc, seat, checked, copy);
         gate.answered(seat.stamp());
         self.changed.notify_all();
         answer
     }
 
-    // One hold of the lock with one event.
-    fn hand_locked<R: Wait>(
+    // One hold of the lock with one frame.
+    fn take_locked<R: Wait>(
         &self,
         rt: &R,
         alloc: Global,
         seat: &mut Seat,
-        event: Event,
-        copy: Event,
-    ) -> Result<Reply, MemberFault>
-        requires copy { copy ≡ event }
+        checked: Checked,
+        copy: Checked,
+    ) -> Result<Took, MemberFault>
+        requires copy { copy ≡ checked }
         ensures answered { HadMemory result
-            → IsAnswered seat.old seat.new event result }
-        ensures next { IfOk result (λ _. HasNext event) }
+            → IsAnswered self.now seat.old seat.new (Taken checked) (taken result) }
+        ensures next { IfOk result (λ _. checked.frame.number + 1 < 2 ^ 64) }
         ensures memory { LackedMemory result → seat.new ≡ seat.old }
     {
         taken_in_order();
-        let mut member = self.member.lock(rt);
-        let answer = seat.hand_in(alloc, &mut *member, event, copy);
+        let mut member = self.locked(rt);
+        let answer = seat.take(alloc, &mut *member, checked, copy);
         // as many frames came from one member as there are entries at most, and these can be counted
         let entries = member.history().len();
         prove!(entries < usize::MAX);
         answer
     }
-
-    // One hold of the lock with one question.
-    fn show<R: Wait>(
-        &self,
-        rt: &R,
-        alloc: Global,
-        seat: &mut Seat,
-        question: Question,
-    ) -> Result<Shown, AllocError>
-        ensures shown { IfOk result (λ shown. IsShown seat.old seat.new question shown) }
-        ensures err { OnErr result (seat.new ≡ seat.old) }
-    {
-        seat.make_room()?;
-        let member = self.member.lock(rt);
-        seat.ask_of(alloc, &*member, question)
-    }
 }
 
-// A copy of the member's keys, and the seats.
+// Copies of the member's genesis and keys, and the seats.
 #[tactic(auto, using(crate::proofs::Fresh::none_fresh, crate::proofs::Fresh::fresh_more))]
 fn parts<I: Instance + Drop, B: Settle + Drop>(
     alloc: Global,
     member: &Member<I, B>,
     seats: u16,
-) -> Result<(Keys, Vec<Seat>), AllocError>
-    ensures keys { IfOk result (λ parts. parts.0 ≡ member.now.keys) }
-    ensures seats { IfOk result (λ parts. AreFresh seats parts.1.items) }
+) -> Result<(Genesis, Keys, Vec<Seat>), AllocError>
+    ensures genesis { IfOk result (λ parts. parts.0 ≡ member.now.genesis) }
+    ensures keys { IfOk result (λ parts. parts.1 ≡ member.now.keys) }
+    ensures seats { IfOk result (λ parts. AreFresh seats parts.2.items) }
 {
+    let genesis = member.genesis().copy(alloc)?;
     let keys = member.keys().copy(alloc)?;
     let mut made = Vec::new(alloc);
     for stamp in 0..seats {
         made.push(Seat::new(alloc, stamp))?;
     }
-    Ok((keys, made))
+    Ok((genesis, keys, made))
 }
 
 // The answer to a frame that opened, by the member's, with the WANT for what is next.

@@ -22,13 +22,16 @@ pub(crate) fn show<I: Instance + Drop, B: Settle + Drop>(
         Question::Sent { from, max } => Ok(Shown::Sent(Bodies::new(member.fetch(
             alloc, from, max,
         )?))),
-        Question::State { owner, seq } => Ok(Shown::State(state(member, owner, seq))),
-        Question::Statement(account) => Ok(Shown::Statement(statement(alloc, member, account)?)),
+        Question::State { owner, seq } => Ok(Shown::State(state_of(member, owner, seq))),
+        Question::Statement(account) => {
+            Ok(Shown::Statement(statement_of(alloc, member, account)?))
+        }
         Question::Fronts => Ok(Shown::Fronts(Fronts::new(member.fronts(alloc)?))),
     }
 }
 
-fn state<I: Instance + Drop, B: Settle + Drop>(
+/// How far a payment has come, if there is its account.
+pub(crate) fn state_of<I: Instance + Drop, B: Settle + Drop>(
     member: &Member<I, B>,
     owner: u16,
     seq: u32,
@@ -42,7 +45,8 @@ fn state<I: Instance + Drop, B: Settle + Drop>(
     }
 }
 
-fn statement<I: Instance + Drop, B: Settle + Drop>(
+/// An account's lines and its balance, if there is one.
+pub(crate) fn statement_of<I: Instance + Drop, B: Settle + Drop>(
     alloc: Global,
     member: &Member<I, B>,
     account: u16,
@@ -58,14 +62,14 @@ fn statement<I: Instance + Drop, B: Settle + Drop>(
 }
 
 /// An equal answer.
-pub(crate) fn copy_of_shown(alloc: Global, shown: &Shown) -> Result<Shown, AllocError>
-    ensures { IfOk result (λ copy. copy ≡ shown.now) }
+pub(crate) fn copy_of_statement(
+    alloc: Global,
+    answer: &Result<Statement, MemberFault>,
+) -> Result<Result<Statement, MemberFault>, AllocError>
+    ensures { IfOk result (λ copy. copy ≡ answer.now) }
 {
-    match shown {
-        Shown::Sent(bodies) => Ok(Shown::Sent(bodies.copy(alloc)?)),
-        Shown::State(state) => Ok(Shown::State(*state)),
-        Shown::Statement(Ok(statement)) => Ok(Shown::Statement(Ok(statement.copy(alloc)?))),
-        Shown::Statement(Err(fault)) => Ok(Shown::Statement(Err(*fault))),
-        Shown::Fronts(fronts) => Ok(Shown::Fronts(fronts.copy(alloc)?)),
+    match answer {
+        Ok(statement) => Ok(Ok(statement.copy(alloc)?)),
+        Err(fault) => Ok(Err(*fault)),
     }
 }

@@ -1,5 +1,6 @@
-ghost use Rattle.std.specs.Prelude.{◌≡◌, IfErr, IfOk};
+ghost use Rattle.std.specs.Prelude.{◌≡◌, ◌↔◌, IfErr, IfOk, IsTrue};
 ghost use Rattle.pay_node.specs.Closing.{AllSettled, IsFault};
+ghost use Rattle.pay_node.specs.Nodes.{IsOwn};
 
 use crate::close_fault::CloseFault;
 use crate::closing::least_wrong;
@@ -7,7 +8,7 @@ use crate::node::Node;
 use crate::seat::Seat;
 use pay_book::Settle;
 use pay_echo::Instance;
-use pay_link::Keys;
+use pay_link::{Genesis, Keys};
 use pay_member::Member;
 use std::alloc::Global;
 use std::marker::Model;
@@ -17,6 +18,7 @@ use std::marker::Model;
 #[derive(Drop)]
 pub struct Stopped<I: Instance + Drop, B: Settle + Drop> {
     pub(crate) member: Member<I, B>,
+    pub(crate) genesis: Genesis,
     pub(crate) keys: Keys,
     pub(crate) seats: u16,
 }
@@ -26,8 +28,10 @@ impl<I: Instance + Drop, B: Settle + Drop> Model for Stopped<I, B> {
 
     ghost Value = { StoppedFields };
 
-    ghost view = { λ s.
-        record { member = s.member; node = record { keys = s.keys; seats = s.seats } } };
+    ghost view = { λ s. record {
+      member = s.member;
+      node = record { genesis = s.genesis; keys = s.keys; seats = s.seats };
+    } };
 }
 
 impl<I: Instance + Drop, B: Settle + Drop> Stopped<I, B> {
@@ -41,28 +45,38 @@ impl<I: Instance + Drop, B: Settle + Drop> Stopped<I, B> {
     pub fn start(self) -> Node<I, B>
         ensures { result ≡ self.node }
     {
-        Node::of_parts(self.member, self.keys, self.seats)
+        Node::of_parts(self.member, self.genesis, self.keys, self.seats)
     }
 
     /// Holds the receipts of all seats against the history, and gives the member out where they agree.
     ///
     /// Where they don't, the least stamp that is missing, doubled, not of this node or wrong is named, and the node
-    /// comes back as it was.
+    /// comes back as it was. A member of another group, or with other keys, bears out no seat.
     pub fn close(
         self,
         alloc: Global,
         seats: &[Seat],
     ) -> Result<Member<I, B>, (CloseFault, Stopped<I, B>)>
         ensures member { IfOk result (λ member. member ≡ self.member) }
+        ensures own { IfOk result (λ _. IsOwn self.node self.member) }
         ensures closed { IfOk result (λ _. AllSettled self.member self.node.seats seats.now) }
-        ensures fault { IfErr result (λ back.
-            IsFault self.member self.node.seats seats.now back.0) }
+        ensures fault { IfErr result (λ back. IsFault self.node self.member seats.now back.0) }
         ensures back { IfErr result (λ back. back.1 ≡ self) }
     {
+        if !self.has_own() {
+            return Err((CloseFault::Mismatch(0), self));
+        }
         match least_wrong(alloc, &self.member, self.seats, seats) {
             Ok(None) => Ok(self.member),
             Ok(Some(stamp)) => Err((CloseFault::Mismatch(stamp), self)),
             Err(_) => Err((CloseFault::Memory, self)),
         }
+    }
+
+    // Whether the member is the node's own.
+    fn has_own(&self) -> bool
+        ensures { IsTrue result ↔ IsOwn self.now.node self.now.member }
+    {
+        self.genesis.is_same(self.member.genesis()) && self.keys.is_same(self.member.keys())
     }
 }

@@ -20,7 +20,8 @@ pub struct NodeTeller<'a, R, I: Instance + Drop, B: Settle + Drop> {
 }
 
 impl<R: Wait, I: Instance + Drop, B: Settle + Drop> Teller for NodeTeller<'_, R, I, B> {
-    ghost says = { λ old called reply new. SeatSays old.seat called reply new.seat };
+    ghost says = { λ old called reply new.
+        (new.node.now ≡ old.node.now) × SeatSays old.node.now old.seat called reply new.seat };
 
     ghost asked = { λ t. values_told t.seat.receipts };
 
@@ -62,5 +63,5 @@ impl<R: Wait, I: Instance + Drop, B: Settle + Drop> Teller for NodeTeller<'_, R,
 
     ghost use Rattle.pay_node.specs.SeatAsks.{seat_asks};
 
-    ghost only_asks = { λ old new called reply said. seat_asks old.seat new.seat called reply said };
+    ghost only_asks = { λ old new called reply said. seat_asks old.node.now old.seat new.seat called reply said.1 };
 }

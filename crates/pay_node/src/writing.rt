@@ -33,7 +33,7 @@ where
     B: Settle + Drop,
     T: Tagger,
 {
-    ghost handling = { λ a. answering a.node.now.keys a.seats.now };
+    ghost handling = { λ a. answering a.node.now a.seats.now };
 
     ghost has_room = { λ _ _ _. Unit {0} };
 
@@ -98,7 +98,7 @@ where
     T: Tagger,
     In: Input,
     Out: Output,
-    ensures answered { HasAnswered node.now.keys seats.now
+    ensures answered { HasAnswered node.now seats.now
         (In.remaining reader.old) (In.remaining reader.new)
         (Out.contents writer.old) (Out.contents writer.new) result }
     ensures read { IsErrOf result EngineFault.Read

@@ -2,10 +2,10 @@
 
 use crate::rows::{FOUR, PAYMENT, SEND, WANT};
 use crate::trial::node_of;
-use pay_frame::{Bytes, Kind, read_one};
+use pay_frame::{Bytes, Kind, Reader, Writer, read_one};
 use pay_hmac::HmacSha256;
 use pay_link::{Genesis, open, test_keys};
-use pay_node::Seat;
+use pay_node::{Seat, write_peer};
 use std::alloc::Global;
 use std::sync::atomic::AtomicBool;
 use std::sync::{Mutex, Wait};
@@ -34,12 +34,25 @@ fn reply_to<R: Wait>(rt: &R, alloc: Global, asks: u32, bytes: &[u8]) -> Result<C
     node.stop_waiting(rt, &stop);
     let mut writing: Vec<(u16, Mutex<Seat>)> = Vec::new(alloc);
     writing.push((0, Mutex::new(seats.pop().ok_or("no seat")?)))?;
-    let frame = read_one(bytes).ok().ok_or("no frame")?;
-    let answer = node.answer(rt, alloc, writing.as_slice(), &HmacSha256, &stop, frame)?;
-    match answer {
-        Some(bytes) => opens_as(alloc, bytes.as_slice()),
-        None => Ok(Came::Nothing),
+    let mut reader = Reader::new(bytes);
+    let mut writer: Writer<Vec<u8>> = Writer::new(Vec::new(alloc));
+    write_peer(
+        rt,
+        alloc,
+        &node,
+        writing.as_slice(),
+        &HmacSha256,
+        &stop,
+        &mut reader,
+        &mut writer,
+    )
+    .ok()
+    .ok_or("a fault")?;
+    let written = writer.into_inner();
+    if written.is_empty() {
+        return Ok(Came::Nothing);
     }
+    opens_as(alloc, written.as_slice())
 }
 
 // A frame as member 0 opens it.
