@@ -2,14 +2,14 @@
 
 use pay_audit::{ExportFault, ReplayFault, Verdict, audit, export_text, read_export, replay};
 use pay_book::PlainBook;
-use pay_echo::PlainInstance;
+use pay_echo::MaskInstance;
 use pay_frame::Bytes;
 use pay_link::{Genesis, test_keys};
 use pay_member::{Event, HistoryEntry, Member, Reply};
 use std::alloc::Global;
 use std::test::Fail;
 
-type Alone = Member<PlainInstance, PlainBook>;
+type Alone = Member<MaskInstance, PlainBook>;
 
 /// A payment to oneself, which moves nothing.
 const VALUE: [u8; 11] = [1, 0, 0, 0, 0, 0, 0, 0, 0, 0, 5];

@@ -3,7 +3,7 @@
 
 use pay_audit::{Export, ReplayFault, Verdict, audit, export_text, read_export, replay};
 use pay_book::PlainBook;
-use pay_echo::PlainInstance;
+use pay_echo::MaskInstance;
 use pay_frame::{Body, Bytes, GREATEST_VALUE, Kind};
 use pay_hmac::HmacSha256;
 use pay_link::{Genesis, seal, test_keys};
@@ -11,7 +11,7 @@ use pay_member::{HistoryEntry, Member, Reply, Took};
 use std::alloc::Global;
 use std::test::Fail;
 
-type Plain = Member<PlainInstance, PlainBook>;
+type Tried = Member<MaskInstance, PlainBook>;
 
 /// A payment of five to account 1, and one to account 2.
 const A: &[u8] = &[1, 0, 1, 0, 0, 0, 0, 0, 0, 0, 5];
@@ -71,7 +71,7 @@ const ROUNDS: usize = 4;
 const EXPORT: &str =
     "{\"balances\":[100,5,0,45],\"faults\":1,\"front\":[0,0,0,1],\"lists\":[[],[],[],[\"0100010000000000000005\"]],\"member\":2,\"members\":4,\"opening\":[100,0,0,50]}";
 
-fn member(alloc: Global, own: u16) -> Option<Plain> {
+fn member(alloc: Global, own: u16) -> Option<Tried> {
     let genesis = Genesis::new(alloc, 4, 1, &[100, 0, 0, 50]).ok()?;
     if own >= genesis.members() {
         return None;
@@ -81,7 +81,7 @@ fn member(alloc: Global, own: u16) -> Option<Plain> {
 }
 
 /// Three members, and the liar's keys as a fourth's that takes nothing.
-fn four(alloc: Global) -> Option<Vec<Plain>> {
+fn four(alloc: Global) -> Option<Vec<Tried>> {
     let mut members = Vec::new(alloc);
     for own in 0..4 {
         members.push(member(alloc, own)?).ok()?;
@@ -100,7 +100,7 @@ fn body_of(alloc: Global, lie: &Lie) -> Option<Body> {
 /// A body sealed by a member for another, and brought there.
 fn bring(
     alloc: Global,
-    members: &mut Vec<Plain>,
+    members: &mut Vec<Tried>,
     from: u16,
     to: u16,
     number: u64,
@@ -119,7 +119,7 @@ fn bring(
 }
 
 /// The next frame of a member for another, if it has one.
-fn pass(alloc: Global, members: &mut Vec<Plain>, from: u16, to: u16) -> Option<()> {
+fn pass(alloc: Global, members: &mut Vec<Tried>, from: u16, to: u16) -> Option<()> {
     let receiver = members.get(usize::from(to))?;
     if from >= receiver.genesis().members() {
         return None;
@@ -132,7 +132,7 @@ fn pass(alloc: Global, members: &mut Vec<Plain>, from: u16, to: u16) -> Option<(
     bring(alloc, members, from, to, number, &body)
 }
 
-fn pass_all(alloc: Global, members: &mut Vec<Plain>) -> Option<()> {
+fn pass_all(alloc: Global, members: &mut Vec<Tried>) -> Option<()> {
     for (from, to) in PAIRS {
         pass(alloc, members, from, to)?;
     }
@@ -140,7 +140,7 @@ fn pass_all(alloc: Global, members: &mut Vec<Plain>) -> Option<()> {
 }
 
 /// The members behind the liar's frames and all that followed from them.
-fn played(alloc: Global) -> Option<Vec<Plain>> {
+fn played(alloc: Global) -> Option<Vec<Tried>> {
     let mut members = four(alloc)?;
     for lie in &LIES {
         let body = body_of(alloc, lie)?;
@@ -153,7 +153,7 @@ fn played(alloc: Global) -> Option<Vec<Plain>> {
 }
 
 /// The exports of the three correct members, as they are read from their texts.
-fn exports_of(alloc: Global, members: &[Plain]) -> Option<Vec<Export>> {
+fn exports_of(alloc: Global, members: &[Tried]) -> Option<Vec<Export>> {
     let mut exports = Vec::new(alloc);
     for member in members.iter().take(usize::from(LIAR)) {
         let text = export_text(alloc, member).ok()?;
@@ -165,8 +165,8 @@ fn exports_of(alloc: Global, members: &[Plain]) -> Option<Vec<Export>> {
 }
 
 /// What a member exports that replayed another's history.
-fn export_again(alloc: Global, member: &Plain) -> Option<String> {
-    let again: Plain = replay(alloc, member.genesis(), member.keys(), member.history()).ok()?;
+fn export_again(alloc: Global, member: &Tried) -> Option<String> {
+    let again: Tried = replay(alloc, member.genesis(), member.keys(), member.history()).ok()?;
     export_text(alloc, &again).ok()
 }
 
@@ -193,9 +193,9 @@ fn without_first_echo(alloc: Global, history: &[HistoryEntry]) -> Option<Vec<His
     Some(changed)
 }
 
-fn fault_without_first_echo(alloc: Global, member: &Plain) -> Option<ReplayFault> {
+fn fault_without_first_echo(alloc: Global, member: &Tried) -> Option<ReplayFault> {
     let history = without_first_echo(alloc, member.history())?;
-    let again: Result<Plain, ReplayFault> = replay(
+    let again: Result<Tried, ReplayFault> = replay(
         alloc,
         member.genesis(),
         member.keys(),

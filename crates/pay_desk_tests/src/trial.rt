@@ -3,14 +3,14 @@
 use crate::rows::{Row, Vote};
 use pay_book::PlainBook;
 use pay_desk::{Desk, OneMember};
-use pay_echo::PlainInstance;
+use pay_echo::MaskInstance;
 use pay_frame::{Body, Bytes, Kind};
 use pay_hmac::HmacSha256;
 use pay_link::{Genesis, seal, test_keys};
 use pay_member::Member;
 use std::alloc::{AllocError, Global};
 
-pub(crate) type Own = Member<PlainInstance, PlainBook>;
+pub(crate) type Own = Member<MaskInstance, PlainBook>;
 
 const OPENING: [u64; 4] = [100, 0, 0, 50];
 
@@ -18,7 +18,7 @@ fn genesis(alloc: Global) -> Option<Genesis> {
     Genesis::new(alloc, 4, 1, &OPENING).ok()
 }
 
-pub(crate) fn desk_of(alloc: Global, member: Own) -> Desk<OneMember<PlainInstance, PlainBook>> {
+pub(crate) fn desk_of(alloc: Global, member: Own) -> Desk<OneMember<MaskInstance, PlainBook>> {
     Desk::new(alloc, OneMember { member, stamp: 0 }, 4, 0)
 }
 
@@ -64,7 +64,7 @@ fn sealed(alloc: Global, vote: Vote) -> Option<Vec<u8>> {
 /// Whether a line has this answer, at the second try where memory is refused at the first.
 pub(crate) fn answers(
     alloc: Global,
-    desk: &mut Desk<OneMember<PlainInstance, PlainBook>>,
+    desk: &mut Desk<OneMember<MaskInstance, PlainBook>>,
     line: &str,
     answer: &str,
 ) -> bool {

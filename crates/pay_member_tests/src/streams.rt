@@ -1,7 +1,7 @@
 //! Member 1 of four is fed from the stream of member 0, over memory.
 
 use pay_book::PlainBook;
-use pay_echo::PlainInstance;
+use pay_echo::MaskInstance;
 use pay_frame::{Body, Bytes, EngineFault, FrameFault, Kind, Reader, Writer};
 use pay_hmac::HmacSha256;
 use pay_link::{Genesis, seal, test_keys};
@@ -44,7 +44,7 @@ fn first_frame(alloc: Global) -> Result<Vec<u8>, Fail> {
 fn served(alloc: Global, bytes: &[u8]) -> Result<(Vec<u8>, Result<(), EngineFault>), Fail> {
     let genesis = Genesis::new(alloc, 4, 1, &[100, 0, 0, 50])?;
     let keys = test_keys(alloc, &genesis, 1)?;
-    let mut member: Member<PlainInstance, PlainBook> = Member::new(alloc, genesis, keys)?;
+    let mut member: Member<MaskInstance, PlainBook> = Member::new(alloc, genesis, keys)?;
     let mut reader = Reader::new(bytes);
     let mut writer = Writer::new(Vec::new(alloc));
     let ended = serve(

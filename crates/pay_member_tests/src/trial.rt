@@ -4,7 +4,7 @@ ghost use Rattle.std.specs.Prelude.{◌≡◌, ◌<◌};
 
 use crate::step::{Fact, Row, Said, Step, Unsealed};
 use pay_book::{Line, PlainBook};
-use pay_echo::PlainInstance;
+use pay_echo::MaskInstance;
 use pay_frame::{Body, Bytes, GREATEST_VALUE, Kind, SEQS, read_one};
 use pay_hmac::HmacSha256;
 use pay_link::{Checked, Genesis, Keys, open, seal, test_keys, want};
@@ -15,7 +15,7 @@ use std::alloc::Global;
 #[derive(Drop)]
 pub(crate) struct Trial {
     genesis: Genesis,
-    member: Member<PlainInstance, PlainBook>,
+    member: Member<MaskInstance, PlainBook>,
     ghost same: { member.genesis ≡ genesis },
 }
 

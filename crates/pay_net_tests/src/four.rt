@@ -1,14 +1,14 @@
 //! The row of four nodes on the loopback: member 0 pays 30 to 1, and 3 pays 20 to 0. Once all four have settled both
 //! payments they stop, and each hands its member back.
 
-use crate::group::{Plain, run_somewhere};
+use crate::group::{Tried, run_somewhere};
 use pay_audit::{Export, Verdict, audit, export_text, read_export};
 use std::alloc::{AllocError, Global};
 use std::process;
 use std::test::Fail;
 
 // The balances of all accounts.
-fn balances_of(alloc: Global, member: &Plain) -> Result<Vec<u64>, AllocError> {
+fn balances_of(alloc: Global, member: &Tried) -> Result<Vec<u64>, AllocError> {
     let mut balances = Vec::new(alloc);
     for account in 0..member.genesis().members() {
         balances.push(member.balance(account))?;
@@ -17,7 +17,7 @@ fn balances_of(alloc: Global, member: &Plain) -> Result<Vec<u64>, AllocError> {
 }
 
 // What these members export, as it is read from their texts.
-fn exports_of(alloc: Global, members: &[Plain]) -> Option<Vec<Export>> {
+fn exports_of(alloc: Global, members: &[Tried]) -> Option<Vec<Export>> {
     let mut exports = Vec::new(alloc);
     for member in members {
         let text = export_text(alloc, member).ok()?;
@@ -29,7 +29,7 @@ fn exports_of(alloc: Global, members: &[Plain]) -> Option<Vec<Export>> {
 }
 
 // Whether a member has the fronts and balances that both payments make.
-fn has_settled(alloc: Global, member: &Plain) -> Result<bool, AllocError> {
+fn has_settled(alloc: Global, member: &Tried) -> Result<bool, AllocError> {
     let fronts = member.fronts(alloc)?;
     if fronts.as_slice() != [1, 0, 0, 1].as_slice() {
         return Ok(false);
@@ -38,7 +38,7 @@ fn has_settled(alloc: Global, member: &Plain) -> Result<bool, AllocError> {
 }
 
 // Whether all of these members have settled both payments.
-fn have_settled(alloc: Global, members: &[Plain]) -> Result<bool, AllocError> {
+fn have_settled(alloc: Global, members: &[Tried]) -> Result<bool, AllocError> {
     for member in members {
         if !has_settled(alloc, member)? {
             return Ok(false);
@@ -48,13 +48,13 @@ fn have_settled(alloc: Global, members: &[Plain]) -> Result<bool, AllocError> {
 }
 
 // The verdict on what these members export.
-fn verdict_on(alloc: Global, members: &[Plain]) -> Option<Verdict> {
+fn verdict_on(alloc: Global, members: &[Tried]) -> Option<Verdict> {
     let exports = exports_of(alloc, members)?;
     audit(alloc, exports.as_slice()).ok()
 }
 
 // Whether four members have settled both payments, and their exports are clean.
-fn settle_the_same(alloc: Global, members: &[Plain]) -> Result<bool, AllocError> {
+fn settle_the_same(alloc: Global, members: &[Tried]) -> Result<bool, AllocError> {
     Ok(
         members.len() == 4
             && have_settled(alloc, members)?

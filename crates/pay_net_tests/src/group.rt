@@ -5,7 +5,7 @@ ghost use Rattle.std.specs.Prelude.{◌≡◌, [], IfSome, length};
 use crate::day::Day;
 use crate::owner::{FRONT, Seeing, Typing};
 use pay_book::PlainBook;
-use pay_echo::PlainInstance;
+use pay_echo::MaskInstance;
 use pay_frame::{EngineFault, Reader, Writer};
 use pay_hmac::HmacSha256;
 use pay_link::{Genesis, test_keys};
@@ -17,7 +17,7 @@ use std::sync::Wait;
 use std::thread::{Threads, join};
 use std::time::Clock;
 
-pub(crate) type Plain = Member<PlainInstance, PlainBook>;
+pub(crate) type Tried = Member<MaskInstance, PlainBook>;
 
 const OPENING: [u64; 4] = [100, 0, 0, 50];
 
@@ -33,7 +33,7 @@ const BLOCKS: u32 = 5_000;
 const ATTEMPTS: u32 = 100;
 
 // The member of a node and its ports, if memory isn't refused.
-fn parts_of(alloc: Global, own: u16, block: u32) -> Option<(Plain, Ports)>
+fn parts_of(alloc: Global, own: u16, block: u32) -> Option<(Tried, Ports)>
     ensures fresh { IfSome result (λ parts. parts.0.history ≡ []) }
     ensures ports { IfSome result (λ parts. length parts.1 ≡ length parts.0.keys.keys) }
 {
@@ -64,7 +64,7 @@ fn ports_in(alloc: Global, genesis: &Genesis, block: u32) -> Option<Ports>
 }
 
 // A node and its owner, until that leaves.
-fn run_one<R>(rt: &R, alloc: Global, day: &Day, own: u16) -> Result<Plain, NodeFault>
+fn run_one<R>(rt: &R, alloc: Global, day: &Day, own: u16) -> Result<Tried, NodeFault>
 where
     R: Threads + Wait + Clock + Net<Listener = TcpListener, Stream = TcpStream> + Sync,
 {
@@ -86,7 +86,7 @@ where
 }
 
 // The same, and then the others' owners leave.
-fn run_to_end<R>(rt: &R, alloc: Global, day: &Day, own: u16) -> Result<Plain, NodeFault>
+fn run_to_end<R>(rt: &R, alloc: Global, day: &Day, own: u16) -> Result<Tried, NodeFault>
 where
     R: Threads + Wait + Clock + Net<Listener = TcpListener, Stream = TcpStream> + Sync,
 {
@@ -98,9 +98,9 @@ where
 // The members of two nodes, or the first fault.
 fn both(
     alloc: Global,
-    first: Result<Plain, NodeFault>,
-    second: Result<Plain, NodeFault>,
-) -> Result<Vec<Plain>, NodeFault> {
+    first: Result<Tried, NodeFault>,
+    second: Result<Tried, NodeFault>,
+) -> Result<Vec<Tried>, NodeFault> {
     let mut members = Vec::new(alloc);
     members.push(first?)?;
     members.push(second?)?;
@@ -108,7 +108,7 @@ fn both(
 }
 
 // The members of two nodes, each in a thread of its own.
-fn run_two<R>(rt: &R, alloc: Global, day: &Day, owns: [u16; 2]) -> Result<Vec<Plain>, NodeFault>
+fn run_two<R>(rt: &R, alloc: Global, day: &Day, owns: [u16; 2]) -> Result<Vec<Tried>, NodeFault>
 where
     R: Threads + Wait + Clock + Net<Listener = TcpListener, Stream = TcpStream> + Sync,
 {
@@ -123,9 +123,9 @@ where
 
 // The members of these nodes and those behind them.
 fn all(
-    members: Result<Vec<Plain>, NodeFault>,
-    others: Result<Vec<Plain>, NodeFault>,
-) -> Result<Vec<Plain>, NodeFault> {
+    members: Result<Vec<Tried>, NodeFault>,
+    others: Result<Vec<Tried>, NodeFault>,
+) -> Result<Vec<Tried>, NodeFault> {
     let mut members = members?;
     for member in others? {
         members.push(member)?;
@@ -134,7 +134,7 @@ fn all(
 }
 
 // The members of all four nodes.
-fn run_four<R>(rt: &R, alloc: Global, day: &Day) -> Result<Vec<Plain>, NodeFault>
+fn run_four<R>(rt: &R, alloc: Global, day: &Day) -> Result<Vec<Tried>, NodeFault>
 where
     R: Threads + Wait + Clock + Net<Listener = TcpListener, Stream = TcpStream> + Sync,
 {
@@ -147,7 +147,7 @@ where
 }
 
 /// The members of four nodes, from a block of ports on, once their owners left.
-pub(crate) fn run_somewhere<R>(rt: &R, alloc: Global, block: u32) -> Result<Vec<Plain>, NodeFault>
+pub(crate) fn run_somewhere<R>(rt: &R, alloc: Global, block: u32) -> Result<Vec<Tried>, NodeFault>
 where
     R: Threads + Wait + Clock + Net<Listener = TcpListener, Stream = TcpStream> + Sync,
 {

@@ -2,7 +2,7 @@
 
 use crate::step::{Group, Said, Step};
 use pay_book::PlainBook;
-use pay_echo::PlainInstance;
+use pay_echo::MaskInstance;
 use pay_frame::{Body, Bytes};
 use pay_hmac::HmacSha256;
 use pay_link::{Genesis, test_keys};
@@ -11,7 +11,7 @@ use pay_node::{Call, MOST_SEATS, Node, OpenGate, Receipt, Seat};
 use std::alloc::Global;
 use std::sync::Wait;
 
-pub(crate) type Tried = Node<PlainInstance, PlainBook>;
+pub(crate) type Tried = Node<MaskInstance, PlainBook>;
 
 /// The node of a group's member, and its seats, if there is such a member and memory isn't refused.
 pub(crate) fn node_of(alloc: Global, group: Group) -> Option<(Tried, Vec<Seat>)> {

@@ -4,7 +4,7 @@ use crate::rows::RUNS;
 use crate::step::Deed;
 use crate::trial::{event_of, four};
 use pay_book::PlainBook;
-use pay_echo::PlainInstance;
+use pay_echo::MaskInstance;
 use pay_hmac::HmacSha256;
 use pay_link::Genesis;
 use pay_world::{Liars, World, WorldEvent, WorldFault, group_test_keys, run_world};
@@ -40,7 +40,7 @@ fn balance_after(alloc: Global, deeds: &[Deed]) -> Result<Result<u64, WorldFault
     }
 }
 
-fn first_balance(world: &World<PlainInstance, PlainBook>) -> Option<u64> {
+fn first_balance(world: &World<MaskInstance, PlainBook>) -> Option<u64> {
     let member = world.member(0)?;
     (member.genesis().members() > 0).then(|| member.balance(0))
 }

@@ -2,7 +2,7 @@
 
 use crate::step::{Deed, Group, Step, Unsealed};
 use pay_book::PlainBook;
-use pay_echo::PlainInstance;
+use pay_echo::MaskInstance;
 use pay_frame::{Body, Bytes, GREATEST_VALUE, Kind, SEQS};
 use pay_hmac::HmacSha256;
 use pay_link::{Genesis, Keys, seal, test_keys};
@@ -14,7 +14,7 @@ use std::alloc::Global;
 #[derive(Drop)]
 pub(crate) struct Trial {
     genesis: Genesis,
-    world: World<PlainInstance, PlainBook>,
+    world: World<MaskInstance, PlainBook>,
 }
 
 pub(crate) fn four(alloc: Global) -> Option<Genesis> {

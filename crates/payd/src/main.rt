@@ -14,7 +14,7 @@ use files::{exports_of, genesis_of, keys_of};
 use pay_audit::{Verdict, export_text};
 use pay_cli::run_check;
 use pay_desk::{Desk, OneMember, run_desk};
-use pay_echo::PlainInstance;
+use pay_echo::MaskInstance;
 use pay_frame::{EngineFault, Reader, Writer};
 use pay_hmac::PreparedHmac;
 use pay_link::{Genesis, Keys};
@@ -35,7 +35,7 @@ use stop::Stop;
 use words::{Job, NOT_UTF8, job_of};
 
 /// A member, in the forms of its parts that the program runs.
-type OwnMember = Member<PlainInstance, WaitingBook>;
+type OwnMember = Member<MaskInstance, WaitingBook>;
 
 fn main(rt: HostRuntime) -> ExitCode {
     let words = match env::args(&rt) {
@@ -165,7 +165,7 @@ fn audit<'a>(
 fn sim(alloc: Global, rt: &(impl Input + Print)) -> Result<SimEnd, EngineFault> {
     let mut reader = Reader::new(rt.reader());
     let mut writer = Writer::new(io::writer(rt));
-    run_sim::<PlainInstance, WaitingBook, _, _>(alloc, &mut reader, &mut writer)
+    run_sim::<MaskInstance, WaitingBook, _, _>(alloc, &mut reader, &mut writer)
 }
 
 /// Tags with the keys of all peers prepared.
