@@ -92,7 +92,7 @@ FAULTS = [
     ({"balances": [0, 0, 0, -50]}, "2 BadShape"),
     ({"members": 5}, "2 BadShape"),
     ({"members": 0}, "2 BadShape"),
-    ({"members": 65, "lists": 65 * [[]], "front": 65 * [0], "balances": 65 * [0]}, "3 BadGenesis"),
+    ({"members": 129, "lists": 129 * [[]], "front": 129 * [0], "balances": 129 * [0]}, "3 BadGenesis"),
     ({"faults": 2}, "3 BadGenesis"),
     ({"faults": 2**64 - 1}, "3 BadGenesis"),
     ({"opening": [0, 0, 50]}, "3 BadGenesis"),

@@ -9,7 +9,7 @@ import audits
 from frames import ECHO, HEAD, READY, SEND, WANT, fault_at, frame, read_frame
 from runs import GENESIS
 
-MOST_MEMBERS = 64
+MOST_MEMBERS = 128
 GREATEST = 2**64
 GREATEST_TOTAL = 2**63 - 1
 MOST_VALUE = 1024
@@ -68,7 +68,7 @@ def replaced(seeded, given):
 
 
 # What may stand in a file in place of anything else.
-OTHERS = [None, True, "", "0", "ff", "0g", [], {}, 0, 1, 2, 4, 65, 129, -1, 1.0, 65536, GREATEST_TOTAL, GREATEST - 1, GREATEST]
+OTHERS = [None, True, "", "0", "ff", "0g", [], {}, 0, 1, 2, 4, 64, 65, 128, 129, -1, 1.0, 65536, GREATEST_TOTAL, GREATEST - 1, GREATEST]
 
 
 def changed_value(seeded, value):

@@ -103,7 +103,7 @@ def desk_of_one_alone():
 @test
 def desk_as_the_model_has_it():
     seeded = random.Random(19)
-    for members in (2, 4, 7, 64):
+    for members in (2, 4, 7, 64, 128):
         opening = [seeded.randrange(1000) for _ in range(members)]
         own = seeded.randrange(members)
         lines = desks.random_lines(seeded, members, 400)

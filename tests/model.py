@@ -15,6 +15,7 @@ GREATEST_VALUE = 1024
 SEQS = 65536
 MOST_PAYMENTS = 32
 NUMBER = 2**64
+MOST_MEMBERS = 128
 LIMIT = 1_000_000
 LONGEST_LINE = 4096
 
@@ -246,7 +247,7 @@ class World:
             raise BadLine from error
         if any(type(it) is not int or not 0 <= it < NUMBER for it in numbers):
             raise BadLine
-        if not 1 <= members <= 64 or members <= 3 * faults or len(self.opening) != members:
+        if not 1 <= members <= MOST_MEMBERS or members <= 3 * faults or len(self.opening) != members:
             raise BadLine
         if sum(self.opening) >= 2**63:
             raise BadLine

@@ -20,7 +20,7 @@ FRESH = [[], [], [], []]
 
 # How many connections that others dialed stand at a node at once, and what threads it has beside theirs: its desk's,
 # that of each reader, and three round them.
-MOST_CONNECTIONS = 128
+MOST_CONNECTIONS = 256
 OTHER_THREADS = 10
 
 # ---- a group

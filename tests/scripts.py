@@ -25,6 +25,40 @@ def shown(members, front, balances):
     return [f"member {it} fronts {front} balances {balances}" for it in range(members)]
 
 
+# The group of the most members, with so many liars, who stay silent, and what it shows where one payment settled.
+LARGEST = 128
+LARGEST_FAULTS = 42
+
+
+def largest(liars):
+    opening = [5] + [0] * (LARGEST - 1)
+    last = list(range(LARGEST - liars, LARGEST))
+    return json.dumps({"faults": LARGEST_FAULTS, "liars": last, "members": LARGEST, "opening": opening})
+
+
+def largest_shown(correct):
+    nothing = " 0" * (LARGEST - 2)
+    return shown(correct, f"1 0{nothing}", f"0 5{nothing}")
+
+
+# Scripts that are too long for the model, as those below.
+LONG = [
+    (
+        "largest group",
+        largest(0),
+        ["ask 0 1 5", "all", "show"],
+        ["asked 0 seq 0", "brought 32639", "converged", *largest_shown(LARGEST)],
+        0,
+    ),
+    (
+        "largest group without its liars",
+        largest(LARGEST_FAULTS),
+        ["ask 0 1 5", "all", "show"],
+        ["asked 0 seq 0", "brought 14705", "converged", *largest_shown(LARGEST - LARGEST_FAULTS)],
+        0,
+    ),
+]
+
 # A name, the world's line, the commands, the lines that are printed, and the status.
 WORKED = [
     (
@@ -270,7 +304,7 @@ WORKED = [
             '{"faults":2,"liars":[],"members":6,"opening":[1,2,3,4,5,6]}',
             '{"faults":1,"liars":[],"members":4,"opening":[1,2,3]}',
             '{"faults":1,"liars":[],"members":4.0,"opening":[1,2,3,4]}',
-            '{"faults":0,"liars":[],"members":65,"opening":[' + ",".join(["0"] * 65) + "]}",
+            '{"faults":0,"liars":[],"members":129,"opening":[' + ",".join(["0"] * 129) + "]}",
             '{"faults":0,"liars":[],"members":2,"opening":[9223372036854775807,1]}',
         )
     ),

@@ -6,7 +6,7 @@ import random
 from frames import ECHO, SEND, frame, payment
 from model import play
 from runs import TOP, run, run_byte_by_byte, same, shows, test
-from scripts import FOUR_ONE_LIAR, WORKED, RandomScripts, script_of
+from scripts import FOUR_ONE_LIAR, LONG, WORKED, RandomScripts, script_of
 
 LIMIT = 1_000_000
 
@@ -23,7 +23,7 @@ def text_of(lines):
 
 @test
 def worked_scripts_are_played():
-    for name, world, commands, lines, status in WORKED:
+    for name, world, commands, lines, status in WORKED + LONG:
         shows(run(["sim"], script_of(world, commands)), status, text_of(lines), of=name)
 
 

@@ -93,11 +93,12 @@ fn all_groups<I: Instance + Drop>(rt: &impl Abort, alloc: Global) -> Result<(), 
 }
 
 fn named_groups<I: Instance + Drop>(rt: &impl Abort, alloc: Global) -> Result<(), Fail> {
-    for (members, faults, echoes) in [(1, 0, 1), (4, 1, 3), (64, 21, 43)] {
+    for (members, faults, echoes) in [(1, 0, 1), (4, 1, 3), (64, 21, 43), (128, 42, 86)] {
         assert_eq!(rt; echo_threshold::<I>(alloc, members, faults)?, echoes);
     }
     assert_eq!(rt; ready_thresholds::<I>(alloc, 4, 1)?, (2, 2));
     assert_eq!(rt; ready_thresholds::<I>(alloc, 64, 21)?, (22, 42));
+    assert_eq!(rt; ready_thresholds::<I>(alloc, 128, 42)?, (43, 84));
     Ok(())
 }
 

@@ -32,4 +32,4 @@ pub const MOST_TRIES: u32 = 1_000;
 pub const SEQS: u32 = 65_536;
 
 /// The greatest number of members.
-pub const MOST_MEMBERS: u16 = 64;
+pub const MOST_MEMBERS: u16 = 128;

@@ -16,7 +16,7 @@ struct World {
 
 /// Wherever a later fault holds too, the first one is answered. The last rows are one member alone, and as
 /// many members and liars as there can be.
-const WORLDS: [World; 13] = [
+const WORLDS: [World; 15] = [
     World {
         members: 0,
         faults: 0,
@@ -24,8 +24,8 @@ const WORLDS: [World; 13] = [
         fault: Some(GenesisFault::BadCount),
     },
     World {
-        members: 65,
-        faults: 40,
+        members: 129,
+        faults: 43,
         opening: &[],
         fault: Some(GenesisFault::BadCount),
     },
@@ -54,9 +54,9 @@ const WORLDS: [World; 13] = [
         fault: Some(GenesisFault::BadFaults),
     },
     World {
-        members: 64,
-        faults: 22,
-        opening: &[0; 64],
+        members: 128,
+        faults: 43,
+        opening: &[0; 128],
         fault: Some(GenesisFault::BadFaults),
     },
     World {
@@ -69,6 +69,12 @@ const WORLDS: [World; 13] = [
         members: 4,
         faults: 1,
         opening: &[u64::MAX; 5],
+        fault: Some(GenesisFault::BadOpening),
+    },
+    World {
+        members: 128,
+        faults: 42,
+        opening: &[0; 127],
         fault: Some(GenesisFault::BadOpening),
     },
     World {
@@ -90,9 +96,15 @@ const WORLDS: [World; 13] = [
         fault: None,
     },
     World {
-        members: 64,
+        members: 65,
         faults: 21,
-        opening: &[0; 64],
+        opening: &[0; 65],
+        fault: None,
+    },
+    World {
+        members: 128,
+        faults: 42,
+        opening: &[0; 128],
         fault: None,
     },
 ];

@@ -14,7 +14,7 @@ use std::time::{Clock, Duration};
 
 /// How many connections that others dialed may stand at once: of each peer of the largest group two, so that one can
 /// dial again before its old connection is gone. For one more the oldest is given up.
-pub const MOST_CONNECTIONS: u16 = 128;
+pub const MOST_CONNECTIONS: u16 = 256;
 
 /// How long an acceptor sleeps after a connection that it couldn't take.
 const PAUSE_MILLIS: u64 = 10;

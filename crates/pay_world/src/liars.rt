@@ -83,8 +83,8 @@ fn are_members(members: u16, liars: &[u16]) -> bool
     liars.iter().all(|liar| *liar < members)
 }
 
-// Whether one stands there twice. Of members, of whom there are at most 64, one does among the
-// first 65, so the loop ends there.
+// Whether one stands there twice. Of members, of whom there are at most 128, one does among the
+// first 129, so the loop ends there.
 fn has_twice(liars: &[u16]) -> bool
     ensures { result ≡ has_twice liars.now }
 {
