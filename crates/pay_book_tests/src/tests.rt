@@ -36,6 +36,7 @@ fn values_decode(rt: HostRuntime) {
 fn values_are_written(rt: HostRuntime) -> Result<(), Fail> {
     let pairs = [(1, 5), (3, 1)];
     let payments = payments_named(rt.alloc(), &pairs)?.ok_or("a payee beyond all")?;
+    assert_eq!(rt; payments.len(), 2);
     let value = payments_value(rt.alloc(), payments.as_slice())?;
     assert_eq!(rt; value.as_slice(), FIVE_TO_1_ONE_TO_3);
     Ok(())
