@@ -95,8 +95,9 @@ def random_payments_as_the_model_settles_them():
             payee, amount = (own + seeded.randrange(1, 4)) % 4, seeded.randrange(1, 40)
             group.pay(own, place, payee, amount, seq=len(asked[own]))
             asked[own].append(payment(payee, amount))
-        front = model.front(asked)
-        group.settle(front, model.balances(asked, front))
+        entries = model.entry_lists(asked)
+        front = model.front(entries)
+        group.settle(front, model.balances(entries, front))
         for node in group.nodes.values():
             for owner, place in enumerate(front):
                 word = "settled" if place == len(asked[owner]) else "waiting"
@@ -105,7 +106,7 @@ def random_payments_as_the_model_settles_them():
         exports = group.stop()
     for own, export in exports.items():
         same(export["lists"], [[value.hex() for value in values] for values in asked], f"the lists of {own}")
-        same((export["front"], export["balances"]), (front, model.balances(asked, front)), f"the book of {own}")
+        same((export["front"], export["balances"]), (front, model.balances(entries, front)), f"the book of {own}")
 
 
 @test
