@@ -100,10 +100,10 @@ class Node:
         return [int(answer.split()[2]) for answer in answers]
 
     def program(self):
-        """The number of the program's process, which tools/hold-node runs, or None where it runs no more."""
+        """The number of the program's process, which tools/hold-node runs where PAYD is the script; None behind its end."""
         try:
             with open(f"/proc/{self.child.pid}/task/{self.child.pid}/children", encoding="ascii") as numbers:
-                return next(map(int, numbers.read().split()), None)
+                return next(map(int, numbers.read().split()), self.child.pid)
         except (FileNotFoundError, ProcessLookupError):
             return None
 
