@@ -54,8 +54,9 @@ def doubled(seeded, given):
 
 def put_in(seeded, given):
     place = seeded.randrange(len(given) + 1)
-    pieces = [b"\0", b"\xff", b" ", b"\n", b"\r", b"0", b"9", b"-", b'"', b",", b"[", b"]", b"{}", b".", b"e1", b"\\u0000"]
-    return given[:place] + seeded.choice([*pieces, b"18446744073709551616", b"\xc3\x28", b"null"]) + given[place:]
+    pieces = [b"\0", b"\xff", b" ", b"\n", b"\r", b"0", b"9", b"-", b'"', b",", b"[", b"]", b"{}", b".", b"e1"]
+    pieces += [b"\\u0000", b"18446744073709551616", b"\xc3\x28", b"null"]
+    return given[:place] + seeded.choice(pieces) + given[place:]
 
 
 def ended(seeded, given):
@@ -68,7 +69,8 @@ def replaced(seeded, given):
 
 
 # What may stand in a file in place of anything else.
-OTHERS = [None, True, "", "0", "ff", "0g", [], {}, 0, 1, 2, 4, 64, 65, 128, 129, -1, 1.0, 65536, GREATEST_TOTAL, GREATEST - 1, GREATEST]
+OTHERS = [None, True, "", "0", "ff", "0g", [], {}, 0, 1, 2, 4, 64, 65, 128, 129, -1, 1.0, 65536]
+OTHERS += [GREATEST_TOTAL, GREATEST - 1, GREATEST]
 
 
 def changed_value(seeded, value):

@@ -80,7 +80,8 @@ def long_lines_of_a_desk():
         same(len(line), size, "the length of a line")
         shows(desk(line + b"\nFRONT\n"), 0, f"{answer}\nfront 0 0 0 0\n", of=f"{size} bytes of payments")
     within = b"PAY 1 1 1 " + 1014 * b"x"
-    shows(desk(b"FRONT\n" + within + b"\n\nFRONT\n"), 0, "front 0 0 0 0\n" + 2 * "refused 1 BadLine\n" + "front 0 0 0 0\n")
+    front = "front 0 0 0 0\n"
+    shows(desk(b"FRONT\n" + within + b"\n\nFRONT\n"), 0, front + 2 * "refused 1 BadLine\n" + front)
 
 
 @test
@@ -121,7 +122,8 @@ def desk_as_the_model_has_it():
 def all_numbers_of_a_desk_are_spent():
     pays = [f"PAY {number} 1 {number + 1}" for number in range(desks.ASKS)]
     asked = [f"asked {number} seq {number}" for number in range(desks.ASKS)]
-    lines = ["PAY 65536 1 1", "PAY 65536 4 1", "PAY 65536 0 1", "PAY 7 1 8", "PAY 7 1 9", "PAY 65536 1 1", "STATE 0 65535"]
+    lines = ["PAY 65536 1 1", "PAY 65536 4 1", "PAY 65536 0 1", "PAY 7 1 8", "PAY 7 1 9", "PAY 65536 1 1"]
+    lines.append("STATE 0 65535")
     answers = [
         desks.SPENT,
         desks.NO_ACCOUNT,

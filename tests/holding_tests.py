@@ -57,7 +57,8 @@ def signals_come_to_the_script_alone():
 def held(words, code):
     """A stand-in for a node, held by the script."""
     pipe = subprocess.PIPE
-    child = subprocess.Popen([HOLD, *words, sys.executable, "-c", STAND_IN + code], stdin=pipe, stdout=pipe, stderr=pipe)
+    command = [HOLD, *words, sys.executable, "-c", STAND_IN + code]
+    child = subprocess.Popen(command, stdin=pipe, stdout=pipe, stderr=pipe)
     # it takes signals once it reads lines
     child.stdin.write(b"a line\n")
     child.stdin.flush()

@@ -75,7 +75,7 @@ def hostile(function):
         with Hostile() as library:
             function(library)
 
-    tried.__name__ = function.__name__
+    tried.__name__, tried.__module__ = function.__name__, function.__module__
     return test(tried)
 
 

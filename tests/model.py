@@ -9,7 +9,7 @@ import inspect
 import json
 import re
 
-from frames import ECHO, READY, SEND, WANT, frame, payment, payments, read_frame, test_key
+from frames import ECHO, READY, SEND, WANT, frame, payment, payments, read_frame
 
 GREATEST_VALUE = 1024
 SEQS = 65536

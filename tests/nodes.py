@@ -100,7 +100,7 @@ class Node:
         return [int(answer.split()[2]) for answer in answers]
 
     def program(self):
-        """The number of the program's process, which tools/hold-node runs where PAYD is the script; None behind its end."""
+        """The program's process number, or None behind its end. (tools/hold-node runs it where PAYD is the script.)"""
         try:
             with open(f"/proc/{self.child.pid}/task/{self.child.pid}/children", encoding="ascii") as numbers:
                 return next(map(int, numbers.read().split()), self.child.pid)

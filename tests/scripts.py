@@ -378,7 +378,8 @@ class RandomScripts:
 
     def value(self):
         if self.random.random() < 0.15:
-            return self.random.choice(["-", "ff", "0100", "02" * 12, "0200", ONE_OF_SEVERAL[:-2], ONE_OF_SEVERAL + "00"])
+            texts = ["-", "ff", "0100", "02" * 12, "0200", ONE_OF_SEVERAL[:-2], ONE_OF_SEVERAL + "00"]
+            return self.random.choice(texts)
         if self.random.random() < 0.3:
             return payments(self.pairs()).hex()
         return payment(self.random.randrange(3), self.random.choice([1, 5, 9, 30])).hex()

@@ -7,8 +7,9 @@ use crate::exported::Export;
 use crate::owner_list::OwnerList;
 use crate::settling::settled;
 use crate::verdict::Verdict;
-use pay_book::{PlainBook, Settle};
+use pay_book::Settle;
 use pay_link::Genesis;
+use pay_pending::WaitingBook;
 use std::alloc::{AllocError, Global};
 
 /// What is wrong with these exports, if anything is.
@@ -72,7 +73,7 @@ fn wrong_book(alloc: Global, exports: &[Export]) -> Result<Option<Verdict>, Allo
 {
     let mut wrong_balance = None;
     for (place, export) in exports.iter().enumerate() {
-        let book: PlainBook = settled(alloc, export)?;
+        let book: WaitingBook = settled(alloc, export)?;
         if let Some(account) = wrong_front_of(export, &book) {
             return Ok(Some(Verdict::WrongFront {
                 export: place,

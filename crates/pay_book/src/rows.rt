@@ -4,7 +4,7 @@
 ghost use Rattle.std.specs.Prelude.{◌≡◌, ◌-◌, ◌^◌, [], ◌∷◌, map, replicate, slice_index};
 ghost use Rattle.pay_book.specs.declared.payment.Entry.{Entry};
 ghost use Rattle.pay_book.specs.declared.line.Line.{Line};
-ghost use Rattle.pay_book.specs.Payment.{entry_of, entries_in};
+ghost use Rattle.pay_book.specs.Payment.{entry_of, entries_in, payment_value, payments_value};
 ghost use Rattle.pay_book.specs.Places.{places_of};
 ghost use Rattle.pay_book.specs.Statement.{statement_of};
 ghost use Rattle.pay_book.specs.Rows.{thirty_to_1, five_to_0, five_to_1, five_to_2, five_to_3, five_to_4, unknown_version, one_byte_short, amount_zero, ten_to_0, ten_to_1, one_fifty_to_1, fifty_to_0, greatest_u64_to_1, one_to_1, greatest_total_to_1, four_payments, five_to_1_one_to_3, no_payments, four_payments_and_more, four_payments_and_less, times_one_to_1, thirty_to_0, four, lists_of, EndsAt};
@@ -17,6 +17,14 @@ pub fn values_decode()
         ≡ Entry.Void ∷ Entry.Void ∷ Entry.Void ∷ [] }
     ensures own_payee { entry_of 4 3 five_to_3 ≡ Entry.Void }
     ensures no_such_payee { entry_of 4 3 five_to_4 ≡ Entry.Void }
+{}
+
+/// One payment as a value, and two in one value.
+pub fn values_encode()
+    ensures one { payment_value 1 30 ≡ thirty_to_1 }
+    ensures several { payments_value
+        (record { payee = 1; amount = 5 } ∷ record { payee = 3; amount = 1 } ∷ [])
+        ≡ five_to_1_one_to_3 }
 {}
 
 /// Two empty accounts that pay each other settle nothing, though both payments together would leave

@@ -59,27 +59,31 @@ fn pay_next<B: Settle + Drop>(
     ledger: &mut Ledger<B>,
     payer: u8,
 ) -> Result<Option<u32>, AllocError>
-    requires { payer < 64 }
+    requires { payer < 255 }
 {
     let value = [1, 0, payer + 1, 0, 0, 0, 0, 0, 0, 0, 10].to_vec(alloc)?;
     ledger.add(u16::from(payer), value)
 }
 
-/// Accounts 1 to 62 each pay on what they don't have, until account 0 pays.
-fn settle_chain<B: Settle + Drop>(rt: &impl Abort, alloc: Global) -> Result<(), Fail> {
-    let mut opening = [0; 64];
+/// All but the first and the last account each pay on what they don't have, until the first pays.
+fn settle_chain<B: Settle + Drop>(rt: &impl Abort, alloc: Global, members: u8) -> Result<(), Fail>
+    requires { 1 < members }
+{
+    let last = usize::from(members - 1);
+    let mut opening = vec![in alloc; 0; last + 1]?;
     opening[0] = 10;
-    let genesis = Genesis::new(alloc, 64, 21, &opening)?;
+    let genesis = Genesis::new(alloc, u64::from(members), 0, opening.as_slice())?;
     let mut ledger: Ledger<B> = Ledger::new(alloc, &genesis)?;
-    for payer in 1..63 {
+    for payer in 1..members - 1 {
         assert_eq!(rt; pay_next(alloc, &mut ledger, payer)?, Some(0), "{payer}");
     }
-    assert_eq!(rt; pay_next(alloc, &mut ledger, 0)?, Some(63));
-    let mut fronts = [1; 64];
-    fronts[63] = 0;
-    let mut balances = [0; 64];
-    balances[63] = 10;
-    assert!(rt; ledger.shows(&fronts, &balances));
+    let settled = pay_next(alloc, &mut ledger, 0)?;
+    assert_eq!(rt; settled, Some(u32::from(members - 1)));
+    let mut fronts = vec![in alloc; 1; last + 1]?;
+    fronts[last] = 0;
+    let mut balances = vec![in alloc; 0; last + 1]?;
+    balances[last] = 10;
+    assert!(rt; ledger.shows(fronts.as_slice(), balances.as_slice()));
     Ok(())
 }
 
@@ -92,8 +96,9 @@ fn plain_book_plays_rows(rt: HostRuntime) -> Result<(), Fail> {
 }
 
 #[test]
-fn plain_book_settles_a_chain(rt: HostRuntime) -> Result<(), Fail> {
-    settle_chain::<PlainBook>(&rt, rt.alloc())
+fn plain_book_settles_chains(rt: HostRuntime) -> Result<(), Fail> {
+    settle_chain::<PlainBook>(&rt, rt.alloc(), 64)?;
+    settle_chain::<PlainBook>(&rt, rt.alloc(), 128)
 }
 
 #[test]
@@ -105,6 +110,7 @@ fn waiting_book_plays_rows(rt: HostRuntime) -> Result<(), Fail> {
 }
 
 #[test]
-fn waiting_book_settles_a_chain(rt: HostRuntime) -> Result<(), Fail> {
-    settle_chain::<WaitingBook>(&rt, rt.alloc())
+fn waiting_book_settles_chains(rt: HostRuntime) -> Result<(), Fail> {
+    settle_chain::<WaitingBook>(&rt, rt.alloc(), 64)?;
+    settle_chain::<WaitingBook>(&rt, rt.alloc(), 128)
 }

@@ -1,5 +1,5 @@
 -- Counting the values that follow, number by number.
-use Rattle.std.proofs.Common.{◌≡◌, ℕ, suc, ◌+◌, ◌-◌, ◌<◌, ◌≤◌, true, false, List, length, Option, None, Some, is_some, sym, ap, ◌∙◌, arith}
+use Rattle.std.proofs.Common.{◌≡◌, ℕ, zero, suc, refl, ◌+◌, ◌-◌, ◌<◌, ◌≤◌, true, false, List, length, Option, None, Some, is_some, sym, ap, ◌∙◌, arith}
 use Rattle.std.specs.Option.{option_map}
 use Rattle.pay_channel.specs.History.{known_from}
 use Rattle.pay_channel.proofs.Grown.{known_from-some, known_from-none}
@@ -34,3 +34,9 @@ counted_all at from s n total ends within so_far =
     let none : n - s ≡ 0 = omega arith in
     let nothing : length (known_from at s (n - s)) ≡ 0 = ap (λ m. length (known_from at s m)) none in
     omega arith
+
+-- where the number itself has no value, none follows
+pub none_follows : (at : ℕ → Option (List ℕ)) (from n : ℕ) → (0 < n → at from ≡ None) → 0 ≡ length (known_from at from n)
+unfolding known_from
+none_follows at from zero none = refl
+none_follows at from (suc n) none = sym (ap length (known_from-none at from n (none (omega arith))))

@@ -19,3 +19,4 @@ pub mod Longer
 pub mod Asking
 pub mod ChannelLists
 mod Came
+mod Unlisted

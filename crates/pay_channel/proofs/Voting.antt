@@ -1,15 +1,16 @@
 -- One vote told to its instance, what is said by it put at the end of the sent list, and the values that
 -- follow counted: the channel took the vote and is sound.
-use Rattle.std.proofs.Common.{◌≡◌, ℕ, ◌+◌, ◌-◌, ◌<◌, ◌≤◌, Bool, true, false, cond, ltb, List, [], ◌++◌, length, get_or, set, Option, Some, option_to_list, Result, Ok, Err, refl, sym, ap, ap₂, ◌∙◌, subst, arith, append_assoc, length-append}
+use Rattle.std.proofs.Common.{◌≡◌, ℕ, ◌+◌, ◌-◌, ◌<◌, ◌≤◌, Bool, true, false, cond, eqb, eqb-true, ltb, List, [], ◌++◌, length, get_or, set, Option, None, Some, option_to_list, Result, Ok, Err, refl, sym, ap, ap₂, ◌∙◌, subst, arith, append_assoc, length-append}
 use Rattle.std.specs.Bool.{then_some}
 use Rattle.std.specs.Result.{OnErr}
 use Rattle.std.proofs.lemmas.List.{get_or_default}
+use Rattle.std.proofs.lemmas.Bool.{cases_Bool, and_right}
 use Rattle.pay_frame.specs.declared.kind.Kind.{Kind}
 use Rattle.pay_frame.specs.declared.kind.Kind.TheVariants.{Echo, Ready}
 use Rattle.pay_frame.specs.Frame.{BodyFields}
 use Rattle.pay_echo.specs.Broadcast.{Group, Vote, value_of}
 use Rattle.pay_echo.specs.Laws.{DeliveredStays, EchoedByOneMore, ReadiedByOneMore, SentIsItsValue}
-use Rattle.pay_echo.specs.Meaning.{meaning_of}
+use Rattle.pay_echo.specs.Meaning.{Meaning, meaning_of}
 use Rattle.pay_echo.specs.Moves.{IsMoves}
 use Rattle.pay_echo.specs.declared.moves.Moves.{Moves}
 use Rattle.pay_channel.specs.Source.{GrowsOnly}
@@ -20,6 +21,8 @@ use Rattle.pay_channel.specs.declared.outgoing.Outgoing.{Outgoing}
 use Rattle.pay_channel.specs.Applied.{said, TakesVote, IsToldOf, IsAsBefore}
 use Rattle.pay_channel.proofs.Grown.{known_from-short, IsSound-same, lists-grow, lists-grown, IsSound-voted}
 use Rattle.pay_channel.proofs.Said.{told, said-of_vote}
+use Rattle.pay_channel.proofs.Lists.{either}
+use Rattle.pay_channel.proofs.Unlisted.{next_is_unknown, still_unknown}
 
 pub on_err : {T E P : Type 0} (r : Result T E) → P → OnErr r P
 on_err (Ok x) p = tt
@@ -117,3 +120,17 @@ module _ (g : Group) (asks : ℕ) (slots after : List Slot) (sent said_now : Lis
                 ∙ sym (length-append (lists_of before_it a) (known_from (value_at after_it a) (length (lists_of before_it a)) (seqs - length (lists_of before_it a))))
                 ∙ ap length (sym (lists-grown delivered_stays before_it after_it lengths a s (Some x) sound refl hears.here hears.others member));
           }
+
+    module _ (member : a < g.members) (from : ℕ) (from_is : from ≡ get_or lengths a 0) where
+      -- the number behind the list, which this vote doesn't deliver
+      pub none_behind : (moves : Moves) → IsMoves (meaning_in g slots a s) (meaning_in g after a s) moves → from < seqs → (s ≡ from → moves.deliver ≡ false) → (meaning_in g after a from).delivered ≡ None
+      unfolding value_at meaning_at
+      none_behind moves are more quiet =
+          let length_is : from ≡ length (lists_of before_it a) = from_is ∙ sound.counted a member in
+          let Was : ℕ → Type 0 = λ n. (meaning_in g slots a n).delivered ≡ None in
+          let was : Was from = subst Was (sym length_is) (next_is_unknown before_it a member (omega (arith, length_is, more))) in
+          let Is : ℕ → Type 0 = λ n. (meaning_in g after a n).delivered ≡ None in
+          either (cases_Bool (eqb s from))
+          (λ e. let same = eqb-true s from e in
+          subst Is same (still_unknown (meaning_in g slots a s).delivered (meaning_in g after a s).delivered (subst Was (sym same) was) (sym are.deliver ∙ quiet same)))
+          (λ e. ap (λ (m : Meaning). m.delivered) (hears.others a from (and_right (eqb a a) (eqb s from) e)) ∙ was)

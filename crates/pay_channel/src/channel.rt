@@ -151,7 +151,9 @@ impl<I: Instance + Drop> Channel<I> {
         say(&mut self.sent, echo);
         say(&mut self.sent, ready);
         let from = self.listed[usize::from(owner)];
-        let grown = self.instances.count_following(owner, from);
+        let grown = self
+            .instances
+            .count_behind(self.group, owner, from, seq, moves.deliver);
         self.listed[usize::from(owner)] = from + grown;
         Ok(Applied {
             echo: moves.echo,

@@ -1,4 +1,4 @@
-ghost use Rattle.std.specs.Prelude.{◌≡◌, ◌≢◌, ◌≤◌, ◌<◌, ◌-◌, ℕ, List, length, [], IfOk, OnOk, OnErr};
+ghost use Rattle.std.specs.Prelude.{◌≡◌, ◌≢◌, ◌≤◌, ◌<◌, ◌-◌, ℕ, false, List, length, [], None, IfOk, OnOk, OnErr};
 ghost use Rattle.std.specs.Bool.{then_some};
 ghost use Rattle.std.specs.Option.{option_copied};
 ghost use Rattle.pay_echo.specs.Broadcast.{Group, Vote, IsForeign, value_of};
@@ -66,6 +66,22 @@ impl<I: Instance + Drop> Instances<I> {
             }
         }
         SEQS - from
+    }
+
+    /// The same where this number had no delivered value before a vote in one broadcast of the
+    /// owner, which delivered its value or didn't: most votes don't, and nothing is looked up then.
+    pub fn count_behind(&self, group: Group, owner: u16, from: u32, seq: u32, delivers: bool) -> u32
+        requires from { from ≤ seqs }
+        requires none { from < seqs → (seq ≡ from → delivers ≡ false)
+            → (meaning_in group self.now owner from).delivered ≡ None }
+        ensures { result ≡ length
+            (known_from (λ s. (meaning_in group self.now owner s).delivered) from (seqs - from)) }
+    {
+        if delivers && seq == from {
+            self.count_following(owner, from)
+        } else {
+            0
+        }
     }
 
     /// Tells a broadcast's instance one vote; where none is there yet, a fresh one. The bodies that

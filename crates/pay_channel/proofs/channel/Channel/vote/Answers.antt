@@ -4,7 +4,7 @@ use Rattle.pay_echo.specs.Votes.{vote_of}
 use Rattle.pay_channel.specs.State.{State, IsSound, lists_of}
 use Rattle.pay_channel.specs.Applied.{TakesVote, IsToldOf, IsAsBefore}
 use Rattle.pay_channel.specs.Source.{GrowsOnly}
-use Rattle.pay_channel.proofs.Voting.{on_err, reached_at, length_read, length_read-short, total-fits, after_it, kept, kept_sound, voted, voted_grow, voted_sound, voted_told}
+use Rattle.pay_channel.proofs.Voting.{on_err, reached_at, length_read, length_read-short, total-fits, after_it, kept, kept_sound, voted, voted_grow, voted_sound, voted_told, none_behind}
 use Rattle.pay_channel.proofs.channel.Channel.vote.Goals as goal
 
 pub hear-requires-clause-reached : goal.hear-requires-clause-reached
@@ -20,8 +20,8 @@ returns-in_err-outgoing-clause-err g c =
     (let P : State → Type 0 = λ x. IsAsBefore x (after_it c.self.inside.group c.self.inside.asks c.self.inside.instances c.hear.new.self c.self.inside.sent.items c.reserve.new.self.items c.self.inside.listed.items) in
     subst P c.self.view_is same)
 
-pub count_following-grown-requires : goal.count_following-grown-requires
-count_following-grown-requires g c =
+pub count_behind-grown-requires-clause-from : goal.count_behind-grown-requires-clause-from
+count_behind-grown-requires-clause-from g c =
     let P : State → Type 0 = λ x. c.args.owner < x.group.members in
     length_read-short _ c.self.inside.listed.items c.args.owner c.from.result c.index-from.result.now c.self.invariant (subst P (sym c.self.view_is) c.requires.owner) c.from.ensures c.index-from.ensures
 
@@ -29,17 +29,17 @@ pub overflow_add-from : goal.overflow_add-from
 overflow_add-from g c =
     let P : State → Type 0 = λ x. c.args.owner < x.group.members in
     let within : c.index-from.result.now ≤ seqs = length_read-short _ c.self.inside.listed.items c.args.owner c.from.result c.index-from.result.now c.self.invariant (subst P (sym c.self.view_is) c.requires.owner) c.from.ensures c.index-from.ensures in
-    omega (arith, total-fits _ c.index-from.result.now c.count_following-grown.result within (c.count_following-grown.ensures c.self.inside.group))
+    omega (arith, total-fits _ c.index-from.result.now c.count_behind-grown.result within c.count_behind-grown.ensures)
 
 pub invariant_of-self-2 : goal.invariant_of-self-2
 invariant_of-self-2 g c =
     let P : State → Type 0 = λ x. c.args.owner < x.group.members in
     let member : c.args.owner < c.self.inside.group.members = subst P (sym c.self.view_is) c.requires.owner in
     let from_is = length_read _ c.self.inside.listed.items c.args.owner c.from.result c.index-from.result.now c.self.invariant member c.from.ensures c.index-from.ensures in
-    let At : ℕ → Type 0 = λ i. IsSound (after_it c.self.inside.group c.self.inside.asks c.self.inside.instances c.hear.new.self c.self.inside.sent.items c.say-3.new.sent.items c.self.inside.listed.items) (set c.self.inside.listed.items i (c.index-from.result.now + c.count_following-grown.result)) in
+    let At : ℕ → Type 0 = λ i. IsSound (after_it c.self.inside.group c.self.inside.asks c.self.inside.instances c.hear.new.self c.self.inside.sent.items c.say-3.new.sent.items c.self.inside.listed.items) (set c.self.inside.listed.items i (c.index-from.result.now + c.count_behind-grown.result)) in
     subst At (sym c.from-2.ensures)
     (voted_sound c.self.inside.group c.self.inside.asks c.self.inside.instances c.hear.new.self c.self.inside.sent.items c.say-3.new.sent.items c.self.inside.listed.items
-    c.known_stays.ensures.delivered c.args.owner c.args.seq (vote_of c.args.vote) c.self.invariant c.in_ok-outgoing.ensures.hears member c.index-from.result.now c.count_following-grown.result from_is (c.count_following-grown.ensures c.self.inside.group))
+    c.known_stays.ensures.delivered c.args.owner c.args.seq (vote_of c.args.vote) c.self.invariant c.in_ok-outgoing.ensures.hears member c.index-from.result.now c.count_behind-grown.result from_is c.count_behind-grown.ensures)
 
 pub returns-clause-takes : goal.returns-clause-takes
 returns-clause-takes g c =
@@ -56,10 +56,10 @@ returns-clause-applied g c =
     let P : State → Type 0 = λ x. c.args.owner < x.group.members in
     let member : c.args.owner < c.self.inside.group.members = subst P (sym c.self.view_is) c.requires.owner in
     let from_is = length_read _ c.self.inside.listed.items c.args.owner c.from.result c.index-from.result.now c.self.invariant member c.from.ensures c.index-from.ensures in
-    let At : State → Type 0 = λ x. IsToldOf x (after_it c.self.inside.group c.self.inside.asks c.self.inside.instances c.hear.new.self c.self.inside.sent.items c.say-3.new.sent.items c.self.inside.listed.items) c.args.owner c.args.seq (record { echo = c.in_ok-outgoing.outgoing.moves.echo; ready = c.in_ok-outgoing.outgoing.moves.ready; deliver = c.in_ok-outgoing.outgoing.moves.deliver; grown = c.count_following-grown.result }) in
+    let At : State → Type 0 = λ x. IsToldOf x (after_it c.self.inside.group c.self.inside.asks c.self.inside.instances c.hear.new.self c.self.inside.sent.items c.say-3.new.sent.items c.self.inside.listed.items) c.args.owner c.args.seq (record { echo = c.in_ok-outgoing.outgoing.moves.echo; ready = c.in_ok-outgoing.outgoing.moves.ready; deliver = c.in_ok-outgoing.outgoing.moves.deliver; grown = c.count_behind-grown.result }) in
     subst At c.self.view_is
     (voted_told c.self.inside.group c.self.inside.asks c.self.inside.instances c.hear.new.self c.self.inside.sent.items c.say-3.new.sent.items c.self.inside.listed.items
-    c.known_stays.ensures.delivered c.args.owner c.args.seq (vote_of c.args.vote) c.self.invariant c.in_ok-outgoing.ensures.hears member c.index-from.result.now c.count_following-grown.result from_is (c.count_following-grown.ensures c.self.inside.group) c.in_ok-outgoing.outgoing.moves c.in_ok-outgoing.ensures.out.moves)
+    c.known_stays.ensures.delivered c.args.owner c.args.seq (vote_of c.args.vote) c.self.invariant c.in_ok-outgoing.ensures.hears member c.index-from.result.now c.count_behind-grown.result from_is c.count_behind-grown.ensures c.in_ok-outgoing.outgoing.moves c.in_ok-outgoing.ensures.out.moves)
 
 pub returns-clause-grows : goal.returns-clause-grows
 returns-clause-grows g c =
@@ -69,3 +69,12 @@ returns-clause-grows g c =
     subst At c.self.view_is
     (voted_grow c.self.inside.group c.self.inside.asks c.self.inside.instances c.hear.new.self c.self.inside.sent.items c.say-3.new.sent.items c.self.inside.listed.items
     c.known_stays.ensures.delivered c.args.owner c.args.seq (vote_of c.args.vote) c.self.invariant c.in_ok-outgoing.ensures.hears member)
+
+pub count_behind-grown-requires-clause-none : goal.count_behind-grown-requires-clause-none
+count_behind-grown-requires-clause-none g c =
+    let P : State → Type 0 = λ x. c.args.owner < x.group.members in
+    let member : c.args.owner < c.self.inside.group.members = subst P (sym c.self.view_is) c.requires.owner in
+    let from_is = length_read _ c.self.inside.listed.items c.args.owner c.from.result c.index-from.result.now c.self.invariant member c.from.ensures c.index-from.ensures in
+    none_behind c.self.inside.group c.self.inside.asks c.self.inside.instances c.hear.new.self c.self.inside.sent.items c.say-3.new.sent.items c.self.inside.listed.items
+    c.known_stays.ensures.delivered c.args.owner c.args.seq (vote_of c.args.vote) c.self.invariant c.in_ok-outgoing.ensures.hears member c.index-from.result.now from_is
+    c.in_ok-outgoing.outgoing.moves c.in_ok-outgoing.ensures.out.moves

@@ -1,0 +1,52 @@
+"""What the benches share: the words that they are called with, programs, and what a run of one uses."""
+
+import argparse
+import functools
+import os
+import subprocess
+import sys
+
+sys.dont_write_bytecode = True
+
+TOP = os.path.dirname(os.path.dirname(os.path.realpath(__file__)))
+sys.path[:0] = [os.path.join(TOP, it) for it in ("examples", "tests", "tools")]
+
+import programs  # noqa: E402
+
+
+def read_numbers(text, usual, quick):
+    """The whole numbers that a bench is called with; those left out are the usual ones, by --quick the quick ones."""
+    words = argparse.ArgumentParser(description=text, formatter_class=argparse.RawDescriptionHelpFormatter)
+    words.add_argument("--quick", action="store_true", help=f"as with the numbers {' '.join(map(str, quick))}")
+    words.add_argument("numbers", type=int, nargs="*", help=f"left out: {' '.join(map(str, usual))}")
+    given = words.parse_args()
+    left_out = quick if given.quick else usual
+    return given.numbers + list(left_out[len(given.numbers) :])
+
+
+@functools.lru_cache(None)
+def payd():
+    """The path of the proved program, which is proved first where it isn't."""
+    return programs.proved_program()
+
+
+def program(name):
+    """The path of a crate's program, which is proved and built first."""
+    folder = os.path.join(TOP, "crates", name)
+    subprocess.run(["rt", "run"], cwd=folder, stdin=subprocess.DEVNULL, stdout=subprocess.DEVNULL, check=True)
+    return os.path.join(folder, "out", name)
+
+
+def used_by(words, source=os.devnull):
+    """What a run used of processors and memory."""
+    with open(source, "rb") as stream:
+        started = subprocess.Popen(words, stdin=stream, stdout=subprocess.DEVNULL)
+        _, status, used = os.wait4(started.pid, 0)
+    if status != 0:
+        sys.exit(f"'{' '.join(words)}' ended with status {os.waitstatus_to_exitcode(status)}")
+    return used
+
+
+def processor_seconds(words, source=os.devnull):
+    used = used_by(words, source)
+    return used.ru_utime + used.ru_stime

@@ -1,0 +1,86 @@
+"""Black-box tests of the program as it is called: its words, what README shows, and where it is run."""
+
+import os
+import re
+import subprocess
+import tempfile
+
+from check_tests import BAD_TAG, TWICE
+from nodes import free_ports, write_json
+from runs import PAYD, SECONDS, TOP, run, same, test
+
+# ---- words
+
+
+@test
+def help_is_printed():
+    for words in (["--help"], ["check", "--help"]):
+        status, output, errors = run(words)
+        same((status, errors), (0, ""), f"{words}")
+        same("check" in output, True, f"{words}: speaks of check")
+
+
+@test
+def unknown_words_are_refused():
+    for words in (["fly"], ["--fly"], ["check", "fly"], ["check", "--fly"], ["check", "check"]):
+        status, output, errors = run(words, TWICE)
+        same((status, output), (2, ""), f"{words}")
+        same(errors != "", True, f"{words}: standard error has a word")
+
+
+# ---- what README shows
+
+
+def shown_commands(text):
+    """The commands of a text's console blocks, each with the output that is shown behind it."""
+    for block in re.findall(r"^```console\n(.*?)^```$", text, re.MULTILINE | re.DOTALL):
+        for example in re.split(r"^\$ ", block, flags=re.MULTILINE)[1:]:
+            command, _, output = example.partition("\n")
+            yield command, output
+
+
+@test
+def readme_shows_what_is_printed():
+    with open(os.path.join(TOP, "README.md"), encoding="utf-8") as readme:
+        commands = list(shown_commands(readme.read()))
+    same(len(commands) >= 3, True, "README has its examples")
+    with tempfile.TemporaryDirectory() as folder:
+        # the ports that the example names may be somebody else's here
+        write_json(folder, "ports", {"ports": free_ports(4)})
+        for command, output in commands:
+            words = command.replace("examples/four-nodes", f"examples/four-nodes {folder}/ports")
+            done = subprocess.run(["bash", "-c", words], cwd=TOP, capture_output=True, timeout=SECONDS)
+            same((done.stdout.decode(), done.stderr.decode()), (output, ""), command)
+
+
+@test
+def example_stream_is_spelled():
+    spelled = subprocess.run([os.path.join(TOP, "examples", "make-frames")], capture_output=True, check=True)
+    with open(os.path.join(TOP, "examples", "frames.bin"), "rb") as stream:
+        same(stream.read(), spelled.stdout, "examples/frames.bin")
+
+
+# ---- how it is run
+
+
+@test
+def any_folder_to_run_in():
+    done = subprocess.run([PAYD], input=BAD_TAG, capture_output=True, cwd="/", timeout=SECONDS)
+    same((done.returncode, done.stdout, done.stderr), (0, b"1 refused 4 BadTag\n", b""), "run in /")
+
+
+@test
+def not_utf8_words():
+    for words in ([b"\xff"], [b"check", b"\xff"], [b"\xff", b"--help"]):
+        done = subprocess.run([PAYD.encode(), *words], input=TWICE, capture_output=True, timeout=SECONDS)
+        same((done.returncode, done.stdout), (2, b""), f"{words}")
+        same(b"UTF-8" in done.stderr, True, f"{words}: standard error says why")
+
+
+@test
+def version_is_printed():
+    for words in (["--version"], ["-V"]):
+        status, output, errors = run(words, TWICE)
+        same((status, output), (0, "payd 0.1.0\n"), f"{words}")
+        proved = re.fullmatch(r"payd: proved, of sources [0-9a-f]{16}, by \S.*\n", errors)
+        same(proved is not None, True, f"{words}: standard error says which one runs, in {errors!r}")
