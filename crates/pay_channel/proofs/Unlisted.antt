@@ -1,5 +1,5 @@
 -- The number behind a list's end has no value, and gets none by a vote that doesn't deliver it.
-use Rattle.std.proofs.Common.{◌≡◌, ℕ, zero, suc, ◌+◌, ◌<◌, false, List, length, Option, None, Some, refl, sym, ap, ◌∙◌, subst, lt-ltb, ltb, [], zero-add, arith}
+use Rattle.std.proofs.Common.{◌≡◌, ℕ, zero, suc, ◌+◌, ◌<◌, false, List, length, Option, None, Some, refl, sym, ap, ◌∙◌, lt-ltb, ltb, [], zero-add, arith}
 use Rattle.std.proofs.lemmas.Bool.{cond-true}
 use Rattle.pay_echo.specs.Meaning.{became}
 use Rattle.pay_channel.specs.History.{seqs, known_from, listed}
