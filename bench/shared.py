@@ -3,12 +3,14 @@
 import argparse
 import functools
 import os
+import shutil
 import subprocess
 import sys
 
 sys.dont_write_bytecode = True
 
 TOP = os.path.dirname(os.path.dirname(os.path.realpath(__file__)))
+TICKS = os.sysconf("SC_CLK_TCK")
 sys.path[:0] = [os.path.join(TOP, it) for it in ("examples", "tests", "tools")]
 
 import programs  # noqa: E402
@@ -28,6 +30,14 @@ def read_numbers(text, usual, quick):
 def payd():
     """The path of the proved program, which is proved first where it isn't."""
     return programs.proved_program()
+
+
+def chosen():
+    """The path of the program that ./payd runs, which may be one that nothing proved, and what is to be said of it."""
+    words = [os.path.join(TOP, "tools", "choose-program"), shutil.which("rt") or ""]
+    lines = subprocess.run(words, stdin=subprocess.DEVNULL, stdout=subprocess.PIPE, text=True, check=True).stdout
+    path, said = lines.splitlines()
+    return os.path.join(TOP, path), said
 
 
 def program(name):
@@ -50,3 +60,15 @@ def used_by(words, source=os.devnull):
 def processor_seconds(words, source=os.devnull):
     used = used_by(words, source)
     return used.ru_utime + used.ru_stime
+
+
+def used_by_node(node):
+    """What a running node used of processors so far, in its own code and in the system's."""
+    with open(f"/proc/{node.program()}/stat", encoding="ascii") as stat:
+        fields = stat.read().rpartition(")")[2].split()
+    return [int(fields[11]) / TICKS, int(fields[12]) / TICKS]
+
+
+def used_by_nodes(group):
+    """The same of all nodes of a group."""
+    return [sum(parts) for parts in zip(*map(used_by_node, group.nodes.values()))]
