@@ -19,7 +19,8 @@ use pay_frame::{EngineFault, Reader, Writer};
 use pay_hmac::PreparedHmac;
 use pay_link::{Genesis, Keys};
 use pay_member::Member;
-use pay_net::{NodeFault, Ports, run_node};
+use pay_net::{NodeFault, Ports, Receipts, run_node};
+use pay_node::CloseFault;
 use pay_pending::WaitingBook;
 use pay_sim::{SimEnd, run_sim};
 use ports::ports_of;
@@ -102,7 +103,7 @@ fn serve_desk<'a>(
 }
 
 /// Answers the lines on standard input, once the files are read, while the member meets its peers; then writes its
-/// export.
+/// export, also where memory was refused for a look at what the node had answered.
 fn serve_node<'a, R>(
     alloc: Global,
     rt: &R,
@@ -117,8 +118,12 @@ where
     let genesis = genesis_of(alloc, rt, Some(genesis))?;
     let keys = keys_of(alloc, rt, &genesis, Some(keys))?;
     let ports = ports_of(alloc, rt, &genesis, ports)?;
-    let member = meet_peers(alloc, rt, genesis, keys, &ports)?;
-    Ok(print_export(alloc, rt, &member)?)
+    let (member, receipts) = meet_peers(alloc, rt, genesis, keys, &ports)?;
+    print_export(alloc, rt, &member)?;
+    match receipts {
+        Receipts::BorneOut => Ok(()),
+        Receipts::Unjudged => Err(Stop::Close(CloseFault::Memory)),
+    }
 }
 
 /// Answers the lines on standard input while a fresh member meets its peers, and hands it back.
@@ -128,7 +133,7 @@ fn meet_peers<R>(
     genesis: Genesis,
     keys: Keys,
     ports: &Ports,
-) -> Result<OwnMember, NodeFault>
+) -> Result<(OwnMember, Receipts), NodeFault>
 where
     R: Input + Print + Threads + Wait + Clock + Sync,
     R: Net<Listener = TcpListener, Stream = TcpStream>,
