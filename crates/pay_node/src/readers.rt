@@ -63,7 +63,19 @@ where
         threads,
         &|_, pair: &mut (u16, Seat)|
             ensures { HasGrown pair.entry.now pair.exit.now }
-        { keep_reading(rt, alloc, node, tagger, gate, dial, dials, pair.0, &mut pair.1) },
+        {
+            keep_reading(
+                rt,
+                alloc,
+                node,
+                tagger,
+                gate,
+                dial,
+                dials,
+                pair.0,
+                &mut pair.1,
+            )
+        },
     );
 }
 
@@ -98,8 +110,9 @@ where
         let met = match dial.dial(peer) {
             Dialed::Stop => return,
             Dialed::Failed => false,
-            Dialed::Streams(reader, writer) =>
-                feed(rt, alloc, node, tagger, gate, peer, seat, reader, writer),
+            Dialed::Streams(reader, writer) => feed(
+                rt, alloc, node, tagger, gate, peer, seat, reader, writer,
+            ),
         };
         thread::sleep(rt, Duration::from_millis(patience.note(met)));
     }
