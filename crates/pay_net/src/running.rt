@@ -20,7 +20,7 @@ use pay_echo::Instance;
 use pay_frame::{EngineFault, Input, Output};
 use pay_hmac::Tagger;
 use pay_member::Member;
-use pay_node::{CloseFault, Node, NodeTeller, OpenGate, Seat, run_readers};
+use pay_node::{CloseFault, Dials, Node, NodeTeller, OpenGate, Seat, run_readers};
 use std::alloc::{AllocError, Global};
 use std::net::{Net, TcpListener, TcpStream};
 use std::sync::atomic::{AtomicBool, Ordering};
@@ -46,6 +46,7 @@ struct Running<'a, H, I: Instance + Drop, B: Settle + Drop, T> {
     node: &'a Node<I, B>,
     tagger: &'a T,
     ports: &'a Ports,
+    dials: Dials,
     listening: &'a Listening,
     dialed: &'a Standing,
     guests: &'a Guests,
@@ -56,14 +57,15 @@ struct Running<'a, H, I: Instance + Drop, B: Settle + Drop, T> {
 /// its history was held against all that was told from the seats: memory may be refused for that, and the member is
 /// not to be lost then.
 ///
-/// It listens on its own port, which the fault `Port` names where it can't be had, and dials those of all others. A
-/// fault of the desk ends it too, and is answered.
+/// It listens on its own port, which the fault `Port` names where it can't be had, and dials those of all others, as
+/// often as `dials` says. A fault of the desk ends it too, and is answered.
 pub fn run_node<H, I, B, T, In, Out>(
     rt: &H,
     alloc: Global,
     member: Member<I, B>,
     tagger: &T,
     ports: &Ports,
+    dials: Dials,
     reader: &mut In,
     writer: &mut Out,
 ) -> Result<(Member<I, B>, Receipts), NodeFault>
@@ -94,7 +96,7 @@ where
         return Err(NodeFault::Engine(EngineFault::Memory));
     };
     let seats = run_threads(
-        rt, alloc, &node, tagger, ports, &listening, seats, reader, writer,
+        rt, alloc, &node, tagger, ports, dials, &listening, seats, reader, writer,
     )?;
     closed(alloc, node, seats.as_slice())
 }
@@ -106,6 +108,7 @@ fn run_threads<H, I, B, T, In, Out>(
     node: &Node<I, B>,
     tagger: &T,
     ports: &Ports,
+    dials: Dials,
     listening: &Listening,
     seats: Vec<Seat>,
     reader: &mut In,
@@ -133,6 +136,7 @@ where
         node,
         tagger,
         ports,
+        dials,
         listening,
         dialed: &dialed,
         guests: &guests,
@@ -245,6 +249,7 @@ where
             self.tagger,
             &OpenGate,
             &dialer,
+            self.dials,
             readers.as_mut_slice(),
         );
         readers

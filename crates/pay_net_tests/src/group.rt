@@ -11,6 +11,7 @@ use pay_hmac::HmacSha256;
 use pay_link::{Genesis, test_keys};
 use pay_member::Member;
 use pay_net::{NodeFault, Ports, Receipts, run_node};
+use pay_node::Dials;
 use std::alloc::Global;
 use std::net::{Net, TcpListener, TcpStream};
 use std::sync::Wait;
@@ -80,6 +81,7 @@ where
         member,
         &HmacSha256,
         &ports,
+        Dials::Usual,
         &mut reader,
         &mut writer,
     );

@@ -8,6 +8,7 @@ pub mod Growing
 pub mod Judging
 pub mod Faults
 pub mod Closing
+pub mod Dialing
 pub mod Telling
 pub mod SeatAsks
 pub mod Answering
