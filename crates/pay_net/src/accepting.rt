@@ -3,7 +3,7 @@ use pay_book::Settle;
 use pay_echo::Instance;
 use pay_frame::{Reader, Writer};
 use pay_hmac::Tagger;
-use pay_node::{Node, Seat, write_peer};
+use pay_node::{Claim, Node, Seat, write_peer};
 use std::alloc::Global;
 use std::net::{TcpListener, TcpStream};
 use std::sync::atomic::{AtomicBool, Ordering};
@@ -46,6 +46,20 @@ pub(crate) struct Answering<'a, I: Instance + Drop, B: Settle + Drop, T> {
     pub stop: &'a AtomicBool,
 }
 
+/// Has the connection at a place be a peer's.
+#[derive(Drop)]
+struct Claiming<'a, I: Instance + Drop, B: Settle + Drop> {
+    node: &'a Node<I, B>,
+    guests: &'a Guests,
+    place: usize,
+}
+
+impl<I: Instance + Drop, B: Settle + Drop> Claim for Claiming<'_, I, B> {
+    fn claim<R: Wait>(&self, rt: &R, peer: u16) -> bool {
+        self.guests.claim(rt, self.node, self.place, peer)
+    }
+}
+
 impl<I: Instance + Drop, B: Settle + Drop, T: Tagger> Serve for Answering<'_, I, B, T> {
     fn admit<R: Wait + Clock>(&self, rt: &R, stream: &TcpStream) -> Option<usize> {
         for _ in rt.forever() {
@@ -64,6 +78,11 @@ impl<I: Instance + Drop, B: Settle + Drop, T: Tagger> Serve for Answering<'_, I,
             let _ = stream.set_nodelay(true);
             let mut reader = Reader::new(stream);
             let mut writer = Writer::new(stream);
+            let claim = Claiming {
+                node: self.node,
+                guests: self.guests,
+                place,
+            };
             let _ = write_peer(
                 rt,
                 self.alloc,
@@ -71,6 +90,7 @@ impl<I: Instance + Drop, B: Settle + Drop, T: Tagger> Serve for Answering<'_, I,
                 self.seats,
                 self.tagger,
                 leave,
+                &claim,
                 &mut reader,
                 &mut writer,
             );

@@ -89,6 +89,23 @@ impl Guests {
         Admission::At(free)
     }
 
+    /// Has a connection be a peer's, for which that one's older one is given up where it has two already. Answers
+    /// whether it still stands.
+    pub(crate) fn claim<R, I, B>(&self, rt: &R, node: &Node<I, B>, place: usize, peer: u16) -> bool
+    where
+        R: Wait,
+        I: Instance + Drop,
+        B: Settle + Drop,
+    {
+        let mut room = self.room.lock(rt);
+        if !room.list.has(place) {
+            return false;
+        }
+        let older = room.list.claim(place, peer);
+        self.give_up(rt, node, &*room, older);
+        true
+    }
+
     /// The flag of a place.
     pub(crate) fn leave(&self, place: usize) -> Option<&AtomicBool> {
         self.leave.get(place)
