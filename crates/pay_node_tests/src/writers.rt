@@ -1,6 +1,7 @@
 //! Writers that wait at a node: one is answered once the member sent what it waits for, and one is told to stop.
 
 use crate::answers::{Came, opens_as};
+use crate::claims::Claims;
 use crate::rows::{ECHO_OF_2, ECHO_OF_3, FOUR, PAYMENT, SEND, WANT, WANT_OF_0, WANT_OF_2};
 use crate::trial::{Tried, node_of};
 use pay_frame::{Bytes, Kind, Reader, Writer};
@@ -69,6 +70,7 @@ fn writes<R: Wait>(rt: &R, alloc: Global, at: &Watched, frames: &[u8]) -> Option
         at.seats.as_slice(),
         &HmacSha256,
         &at.stop,
+        &Claims::new(true),
         &mut reader,
         &mut writer,
     );
