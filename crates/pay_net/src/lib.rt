@@ -4,11 +4,14 @@
 
 mod accepting;
 mod dialing;
+mod guest;
+mod guest_list;
 mod guests;
 mod listening;
 mod node_fault;
 mod ports;
 mod ports_fault;
+mod receipts;
 mod running;
 mod standing;
 
@@ -16,4 +19,5 @@ pub use accepting::MOST_CONNECTIONS;
 pub use node_fault::NodeFault;
 pub use ports::Ports;
 pub use ports_fault::PortsFault;
+pub use receipts::Receipts;
 pub use running::run_node;

@@ -16,7 +16,7 @@ pub enum NodeFault {
     /// Memory was refused at the start, or the desk ended so.
     #[error("engine {0}")]
     Engine(EngineFault),
-    /// The receipts of the seats and the history don't agree, or this couldn't be found out.
+    /// The receipts of the seats and the history don't agree.
     #[error("close {0}")]
     Close(CloseFault),
 }

@@ -1,5 +1,9 @@
-ghost use Rattle.std.specs.Prelude.{◌≡◌, ◌+◌, ◌-◌, ◌*◌, ◌<◌, ℕ, [], Some, IfErr, IfOk, length, slice_get};
+ghost use Rattle.std.specs.Prelude.{◌≡◌, ◌≢◌, ◌+◌, ◌-◌, ◌*◌, ◌<◌, ℕ, [], Some, IfErr, IfOk, length, slice_get};
 ghost use Rattle.pay_node.specs.Closing.{AllSettled};
+ghost use Rattle.pay_node.specs.Nodes.{IsOwn};
+ghost use Rattle.pay_net.specs.declared.receipts.Receipts.TheVariants.{BorneOut};
+ghost use Rattle.pay_node.specs.declared.close_fault.CloseFault.TheVariants.{Memory};
+ghost use Rattle.pay_net.specs.declared.node_fault.NodeFault.TheVariants.{Close};
 ghost use Rattle.pay_net.specs.Running.{IsClosed, NamesPort, node_of};
 
 use crate::accepting::{Answering, MOST_CONNECTIONS, accept_all};
@@ -8,6 +12,7 @@ use crate::guests::Guests;
 use crate::listening::Listening;
 use crate::node_fault::NodeFault;
 use crate::ports::Ports;
+use crate::receipts::Receipts;
 use crate::standing::Standing;
 use pay_book::Settle;
 use pay_desk::{Desk, run_desk};
@@ -15,7 +20,7 @@ use pay_echo::Instance;
 use pay_frame::{EngineFault, Input, Output};
 use pay_hmac::Tagger;
 use pay_member::Member;
-use pay_node::{Node, NodeTeller, OpenGate, Seat, run_readers};
+use pay_node::{CloseFault, Dials, Node, NodeTeller, OpenGate, Seat, run_readers};
 use std::alloc::{AllocError, Global};
 use std::net::{Net, TcpListener, TcpStream};
 use std::sync::atomic::{AtomicBool, Ordering};
@@ -41,25 +46,29 @@ struct Running<'a, H, I: Instance + Drop, B: Settle + Drop, T> {
     node: &'a Node<I, B>,
     tagger: &'a T,
     ports: &'a Ports,
+    dials: Dials,
     listening: &'a Listening,
     dialed: &'a Standing,
     guests: &'a Guests,
     stop: &'a AtomicBool,
 }
 
-/// Runs a member as a node among its peers until the input of its desk ends, and hands the member back.
+/// Runs a member as a node among its peers until the input of its desk ends, and hands the member back, with whether
+/// its history was held against all that was told from the seats: memory may be refused for that, and the member is
+/// not to be lost then.
 ///
-/// It listens on its own port, which the fault `Port` names where it can't be had, and dials those of all others. A
-/// fault of the desk ends it too, and is answered.
+/// It listens on its own port, which the fault `Port` names where it can't be had, and dials those of all others, as
+/// often as `dials` says. A fault of the desk ends it too, and is answered.
 pub fn run_node<H, I, B, T, In, Out>(
     rt: &H,
     alloc: Global,
     member: Member<I, B>,
     tagger: &T,
     ports: &Ports,
+    dials: Dials,
     reader: &mut In,
     writer: &mut Out,
-) -> Result<Member<I, B>, NodeFault>
+) -> Result<(Member<I, B>, Receipts), NodeFault>
 where
     H: Threads + Wait + Clock + Net<Listener = TcpListener, Stream = TcpStream> + Sync,
     I: Instance + Drop + Send,
@@ -69,9 +78,11 @@ where
     Out: Output,
     requires fresh { member.history ≡ [] }
     requires ports { length ports.now ≡ length member.keys.keys }
-    ensures closed { IfOk result (IsClosed (node_of member)) }
+    ensures own { IfOk result (λ ended. IsOwn (node_of member) ended.0) }
+    ensures closed { IfOk result (λ ended. ended.1 ≡ BorneOut → IsClosed (node_of member) ended.0) }
     ensures port { IfErr result (λ fault. (port : ℕ) → NamesPort fault port
         → slice_get ports.now member.keys.own ≡ Some port) }
+    ensures kept { IfErr result (λ fault. fault ≢ Close Memory) }
 {
     let own = member.keys().own();
     let members = member.keys().members();
@@ -85,7 +96,7 @@ where
         return Err(NodeFault::Engine(EngineFault::Memory));
     };
     let seats = run_threads(
-        rt, alloc, &node, tagger, ports, &listening, seats, reader, writer,
+        rt, alloc, &node, tagger, ports, dials, &listening, seats, reader, writer,
     )?;
     closed(alloc, node, seats.as_slice())
 }
@@ -97,6 +108,7 @@ fn run_threads<H, I, B, T, In, Out>(
     node: &Node<I, B>,
     tagger: &T,
     ports: &Ports,
+    dials: Dials,
     listening: &Listening,
     seats: Vec<Seat>,
     reader: &mut In,
@@ -110,7 +122,8 @@ where
     In: Input,
     Out: Output,
     requires { length seats.items + 1 ≡ 2 * length node.now.keys.keys }
-    ensures { IfErr result (λ fault. (port : ℕ) → NamesPort fault port → ⊥) }
+    ensures port { IfErr result (λ fault. (port : ℕ) → NamesPort fault port → ⊥) }
+    ensures kept { IfErr result (λ fault. fault ≢ Close Memory) }
 {
     let keys = node.keys();
     let dialed = Standing::new(alloc, keys.members())?;
@@ -123,6 +136,7 @@ where
         node,
         tagger,
         ports,
+        dials,
         listening,
         dialed: &dialed,
         guests: &guests,
@@ -133,18 +147,23 @@ where
     Ok(gathered(alloc, seats)?)
 }
 
-// The member of a node that no thread calls any more, if it is the node's own and bears out all receipts.
+// The member of a node that no thread calls any more, if it is the node's own and no receipt was found that it doesn't
+// bear out.
 fn closed<I: Instance + Drop, B: Settle + Drop>(
     alloc: Global,
     node: Node<I, B>,
     seats: &[Seat],
-) -> Result<Member<I, B>, NodeFault>
-    ensures settled { IfOk result (λ member. AllSettled member node.seats seats.now) }
-    ensures closed { IfOk result (IsClosed node) }
+) -> Result<(Member<I, B>, Receipts), NodeFault>
+    ensures own { IfOk result (λ ended. IsOwn node ended.0) }
+    ensures settled { IfOk result (λ ended.
+        ended.1 ≡ BorneOut → AllSettled ended.0 node.seats seats.now) }
+    ensures closed { IfOk result (λ ended. ended.1 ≡ BorneOut → IsClosed node ended.0) }
     ensures port { IfErr result (λ fault. (port : ℕ) → NamesPort fault port → ⊥) }
+    ensures kept { IfErr result (λ fault. fault ≢ Close Memory) }
 {
     match node.stop().close(alloc, seats) {
-        Ok(member) => Ok(member),
+        Ok(member) => Ok((member, Receipts::BorneOut)),
+        Err((CloseFault::Memory, stopped)) => Ok((stopped.into_member(), Receipts::Unjudged)),
         Err((fault, _)) => Err(NodeFault::Close(fault)),
     }
 }
@@ -230,6 +249,7 @@ where
             self.tagger,
             &OpenGate,
             &dialer,
+            self.dials,
             readers.as_mut_slice(),
         );
         readers

@@ -10,7 +10,8 @@ use pay_frame::{EngineFault, Reader, Writer};
 use pay_hmac::HmacSha256;
 use pay_link::{Genesis, test_keys};
 use pay_member::Member;
-use pay_net::{NodeFault, Ports, run_node};
+use pay_net::{NodeFault, Ports, Receipts, run_node};
+use pay_node::Dials;
 use std::alloc::Global;
 use std::net::{Net, TcpListener, TcpStream};
 use std::sync::Wait;
@@ -74,15 +75,21 @@ where
     let first = FIRST.get(usize::from(own)).copied().unwrap_or(FRONT);
     let mut reader = Reader::new(Typing::new(rt, day, first));
     let mut writer = Writer::new(Seeing { day, member: own });
-    run_node(
+    let ended = run_node(
         rt,
         alloc,
         member,
         &HmacSha256,
         &ports,
+        Dials::Usual,
         &mut reader,
         &mut writer,
-    )
+    );
+    match ended {
+        Ok((member, Receipts::BorneOut)) => Ok(member),
+        Ok((_, Receipts::Unjudged)) => Err(NodeFault::Engine(EngineFault::Memory)),
+        Err(fault) => Err(fault),
+    }
 }
 
 // The same, and then the others' owners leave.

@@ -39,10 +39,10 @@ abbrev pub IsVerdict : MemberFields → ℕ → List SeatFields → Option ℕ �
 IsVerdict m count seats None = AllSettled m count seats
 IsVerdict m count seats (Some stamp) = IsLeastWrong m count seats stamp
 
--- Why a node isn't closed: the member isn't its own, so that the very first stamp is wrong, or it is and this stamp is
--- the least that isn't settled. Of refused memory nothing is said.
+-- Why a node isn't closed: the member isn't its own, so that the very first stamp is wrong; or it is, and this stamp is
+-- the least that isn't settled. Where memory was refused, no more is known of the receipts.
 abbrev pub IsFault : NodeFields → MemberFields → List SeatFields → CloseFault → Type 0
-IsFault n m seats Memory = ⊤
+IsFault n m seats Memory = IsOwn n m
 IsFault n m seats (Mismatch stamp) =
     (¬ (IsOwn n m) × (stamp ≡ 0)) ⊎ (IsOwn n m × IsLeastWrong m n.seats seats stamp)
 

@@ -4,6 +4,7 @@
 //! against the member's history: it is one that a single thread could have made, with these very calls.
 #![tactic(auto)]
 
+mod claim;
 mod close_fault;
 mod closing;
 mod feeding;
@@ -11,6 +12,7 @@ mod gate;
 mod judging;
 mod node;
 mod once;
+mod patience;
 mod question;
 mod readers;
 mod receipt;
@@ -24,12 +26,14 @@ mod teller;
 mod wanted;
 mod writing;
 
+pub use claim::Claim;
 pub use close_fault::CloseFault;
 pub use feeding::read_peer;
 pub use gate::{Gate, OpenGate};
 pub use node::{MOST_SEATS, Node};
+pub use patience::{Dials, MOST_IDLE};
 pub use question::Question;
-pub use readers::{Dial, Dialed, MOST_IDLE, run_readers};
+pub use readers::{Dial, Dialed, run_readers};
 pub use receipt::{Call, Receipt};
 pub use seat::Seat;
 pub use shown::{Bodies, Fronts, Shown, Statement};

@@ -6,6 +6,7 @@ ghost use Rattle.pay_node.specs.Growing.{EachGrows, Grows, HasGrown};
 use crate::feeding::read_peer;
 use crate::gate::Gate;
 use crate::node::Node;
+use crate::patience::{Dials, Patience};
 use crate::seat::Seat;
 use pay_book::Settle;
 use pay_echo::Instance;
@@ -16,12 +17,6 @@ use std::sync::Wait;
 use std::thread;
 use std::thread::Threads;
 use std::time::{Clock, Duration};
-
-/// How often a worker dials in a row without a frame that opened.
-pub const MOST_IDLE: u32 = 1_000;
-
-/// How long a worker sleeps before it dials again.
-const PAUSE_MILLIS: u64 = 10;
 
 /// How a worker gets its streams.
 pub trait Dial<In, Out> {
@@ -38,7 +33,7 @@ pub enum Dialed<In, Out> {
 }
 
 /// Runs a worker for each peer and its seat, which dials and feeds the node from what it gets, again
-/// and again, until it is told to stop or dialed [`MOST_IDLE`] times in a row for nothing. Returns
+/// and again, until it is told to stop or dialed as often in a row for nothing as `dials` says. Returns
 /// once all have ended.
 pub fn run_readers<H, I, B, T, G, D, In, Out>(
     rt: &H,
@@ -47,6 +42,7 @@ pub fn run_readers<H, I, B, T, G, D, In, Out>(
     tagger: &T,
     gate: &G,
     dial: &D,
+    dials: Dials,
     pairs: &mut [(u16, Seat)],
 )
 where
@@ -67,7 +63,19 @@ where
         threads,
         &|_, pair: &mut (u16, Seat)|
             ensures { HasGrown pair.entry.now pair.exit.now }
-        { keep_reading(rt, alloc, node, tagger, gate, dial, pair.0, &mut pair.1) },
+        {
+            keep_reading(
+                rt,
+                alloc,
+                node,
+                tagger,
+                gate,
+                dial,
+                dials,
+                pair.0,
+                &mut pair.1,
+            )
+        },
     );
 }
 
@@ -79,6 +87,7 @@ fn keep_reading<H, I, B, T, G, D, In, Out>(
     tagger: &T,
     gate: &G,
     dial: &D,
+    dials: Dials,
     peer: u16,
     seat: &mut Seat,
 )
@@ -93,20 +102,19 @@ where
     Out: Output + Drop,
     ensures { Grows seat.old seat.new }
 {
-    let mut idle = 0;
+    let mut patience = Patience::new(dials);
     for _ in rt.forever() {
-        if idle >= MOST_IDLE {
+        if patience.is_over() {
             return;
         }
-        match dial.dial(peer) {
+        let met = match dial.dial(peer) {
             Dialed::Stop => return,
-            Dialed::Failed => idle += 1,
-            Dialed::Streams(reader, writer) => {
-                let met = feed(rt, alloc, node, tagger, gate, peer, seat, reader, writer);
-                idle = if met { 0 } else { idle + 1 };
-            }
-        }
-        thread::sleep(rt, Duration::from_millis(PAUSE_MILLIS));
+            Dialed::Failed => false,
+            Dialed::Streams(reader, writer) => feed(
+                rt, alloc, node, tagger, gate, peer, seat, reader, writer,
+            ),
+        };
+        thread::sleep(rt, Duration::from_millis(patience.note(met)));
     }
     unreachable!()
 }

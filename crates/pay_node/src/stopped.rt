@@ -41,6 +41,13 @@ impl<I: Instance + Drop, B: Settle + Drop> Stopped<I, B> {
         &self.member
     }
 
+    /// The member, whatever was told from the seats.
+    pub fn into_member(self) -> Member<I, B>
+        ensures { result ≡ self.member }
+    {
+        self.member
+    }
+
     /// The node, with its member under the lock again.
     pub fn start(self) -> Node<I, B>
         ensures { result ≡ self.node }

@@ -1,5 +1,6 @@
 //! What a peer's WANT is answered.
 
+use crate::claims::Claims;
 use crate::rows::{FOUR, PAYMENT, SEND, WANT};
 use crate::trial::node_of;
 use pay_frame::{Bytes, Kind, Reader, Writer, read_one};
@@ -15,8 +16,8 @@ use std::test::Fail;
 #[derive(Clone, Copy, Debug, PartialEq, Eq)]
 pub(crate) enum Came {
     Nothing,
-    /// A frame of this kind and number, about this payment of account 1, which opens at member 0.
-    Opened(Kind, u64, u32),
+    /// A frame of this kind and number, about this account and its payment, which opens at member 0.
+    Opened(Kind, u64, u16, u32),
     Another,
 }
 
@@ -43,6 +44,7 @@ fn reply_to<R: Wait>(rt: &R, alloc: Global, asks: u32, bytes: &[u8]) -> Result<C
         writing.as_slice(),
         &HmacSha256,
         &stop,
+        &Claims::new(true),
         &mut reader,
         &mut writer,
     )
@@ -66,16 +68,16 @@ pub(crate) fn opens_as(alloc: Global, bytes: &[u8]) -> Result<Came, Fail> {
         return Ok(Came::Another);
     };
     let frame = opened.frame();
-    if frame.from() != FOUR.own || frame.owner() != FOUR.own {
+    if frame.from() != FOUR.own {
         return Ok(Came::Another);
     }
-    Ok(Came::Opened(frame.kind(), frame.number(), frame.seq()))
+    Ok(Came::Opened(frame.kind(), frame.number(), frame.owner(), frame.seq()))
 }
 
 #[test]
 fn wants_are_answered(rt: HostRuntime) -> Result<(), Fail> {
     let rows = [
-        (2, &WANT, Came::Opened(Kind::Echo, 3, 1)),
+        (2, &WANT, Came::Opened(Kind::Echo, 3, 1, 1)),
         (1, &WANT, Came::Nothing),
         (2, &SEND, Came::Nothing),
     ];

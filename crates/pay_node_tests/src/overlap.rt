@@ -4,7 +4,7 @@ use crate::rows::{FOUR, SEND, SEND_OF_2};
 use crate::trial::node_of;
 use pay_frame::{Reader, Writer};
 use pay_hmac::HmacSha256;
-use pay_node::{Dial, Dialed, Gate, Seat, run_readers};
+use pay_node::{Dial, Dialed, Dials, Gate, Seat, run_readers};
 use std::alloc::Global;
 use std::sync::Wait;
 use std::sync::atomic::{AtomicBool, Ordering};
@@ -98,6 +98,7 @@ fn overlaps<R: Threads + Wait + Clock + Sync>(
         &HmacSha256,
         &gate,
         &dial,
+        Dials::Usual,
         pairs.as_mut_slice(),
     );
     let mut seats: Vec<Seat> = Vec::new(alloc);

@@ -10,28 +10,30 @@ use Rattle.clap.specs.declared.builder.command.Command.TheViews.{out-Command}
 use Rattle.payd.specs.declared.words.Job.{Job}
 use Rattle.payd.specs.declared.words.Job.TheVariants.{Check, Desk, Node, Audit, Sim}
 
--- an option that takes the name of a file
-abbrev pub file_rule : Text → Rule
-file_rule name = record (new_rule name) { long = Some name; value_names = 1 }
+-- an option that takes a word
+abbrev pub option_rule : Text → Rule
+option_rule name = record (new_rule name) { long = Some name; value_names = 1 }
 
 -- one without which the words aren't read
 abbrev pub required_rule : Text → Rule
-required_rule name = record (file_rule name) { required = true }
+required_rule name = record (option_rule name) { required = true }
 
 -- `check`, which takes a genesis and keys
 abbrev pub check_app : App
-check_app = with_rule (with_rule (new_app (codes "check")) (file_rule (codes "genesis"))) (file_rule (codes "keys"))
+check_app = with_rule (with_rule (new_app (codes "check")) (option_rule (codes "genesis"))) (option_rule (codes "keys"))
 
 -- `desk`, which needs both
 abbrev pub desk_app : App
 desk_app = with_rule (with_rule (new_app (codes "desk")) (required_rule (codes "genesis"))) (required_rule (codes "keys"))
 
--- `node`, which needs both, and ports
+-- `node`, which needs both, and ports, and takes dials
 abbrev pub node_app : App
 node_app =
     with_rule
+    (with_rule
     (with_rule (with_rule (new_app (codes "node")) (required_rule (codes "genesis"))) (required_rule (codes "keys")))
-    (required_rule (codes "ports"))
+    (required_rule (codes "ports")))
+    (option_rule (codes "dials"))
 
 -- the names of one or more files
 abbrev pub files_rule : Rule
@@ -70,11 +72,11 @@ pub record IsArgument (o : Arg) (r : Rule) : Type 0 where
   pub rule : rule_of o ≡ r
   pub global : o.global ≡ false
 
--- a command, and the names of the files that it is given
+-- a command, and the names of the files that it is given; of a node also the word that says its dials
 pub data Asked : Type 0 where
   check : Option Text → Option Text → Asked
   desk : Text → Text → Asked
-  node : Text → Text → Text → Asked
+  node : Text → Text → Text → Option Text → Asked
   audit : List Text → Asked
   sim : Asked
 
@@ -82,7 +84,7 @@ pub data Asked : Type 0 where
 abbrev pub asked : Job → Asked
 asked (Check genesis keys) = check (option_map (λ name. name.now) genesis) (option_map (λ name. name.now) keys)
 asked (Desk genesis keys) = desk genesis.now keys.now
-asked (Node genesis keys ports) = node genesis.now keys.now ports.now
+asked (Node genesis keys ports dials) = node genesis.now keys.now ports.now (option_map (λ word. word.now) dials)
 asked (Audit files) = audit (map (λ name. name.now) files.items)
 asked Sim = sim
 
@@ -98,7 +100,9 @@ abbrev pub desk_asked : List Row → Asked
 desk_asked rows = desk (named (codes "genesis") rows) (named (codes "keys") rows)
 
 abbrev pub node_asked : List Row → Asked
-node_asked rows = node (named (codes "genesis") rows) (named (codes "keys") rows) (named (codes "ports") rows)
+node_asked rows =
+    node (named (codes "genesis") rows) (named (codes "keys") rows) (named (codes "ports") rows)
+    (first_of (codes "dials") rows)
 
 abbrev pub files_of : List Row → List Text
 files_of rows = unwrap_or (all_of (codes "files") rows) []

@@ -4,12 +4,14 @@
 ghost use Rattle.std.specs.Prelude.{◌≡◌, length};
 ghost use Rattle.pay_link.specs.Keys.{IsKeysOf};
 
+mod dials;
 mod files;
 mod ports;
 mod stop;
 mod words;
 
 use clap::error::ErrorKind;
+use dials::dials_of;
 use files::{exports_of, genesis_of, keys_of};
 use pay_audit::{Verdict, export_text};
 use pay_cli::run_check;
@@ -19,7 +21,8 @@ use pay_frame::{EngineFault, Reader, Writer};
 use pay_hmac::PreparedHmac;
 use pay_link::{Genesis, Keys};
 use pay_member::Member;
-use pay_net::{NodeFault, Ports, run_node};
+use pay_net::{NodeFault, Ports, Receipts, run_node};
+use pay_node::{CloseFault, Dials};
 use pay_pending::WaitingBook;
 use pay_sim::{SimEnd, run_sim};
 use ports::ports_of;
@@ -60,8 +63,12 @@ fn main(rt: HostRuntime) -> ExitCode {
                 genesis,
                 keys,
                 ports,
+                dials,
             },
-        ) => status_of(&rt, serve_node(rt.alloc(), &rt, genesis, keys, ports)),
+        ) => status_of(
+            &rt,
+            serve_node(rt.alloc(), &rt, genesis, keys, ports, dials),
+        ),
         Ok(Job::Audit { files }) => status_of_audit(&rt, audit(rt.alloc(), &rt, files.as_slice())),
         Ok(Job::Sim) => status_of_sim(&rt, sim(rt.alloc(), &rt)),
         Err(answer) => status_of_answer(&rt, &answer),
@@ -101,24 +108,30 @@ fn serve_desk<'a>(
     Ok(run_desk(alloc, &mut desk, &mut reader, &mut writer)?)
 }
 
-/// Answers the lines on standard input, once the files are read, while the member meets its peers; then writes its
-/// export.
+/// Answers the lines on standard input, once the word and the files are read, while the member meets its peers; then
+/// writes its export, also where memory was refused for a look at what the node had answered.
 fn serve_node<'a, R>(
     alloc: Global,
     rt: &R,
     genesis: &'a str,
     keys: &'a str,
     ports: &'a str,
+    dials: Option<&'a str>,
 ) -> Result<(), Stop<'a>>
 where
     R: Files + Input + Print + Threads + Wait + Clock + Sync,
     R: Net<Listener = TcpListener, Stream = TcpStream>,
 {
+    let dials = dials_of(dials)?;
     let genesis = genesis_of(alloc, rt, Some(genesis))?;
     let keys = keys_of(alloc, rt, &genesis, Some(keys))?;
     let ports = ports_of(alloc, rt, &genesis, ports)?;
-    let member = meet_peers(alloc, rt, genesis, keys, &ports)?;
-    Ok(print_export(alloc, rt, &member)?)
+    let (member, receipts) = meet_peers(alloc, rt, genesis, keys, &ports, dials)?;
+    print_export(alloc, rt, &member)?;
+    match receipts {
+        Receipts::BorneOut => Ok(()),
+        Receipts::Unjudged => Err(Stop::Close(CloseFault::Memory)),
+    }
 }
 
 /// Answers the lines on standard input while a fresh member meets its peers, and hands it back.
@@ -128,7 +141,8 @@ fn meet_peers<R>(
     genesis: Genesis,
     keys: Keys,
     ports: &Ports,
-) -> Result<OwnMember, NodeFault>
+    dials: Dials,
+) -> Result<(OwnMember, Receipts), NodeFault>
 where
     R: Input + Print + Threads + Wait + Clock + Sync,
     R: Net<Listener = TcpListener, Stream = TcpStream>,
@@ -139,7 +153,16 @@ where
     let member = Member::new(alloc, genesis, keys)?;
     let mut reader = Reader::new(rt.reader());
     let mut writer = Writer::new(io::writer(rt));
-    run_node(rt, alloc, member, &tagger, ports, &mut reader, &mut writer)
+    run_node(
+        rt,
+        alloc,
+        member,
+        &tagger,
+        ports,
+        dials,
+        &mut reader,
+        &mut writer,
+    )
 }
 
 /// Writes a member's export as a line.

@@ -1,6 +1,6 @@
-ghost use Rattle.std.specs.Prelude.{◌≡◌, IfOk, map, string_bytes};
-ghost use Rattle.clap.specs.Words.{FailsBy, fault_of, found_of, new_app, rows_of, subcommand_of, subcommand_rows_of};
-ghost use Rattle.payd.specs.Job.{IsArgument, IsCommand, asked, asked_by, asked_in, asked_of, audit_app, audit_asked, check_app, check_asked, desk_app, desk_asked, file_rule, files_of, files_rule, named, node_app, node_asked, payd_alone, payd_app, required_rule};
+ghost use Rattle.std.specs.Prelude.{◌≡◌, IfOk, map, option_map, string_bytes};
+ghost use Rattle.clap.specs.Words.{FailsBy, fault_of, first_of, found_of, new_app, rows_of, subcommand_of, subcommand_rows_of};
+ghost use Rattle.payd.specs.Job.{IsArgument, IsCommand, asked, asked_by, asked_in, asked_of, audit_app, audit_asked, check_app, check_asked, desk_app, desk_asked, files_of, files_rule, named, node_app, node_asked, option_rule, payd_alone, payd_app, required_rule};
 
 use clap::{Arg, ArgAction, ArgMatches, Command, Error};
 use std::alloc::{AllocError, Global};
@@ -21,11 +21,12 @@ pub(crate) enum Job<'a> {
         keys: &'a str,
     },
     /// Answer these lines over a node of that member among its peers, each on the port that the file of
-    /// this name says.
+    /// this name says, and dialed as often as this word says.
     Node {
         genesis: &'a str,
         keys: &'a str,
         ports: &'a str,
+        dials: Option<&'a str>,
     },
     /// Say what is wrong with the exports in the files of these names, if anything is.
     Audit {
@@ -107,8 +108,11 @@ or SIGHUP, and waits for the export. It has three options more:
 
 The member listens on its own port of 127.0.0.1 and dials those of all others, a thousand times some
 10 milliseconds apart and again after each connection that brought a frame. So a group's nodes are
-started within a few seconds. Ports below those that the system gives out by itself, mostly 32768 and
-more, are best.
+started within a few seconds, or with --dials:
+  --dials COUNT    a peer is given up behind so many dials in a row that brought no frame
+  --dials always   no peer is given up
+The pauses then grow from 10 milliseconds to a second, each twice the one before. Ports below those that
+the system gives out by itself, mostly 32768 and more, are best.
 
 Status: 0 at the input's end, 1 where what was told isn't borne out by the member's history, 2 for words
 or a file that can't be read, 3 where memory, a read, a write or the own port fails, or after 1,000,000
@@ -220,8 +224,8 @@ fn check_job<'a>(check: &ArgMatches<'a>) -> Job<'a>
     ensures { asked result ≡ check_asked (rows_of (found_of check.now)) }
 {
     Job::Check {
-        genesis: check.get_str("genesis"),
-        keys: check.get_str("keys"),
+        genesis: given(check, "genesis"),
+        keys: given(check, "keys"),
     }
 }
 
@@ -243,6 +247,7 @@ fn node_job<'a>(node: &ArgMatches<'a>) -> Job<'a>
         genesis: named(node, "genesis"),
         keys: named(node, "keys"),
         ports: named(node, "ports"),
+        dials: given(node, "dials"),
     }
 }
 
@@ -264,6 +269,14 @@ fn files_in<'a>(alloc: Global, audit: &ArgMatches<'a>) -> Result<Vec<&'a str>, A
         Some(files) => Ok(Vec::from_slice(alloc, files)?),
         None => Ok(Vec::new(alloc)),
     }
+}
+
+/// What an option says, if it was given.
+fn given<'a>(matches: &ArgMatches<'a>, option: &str) -> Option<&'a str>
+    ensures { option_map (λ word. word.now) result
+        ≡ first_of option.now (rows_of (found_of matches.now)) }
+{
+    matches.get_str(option)
 }
 
 /// What a required option names: the words aren't read without it.
@@ -326,7 +339,13 @@ fn node<'a>(alloc: Global) -> Result<Command<'a>, AllocError>
         "ports",
         "A file of JSON with the port of each member",
     );
-    command.arg(genesis)?.arg(keys)?.arg(ports)
+    let dials = option(
+        alloc,
+        "dials",
+        "COUNT|always",
+        "How often a peer is dialed in vain",
+    );
+    command.arg(genesis)?.arg(keys)?.arg(ports)?.arg(dials)
 }
 
 /// The command `audit` and its files.
@@ -345,12 +364,16 @@ fn titled<'a>(alloc: Global, name: &'a str, about: &'a str, help: &'a str) -> Co
 
 /// An option that takes the name of a file.
 fn file_option<'a>(alloc: Global, name: &'a str, help: &'a str) -> Arg<'a>
-    ensures { IsArgument result (file_rule name.entry.now) }
+    ensures { IsArgument result (option_rule name.entry.now) }
 {
-    Arg::new(alloc, name)
-        .long(name)
-        .value_name("FILE")
-        .help(help)
+    option(alloc, name, "FILE", help)
+}
+
+/// An option that takes a word.
+fn option<'a>(alloc: Global, name: &'a str, word: &'a str, help: &'a str) -> Arg<'a>
+    ensures { IsArgument result (option_rule name.entry.now) }
+{
+    Arg::new(alloc, name).long(name).value_name(word).help(help)
 }
 
 /// An option that takes the name of a file, and that has to be there.

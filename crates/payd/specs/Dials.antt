@@ -1,0 +1,38 @@
+-- How often a node dials its peers, as a word says it.
+use Rattle.std.specs.Prelude.{◌≡◌, ℕ, ◌==◌, List, Option, Some, None, codes, option_and_then, if◌then◌else◌}
+use Rattle.std.specs.Str.{bytes_eq}
+use Rattle.pay_node.specs.declared.patience.Dials.{Dials}
+use Rattle.pay_node.specs.declared.patience.Dials.TheVariants.{Usual, Counted, Always}
+use Rattle.pay_text.specs.Numbers.{number_of}
+use Rattle.payd.specs.declared.stop.Stop.{Stop}
+use Rattle.payd.specs.declared.stop.Stop.TheVariants as stop
+
+-- so many, and at least one
+abbrev pub counted : ℕ → Option Dials
+counted count = if count == 0 then None else Some (Counted count)
+
+-- what a word asks for: dials without end, or a count of them; nothing where it is neither
+abbrev pub dials_by : List ℕ → Option Dials
+dials_by word = if bytes_eq word (codes "always") then Some Always else option_and_then counted (number_of word)
+
+-- without a word the usual ones
+abbrev pub dials_in : Option (List ℕ) → Option Dials
+dials_in None = Some Usual
+dials_in (Some word) = dials_by word
+
+-- the program stops for this word
+abbrev pub Names : List ℕ → Stop → Type 0
+Names word (stop.Dials named) = named.now ≡ word
+Names word (stop.File name) = ⊥
+Names word (stop.Engine fault) = ⊥
+Names word (stop.Genesis fault) = ⊥
+Names word (stop.Keys fault) = ⊥
+Names word (stop.Ports fault) = ⊥
+Names word (stop.Export fault) = ⊥
+Names word (stop.Close fault) = ⊥
+Names word (stop.Port port) = ⊥
+
+-- the program stops because a word asks for nothing
+abbrev pub IsDialsStop : Option (List ℕ) → Stop → Type 0
+IsDialsStop None s = ⊥
+IsDialsStop (Some word) s = (dials_by word ≡ None) × Names word s
