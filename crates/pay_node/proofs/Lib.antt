@@ -8,4 +8,5 @@ pub mod Replays
 pub mod Rights
 pub mod Verdicts
 pub mod Sendings
+pub mod Sent
 pub mod Wants

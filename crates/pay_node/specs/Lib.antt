@@ -1,6 +1,7 @@
 pub mod Shown
 pub mod Receipts
 pub mod Seats
+pub mod Sending
 pub mod Nodes
 pub mod Feeding
 pub mod Growing

@@ -9,6 +9,7 @@ ghost use Rattle.std.specs.Sync.Mutex.{mutex_guard_value};
 ghost use Rattle.pay_node.specs.Answering.{IsSentFrom, IsSentTo};
 ghost use Rattle.pay_node.specs.Closing.{AllSettled, IsFault};
 ghost use Rattle.pay_node.specs.Receipts.{HadMemory, LackedMemory};
+ghost use Rattle.pay_node.specs.Sending.{HasSent};
 ghost use Rattle.pay_node.specs.Nodes.{AreFresh, IsAnswered, IsAnsweredAs, IsBrought, IsOwn, IsShown, IsTaken, asked, outcome_of, taken, told, want_of};
 
 use crate::close_fault::CloseFault;
@@ -20,11 +21,12 @@ use crate::shown::{Bodies, Fronts, Shown, Statement};
 use crate::stopped::Stopped;
 use crate::wanted::Wanted;
 use pay_book::Settle;
-use pay_channel::laws::taken_in_order;
+use pay_channel::laws::{one_event_more, taken_in_order};
 use pay_echo::Instance;
 use pay_frame::{Body, Bytes, FrameRef, Kind};
 use pay_hmac::Tagger;
 use pay_link::{Checked, Genesis, Keys, LinkFault, Opened, seal, want};
+use pay_member::laws::events_in_order;
 use pay_member::{
     Brought, Member, MemberFault, Outcome, PaymentState, Told, Took, open_bytes, open_frame,
 };
@@ -149,7 +151,10 @@ impl<I: Instance + Drop, B: Settle + Drop> Node<I, B> {
         let mut member = self.locked(rt);
         let answer = seat.ask(alloc, &mut *member, value, copy);
         drop(member);
-        self.changed.notify_all();
+        // what is asked for is sent
+        if answer.is_ok() {
+            self.changed.notify_all();
+        }
         answer
     }
 
@@ -442,7 +447,9 @@ impl<I: Instance + Drop, B: Settle + Drop> Node<I, B> {
         gate.pass(seat.stamp());
         let answer = self.take_locked(rt, alloc, seat, checked, copy);
         gate.answered(seat.stamp());
-        self.changed.notify_all();
+        if has_sent(&answer) {
+            self.changed.notify_all();
+        }
         answer
     }
 
@@ -468,6 +475,19 @@ impl<I: Instance + Drop, B: Settle + Drop> Node<I, B> {
         let entries = member.history().len();
         prove!(entries < usize::MAX);
         answer
+    }
+}
+
+// Whether the member sent a body to all as it took a frame: some may wait for it.
+#[tactic(auto, using(crate::proofs::Sent::tells))]
+fn has_sent(answer: &Result<Took, MemberFault>) -> bool
+    ensures { HasSent answer.now result }
+{
+    one_event_more();
+    events_in_order();
+    match answer {
+        Ok(took) => took.echo || took.ready,
+        Err(_) => false,
     }
 }
 

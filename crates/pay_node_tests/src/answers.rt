@@ -15,8 +15,8 @@ use std::test::Fail;
 #[derive(Clone, Copy, Debug, PartialEq, Eq)]
 pub(crate) enum Came {
     Nothing,
-    /// A frame of this kind and number, about this payment of account 1, which opens at member 0.
-    Opened(Kind, u64, u32),
+    /// A frame of this kind and number, about this account and its payment, which opens at member 0.
+    Opened(Kind, u64, u16, u32),
     Another,
 }
 
@@ -66,16 +66,16 @@ pub(crate) fn opens_as(alloc: Global, bytes: &[u8]) -> Result<Came, Fail> {
         return Ok(Came::Another);
     };
     let frame = opened.frame();
-    if frame.from() != FOUR.own || frame.owner() != FOUR.own {
+    if frame.from() != FOUR.own {
         return Ok(Came::Another);
     }
-    Ok(Came::Opened(frame.kind(), frame.number(), frame.seq()))
+    Ok(Came::Opened(frame.kind(), frame.number(), frame.owner(), frame.seq()))
 }
 
 #[test]
 fn wants_are_answered(rt: HostRuntime) -> Result<(), Fail> {
     let rows = [
-        (2, &WANT, Came::Opened(Kind::Echo, 3, 1)),
+        (2, &WANT, Came::Opened(Kind::Echo, 3, 1, 1)),
         (1, &WANT, Came::Nothing),
         (2, &SEND, Came::Nothing),
     ];
