@@ -1,3 +1,4 @@
 pub mod Job
 pub mod Files
 pub mod Stops
+pub mod Texts

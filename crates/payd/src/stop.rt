@@ -32,6 +32,9 @@ pub(crate) enum Stop<'a> {
     /// The file of this name can't be read.
     #[error("file {0}")]
     File(&'a str),
+    /// This word names no account of the export.
+    #[error("account {0}")]
+    Account(&'a str),
 }
 
 impl<'a> From<EngineFault> for Stop<'a> {
@@ -106,8 +109,12 @@ impl Stop<'_> {
             | Stop::Export(ExportFault::Memory)
             | Stop::Close(CloseFault::Memory)
             | Stop::Port(_) => 3,
-            Stop::Genesis(_) | Stop::Keys(_) | Stop::Ports(_) | Stop::Export(_) | Stop::File(_) =>
-                2,
+            Stop::Genesis(_)
+            | Stop::Keys(_)
+            | Stop::Ports(_)
+            | Stop::Export(_)
+            | Stop::File(_)
+            | Stop::Account(_) => 2,
         }
     }
 }
