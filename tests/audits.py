@@ -172,6 +172,23 @@ def verdict(exports):
     return "clean"
 
 
+def numbered_entries(given, owner):
+    """An owner's entries, each with the number of its value."""
+    values = [bytes.fromhex(text) for text in given["lists"][owner]]
+    return [(seq, it) for seq, value in enumerate(values) for it in entries(value, owner, given["members"])]
+
+
+def statement(given, account):
+    """The lines of an account's statement, by the lists and the opening balances alone."""
+    front = largest_front(given)
+    settled = [numbered_entries(given, owner)[:place] for owner, place in enumerate(front)]
+    own = [f"out {seq} to {e[0]} {e[1]}" if e else f"void {seq}" for seq, e in settled[account]]
+    incoming = [
+        f"in {owner} {seq} {e[1]}" for owner, es in enumerate(settled) for seq, e in es if e and e[0] == account
+    ]
+    return [*own, *incoming, f"end {account} balance {balance(given, front, account)}"]
+
+
 # ---- random exports
 
 

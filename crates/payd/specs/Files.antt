@@ -13,7 +13,7 @@ use Rattle.pay_link.specs.declared.keys_fault.KeysFault.TheVariants as keys
 use Rattle.pay_net.specs.Ports.{HasPorts, IsPortsFault}
 use Rattle.pay_net.specs.declared.ports_fault.PortsFault.{PortsFault}
 use Rattle.payd.specs.declared.stop.Stop.{Stop}
-use Rattle.payd.specs.declared.stop.Stop.TheVariants.{Engine, Genesis, Keys, Ports, Export, Close, Port, File, Dials}
+use Rattle.payd.specs.declared.stop.Stop.TheVariants.{Engine, Genesis, Keys, Ports, Export, Close, Port, File, Dials, Account}
 
 -- bytes that the file may hold are judged so
 abbrev pub IsJudged : {X : Type 0} → (List ℕ → List ℕ → Type 0) → List ℕ → (List ℕ → X) → X → Type 0
@@ -30,6 +30,7 @@ IsUnread name (Export fault) = ⊥
 IsUnread name (Close fault) = ⊥
 IsUnread name (Port port) = ⊥
 IsUnread name (Dials word) = ⊥
+IsUnread name (Account word) = ⊥
 
 -- why a file isn't what it should be: its bytes can't be had, memory was refused, or they have this fault
 abbrev pub IsStop : {X E : Type 0} → (List ℕ → List ℕ → Type 0) → List ℕ → (List ℕ → Result X E) → (E → Stop) → E → Stop → Type 0

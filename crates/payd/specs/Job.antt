@@ -8,7 +8,7 @@ use Rattle.clap.specs.declared.builder.action.ArgAction.TheVariants.{Append}
 use Rattle.clap.specs.declared.builder.Command.{Command}
 use Rattle.clap.specs.declared.builder.command.Command.TheViews.{out-Command}
 use Rattle.payd.specs.declared.words.Job.{Job}
-use Rattle.payd.specs.declared.words.Job.TheVariants.{Check, Desk, Node, Audit, Sim}
+use Rattle.payd.specs.declared.words.Job.TheVariants.{Check, Desk, Node, Audit, Statement, Sim}
 
 -- an option that takes a word
 abbrev pub option_rule : Text → Rule
@@ -43,6 +43,18 @@ files_rule = record (new_rule (codes "files")) { required = true; action = Some 
 abbrev pub audit_app : App
 audit_app = with_rule (new_app (codes "audit")) files_rule
 
+-- the name of a file with an export
+abbrev pub export_rule : Rule
+export_rule = record (new_rule (codes "export")) { required = true; value_names = 1 }
+
+-- an account's number
+abbrev pub account_rule : Rule
+account_rule = record (new_rule (codes "account")) { value_names = 1 }
+
+-- `statement`, which takes an export, and may take an account
+abbrev pub statement_app : App
+statement_app = with_rule (with_rule (new_app (codes "statement")) export_rule) account_rule
+
 -- `sim`, which takes nothing
 abbrev pub sim_app : App
 sim_app = new_app (codes "sim")
@@ -58,8 +70,10 @@ abbrev pub payd_app : App
 payd_app =
     with_subcommand
     (with_subcommand
+    (with_subcommand
     (with_subcommand (with_subcommand (with_subcommand payd_alone check_app.top) desk_app.top) node_app.top)
     audit_app.top)
+    statement_app.top)
     sim_app.top
 
 -- a command as these definitions have it, without an option for all commands
@@ -72,12 +86,13 @@ pub record IsArgument (o : Arg) (r : Rule) : Type 0 where
   pub rule : rule_of o ≡ r
   pub global : o.global ≡ false
 
--- a command, and the names of the files that it is given; of a node also the word that says its dials
+-- a command, and what it is given: the names of files, an account, and of a node also the word that says its dials
 pub data Asked : Type 0 where
   check : Option Text → Option Text → Asked
   desk : Text → Text → Asked
   node : Text → Text → Text → Option Text → Asked
   audit : List Text → Asked
+  statement : Text → Option Text → Asked
   sim : Asked
 
 -- what a job is, by the texts that it lends
@@ -86,6 +101,7 @@ asked (Check genesis keys) = check (option_map (λ name. name.now) genesis) (opt
 asked (Desk genesis keys) = desk genesis.now keys.now
 asked (Node genesis keys ports dials) = node genesis.now keys.now ports.now (option_map (λ word. word.now) dials)
 asked (Audit files) = audit (map (λ name. name.now) files.items)
+asked (Statement export account) = statement export.now (option_map (λ word. word.now) account)
 asked Sim = sim
 
 -- what the words of a command ask for
@@ -110,11 +126,15 @@ files_of rows = unwrap_or (all_of (codes "files") rows) []
 abbrev pub audit_asked : List Row → Asked
 audit_asked rows = audit (files_of rows)
 
+abbrev pub statement_asked : List Row → Asked
+statement_asked rows = statement (named (codes "export") rows) (first_of (codes "account") rows)
+
 abbrev pub asked_of : Text → List Row → Asked
 asked_of name rows =
     if bytes_eq name (codes "desk") then desk_asked rows
     else if bytes_eq name (codes "node") then node_asked rows
     else if bytes_eq name (codes "audit") then audit_asked rows
+    else if bytes_eq name (codes "statement") then statement_asked rows
     else if bytes_eq name (codes "sim") then sim
     else check_asked rows
 

@@ -2,3 +2,4 @@ pub mod Job
 pub mod Files
 pub mod Stops
 pub mod Dials
+pub mod Texts

@@ -127,7 +127,11 @@ pub(crate) fn exports_of<'a, F: NamedFiles>(
 }
 
 /// The export in the file of this name.
-fn export_of<'a, F: NamedFiles>(alloc: Global, files: &F, name: &'a str) -> Result<Export, Stop<'a>>
+pub(crate) fn export_of<'a, F: NamedFiles>(
+    alloc: Global,
+    files: &F,
+    name: &'a str,
+) -> Result<Export, Stop<'a>>
     ensures value { IfOk result (IsExportOf (F.holds files.now) name.entry.now) }
     ensures stop { IfErr result (IsExportStop (F.holds files.now) name.entry.now) }
 {

@@ -8,16 +8,17 @@ mod dials;
 mod files;
 mod ports;
 mod stop;
+mod texts;
 mod words;
 
 use clap::error::ErrorKind;
 use dials::dials_of;
-use files::{exports_of, genesis_of, keys_of};
+use files::{export_of, exports_of, genesis_of, keys_of};
 use pay_audit::{Verdict, export_text};
 use pay_cli::run_check;
 use pay_desk::{Desk, OneMember, run_desk};
 use pay_echo::MaskInstance;
-use pay_frame::{EngineFault, Reader, Writer};
+use pay_frame::{EngineFault, Reader, Writer, write_all};
 use pay_hmac::PreparedHmac;
 use pay_link::{Genesis, Keys};
 use pay_member::Member;
@@ -35,6 +36,7 @@ use std::thread::Threads;
 use std::time::Clock;
 use std::{env, io};
 use stop::Stop;
+use texts::statement_said;
 use words::{Job, NOT_UTF8, job_of};
 
 /// A member, in the forms of its parts that the program runs.
@@ -70,6 +72,9 @@ fn main(rt: HostRuntime) -> ExitCode {
             serve_node(rt.alloc(), &rt, genesis, keys, ports, dials),
         ),
         Ok(Job::Audit { files }) => status_of_audit(&rt, audit(rt.alloc(), &rt, files.as_slice())),
+        Ok(Job::Statement { export, account }) => {
+            status_of(&rt, statement(rt.alloc(), &rt, export, account))
+        }
         Ok(Job::Sim) => status_of_sim(&rt, sim(rt.alloc(), &rt)),
         Err(answer) => status_of_answer(&rt, &answer),
     }
@@ -182,6 +187,24 @@ fn audit<'a>(
     let verdict = pay_audit::audit(alloc, exports.as_slice())?;
     println!(rt; "{verdict}").map_err(|_| EngineFault::Write)?;
     Ok(verdict)
+}
+
+/// Writes the statement of an account, or those of all, by the export in this file.
+fn statement<'a>(
+    alloc: Global,
+    rt: &(impl Files + Print),
+    export: &'a str,
+    account: Option<&'a str>,
+) -> Result<(), Stop<'a>> {
+    let export = export_of(alloc, rt, export)?;
+    let text = statement_said(alloc, &export, account)?;
+    Ok(print_text(rt, text.as_slice())?)
+}
+
+/// Writes a text that is there as a whole.
+fn print_text(rt: &impl Print, text: &[u8]) -> Result<(), EngineFault> {
+    let mut writer = Writer::new(io::writer(rt));
+    write_all(&mut writer, text).map_err(|_| EngineFault::Write)
 }
 
 /// Plays the script on standard input.

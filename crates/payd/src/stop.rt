@@ -35,6 +35,9 @@ pub(crate) enum Stop<'a> {
     /// This word says no count of dials.
     #[error("dials {0}: neither a count from 1 on nor always")]
     Dials(&'a str),
+    /// This word names no account of the export.
+    #[error("account {0}")]
+    Account(&'a str),
 }
 
 impl<'a> From<EngineFault> for Stop<'a> {
@@ -114,7 +117,8 @@ impl Stop<'_> {
             | Stop::Ports(_)
             | Stop::Export(_)
             | Stop::File(_)
-            | Stop::Dials(_) => 2,
+            | Stop::Dials(_)
+            | Stop::Account(_) => 2,
         }
     }
 }

@@ -1,6 +1,6 @@
 ghost use Rattle.std.specs.Prelude.{◌≡◌, IfOk, map, option_map, string_bytes};
 ghost use Rattle.clap.specs.Words.{FailsBy, fault_of, first_of, found_of, new_app, rows_of, subcommand_of, subcommand_rows_of};
-ghost use Rattle.payd.specs.Job.{IsArgument, IsCommand, asked, asked_by, asked_in, asked_of, audit_app, audit_asked, check_app, check_asked, desk_app, desk_asked, files_of, files_rule, named, node_app, node_asked, option_rule, payd_alone, payd_app, required_rule};
+ghost use Rattle.payd.specs.Job.{IsArgument, IsCommand, asked, asked_by, asked_in, asked_of, audit_app, audit_asked, check_app, check_asked, desk_app, desk_asked, export_rule, files_of, files_rule, named, node_app, node_asked, option_rule, payd_alone, payd_app, required_rule, statement_app, statement_asked};
 
 use clap::{Arg, ArgAction, ArgMatches, Command, Error};
 use std::alloc::{AllocError, Global};
@@ -31,6 +31,11 @@ pub(crate) enum Job<'a> {
     /// Say what is wrong with the exports in the files of these names, if anything is.
     Audit {
         files: Vec<&'a str>,
+    },
+    /// Write the statement of this account, or of all, by the export in the file of this name.
+    Statement {
+        export: &'a str,
+        account: Option<&'a str>,
     },
     /// Play the script on standard input.
     Sim,
@@ -138,6 +143,23 @@ the write fails.
 
 Example: payd audit member-0.json member-1.json";
 
+const STATEMENT_ABOUT: &str =
+    "Reads an export of a member and writes the statement of an account, or of each";
+
+const STATEMENT_HELP: &str = "\
+Input: a file of JSON with an export. Without an account there are the statements of all, in order.
+
+Output: what a desk answers to STATEMENT.
+  out SEQ to PAYEE AMOUNT, void SEQ, in OWNER SEQ AMOUNT, end A balance B
+
+It follows from what the accounts began with and from their lists alone. Whether the front and the
+balances of the export are right too is what payd audit says.
+
+Status: 0 where it is written, 2 for words or a file that can't be read, or an account that isn't there,
+3 where memory or the write fails.
+
+Example: payd statement examples/export-0.json 3";
+
 const SIM_ABOUT: &str =
     "Plays the script of a group's day on standard input, and writes what each command prints";
 
@@ -212,6 +234,8 @@ fn command_job<'a>(
         Ok(node_job(command))
     } else if name == "audit" {
         audit_job(alloc, command)
+    } else if name == "statement" {
+        Ok(statement_job(command))
     } else if name == "sim" {
         Ok(Job::Sim)
     } else {
@@ -271,6 +295,16 @@ fn files_in<'a>(alloc: Global, audit: &ArgMatches<'a>) -> Result<Vec<&'a str>, A
     }
 }
 
+/// The job of `statement` with this export and account.
+fn statement_job<'a>(statement: &ArgMatches<'a>) -> Job<'a>
+    ensures { asked result ≡ statement_asked (rows_of (found_of statement.now)) }
+{
+    Job::Statement {
+        export: named(statement, "export"),
+        account: given(statement, "account"),
+    }
+}
+
 /// What an option says, if it was given.
 fn given<'a>(matches: &ArgMatches<'a>, option: &str) -> Option<&'a str>
     ensures { option_map (λ word. word.now) result
@@ -295,6 +329,7 @@ fn payd<'a>(alloc: Global) -> Result<Command<'a>, AllocError>
         .subcommand(desk(alloc)?)?
         .subcommand(node(alloc)?)?
         .subcommand(audit(alloc)?)?
+        .subcommand(statement(alloc)?)?
         .subcommand(titled(alloc, "sim", SIM_ABOUT, SIM_HELP))
 }
 
@@ -355,6 +390,17 @@ fn audit<'a>(alloc: Global) -> Result<Command<'a>, AllocError>
     titled(alloc, "audit", AUDIT_ABOUT, AUDIT_HELP).arg(files(alloc))
 }
 
+/// The command `statement`, its export and its account.
+fn statement<'a>(alloc: Global) -> Result<Command<'a>, AllocError>
+    ensures { IfOk result (λ command. IsCommand command statement_app) }
+{
+    let command = titled(alloc, "statement", STATEMENT_ABOUT, STATEMENT_HELP);
+    let account = Arg::new(alloc, "account")
+        .value_name("ACCOUNT")
+        .help("An account's number");
+    command.arg(export(alloc))?.arg(account)
+}
+
 /// A command without options, and what its help says.
 fn titled<'a>(alloc: Global, name: &'a str, about: &'a str, help: &'a str) -> Command<'a>
     ensures { IsCommand result (new_app name.entry.now) }
@@ -381,6 +427,16 @@ fn required_file<'a>(alloc: Global, name: &'a str, help: &'a str) -> Arg<'a>
     ensures { IsArgument result (required_rule name.entry.now) }
 {
     file_option(alloc, name, help).required(true)
+}
+
+/// The name of a file with an export.
+fn export<'a>(alloc: Global) -> Arg<'a>
+    ensures { IsArgument result export_rule }
+{
+    Arg::new(alloc, "export")
+        .required(true)
+        .value_name("EXPORT")
+        .help("A file of JSON with an export")
 }
 
 /// The names of one or more files.
