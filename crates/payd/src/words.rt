@@ -59,7 +59,7 @@ test keys, which anyone can name: 30 zero bytes, then the lesser and the greater
 
 Output: a line for each frame, numbered from 1.
   K ok KIND from P number M owner A seq S value L   taken: the next frame from P
-  K want from P number M                            P asks for frames from M on
+  K want from P number M                            P asks for the frame numbered M
   K refused C NAME                                  1 NotForMe, 2 UnknownSender, 3 UnknownOwner, 4 BadTag
   K refused C NAME next M                           5 Repeat, 6 Gap: M is the next number from P
   K fault C NAME                                    no frame; the last line
