@@ -138,17 +138,6 @@ fn agreeing(exports: &[Export]) -> usize
     agreeing
 }
 
-// Of how many accounts there are lists at most.
-fn accounts_of(exports: &[Export]) -> usize
-    ensures { Each (λ e. length e.lists ≤ result) exports.now }
-{
-    let mut accounts = 0;
-    for export in exports {
-        accounts = accounts.max(export.lists.len());
-    }
-    accounts
-}
-
 // The same of one account. Each of its lists is compared with the longest before it alone.
 fn agreeing_on(account: usize, exports: &[Export]) -> usize
     ensures within { result ≤ length exports.now }
@@ -169,6 +158,17 @@ fn agreeing_on(account: usize, exports: &[Export]) -> usize
     exports.len()
 }
 
+// Of how many accounts there are lists at most.
+fn accounts_of(exports: &[Export]) -> usize
+    ensures { Each (λ e. length e.lists ≤ result) exports.now }
+{
+    let mut accounts = 0;
+    for export in exports {
+        accounts = accounts.max(export.lists.len());
+    }
+    accounts
+}
+
 fn list_at(export: &Export, account: usize) -> &[Bytes]
     ensures { result.now ≡ lists_of export.now account }
 {
@@ -182,11 +182,11 @@ fn list_at(export: &Export, account: usize) -> &[Bytes]
 fn agree(one: &[Bytes], other: &[Bytes]) -> bool
     ensures { IsTrue result ↔ Agreeing one.now other.now }
 {
-    for (place, value) in one.iter().enumerate() {
-        let Some(against) = other.get(place) else {
+    for (place, left) in one.iter().enumerate() {
+        let Some(right) = other.get(place) else {
             return true;
         };
-        if value.as_slice() != against.as_slice() {
+        if left.as_slice() != right.as_slice() {
             return false;
         }
     }

@@ -19,7 +19,7 @@ loop-place-preserved c =
     let other = c.args.other.now in
     let place = c.loop-place.place in
     let value = c.index-one-place.result in
-    let against = c.in-Some.against.now in
+    let against = c.in-Some.right.now in
     let same : c.as_slice.result.now ≡ c.as_slice-in-loop-place.result.now = same_by (bytes_eq c.as_slice.result.now c.as_slice-in-loop-place.result.now) c.as_slice.result.now c.as_slice-in-loop-place.result.now refl c.if-ne.ensures in
     λ s v w below hv hw.
     below_more (λ k. (x y : List ℕ) → slice_get one k ≡ Some x → slice_get other k ≡ Some y → x ≡ y) place
@@ -35,13 +35,15 @@ returns-then-ne c =
     let other = c.args.other.now in
     let place = c.loop-place.place in
     let value = c.index-one-place.result in
-    let against = c.in-Some.against.now in
-    let differ = other_by (bytes_eq c.as_slice.result.now c.as_slice-in-loop-place.result.now) c.as_slice.result.now c.as_slice-in-loop-place.result.now refl c.if-ne.ensures in
-    (λ h. absurd (search rules), λ same.
-    absurd (differ (c.as_slice.ensures.value
-    ∙ same place value against (slice_get_read one (length one) place value refl (omega arith) c.index-one-place.is)
-    (slice_get_read other (length other) place against refl c.in-Some.ensures.lookup.3.0 c.in-Some.ensures.lookup.1)
-    ∙ sym c.as_slice-in-loop-place.ensures.value)))
+    let against = c.in-Some.right.now in
+    let differ = other_by (bytes_eq c.as_slice.result.now c.as_slice-in-loop-place.result.now) c.as_slice.result.now c.as_slice-in-loop-place.result.now refl c.if-ne.ensures in (
+      λ h. absurd (search rules),
+      λ same.
+          absurd (differ (c.as_slice.ensures.value
+          ∙ same place value against (slice_get_read one (length one) place value refl (omega arith) c.index-one-place.is)
+          (slice_get_read other (length other) place against refl c.in-Some.ensures.lookup.3.0 c.in-Some.ensures.lookup.1)
+          ∙ sym c.as_slice-in-loop-place.ensures.value)),
+    )
 
 pub returns : goal.returns
 returns c =

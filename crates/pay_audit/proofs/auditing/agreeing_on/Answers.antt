@@ -1,4 +1,4 @@
-use Rattle.std.proofs.Common.{◌≡◌, ℕ, ◌+◌, length, Some, slice_get, refl, ap, sym, subst, rules, arith}
+use Rattle.std.proofs.Common.{◌≡◌, ◌+◌, length, Some, slice_get, refl, ap, sym, subst, rules, arith}
 use Rattle.std.proofs.lemmas.Option.{slice_get_read}
 use Rattle.pay_audit.specs.Laws.{Agreeing}
 use Rattle.pay_audit.proofs.Beginnings.{IsLongest, have_none, have_one, longer, no_longer}
@@ -15,12 +15,12 @@ loop-place-preserved c =
     let at : slice_get exports place ≡ Some e = slice_get_read exports (length exports) place e refl (omega arith) c.index-exports-place.is in
     let same : Agreeing list new = c.if-not-agree.ensures.0 (search rules) in
     elim c.if-longest-list.branch [
-      then-longest-list w ↦
+      | then-longest-list w ↦
           subst (λ l. IsLongest exports (place + 1) c.args.account l) (sym (ap (λ r. r.now) w.longest-is))
           (longer exports place c.args.account list new e c.loop-place.invariant at c.list_at-list.ensures same (omega (arith, w.if-longest-list.true)))
-    | else-longest-list w ↦
-        subst (λ l. IsLongest exports (place + 1) c.args.account l) (sym (ap (λ r. r.now) w.longest-is))
-        (no_longer exports place c.args.account list new e c.loop-place.invariant at c.list_at-list.ensures same (omega (arith, w.if-longest-list.false)))
+      | else-longest-list w ↦
+          subst (λ l. IsLongest exports (place + 1) c.args.account l) (sym (ap (λ r. r.now) w.longest-is))
+          (no_longer exports place c.args.account list new e c.loop-place.invariant at c.list_at-list.ensures same (omega (arith, w.if-longest-list.false)))
     ]
 
 pub returns-then-not-agree-clause-alike : goal.returns-then-not-agree-clause-alike
