@@ -65,7 +65,10 @@ fn main(rt: HostRuntime) -> ExitCode {
                 ports,
                 dials,
             },
-        ) => status_of(&rt, serve_node(rt.alloc(), &rt, genesis, keys, ports, dials)),
+        ) => status_of(
+            &rt,
+            serve_node(rt.alloc(), &rt, genesis, keys, ports, dials),
+        ),
         Ok(Job::Audit { files }) => status_of_audit(&rt, audit(rt.alloc(), &rt, files.as_slice())),
         Ok(Job::Sim) => status_of_sim(&rt, sim(rt.alloc(), &rt)),
         Err(answer) => status_of_answer(&rt, &answer),
@@ -146,7 +149,16 @@ where
     let member = Member::new(alloc, genesis, keys)?;
     let mut reader = Reader::new(rt.reader());
     let mut writer = Writer::new(io::writer(rt));
-    run_node(rt, alloc, member, &tagger, ports, dials, &mut reader, &mut writer)
+    run_node(
+        rt,
+        alloc,
+        member,
+        &tagger,
+        ports,
+        dials,
+        &mut reader,
+        &mut writer,
+    )
 }
 
 /// Writes a member's export as a line.

@@ -339,7 +339,12 @@ fn node<'a>(alloc: Global) -> Result<Command<'a>, AllocError>
         "ports",
         "A file of JSON with the port of each member",
     );
-    let dials = option(alloc, "dials", "COUNT|always", "How often a peer is dialed in vain");
+    let dials = option(
+        alloc,
+        "dials",
+        "COUNT|always",
+        "How often a peer is dialed in vain",
+    );
     command.arg(genesis)?.arg(keys)?.arg(ports)?.arg(dials)
 }
 
@@ -368,10 +373,7 @@ fn file_option<'a>(alloc: Global, name: &'a str, help: &'a str) -> Arg<'a>
 fn option<'a>(alloc: Global, name: &'a str, word: &'a str, help: &'a str) -> Arg<'a>
     ensures { IsArgument result (option_rule name.entry.now) }
 {
-    Arg::new(alloc, name)
-        .long(name)
-        .value_name(word)
-        .help(help)
+    Arg::new(alloc, name).long(name).value_name(word).help(help)
 }
 
 /// An option that takes the name of a file, and that has to be there.
