@@ -49,7 +49,11 @@ fn export_of(alloc: Global, random: &mut Random) -> Option<Export> {
     let opening = 5 + random.seldom();
     let balance = opening + random.seldom();
     let front = lengths[1] + random.seldom();
-    let text = format!(in alloc; "{{\"balances\":[{balance},5],\"faults\":0,\"front\":[{},{front}],\"lists\":[[{one}],[{other}]],\"member\":0,\"members\":2,\"opening\":[{opening},5]}}", lengths[0]).ok()?;
+    let text = format!(in alloc;
+        "{{\"balances\":[{balance},5],\"faults\":0,\"front\":[{},{front}],\"lists\":[[{one}],[{other}]],\"member\":0,\"members\":2,\"opening\":[{opening},5]}}",
+        lengths[0]
+    )
+    .ok()?;
     read_export(alloc, text.as_bytes()).ok()
 }
 
