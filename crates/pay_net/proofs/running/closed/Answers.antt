@@ -7,13 +7,13 @@ use Rattle.pay_net.specs.Running.{IsClosed}
 use Rattle.pay_net.proofs.running.closed.Goals as goal
 
 pub returns-in-Ok-clause-settled : goal.returns-in-Ok-clause-settled
-returns-in-Ok-clause-settled g c =
+returns-in-Ok-clause-settled g c borne_out =
     let count = ap (λ (n : NodeFields). n.seats) c.stop.ensures.node in
     subst (λ (m : MemberFields). AllSettled m c.args.node.seats c.args.seats.now) (sym c.in-Ok.ensures.member)
     (subst (λ (n : ℕ). AllSettled c.stop.result.member n c.args.seats.now) count c.in-Ok.ensures.closed)
 
 pub returns-in-Ok-clause-closed : goal.returns-in-Ok-clause-closed
-returns-in-Ok-clause-closed g c =
+returns-in-Ok-clause-closed g c borne_out =
     let same = c.in-Ok.ensures.member in
     let count = ap (λ (n : NodeFields). n.seats) c.stop.ensures.node in
     let own = subst (λ (n : NodeFields). IsOwn n c.stop.result.member) c.stop.ensures.node c.in-Ok.ensures.own in
