@@ -12,7 +12,7 @@ use Rattle.pay_audit.specs.Said.{BeginAlike, Each, EachTwo, IsFirstDifference, I
 use Rattle.pay_audit.specs.Verdict.{first_from, fork_between, fork_from, fork_of, fork_place, if_differ}
 use Rattle.pay_audit.specs.declared.verdict.Verdict.{Verdict}
 use Rattle.pay_audit.specs.declared.verdict.Verdict.TheVariants.{Fork}
-use Rattle.pay_audit.proofs.Firsts.{FirstAt, first_is, nobody, none_first, none_rest}
+use Rattle.pay_audit.proofs.Firsts.{FirstAt, first_is, no_answer, nobody, none_first, none_rest, unanswered}
 use Rattle.pay_audit.proofs.Forking.{agree_at, no_fork}
 
 -- ---- two lists
@@ -231,3 +231,10 @@ all_agree k (first ∷ es) h (suc x) zero one other at_one at_other =
     (nobody (fork_between k first) (k + 1) es (none_first (first_from (fork_between k first) (k + 1) es) (fork_from (k + 1) es) h) x one at_one)))
 all_agree k (first ∷ es) h (suc x) (suc y) one other at_one at_other =
     all_agree (k + 1) es (none_rest (first_from (fork_between k first) (k + 1) es) (fork_from (k + 1) es) h) x y one other at_one at_other
+
+pub none_agrees : (k : ℕ) (exports : List ExportFields) → EachTwo AgreeWith exports → fork_from k exports ≡ None
+none_agrees k [] same = refl
+none_agrees k (first ∷ es) same =
+    no_answer (first_from (fork_between k first) (k + 1) es) (fork_from (k + 1) es)
+    (unanswered (fork_between k first) (k + 1) es (λ p e got. (no_fork k (k + 1 + p) first e).1 (same 0 (suc p) first e refl got)))
+    (none_agrees (k + 1) es (λ x y one other at_one at_other. same (suc x) (suc y) one other at_one at_other))

@@ -1,4 +1,5 @@
 mod Backward
+mod Beginnings
 mod Firsts
 mod Forking
 mod Forks

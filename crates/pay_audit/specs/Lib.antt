@@ -5,5 +5,6 @@ pub mod Replay
 pub mod Verdict
 pub mod Laws
 pub mod Said
+pub mod Beginnings
 pub mod ReadBack
 pub mod FileLaws

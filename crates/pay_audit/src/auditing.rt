@@ -1,6 +1,10 @@
-ghost use Rattle.std.specs.Prelude.{◌≡◌, ◌+◌, ◌^◌, ◌<◌, length, IfOk};
+ghost use Rattle.std.specs.Prelude.{◌≡◌, ◌↔◌, ◌+◌, ◌^◌, ◌<◌, ◌≤◌, length, take, IfOk, IsTrue};
 ghost use Rattle.std.specs.Str.{bytes_eq};
 ghost use Rattle.pay_link.specs.Genesis.{IsGenesis};
+ghost use Rattle.pay_audit.specs.Beginnings.{HaveOneList, HaveOneListEach};
+ghost use Rattle.pay_audit.specs.Export.{lists_of};
+ghost use Rattle.pay_audit.specs.Laws.{Agreeing};
+ghost use Rattle.pay_audit.specs.Said.{Each};
 ghost use Rattle.pay_audit.specs.Verdict.{book_of, first_from, fork_between, fork_from, fork_place, other_genesis, other_genesis_at, same_genesis, verdict_of, wrong_balance_of, wrong_book, wrong_front_of};
 
 use crate::exported::Export;
@@ -8,11 +12,13 @@ use crate::owner_list::OwnerList;
 use crate::settling::settled;
 use crate::verdict::Verdict;
 use pay_book::Settle;
+use pay_frame::Bytes;
 use pay_link::Genesis;
 use pay_pending::WaitingBook;
 use std::alloc::{AllocError, Global};
 
-/// What is wrong with these exports, if anything is.
+/// What is wrong with these exports, if anything is. Each list is compared once, with the longest before it; pairs of
+/// exports are asked only where that found a list which differs.
 #[tactic(auto, unfolding(crate::specs::Verdict::verdict_of))]
 pub fn audit(alloc: Global, exports: &[Export]) -> Result<Verdict, AllocError>
     ensures { IfOk result (λ verdict. verdict ≡ verdict_of exports.now) }
@@ -23,11 +29,11 @@ pub fn audit(alloc: Global, exports: &[Export]) -> Result<Verdict, AllocError>
     if let Some(verdict) = wrong_book(alloc, exports)? {
         return Ok(verdict);
     }
-    Ok(fork(exports).unwrap_or(Verdict::Clean))
+    Ok(fork(agreeing(exports), exports).unwrap_or(Verdict::Clean))
 }
 
 // The first export that begins with another genesis than the first of all.
-fn other_genesis(exports: &[Export]) -> Option<Verdict>
+pub(crate) fn other_genesis(exports: &[Export]) -> Option<Verdict>
     ensures { result ≡ other_genesis exports.now }
 {
     let first = exports.first()?;
@@ -68,7 +74,7 @@ fn has_same_opening(one: &Genesis, other: &Genesis) -> bool
 }
 
 // The first front that isn't what its export's lists allow, or else the first balance.
-fn wrong_book(alloc: Global, exports: &[Export]) -> Result<Option<Verdict>, AllocError>
+pub(crate) fn wrong_book(alloc: Global, exports: &[Export]) -> Result<Option<Verdict>, AllocError>
     ensures { IfOk result (λ verdict. verdict ≡ wrong_book exports.now) }
 {
     let mut wrong_balance = None;
@@ -118,12 +124,84 @@ fn wrong_balance_of<B: Settle>(export: &Export, book: &B) -> Option<u16>
     None
 }
 
-// The first fork between an export and one behind it.
-fn fork(exports: &[Export]) -> Option<Verdict>
+// How many exports, from the first on, have no fork among them.
+fn agreeing(exports: &[Export]) -> usize
+    ensures within { result ≤ length exports.now }
+    ensures alike { HaveOneListEach (take result exports.now) }
+    ensures most { result < length exports.now
+        → HaveOneListEach (take (result + 1) exports.now) → ⊥ }
+{
+    let mut agreeing = exports.len();
+    for account in 0..accounts_of(exports) {
+        agreeing = agreeing_on(account, &exports[..agreeing]);
+    }
+    agreeing
+}
+
+// The same of one account. Each of its lists is compared with the longest before it alone.
+fn agreeing_on(account: usize, exports: &[Export]) -> usize
+    ensures within { result ≤ length exports.now }
+    ensures alike { HaveOneList (take result exports.now) account }
+    ensures most { result < length exports.now
+        → HaveOneList (take (result + 1) exports.now) account → ⊥ }
+{
+    let mut longest: &[Bytes] = &[];
+    for (place, export) in exports.iter().enumerate() {
+        let list = list_at(export, account);
+        if !agree(longest, list) {
+            return place;
+        }
+        if longest.len() < list.len() {
+            longest = list;
+        }
+    }
+    exports.len()
+}
+
+// Of how many accounts there are lists at most.
+fn accounts_of(exports: &[Export]) -> usize
+    ensures { Each (λ e. length e.lists ≤ result) exports.now }
+{
+    let mut accounts = 0;
+    for export in exports {
+        accounts = accounts.max(export.lists.len());
+    }
+    accounts
+}
+
+fn list_at(export: &Export, account: usize) -> &[Bytes]
+    ensures { result.now ≡ lists_of export.now account }
+{
+    match export.lists.get(account) {
+        Some(list) => list.values(),
+        None => &[],
+    }
+}
+
+// Whether two lists have the same values at all places that both have.
+fn agree(one: &[Bytes], other: &[Bytes]) -> bool
+    ensures { IsTrue result ↔ Agreeing one.now other.now }
+{
+    for (place, left) in one.iter().enumerate() {
+        let Some(right) = other.get(place) else {
+            return true;
+        };
+        if left.as_slice() != right.as_slice() {
+            return false;
+        }
+    }
+    true
+}
+
+// The first fork between an export and one behind it. There is none among the first of them, as many as `agreeing`.
+pub(crate) fn fork(agreeing: usize, exports: &[Export]) -> Option<Verdict>
+    requires within { agreeing ≤ length exports.now }
+    requires alike { HaveOneListEach (take agreeing exports.now) }
     ensures { result ≡ fork_from 0 exports.now }
 {
     for (place, export) in exports.iter().enumerate() {
-        let fork = fork_behind(place, export, &exports[place + 1..]);
+        let next = agreeing.max(place + 1);
+        let fork = fork_behind(place, export, next, &exports[next..]);
         if fork.is_some() {
             return fork;
         }
@@ -131,13 +209,13 @@ fn fork(exports: &[Export]) -> Option<Verdict>
     None
 }
 
-// The first fork between export `one` and those that follow it.
-fn fork_behind(one: usize, export: &Export, following: &[Export]) -> Option<Verdict>
-    requires { one + length following.now + 1 < 2 ^ 64 }
-    ensures { result ≡ first_from (fork_between one export.now) (one + 1) following.now }
+// The first fork between export `one` and those that follow, of which the first is at `next`.
+fn fork_behind(one: usize, export: &Export, next: usize, following: &[Export]) -> Option<Verdict>
+    requires { next + length following.now < 2 ^ 64 }
+    ensures { result ≡ first_from (fork_between one export.now) next following.now }
 {
     for (k, other) in following.iter().enumerate() {
-        let fork = fork_between(one, export, one + 1 + k, other);
+        let fork = fork_between(one, export, next + k, other);
         if fork.is_some() {
             return fork;
         }

@@ -1,6 +1,7 @@
 //! Laws of the definitions: what a verdict's parts say of an export. Each function's contract is the law; its body only
 //! names the laws below that it stands on.
 
+ghost use Rattle.pay_audit.specs.Beginnings.{OneListIsNoFork};
 ghost use Rattle.pay_audit.specs.FileLaws.{BadGenesisCause, BadJsonCause, BadShapeCause};
 ghost use Rattle.pay_audit.specs.Laws.{BalancesAreJudged, ForkIsJudged, FrontIsJudged};
 ghost use Rattle.pay_audit.specs.ReadBack.{ExportReadsBack};
@@ -38,6 +39,11 @@ pub fn balances_are_judged()
 /// Two exports have no fork exactly where their lists of each account agree at every place that both have.
 pub fn fork_is_judged()
     ensures { ForkIsJudged }
+{}
+
+/// No two exports fork exactly where each account has one list that begins with every export's.
+pub fn one_list_is_no_fork()
+    ensures { OneListIsNoFork }
 {}
 
 /// What the verdict of exports says is so: nothing is wrong, or the case that it names is the first of the first kind that

@@ -1,0 +1,5 @@
+use Rattle.pay_audit.proofs.Beginnings.{one_list_is_no_fork}
+use Rattle.pay_audit.proofs.laws.one_list_is_no_fork.Goals as goal
+
+pub returns : goal.returns
+returns c = one_list_is_no_fork
