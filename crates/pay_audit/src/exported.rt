@@ -1,6 +1,7 @@
 ghost use Rattle.std.specs.Prelude.{◌≡◌, ◌<◌};
 
 use crate::owner_list::OwnerList;
+use pay_channel::Source;
 use pay_link::Genesis;
 use std::marker::Model;
 
@@ -50,5 +51,23 @@ impl Export {
         ensures limit { self.now.member < self.now.genesis.members }
     {
         self.member
+    }
+}
+
+/// The lists as they are shown; what is no account has none.
+impl Source for Export {
+    ghost use Rattle.pay_audit.specs.Export.{lists_of};
+
+    ghost lists = { lists_of };
+
+    fn length(&self, owner: u16) -> u32 {
+        match self.lists.get(usize::from(owner)) {
+            Some(list) => list.len(),
+            None => 0,
+        }
+    }
+
+    fn at(&self, owner: u16, k: u32) -> &[u8] {
+        self.lists[usize::from(owner)].at(k)
     }
 }

@@ -22,4 +22,5 @@ pub use exporting::{export, export_text};
 pub use reading::read_export;
 pub use replay_fault::ReplayFault;
 pub use replaying::replay;
+pub use settling::settled;
 pub use verdict::Verdict;

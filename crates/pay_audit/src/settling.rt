@@ -35,8 +35,8 @@ impl Source for Shown<'_> {
     }
 }
 
-/// A book that settled all that an export's lists allow.
-pub(crate) fn settled<B: Settle + Drop>(alloc: Global, export: &Export) -> Result<B, AllocError>
+/// A book that settled all that an export's lists allow, whatever its own front and balances say.
+pub fn settled<B: Settle + Drop>(alloc: Global, export: &Export) -> Result<B, AllocError>
     ensures { IfOk result (λ book. B.shows book ≡ book_of export.now) }
 {
     fresh_book_is_settled();

@@ -31,3 +31,4 @@ pub use one_member::OneMember;
 pub use payments::Payments;
 pub use teller::Teller;
 pub use teller_fault::TellerFault;
+pub use words::push_statement;

@@ -9,9 +9,9 @@ use pay_book::Line;
 use pay_text::{push_number, push_word};
 use std::alloc::AllocError;
 
-/// The lines of an account's statement, and its balance.
+/// The lines of an account's statement, and its balance, behind what is written already.
 #[tactic(auto, unfolding(crate::specs::Words::statement_words))]
-pub(crate) fn push_statement(
+pub fn push_statement(
     out: &mut Vec<u8>,
     account: u16,
     lines: &[Line],
