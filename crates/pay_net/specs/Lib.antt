@@ -1,3 +1,4 @@
 pub mod Faults
+pub mod Guests
 pub mod Ports
 pub mod Running

@@ -3,7 +3,7 @@ use pay_book::Settle;
 use pay_echo::Instance;
 use pay_frame::{Reader, Writer};
 use pay_hmac::Tagger;
-use pay_node::{Node, Seat, write_peer};
+use pay_node::{Claim, Node, Seat, write_peer};
 use std::alloc::Global;
 use std::net::{TcpListener, TcpStream};
 use std::sync::atomic::{AtomicBool, Ordering};
@@ -12,8 +12,8 @@ use std::thread;
 use std::thread::Threads;
 use std::time::{Clock, Duration};
 
-/// How many connections that others dialed may stand at once: of each peer of the largest group two, so that one can
-/// dial again before its old connection is gone. For one more the oldest is given up.
+/// How many connections that others dialed may stand at once: of each peer of the largest group two, and two whose
+/// senders aren't known yet.
 pub const MOST_CONNECTIONS: u16 = 256;
 
 /// How long an acceptor sleeps after a connection that it couldn't take.
@@ -24,8 +24,8 @@ const LEAVE_MILLIS: u64 = 1;
 
 /// Who answers those that connect.
 pub(crate) trait Serve {
-    /// The place of a connection among those that stand, if it may. Where all are taken, waits until the oldest
-    /// connection is given up.
+    /// The place of a connection among those that stand, if it may. Where all are taken, one is given up and its place
+    /// waited for.
     fn admit<R: Wait + Clock>(&self, rt: &R, stream: &TcpStream) -> Option<usize>;
 
     /// Answers a connection until it ends, and gives its place back.
@@ -46,13 +46,27 @@ pub(crate) struct Answering<'a, I: Instance + Drop, B: Settle + Drop, T> {
     pub stop: &'a AtomicBool,
 }
 
+/// Has the connection at a place be a peer's.
+#[derive(Drop)]
+struct Claiming<'a, I: Instance + Drop, B: Settle + Drop> {
+    node: &'a Node<I, B>,
+    guests: &'a Guests,
+    place: usize,
+}
+
+impl<I: Instance + Drop, B: Settle + Drop> Claim for Claiming<'_, I, B> {
+    fn claim<R: Wait>(&self, rt: &R, peer: u16) -> bool {
+        self.guests.claim(rt, self.node, self.place, peer)
+    }
+}
+
 impl<I: Instance + Drop, B: Settle + Drop, T: Tagger> Serve for Answering<'_, I, B, T> {
     fn admit<R: Wait + Clock>(&self, rt: &R, stream: &TcpStream) -> Option<usize> {
         for _ in rt.forever() {
-            match self.guests.admit(rt, self.stop, stream) {
+            match self.guests.admit(rt, self.node, self.stop, stream) {
                 Admission::At(place) => return Some(place),
                 Admission::Refused => return None,
-                Admission::Full => self.give_up_oldest(rt),
+                Admission::Full => {}
             }
             thread::sleep(rt, Duration::from_millis(LEAVE_MILLIS));
         }
@@ -64,6 +78,11 @@ impl<I: Instance + Drop, B: Settle + Drop, T: Tagger> Serve for Answering<'_, I,
             let _ = stream.set_nodelay(true);
             let mut reader = Reader::new(stream);
             let mut writer = Writer::new(stream);
+            let claim = Claiming {
+                node: self.node,
+                guests: self.guests,
+                place,
+            };
             let _ = write_peer(
                 rt,
                 self.alloc,
@@ -71,6 +90,7 @@ impl<I: Instance + Drop, B: Settle + Drop, T: Tagger> Serve for Answering<'_, I,
                 self.seats,
                 self.tagger,
                 leave,
+                &claim,
                 &mut reader,
                 &mut writer,
             );
@@ -80,17 +100,6 @@ impl<I: Instance + Drop, B: Settle + Drop, T: Tagger> Serve for Answering<'_, I,
 
     fn turn_away<R: Wait>(&self, rt: &R, place: usize) {
         self.guests.shut(rt, place);
-    }
-}
-
-impl<I: Instance + Drop, B: Settle + Drop, T> Answering<'_, I, B, T> {
-    // Ends whatever the thread of the oldest connection waits for: then it gives its place back.
-    fn give_up_oldest<R: Wait>(&self, rt: &R) {
-        if let Some(place) = self.guests.shut_oldest(rt) {
-            if let Some(leave) = self.guests.leave(place) {
-                self.node.stop_waiting(rt, leave);
-            }
-        }
     }
 }
 

@@ -1,3 +1,7 @@
+use crate::guest_list::GuestList;
+use pay_book::Settle;
+use pay_echo::Instance;
+use pay_node::Node;
 use std::alloc::{AllocError, Global};
 use std::net::{Shutdown, TcpStream};
 use std::sync::atomic::{AtomicBool, Ordering};
@@ -5,11 +9,11 @@ use std::sync::{Mutex, Wait};
 
 /// The connections that others dialed. Each has a place, and a flag that ends its wait for what isn't sent yet.
 ///
-/// A place is free again once the thread that answers its connection gave it back. So a flag is never lowered while
-/// somebody may still have to see it.
+/// One that is given up is nobody's at once, and stands no more. Another comes to its place once the thread that
+/// answered it gave that back. So a flag is never lowered while somebody may still have to see it.
 #[derive(Drop)]
 pub(crate) struct Guests {
-    places: Mutex<Vec<Option<Guest>>>,
+    room: Mutex<Room>,
     leave: Vec<AtomicBool>,
 }
 
@@ -17,30 +21,31 @@ pub(crate) struct Guests {
 #[derive(Clone, Copy)]
 pub(crate) enum Admission {
     At(usize),
-    /// All places are taken.
+    /// All places are taken. One is given up, if none was so far.
     Full,
     /// It can't be kept, or no more are.
     Refused,
 }
 
-// A clone of a connection, by which it can be shut, and a number that is greater than those of all that came before.
+// Who stands, and for each place a clone of the connection that is answered there, by which it can be shut.
 #[derive(Drop)]
-struct Guest {
-    stream: TcpStream,
-    number: u64,
+struct Room {
+    list: GuestList,
+    streams: Vec<Option<TcpStream>>,
 }
 
 impl Guests {
     /// Room for so many connections.
     pub(crate) fn new(alloc: Global, most: u16) -> Result<Guests, AllocError> {
-        let mut places = Vec::new(alloc);
+        let list = GuestList::new(alloc, most)?;
+        let mut streams = Vec::new(alloc);
         let mut leave = Vec::new(alloc);
         for _ in 0..most {
-            places.push(None)?;
+            streams.push(None)?;
             leave.push(AtomicBool::new(false))?;
         }
         Ok(Guests {
-            places: Mutex::new(places),
+            room: Mutex::new(Room { list, streams }),
             leave,
         })
     }
@@ -48,31 +53,57 @@ impl Guests {
     /// Gives a connection a place, unless all are shut or will be.
     ///
     /// The flag to stop is set before all are shut: so what is kept after it was looked at here is shut with them.
-    pub(crate) fn admit<R: Wait>(
+    pub(crate) fn admit<R, I, B>(
         &self,
         rt: &R,
+        node: &Node<I, B>,
         stop: &AtomicBool,
         stream: &TcpStream,
-    ) -> Admission {
+    ) -> Admission
+    where
+        R: Wait,
+        I: Instance + Drop,
+        B: Settle + Drop,
+    {
         let Ok(clone) = stream.try_clone() else {
             return Admission::Refused;
         };
-        let mut places = self.places.lock(rt);
+        let mut room = self.room.lock(rt);
         if stop.load(Ordering::SeqCst) {
             return Admission::Refused;
         }
-        let Some(free) = places.iter().position(|place| place.is_none()) else {
+        let Some(free) = room.streams.iter().position(|kept| kept.is_none()) else {
+            if room.list.len() == room.streams.len() {
+                let place = room.list.make_place();
+                self.give_up(rt, node, &*room, place);
+            }
             return Admission::Full;
         };
-        let number = next_number(places.as_slice());
-        if let (Some(place), Some(leave)) = (places.get_mut(free), self.leave.get(free)) {
+        if room.list.enter(free).is_err() {
+            return Admission::Refused;
+        }
+        if let (Some(kept), Some(leave)) = (room.streams.get_mut(free), self.leave.get(free)) {
             leave.store(false, Ordering::SeqCst);
-            *place = Some(Guest {
-                stream: clone,
-                number,
-            });
+            *kept = Some(clone);
         }
         Admission::At(free)
+    }
+
+    /// Has a connection be a peer's, for which that one's older one is given up where it has two already. Answers
+    /// whether it still stands.
+    pub(crate) fn claim<R, I, B>(&self, rt: &R, node: &Node<I, B>, place: usize, peer: u16) -> bool
+    where
+        R: Wait,
+        I: Instance + Drop,
+        B: Settle + Drop,
+    {
+        let mut room = self.room.lock(rt);
+        if !room.list.has(place) {
+            return false;
+        }
+        let older = room.list.claim(place, peer);
+        self.give_up(rt, node, &*room, older);
+        true
     }
 
     /// The flag of a place.
@@ -87,50 +118,40 @@ impl Guests {
 
     /// Shuts the connection at a place, and gives the place back.
     pub(crate) fn shut<R: Wait>(&self, rt: &R, place: usize) {
-        let mut places = self.places.lock(rt);
-        if let Some(kept) = places.get_mut(place) {
-            if let Some(guest) = kept.take() {
-                let _ = guest.stream.shutdown(Shutdown::Both);
+        let mut room = self.room.lock(rt);
+        room.list.leave(place);
+        if let Some(kept) = room.streams.get_mut(place) {
+            if let Some(stream) = kept.take() {
+                let _ = stream.shutdown(Shutdown::Both);
             }
         }
     }
 
-    /// Shuts the connection that has stood longest, and tells its place, which it keeps.
-    pub(crate) fn shut_oldest<R: Wait>(&self, rt: &R) -> Option<usize> {
-        let places = self.places.lock(rt);
-        let (place, oldest) = oldest_of(places.as_slice())?;
-        let _ = oldest.stream.shutdown(Shutdown::Both);
-        Some(place)
-    }
-
-    /// Shuts all that stand. They keep their places.
+    /// Shuts all that are answered. They keep their places.
     pub(crate) fn shut_all<R: Wait>(&self, rt: &R) {
-        let places = self.places.lock(rt);
-        for guest in places.iter().flatten() {
-            let _ = guest.stream.shutdown(Shutdown::Both);
+        let room = self.room.lock(rt);
+        for stream in room.streams.iter().flatten() {
+            let _ = stream.shutdown(Shutdown::Both);
         }
     }
-}
 
-// A number above those of all that stand.
-fn next_number(places: &[Option<Guest>]) -> u64 {
-    let mut next: u64 = 0;
-    for guest in places.iter().flatten() {
-        next = next.max(guest.number.saturating_add(1));
-    }
-    next
-}
-
-// Who has stood longest, and where.
-fn oldest_of(places: &[Option<Guest>]) -> Option<(usize, &Guest)> {
-    let mut oldest: Option<(usize, &Guest)> = None;
-    for (place, kept) in places.iter().enumerate() {
-        if let Some(guest) = kept {
-            match oldest {
-                Some((_, other)) if other.number <= guest.number => {}
-                _ => oldest = Some((place, guest)),
-            }
+    // Ends whatever the thread of a connection waits for that stands no more: then it gives the place back.
+    fn give_up<R, I, B>(&self, rt: &R, node: &Node<I, B>, room: &Room, place: Option<usize>)
+    where
+        R: Wait,
+        I: Instance + Drop,
+        B: Settle + Drop,
+    {
+        let Some(place) = place else {
+            return;
+        };
+        if let (Some(Some(stream)), Some(leave)) = (
+            room.streams.get(place),
+            self.leave.get(place),
+        ) {
+            let _ = stream.shutdown(Shutdown::Both);
+            // under the lock, so that no other comes to this place before the flag is set
+            node.stop_waiting(rt, leave);
         }
     }
-    oldest
 }

@@ -4,6 +4,8 @@
 
 mod accepting;
 mod dialing;
+mod guest;
+mod guest_list;
 mod guests;
 mod listening;
 mod node_fault;

@@ -4,6 +4,7 @@
 //! against the member's history: it is one that a single thread could have made, with these very calls.
 #![tactic(auto)]
 
+mod claim;
 mod close_fault;
 mod closing;
 mod feeding;
@@ -24,6 +25,7 @@ mod teller;
 mod wanted;
 mod writing;
 
+pub use claim::Claim;
 pub use close_fault::CloseFault;
 pub use feeding::read_peer;
 pub use gate::{Gate, OpenGate};

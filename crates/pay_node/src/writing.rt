@@ -4,6 +4,7 @@ ghost use Rattle.std.specs.Prelude.{◌+◌, ◌≤◌, IsErrOf};
 ghost use Rattle.pay_frame.specs.Device.{Gave, RoseBy};
 ghost use Rattle.pay_node.specs.Answering.{HasAnswered, answering};
 
+use crate::claim::Claim;
 use crate::node::Node;
 use crate::seat::Seat;
 use crate::wanted::open_want;
@@ -13,25 +14,29 @@ use pay_engine::{FrameHandler, handle_stream};
 use pay_frame::{EngineFault, FrameFault, FrameRef, Input, MOST_READS, Output};
 use pay_hmac::Tagger;
 use std::alloc::{AllocError, Global};
-use std::sync::atomic::AtomicBool;
+use std::sync::atomic::{AtomicBool, Ordering};
 use std::sync::{Mutex, Wait};
 
-/// Writes the frame that each WANT asks for.
+/// Writes the frame that each WANT asks for, once the connection is claimed for the sender of the
+/// first.
 #[derive(Drop)]
-struct ToPeer<'a, R, I: Instance + Drop, B: Settle + Drop, T> {
+struct ToPeer<'a, R, I: Instance + Drop, B: Settle + Drop, T, C> {
     rt: &'a R,
     node: &'a Node<I, B>,
     seats: &'a [(u16, Mutex<Seat>)],
     tagger: &'a T,
     stop: &'a AtomicBool,
+    claim: &'a C,
+    is_claimed: AtomicBool,
 }
 
-impl<R, I, B, T> FrameHandler<()> for ToPeer<'_, R, I, B, T>
+impl<R, I, B, T, C> FrameHandler<()> for ToPeer<'_, R, I, B, T, C>
 where
     R: Wait,
     I: Instance + Drop,
     B: Settle + Drop,
     T: Tagger,
+    C: Claim,
 {
     ghost handling = { λ a. answering a.node.now a.seats.now };
 
@@ -44,8 +49,8 @@ where
         1
     }
 
-    // Writes the reply to a frame that asks for one. The connection ends where there is none, which
-    // comes of being told to stop.
+    // Writes the reply to a frame that asks for one. The connection ends where it may not go on, and
+    // where there is no reply, which comes of being told to stop.
     fn handle(
         &self,
         alloc: Global,
@@ -57,6 +62,9 @@ where
             Some(wanted) => wanted,
             None => return Ok(true),
         };
+        if !self.goes_on(wanted.from) {
+            return Ok(false);
+        }
         let answer = self
             .node
             .answer_want(self.rt, alloc, self.tagger, self.stop, &wanted)?;
@@ -74,20 +82,29 @@ where
     }
 }
 
+impl<R: Wait, I: Instance + Drop, B: Settle + Drop, T, C: Claim> ToPeer<'_, R, I, B, T, C> {
+    // Whether the connection goes on, which whoever claims it is asked at the first WANT alone.
+    fn goes_on(&self, peer: u16) -> bool {
+        self.is_claimed.swap(true, Ordering::SeqCst) || self.claim.claim(self.rt, peer)
+    }
+}
+
 /// Answers a peer's WANTs on one connection: reads frames, and writes the frame that each WANT asks
 /// for, once the member sent it.
 ///
 /// A frame that doesn't open, is no WANT, or is one of a sender without a seat, is answered by
-/// nothing, and the connection goes on. It ends well at the input's end, and behind a WANT that
-/// waits as it is told to stop. A fault in the frames ends it, and is returned. After another fault
-/// a prefix of the replies is written.
-pub fn write_peer<I, B, R, T, In, Out>(
+/// nothing, and the connection goes on. The first other WANT has the connection claimed for its
+/// sender, once. It ends well at the input's end, behind a WANT that waits as it is told to stop,
+/// and behind the first where the claim says so. A fault in the frames ends it, and is returned.
+/// After another fault a prefix of the replies is written.
+pub fn write_peer<I, B, R, T, C, In, Out>(
     rt: &R,
     alloc: Global,
     node: &Node<I, B>,
     seats: &[(u16, Mutex<Seat>)],
     tagger: &T,
     stop: &AtomicBool,
+    claim: &C,
     reader: &mut In,
     writer: &mut Out,
 ) -> Result<(), EngineFault>
@@ -96,6 +113,7 @@ where
     B: Settle + Drop,
     R: Wait,
     T: Tagger,
+    C: Claim,
     In: Input,
     Out: Output,
     ensures answered { HasAnswered node.now seats.now
@@ -117,6 +135,8 @@ where
         seats,
         tagger,
         stop,
+        claim,
+        is_claimed: AtomicBool::new(false),
     };
     handle_stream(alloc, &to_peer, &mut (), &[], reader, writer)
 }

@@ -1,5 +1,6 @@
 //! What a peer's WANT is answered.
 
+use crate::claims::Claims;
 use crate::rows::{FOUR, PAYMENT, SEND, WANT};
 use crate::trial::node_of;
 use pay_frame::{Bytes, Kind, Reader, Writer, read_one};
@@ -43,6 +44,7 @@ fn reply_to<R: Wait>(rt: &R, alloc: Global, asks: u32, bytes: &[u8]) -> Result<C
         writing.as_slice(),
         &HmacSha256,
         &stop,
+        &Claims::new(true),
         &mut reader,
         &mut writer,
     )

@@ -1,6 +1,7 @@
 //! Writers that wait at a node: one is answered once the member asked, and one is told to stop.
 
 use crate::answers::{Came, opens_as};
+use crate::claims::Claims;
 use crate::rows::{FOUR, PAYMENT, SEND, WANT};
 use crate::trial::{Tried, node_of};
 use pay_frame::{Bytes, Kind, Reader, Writer};
@@ -60,6 +61,7 @@ fn writes<R: Wait>(rt: &R, alloc: Global, at: &Watched, frames: &[u8]) -> Option
         at.seats.as_slice(),
         &HmacSha256,
         &at.stop,
+        &Claims::new(true),
         &mut reader,
         &mut writer,
     );
