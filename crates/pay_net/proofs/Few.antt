@@ -1,10 +1,9 @@
 -- Of each peer few stand, whoever enters, leaves or is claimed.
 use Rattle.std.proofs.Common.{◌≡◌, ℕ, zero, suc, ◌+◌, ◌<◌, ◌≤◌, ◌==◌, ◌++◌, Bool, true, false, cond, nat_lt, List, [], ◌∷◌, length, take, drop, get_or, Option, Some, None, IfSome, refl, sym, ap, ◌∙◌, subst, arith, add-one, position}
-use Rattle.std.specs.List.{count_by, remove, sum_by, position_or_len}
+use Rattle.std.specs.List.{count_by, remove, position_or_len}
 use Rattle.std.specs.Prelude.{slice_set}
 use Rattle.std.specs.Option.{option_map_or}
 use Rattle.std.proofs.lemmas.Bool.{ltb-true, eqb-true}
-use Rattle.std.proofs.lemmas.Bool.Decides.{nat_tests}
 use Rattle.std.proofs.lemmas.Grind.{common_steps}
 use Rattle.std.proofs.lemmas.List.{take-append-drop, take_all}
 use Rattle.std.proofs.lemmas.List.Quantifiers.{position-Some}
@@ -79,7 +78,7 @@ room_where peer gs false (Some i) few is first =
     omega (arith, few peer, one_fewer (is_of peer) gs i found.0 found.1)
 
 -- who makes place for a peer leaves it room
-pub room_for : (peer : ℕ) (gs : List Guest) → AreFewOfEach gs → count_by (is_of peer) (without (who_makes_place_for peer gs) gs) < MOST_OF_A_PEER
+room_for : (peer : ℕ) (gs : List Guest) → AreFewOfEach gs → count_by (is_of peer) (without (who_makes_place_for peer gs) gs) < MOST_OF_A_PEER
 room_for peer gs few = room_where peer gs _ _ few refl refl
 
 set_where : (gs : List Guest) (place peer other i : ℕ) (b : Bool) → (peer == other) ≡ b → i < length gs → AreFewOfEach gs
@@ -103,5 +102,14 @@ claimed_where gs place peer (Some i) is few room other =
     let found = position-Some (is_at place) gs i nobody is in
     set_where gs place peer other i (peer == other) refl found.0 few room
 
-pub few_claimed : (gs : List Guest) (place peer : ℕ) → AreFewOfEach gs → count_by (is_of peer) gs < MOST_OF_A_PEER → AreFewOfEach (claimed place peer gs)
+few_claimed : (gs : List Guest) (place peer : ℕ) → AreFewOfEach gs → count_by (is_of peer) gs < MOST_OF_A_PEER → AreFewOfEach (claimed place peer gs)
 few_claimed gs place peer few room = claimed_where gs place peer (position (is_at place) gs) refl few room
+
+-- what a claim leaves
+pub few_after : (gs rest after : List Guest) (at : Option ℕ) (place peer : ℕ) → AreFewOfEach gs → at ≡ who_makes_place_for peer gs
+    → IfSome at (λ i. i < length gs) → rest ≡ without at gs → after ≡ claimed place peer rest → AreFewOfEach after
+few_after gs rest after at place peer few who within left set =
+    let kept = subst AreFewOfEach (sym left) (few_without gs at within few) in
+    let apart = left ∙ ap (λ (o : Option ℕ). without o gs) who in
+    let room = subst (λ (xs : List Guest). count_by (is_of peer) xs < MOST_OF_A_PEER) (sym apart) (room_for peer gs few) in
+    subst AreFewOfEach (sym set) (few_claimed rest place peer kept room)

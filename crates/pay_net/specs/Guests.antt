@@ -1,5 +1,5 @@
 -- Whose the connections are that others dialed, oldest first, and which of them makes place for another.
-use Rattle.std.specs.Prelude.{◌==◌, ℕ, ◌≤◌, Bool, false, cond, List, length, [], ◌∷◌, Option, Some, None, nat_lt, is_none, option_and_then, count_by, position, remove, slice_get, slice_set}
+use Rattle.std.specs.Prelude.{◌==◌, ℕ, ◌≤◌, Bool, false, cond, List, length, Option, Some, None, nat_lt, is_none, option_and_then, count_by, position, remove, slice_get, slice_set}
 use Rattle.std.specs.Option.{option_map, option_map_or, option_or}
 use Rattle.pay_net.specs.declared.guest.Guest.{Guest}
 use Rattle.pay_net.specs.declared.guest.TheConstants.{MOST_OF_A_PEER}

@@ -1,6 +1,6 @@
 ghost use Rattle.std.specs.Prelude.{◌≡◌, ◌≢◌, ◌↔◌, ◌<◌, ◌++◌, ◌∷◌, [], None, IfOk, IfSome, IsTrue, OnErr, OnOk, count_by, length, position};
 ghost use Rattle.std.specs.List.{Any};
-ghost use Rattle.pay_net.specs.Guests.{claimed, is_at, is_of, is_stranger, place_of, who_makes_place, who_makes_place_for, without};
+ghost use Rattle.pay_net.specs.Guests.{AreFewOfEach, claimed, is_at, is_of, is_stranger, place_of, who_makes_place, who_makes_place_for, without};
 
 use crate::guest::{Guest, MOST_OF_A_PEER};
 use std::alloc::{AllocError, Global};
@@ -79,6 +79,7 @@ impl GuestList {
         ensures place { result ≡ place_of (who_makes_place_for peer self.old) self.old }
         ensures claimed { self.new
             ≡ claimed place peer (without (who_makes_place_for peer self.old) self.old) }
+        ensures few { AreFewOfEach self.new }
     {
         let at = makes_place_for(self.guests.as_slice(), peer);
         let left = taken_off(&mut self.guests, at);
