@@ -31,6 +31,7 @@ Names word (stop.Ports fault) = ⊥
 Names word (stop.Export fault) = ⊥
 Names word (stop.Close fault) = ⊥
 Names word (stop.Port port) = ⊥
+Names word (stop.Account account) = ⊥
 
 -- the program stops because a word asks for nothing
 abbrev pub IsDialsStop : Option (List ℕ) → Stop → Type 0
