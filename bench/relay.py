@@ -70,4 +70,6 @@ async def main(own, seconds, ports):
 
 
 if __name__ == "__main__":
+    if sys.argv[1:] == ["--help"]:
+        sys.exit(print(__doc__.strip()))
     asyncio.run(main(int(sys.argv[1]), int(sys.argv[2]) / 1000, [int(word) for word in sys.argv[3:]]))

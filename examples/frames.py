@@ -1,4 +1,4 @@
-"""Frames spelled by hand: the frame table, the test keys and RFC 2104 as Python's own hmac has it.
+"""Frames encoded by hand: the frame table, the test keys and RFC 2104 as Python's own hmac has it.
 
 It shares no code with the crates, so that examples, the benchmark and the black-box tests speak for themselves.
 """

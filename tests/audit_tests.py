@@ -1,12 +1,16 @@
 """Black-box tests of `audit`: its verdicts, and the faults of exports."""
 
 import json
+import os
 import random
+import subprocess
+import tempfile
+import threading
 
 import audits
 from audits import audit
 from frames import payment
-from runs import run, same, shows, test, with_files
+from runs import PAYD, SECONDS, run, same, shows, test, with_files
 from scripts import RandomScripts
 
 
@@ -45,6 +49,19 @@ def longest_lists_and_values():
 
 
 @test
+def chains_of_debts_settle():
+    """Each account but the last pays on what it doesn't have, until the first one, which has it, pays."""
+    for members in (64, 128):
+        opening = [10] + [0] * (members - 1)
+        owed = [[payment(payee=payer + 1, amount=10).hex()] for payer in range(members - 1)] + [[]]
+        settled = audits.export(opening, owed, [1] * (members - 1) + [0], opening[::-1])
+        waiting = audits.export(opening, [[]] + owed[1:], [0] * members, opening)
+        shows(audit([settled, waiting]), 0, "clean\n", of=f"{members} members")
+        short = {**settled, "front": [1] * (members - 2) + [0, 0]}
+        shows(audit([short]), 1, f"2 front 0 account {members - 2}\n", of=f"{members} members, and one is missed")
+
+
+@test
 def first_fault_of_exports():
     good, bad = audits.PAID, audits.changed({"front": None})
     for files, words, errors in (
@@ -55,6 +72,61 @@ def first_fault_of_exports():
         ({"a": "{", "b": bad}, ["a", "b"], "payd: export 1 BadJson\n"),
     ):
         shows(with_files(files, ["audit", *words]), 2, "", errors, of=f"{words}")
+
+
+@test
+def a_fault_of_a_file_comes_before_each_verdict():
+    files = {
+        "paid": audits.PAID,
+        "forked": audits.FORKED,
+        "other": {**audits.FRESH, "opening": [0, 0, 0, 51]},
+        "front": {**audits.PAID, "front": [0, 0, 0, 0]},
+        "balance": {**audits.PAID, "balances": [0, 0, 0, 50]},
+        "bad": audits.changed({"front": None}),
+        "text": "{",
+    }
+    for wrong in ("forked", "other", "front", "balance"):
+        for words, errors in (
+            (["paid", wrong, "bad"], "payd: export 2 BadShape\n"),
+            ([wrong, "paid", "text", "bad"], "payd: export 1 BadJson\n"),
+            (["paid", wrong, "gone", "text"], "payd: file gone\n"),
+        ):
+            shows(with_files(files, ["audit", *words]), 2, "", errors, of=f"{words}")
+
+
+def audit_of_pipes(contents, meanwhile):
+    """The audit of a file `first`, and behind it of pipes, each of which gives its content to one reader. As soon as
+    the first pipe is opened, the file's content is another."""
+    with tempfile.TemporaryDirectory() as folder:
+        first = os.path.join(folder, "first")
+        pipes = [os.path.join(folder, f"{place}.pipe") for place in range(1, len(contents))]
+        with open(first, "w", encoding="ascii") as file:
+            json.dump(contents[0], file)
+        for pipe in pipes:
+            os.mkfifo(pipe)
+
+        def write():
+            for pipe, content in zip(pipes, contents[1:]):
+                with open(pipe, "w", encoding="ascii") as file:
+                    if pipe == pipes[0]:
+                        with open(first, "w", encoding="ascii") as changed:
+                            changed.write(meanwhile)
+                    json.dump(content, file)
+
+        writer = threading.Thread(target=write, daemon=True)
+        writer.start()
+        done = subprocess.run([PAYD, "audit", first, *pipes], capture_output=True, timeout=SECONDS)
+        writer.join(SECONDS)
+    return done.returncode, done.stdout.decode("ascii"), done.stderr.decode()
+
+
+@test
+def each_file_is_read_once():
+    paid, fresh, forked = audits.PAID, audits.FRESH, audits.FORKED
+    for contents in ([paid, forked, fresh], [fresh, fresh, paid, paid, forked], [forked, fresh, paid], [paid, fresh]):
+        line = audits.verdict(contents)
+        for meanwhile in ("{", json.dumps(contents[1])):
+            shows(audit_of_pipes(contents, meanwhile), 0 if line == "clean" else 1, f"{line}\n", of=line)
 
 
 @test

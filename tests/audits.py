@@ -36,6 +36,21 @@ FORKED = export([0, 0, 0, 50], [[], [], [], [B]], [0, 0, 0, 1], [0, 5, 0, 45], m
 # One of an account that pays five, and nothing to itself, in one value: that is two entries.
 TWO_ENTRIES = export([100, 0, 0, 50], [[], [], [], [payments([(1, 5), (3, 1)]).hex()]], [0, 0, 0, 2], [100, 5, 0, 45])
 
+# One of two accounts. The first has opened with 9 and paid 2 and 3 in one value, then nothing to itself, then 4; the
+# second has paid 5 back, and 11 wait that it hasn't.
+WORKED = export(
+    [9, 0],
+    [
+        [payments([(1, 2), (1, 3)]).hex(), payment(payee=0, amount=1).hex(), payment(payee=1, amount=4).hex()],
+        [payment(payee=0, amount=5).hex(), payment(payee=0, amount=11).hex()],
+    ],
+    [4, 1],
+    [5, 4],
+)
+
+# One whose first account has paid what the second one had paid to it.
+PAID_ON = export([0, 10], [[payment(payee=1, amount=6).hex()], [payment(payee=0, amount=10).hex()]], [1, 1], [4, 6])
+
 # Exports, and the line that their audit has to print.
 ROWS = [
     ([PAID], "clean"),
@@ -187,6 +202,26 @@ def statement(given, account):
         f"in {owner} {seq} {e[1]}" for owner, es in enumerate(settled) for seq, e in es if e and e[0] == account
     ]
     return [*own, *incoming, f"end {account} balance {balance(given, front, account)}"]
+
+
+def journal(given, date):
+    """The journal of an export, each transaction on this date, as one text."""
+    accounts = range(given["members"])
+    front = largest_front(given)
+    lines = [*(f"account account:{account}" for account in accounts), "account equity:opening"]
+    lines += ["", f"{date} opening balances"]
+    lines += [f"    account:{account}  {given['opening'][account]}" for account in accounts]
+    lines += ["    equity:opening"]
+    for account in accounts:
+        for number, (seq, entry) in enumerate(numbered_entries(given, account)[: front[account]]):
+            name = f"account {account} seq {seq} entry {number}"
+            if entry is None:
+                lines += ["", f"; void {name}"]
+                continue
+            payee, amount = entry
+            lines += ["", f"{date} ({account}.{number}) {name}"]
+            lines += [f"    account:{account}  -{amount}", f"    account:{payee}  {amount}"]
+    return "".join(f"{line}\n" for line in lines)
 
 
 # ---- random exports

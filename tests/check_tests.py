@@ -23,6 +23,16 @@ TAKEN_LINE = "1 ok send from 0 number 0 owner 0 seq 0 value 0\n"
 REPEAT_LINE = "2 refused 5 Repeat next 1\n"
 
 
+# By one thread, by three, and by as many as there are processors.
+WAYS = (["check", "--jobs", "1"], ["check", "--jobs", "3"], [])
+
+
+def judges(stream, status, lines, of="run"):
+    """Status and lines of a stream are these, however many threads judge it."""
+    for words in WAYS:
+        shows(run(words, stream), status, lines, of=f"{of}, {words}")
+
+
 # ---- what is judged
 
 
@@ -36,7 +46,7 @@ def empty_stream():
 def four_refusals():
     lines = "1 refused 4 BadTag\n2 refused 1 NotForMe\n3 refused 2 UnknownSender\n4 refused 3 UnknownOwner\n"
     stream = BAD_TAG + NOT_FOR_ME + UNKNOWN_SENDER + UNKNOWN_OWNER
-    shows(run([], stream), 0, lines, of="no words")
+    judges(stream, 0, lines)
     shows(run(["check"], stream), 0, lines, of="check")
 
 
@@ -49,12 +59,12 @@ def frame_for_another_member():
 
 @test
 def last_byte_missing():
-    shows(run([], BAD_TAG[:-1]), 1, "1 fault 7 Truncated\n")
+    judges(BAD_TAG[:-1], 1, "1 fault 7 Truncated\n")
 
 
 @test
 def fault_behind_lines():
-    shows(run([], TWICE + b"\x05"), 1, TAKEN_LINE + REPEAT_LINE + "3 fault 1 BadLength\n")
+    judges(TWICE + b"\x05", 1, TAKEN_LINE + REPEAT_LINE + "3 fault 1 BadLength\n")
 
 
 def lines_of_a_cut(size):
@@ -74,13 +84,14 @@ def lines_of_a_cut(size):
 def repeated_frame_cut_anywhere():
     same(len(TWICE), 112, "the stream's size")
     for size in range(len(TWICE) + 1):
-        shows(run([], TWICE[:size]), *lines_of_a_cut(size), of=f"the first {size} bytes")
+        judges(TWICE[:size], *lines_of_a_cut(size), of=f"the first {size} bytes")
 
 
 @test
 def repeated_frame_byte_by_byte():
     for size in (0, 1, 2, 24, 55, 56, 57, 80, 111, 112):
-        shows(run_byte_by_byte(TWICE[:size]), *lines_of_a_cut(size), of=f"the first {size} bytes")
+        for words in WAYS:
+            shows(run_byte_by_byte(TWICE[:size], words), *lines_of_a_cut(size), of=f"the first {size} bytes, {words}")
 
 
 @test
@@ -103,7 +114,7 @@ def each_kind_of_line():
         "6 refused 6 Gap next 2\n"
         "7 refused 5 Repeat next 2\n"
     )
-    shows(run([], stream), 0, lines)
+    judges(stream, 0, lines)
 
 
 @test
@@ -115,15 +126,15 @@ def refused_frames_move_no_front():
         "1 refused 4 BadTag\n2 refused 1 NotForMe\n3 want from 0 number 0\n"
         "4 ok send from 0 number 0 owner 0 seq 0 value 0\n"
     )
-    shows(run([], stream), 0, lines)
+    judges(stream, 0, lines)
 
 
 @test
 def the_first_cause_is_named():
     own_sender = frame(SEND, 1, 1, 0, owner=4)
-    shows(run([], own_sender), 0, "1 refused 2 UnknownSender\n", of="oneself as sender, an owner that isn't there")
+    judges(own_sender, 0, "1 refused 2 UnknownSender\n", of="oneself as sender, an owner that isn't there")
     other_receiver = frame(SEND, 9, 2, 0, owner=4)
-    shows(run([], other_receiver), 0, "1 refused 1 NotForMe\n", of="all unknown")
+    judges(other_receiver, 0, "1 refused 1 NotForMe\n", of="all unknown")
 
 
 @test
@@ -140,7 +151,7 @@ def each_tagged_part_counts():
     ):
         wrong = bytearray(right)
         wrong[place] ^= bit
-        shows(run([], bytes(wrong)), 0, "1 refused 4 BadTag\n", of=part)
+        judges(bytes(wrong), 0, "1 refused 4 BadTag\n", of=part)
 
 
 @test
@@ -163,12 +174,12 @@ def each_frame_fault():
         ("0036", "1 fault 7 Truncated\n"),
         ("0436", "1 fault 7 Truncated\n"),
     ):
-        shows(run([], bytes.fromhex(text)), 1, line, of=text)
+        judges(bytes.fromhex(text), 1, line, of=text)
 
 
 @test
 def fault_ends_the_text():
-    shows(run([], b"\x05" + TWICE), 1, "1 fault 1 BadLength\n")
+    judges(b"\x05" + TWICE, 1, "1 fault 1 BadLength\n")
 
 
 @test

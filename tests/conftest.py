@@ -17,6 +17,8 @@ def pytest_pycollect_makeitem(collector, name, obj):
     return [pytest.Function.from_parent(collector, name=name)]
 
 
+# (once those that weren't chosen are taken out)
+@pytest.hookimpl(trylast=True)
 def pytest_collection_modifyitems(items):
     if any(needs_program(it.function) for it in items) and not is_proved():
         pytest.exit("the program is not proved: ./payd-prove proves it", returncode=1)

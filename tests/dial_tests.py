@@ -1,4 +1,4 @@
-"""Black-box tests of how often a node dials its peers, and for how long."""
+"""Black-box tests of how often a node dials its peers, for how long, and what it says of them."""
 
 import contextlib
 import socket
@@ -6,7 +6,8 @@ import subprocess
 import tempfile
 import time
 
-from nodes import PATIENCE, Group, free_ports, write_json
+from nodes import PATIENCE, Group, free_ports, told_apart, until, write_json
+from peers import Strangers
 from runs import GENESIS, PAYD, SECONDS, key_texts, same, shows, test, with_files
 
 OPENING = GENESIS["opening"]
@@ -17,9 +18,12 @@ LATE = 15
 PAIR = {"members": 2, "faults": 0, "opening": [5, 5]}
 
 
+ALWAYS = ["--dials", "always"]
+
+
 @contextlib.contextmanager
-def dialing(options):
-    """A node of two, whose peer's port is held here."""
+def dialing(options, wanted):
+    """A node of two, whose peer's port is held here; and what it is to say of its peer."""
     peer = socket.create_server(("127.0.0.1", 0))
     peer.settimeout(PATIENCE)
     ports = [*free_ports(1), peer.getsockname()[1]]
@@ -28,12 +32,13 @@ def dialing(options):
         write_json(folder, "k", {"own": 0, "keys": key_texts(0, 2)})
         write_json(folder, "p", {"ports": ports})
         words = [PAYD, "node", "--genesis", "g", "--keys", "k", "--ports", "p", *options]
-        child = subprocess.Popen(words, cwd=folder, stdin=subprocess.PIPE, stdout=subprocess.DEVNULL)
+        pipe = subprocess.PIPE
+        child = subprocess.Popen(words, cwd=folder, stdin=pipe, stdout=subprocess.DEVNULL, stderr=pipe)
         try:
             yield peer
         finally:
-            child.stdin.close()
-            child.wait(timeout=SECONDS)
+            errors = child.communicate(timeout=SECONDS)[1].decode()
+        same(told_apart(errors)[0], wanted, f"what is said with {options}")
 
 
 def dials(peer, most, silence):
@@ -56,13 +61,13 @@ def pauses(times):
 @test
 def a_peer_is_given_up_behind_so_many_dials():
     for count in (1, 2, 5):
-        with dialing(["--dials", f"{count}"]) as peer:
+        with dialing(["--dials", f"{count}"], [(1, "given up")]) as peer:
             same(len(dials(peer, most=9, silence=3)), count, f"dials of {count}")
 
 
 @test
 def pauses_between_dials_grow():
-    with dialing(["--dials", "always"]) as peer:
+    with dialing(ALWAYS, []) as peer:
         measured = pauses(dials(peer, most=11, silence=PATIENCE))
     # a pause is never shorter than it should be, but for what the peer saw too late of the dial before
     least = [0.01, 0.02, 0.04, 0.08, 0.16, 0.32, 0.64, 1, 1, 1]
@@ -72,10 +77,18 @@ def pauses_between_dials_grow():
 
 @test
 def a_thousand_dials_unless_said():
-    with dialing([]) as peer:
+    with dialing([], [(1, "given up")]) as peer:
         times = dials(peer, most=1100, silence=3)
         same(len(times), 1000, "dials without the option")
         same(max(pauses(times)) < 1, True, "no pause grows")
+
+
+# ---- what is said of peers
+
+
+def said_of(node, peer):
+    """What a node said of a peer so far."""
+    return [word for of, word in node.news() if of == peer]
 
 
 @test
@@ -83,14 +96,94 @@ def late_peer_is_met():
     """It starts long behind the others, and all that it and they have paid settles."""
     with Group(OPENING, running=[]) as group:
         for own in range(3):
-            group.start(own, options=["--dials", "always"])
+            group.start(own, options=ALWAYS)
         group.pay(0, 7, payee=1, amount=30, seq=0)
         group.settle([1, 0, 0, 0], [70, 30, 0, 50])
         time.sleep(LATE)
-        group.start(3, options=["--dials", "always"])
+        for own, node in group.nodes.items():
+            same(sorted(node.news()), [(peer, "met") for peer in range(3) if peer != own], f"said by {own} before")
+        late = group.start(3, options=ALWAYS)
         group.pay(3, 7, payee=0, amount=20, seq=0)
         group.settle([1, 0, 0, 1], [90, 30, 0, 30])
+        for own in range(3):
+            until(lambda: said_of(group.nodes[own], 3), ["met"], of=f"said by {own} of the late one")
+        until(lambda: sorted(late.news()), [(peer, "met") for peer in range(3)], of="said by the late one")
         group.stop()
+
+
+@test
+def peer_that_goes_and_comes_back():
+    """Each says once that it is lost and once that it is met again, before anything was paid."""
+    with Group(OPENING, running=[]) as group:
+        for own in range(4):
+            group.start(own, options=ALWAYS)
+        words = ["met"]
+        for _ in range(2):
+            for own in range(3):
+                until(lambda: said_of(group.nodes[own], 3), words, of=f"said by {own}")
+            group.kill(3)
+            words += ["lost"]
+            for own in range(3):
+                until(lambda: said_of(group.nodes[own], 3), words, of=f"said by {own}")
+            group.start(3, options=ALWAYS)
+            words += ["met"]
+        group.pay(3, 7, payee=0, amount=20, seq=0)
+        group.settle([0, 0, 0, 1], [120, 0, 0, 30])
+        for own in range(3):
+            same(said_of(group.nodes[own], 3), words, f"said by {own} in the end")
+            for peer in set(range(3)) - {own}:
+                same(said_of(group.nodes[own], peer), ["met"], f"said by {own} of {peer}")
+        group.stop()
+
+
+@test
+def peer_that_never_comes():
+    with Group([7, 7], running=[]) as group:
+        node = group.start(0, options=["--dials", "3"])
+        until(node.news, [(1, "given up")], of="said of nobody")
+        time.sleep(1)
+        same(node.ask("FRONT"), "front 0 0", "its desk")
+        same(node.stop()[0], 0, "its end")
+        same(node.news(), [(1, "given up")], "all that it said")
+
+
+@test
+def peer_that_comes_and_goes_in_haste():
+    """It dials and asks, again and again, and can't be dialed: it is met and lost once a second at most."""
+    with Group([7, 7], running=[]) as group:
+        node = group.start(0, options=ALWAYS)
+        # it listens before it answers
+        node.front()
+        begun = time.monotonic()
+        with Strangers(1, 0, group.ports[0]) as strangers:
+            while time.monotonic() < begun + 5:
+                stream = strangers.dial()
+                stream.sendall(strangers.want(0))
+                time.sleep(0.02)
+                strangers.streams.pop().close()
+        until(lambda: node.news()[-1:], [(1, "lost")], of="said in the end")
+        pairs = len(node.news()) // 2
+        same(node.news(), pairs * [(1, "met"), (1, "lost")], "what is said, in turns")
+        same(1 <= pairs <= 1 + time.monotonic() - begun, True, f"{pairs} times in {time.monotonic() - begun} s")
+        group.stop()
+
+
+@test
+def what_cannot_be_said_stops_nothing():
+    """Standard error is full: no peer can be spoken of, and all settles."""
+    with Group([7, 7], running=[1]) as group, open("/dev/full", "w", encoding="ascii") as full:
+        words = [PAYD, "node", "--genesis", "genesis", "--keys", "keys-0", "--ports", "ports"]
+        pipe = subprocess.PIPE
+        child = subprocess.Popen(words, cwd=group.place.name, stdin=pipe, stdout=pipe, stderr=full)
+        try:
+            until(lambda: said_of(group.nodes[1], 0), ["met"], of="said by the other")
+            group.pay(1, 7, payee=0, amount=5, seq=0)
+            group.settle([0, 1], [12, 2])
+            output = child.communicate(b"FRONT\n", timeout=SECONDS)[0].decode()
+        finally:
+            child.kill()
+            child.wait()
+        same((child.returncode, output.split("\n")[0]), (0, "front 0 1"), "the end of the silent one")
 
 
 @test
@@ -106,4 +199,4 @@ def words_that_say_no_dials():
         same((status, output, errors != ""), (2, "", True), f"{more}")
     for word in ("1", "1000", "always", f"{2**64 - 1}"):
         status, output, errors = with_files(files, [*words, "--dials", word], b"FRONT\n")
-        same((status, output.split("\n")[0], errors), (0, "front 0 0", ""), f"{word!r}")
+        same((status, output.split("\n")[0], told_apart(errors)[1]), (0, "front 0 0", ""), f"{word!r}")

@@ -6,15 +6,22 @@ import re
 
 from runs import TOP, same, test
 
-from inventory import read_crates, read_file
+from inventory import files_below, read_crates, read_file
 
 NEEDS_PROGRAM = False
+MOST_WORDS = 1000
 
-PAGES = ["README.md", *(f"docs/{name}" for name in sorted(os.listdir(f"{TOP}/docs")) if name.endswith(".md"))]
+PAGES = ["README.md", "CONTRIBUTING.md"]
+PAGES += [f"docs/{it}" for it in files_below(f"{TOP}/docs", ".md")]
 # A call or a law in backticks, perhaps with others beside it, and behind a colon the clauses that are named of it.
 NAMED = re.compile(r"`(?:\w+::)?(\w+)`(?:, `[\w:]+`)*: ((?:`\w+`(?: \([^)]*\))?(?:, | and )?)+)")
-# What may be a call, a type, a crate or a clause.
+# What may be a call, a type, a crate or a clause, on pages whose names are those of the tree.
 CALL = re.compile(r"`(\w+(?:::\w+)*)`")
+OF_NAMES = "PROMISES", "PROOFS", "DEFINITIONS", "DECISIONS", "COMMANDS", "HEADLINE", "MAP", "GATE"
+# What may be a path of the tree or the name of a crate.
+PATH = re.compile(r"`((?:[a-z]\w*/)*[\w-]+(?:\.\w+)?)`", re.ASCII)
+# What definitions are compared with.
+OF_THE_BOOK = {"sentecho", "sentready"}
 
 
 def headings_of(page):
@@ -57,6 +64,27 @@ def names_of_the_tree():
     return names
 
 
+def paths_named(page):
+    """The paths of the tree that a page names in backticks, those in a crate as of the crate that was named last."""
+    crate = ""
+    for path in PATH.findall(read_file(f"{TOP}/{page}")):
+        first = path.partition("/")[0]
+        if os.path.isdir(f"{TOP}/crates/{first}"):
+            crate = first
+        if first in ("src", "specs", "proofs"):
+            path = f"{crate}/{path}"
+        if "/" in path and "NAME" not in path:
+            yield path
+
+
+@test
+def named_paths_stand():
+    for page in (it for it in PAGES if "/made/" not in it):
+        for path in paths_named(page):
+            stands = any(os.path.exists(f"{TOP}/{it}/{path}") for it in ("", "crates"))
+            same(stands, True, f"{page}: the path {path}")
+
+
 @test
 def links_lead_somewhere():
     headings = {page: headings_of(page) for page in PAGES}
@@ -64,6 +92,11 @@ def links_lead_somewhere():
         for path, heading in links_of(page):
             same(os.path.exists(f"{TOP}/{path}"), True, f"{page}: a link to {path}")
             same(not heading or heading in headings.get(path, []), True, f"{page}: a link to {path}#{heading}")
+
+
+@test
+def readme_is_short():
+    same(len(read_file(f"{TOP}/README.md").split()) <= MOST_WORDS, True, f"README.md: {MOST_WORDS} words at most")
 
 
 @test
@@ -78,6 +111,7 @@ def named_clauses_stand():
 @test
 def named_calls_stand():
     names = names_of_the_tree()
-    for page in "README.md", "docs/PROMISES.md", "docs/PROOFS.md", "docs/HEADLINE.md", "docs/MAP.md":
+    for page in "README.md", *(f"docs/{it}.md" for it in OF_NAMES):
         called = {part for it in CALL.findall(read_file(f"{TOP}/{page}")) for part in it.split("::")}
-        same(sorted(called - names), [], f"{page}: names that nothing has")
+        unknown = {it for it in called - names - OF_THE_BOOK if not it[0].isdigit()}
+        same(sorted(unknown), [], f"{page}: names that nothing has")

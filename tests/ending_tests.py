@@ -41,13 +41,13 @@ def export_to_a_reader_that_is_gone():
 
 @hostile
 def each_write_of_an_export_fails(library):
-    """What was written is a beginning of the export, whichever write fails or takes nothing."""
+    """What was written is a prefix of the export, whichever write fails or takes nothing."""
     write_files(library.place.name)
     same(library.run(WORDS, b"")[0], (0, EXPORT, ""), "each write taken")
     for more in ({}, {"write_takes_nothing": 1}, {"write_size": 30}, {"write_size": 1}):
         lengths = []
         for place, (status, text, errors) in library.each(WORDS, b"", "write", **more):
             same((status, errors), (3, WRITE), f"write {place} {more}")
-            same(EXPORT.startswith(text), True, f"write {place} {more}: {text!r} is no beginning")
+            same(EXPORT.startswith(text), True, f"write {place} {more}: {text!r} is no prefix")
             lengths.append(len(text))
         same(lengths, sorted(set(lengths)), f"{more}: a write more lets more through")

@@ -64,7 +64,9 @@ def keys_of_a_file_are_used():
 @test
 def genesis_without_keys():
     alone = {"members": 1, "faults": 0, "opening": [7]}
-    shows(with_files({"g": alone}, ["check", "--genesis", "g"], frame(SEND, 0, 0, 0)), 0, "1 refused 2 UnknownSender\n")
+    stream = frame(SEND, 0, 0, 0) + frame(SEND, 1, 0, 0)
+    lines = "1 refused 2 UnknownSender\n2 refused 2 UnknownSender\n"
+    shows(with_files({"g": alone}, ["check", "--genesis", "g"], stream), 0, lines, of="a member alone")
     two = {"members": 2, "faults": 0, "opening": [7, 0]}
     stream = frame(SEND, 0, 1, 0) + frame(SEND, 2, 1, 0) + frame(SEND, 0, 0, 1)
     lines = "1 ok send from 0 number 0 owner 0 seq 0 value 0\n2 refused 2 UnknownSender\n3 refused 1 NotForMe\n"

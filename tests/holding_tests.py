@@ -10,7 +10,7 @@ import tempfile
 import time
 
 from frames import payment
-from nodes import PATIENCE, Group, audited, export_text, until
+from nodes import Group, audited, export_text, until
 from runs import GENESIS, PAYD, SECONDS, TOP, run, same, test
 
 OPENING = GENESIS["opening"]
@@ -38,8 +38,8 @@ def node_exports_at_each_signal():
         exports = []
         for own, number in enumerate((signal.SIGINT, signal.SIGTERM, signal.SIGHUP)):
             group.nodes[own].child.send_signal(number)
-            output, errors = group.nodes[own].child.communicate(timeout=PATIENCE)
-            same((group.nodes[own].child.returncode, output.decode(), errors), (0, export_of(own), b""), f"{number}")
+            status, output, errors = group.nodes[own].end()
+            same((status, output, errors), (0, export_of(own), ""), f"{number}")
             exports.append(json.loads(output))
         status, output, errors = group.nodes[3].stop()
         same((status, output, errors), (0, export_of(3), ""), "the last one's input ends")
@@ -85,8 +85,7 @@ def export_goes_to_its_file():
         paid(group)
         same(os.path.exists(export), False, "an export before the end")
         node.child.terminate()
-        output, errors = node.child.communicate(timeout=PATIENCE)
-        same((node.child.returncode, output, errors), (0, b"", b""), "the end with a file")
+        same(node.end(), (0, "", ""), "the end with a file")
         with open(export, encoding="ascii") as file:
             same(file.read(), export_of(3), "the file")
         same(stat.S_IMODE(os.stat(export).st_mode), 0o600, "who may read it")
@@ -133,8 +132,8 @@ def lines_from_a_named_pipe():
             same(ask(f"PAY {place} 0 1"), f"asked {place} seq {place}", "a line through the pipe")
         until(lambda: ask("FRONT"), "front 0 0 0 2", of="the front")
         node.child.terminate()
-        output, errors = node.child.communicate(timeout=PATIENCE)
-        same((node.child.returncode, json.loads(output)["front"], errors), (0, [0, 0, 0, 2], b""), "its end")
+        status, output, errors = node.end()
+        same((status, json.loads(output)["front"], errors), (0, [0, 0, 0, 2], ""), "its end")
 
 
 @test
@@ -146,8 +145,7 @@ def node_that_stays():
         time.sleep(0.5)
         same(node.child.poll(), None, "an end without a signal")
         node.child.terminate()
-        output, errors = node.child.communicate(timeout=PATIENCE)
-        same((node.child.returncode, output.decode(), errors), (0, export_text(0, [7], [[]], [0], [7]), b""), "its end")
+        same(node.end(), (0, export_text(0, [7], [[]], [0], [7]), ""), "its end")
 
 
 @test

@@ -1,6 +1,6 @@
 // Comes between the program and the C library, and refuses what the environment says: one growth of memory, one read
-// of standard input or one write of standard output, counted from 1, or all but so many bytes of each. Where it
-// refused something it makes the file that HOSTILE_MARK names.
+// of standard input or one write of standard output, counted from 1, or all but so many bytes of each; or interrupts
+// the first reads. Where it refused something it makes the file that HOSTILE_MARK names.
 #define _GNU_SOURCE
 #include <dlfcn.h>
 #include <errno.h>
@@ -11,7 +11,7 @@
 #include <sys/syscall.h>
 #include <unistd.h>
 
-static atomic_long growths, reads, writes;
+static atomic_long growths, reads, interrupted, writes;
 
 static long wanted(const char *name) {
     const char *text = getenv(name);
@@ -63,6 +63,10 @@ void *realloc(void *old, size_t size) {
 ssize_t read(int file, void *buffer, size_t size) {
     if (file == STDIN_FILENO) {
         long most = wanted("HOSTILE_READ_SIZE");
+        if (atomic_fetch_add(&interrupted, 1) < wanted("HOSTILE_INTERRUPTED")) {
+            errno = EINTR;
+            return -1;
+        }
         if (refused(&reads, "HOSTILE_READ")) {
             errno = EIO;
             return -1;

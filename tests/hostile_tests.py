@@ -24,6 +24,8 @@ MEMORY = re.compile("payd: (engine|genesis|keys|ports|export|close) 0 Memory\n|e
 # Where this is refused more often than any run has calls of its kind, a loop over these has no end.
 MOST_CALLS = 100_000
 MOST_READS = 1_000_000
+# How often a read is tried that the system interrupts.
+MOST_TRIES = 1_000
 
 
 class Hostile:
@@ -93,7 +95,7 @@ def streams():
 
 @hostile
 def each_growth_refused(library):
-    """Memory is the answer, or that with ample memory; what was written is a beginning of it."""
+    """Memory is the answer, or that with ample memory; what was written is a prefix of it."""
     tried = 0
     for words, stream in streams():
         if words[0] == "desk":
@@ -104,7 +106,7 @@ def each_growth_refused(library):
             if was != ample:
                 status, text, errors = was
                 same((status, MEMORY.fullmatch(errors) is not None), (3, True), f"{words}, growth {place}: {was}")
-                same(ample[1].startswith(text), True, f"{words}, growth {place}: a beginning")
+                same(ample[1].startswith(text), True, f"{words}, growth {place}: a prefix")
     print(f"growths refused in turn: {tried}")
 
 
@@ -133,7 +135,7 @@ def each_growth_of_a_desk_refused(library):
     for place, (status, text, errors) in library.each(words, stream, "growth"):
         if status == 3:
             same(MEMORY.fullmatch(errors) is not None, True, f"growth {place}: {errors}")
-            same("".join(f"{it}\n" for it in ample).startswith(text), True, f"growth {place}: a beginning")
+            same("".join(f"{it}\n" for it in ample).startswith(text), True, f"growth {place}: a prefix")
             continue
         answers = text.splitlines()
         differ = [it for it, (answer, wanted) in enumerate(zip(answers, ample, strict=True)) if answer != wanted]
@@ -193,7 +195,15 @@ def each_read_fails(library):
             for place, was in library.each(words, stream, "read", read_size=size):
                 status, text, errors = was
                 same((status, errors), (3, "payd: engine 2 Read\n"), f"{words}, read {place}: {was}")
-                same(ample[1].startswith(text), True, f"{words}, read {place}: a beginning")
+                same(ample[1].startswith(text), True, f"{words}, read {place}: a prefix")
+
+
+@hostile
+def an_interrupted_read_is_tried_again(library):
+    for words, stream in streams():
+        ample = run(words, stream)
+        for times, wanted in ((MOST_TRIES - 1, ample), (MOST_TRIES, (3, "", "payd: engine 2 Read\n"))):
+            same(library.run(words, stream, interrupted=times)[0], wanted, f"{words}, interrupted {times} times")
 
 
 @hostile
@@ -204,7 +214,7 @@ def each_write_fails_or_takes_nothing(library):
             for place, was in library.each(words, stream, "write", **more):
                 status, text, errors = was
                 same((status, errors), (3, "payd: engine 3 Write\n"), f"{words}, write {place} {more}: {was}")
-                same(ample[1].startswith(text), True, f"{words}, write {place}: a beginning")
+                same(ample[1].startswith(text), True, f"{words}, write {place}: a prefix")
 
 
 @hostile

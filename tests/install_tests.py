@@ -42,7 +42,7 @@ def manual_and_completions():
         subprocess.run([INSTALL, prefix], check=True, capture_output=True, timeout=SECONDS)
         with open(os.path.join(prefix, "share", "man", "man1", "payd.1"), encoding="ascii") as page:
             text = page.read()
-        for command in ("CHECK", "SIM", "DESK", "NODE", "AUDIT"):
+        for command in ("CHECK", "SIM", "DESK", "NODE", "AUDIT", "STATEMENT", "JOURNAL"):
             same(text.count(f".SH {command}\n"), 1, f"the manual page on {command}")
         script = os.path.join(prefix, "share", "bash-completion", "completions", "payd")
         ask = f"source {script}; COMP_WORDS=(payd node --e); COMP_CWORD=2; _payd; echo ${{COMPREPLY[*]}}"
@@ -51,6 +51,8 @@ def manual_and_completions():
 
 @test
 def words_of_install():
-    for words in ([], ["--help"], ["one", "two"]):
+    for words in ([], ["one", "two"]):
         done = subprocess.run([INSTALL, *words], capture_output=True, text=True, timeout=SECONDS)
         same((done.returncode, done.stdout, "usage: tools/install" in done.stderr), (1, "", True), f"{words}")
+    done = subprocess.run([INSTALL, "--help"], capture_output=True, text=True, timeout=SECONDS)
+    same((done.returncode, "usage: tools/install" in done.stdout, done.stderr), (0, True, ""), "--help")

@@ -31,8 +31,9 @@ def run_within(memory, words, stream=b""):
 
 
 def least_memory():
-    """What the program needs to be loaded and to answer an empty stream."""
-    return next(it for it in range(PIECE, 1 << 30, PIECE) if run_within(it, []) == (0, "", ""))
+    """What the program needs to be loaded and to answer an empty stream, with no room for large reads."""
+    words = ["check", "--jobs", "1"]
+    return next(it for it in range(PIECE, 1 << 30, PIECE) if run_within(it, words) == (0, "", ""))
 
 
 def is_refused(status, errors):
@@ -40,13 +41,13 @@ def is_refused(status, errors):
 
 
 def writes_a_beginning(wanted, words, stream=b""):
-    """With enough memory a run writes this text, and with too little a beginning of it."""
+    """With enough memory a run writes this text, and with too little a prefix of it."""
     least, refused = least_memory(), []
     for memory in (least + more for more in LIMITS):
         status, text, errors = run_within(memory, words, stream)
         refused.append(is_refused(status, errors))
         if refused[-1]:
-            same(wanted.startswith(text), True, f"{words} within {memory}: a beginning")
+            same(wanted.startswith(text), True, f"{words} within {memory}: a prefix")
         else:
             same((status, text, errors), (0, wanted, ""), f"{words} within {memory}")
     same((refused[0], refused[-1]), (True, False), f"{words}: refused with the least, and not with the most")

@@ -3,6 +3,7 @@
 import json
 import os
 import random
+import select
 import socket
 import subprocess
 import tempfile
@@ -464,6 +465,25 @@ def wants_are_answered_one_by_one():
 
 
 @test
+def a_want_that_waits_is_answered_with_each_kind():
+    """Member 3, in Python, asks for four frames of a node before it sends them, each on account of something else."""
+    value = payment(1, 30)
+    first = {0: [[(SEND, 1, 0, A), (ECHO, 0, 0, value)]]}
+    with Group(OPENING, running=[0]) as group, connected(group.ports[0]) as waiting:
+        waiting.sendall(b"".join(frame(WANT, 3, 0, number) for number in range(4)))
+        same(select.select([waiting], [], [], 0.1)[0], [], "answers before there is anything")
+        group.pay(0, 1, payee=1, amount=30, seq=0)
+        own = [frame(kind, 0, 3, number, value=value) for number, kind in enumerate([SEND, ECHO])]
+        same([received(waiting) for _ in own], own, "behind a payment")
+        same(select.select([waiting], [], [], 0.1)[0], [], "answers before anybody else spoke")
+        with Liar(1, group.ports[1], first):
+            same(received(waiting), frame(ECHO, 0, 3, 2, owner=1, value=A), "behind another's payment")
+            with Liar(2, group.ports[2], {0: [[(ECHO, 0, 0, value)]]}):
+                same(received(waiting), frame(READY, 0, 3, 3, value=value), "behind a quorum of ECHOs")
+        group.stop()
+
+
+@test
 def hostile_peers_stop_nobody():
     """Member 3 answers those who dial it with all that is out of place, and dials them with more of it."""
     with Group([1000, 1000, 1000, 0], running=[0, 1, 2]) as group, Hostile(3, group.ports[3]) as hostile:
@@ -544,6 +564,29 @@ def a_liar_that_splits_its_votes():
         exports = group.stop()
     for own, export in exports.items():
         same(export["lists"][3], [A.hex()], f"the liar's payments at {own}")
+
+
+@test
+def void_and_uncovered_payments_at_a_desk():
+    """Member 3, in Python, sends a value that is none and 5 to account 0; member 0 pays more than it has, and less."""
+    told = [(SEND, 3, 0, b"\xff"), (SEND, 3, 1, A)]
+    with Group(OPENING, running=[0, 1, 2]) as group, Liar(3, group.ports[3], {own: [told] for own in range(3)}):
+        group.settle([0, 0, 0, 2], [105, 0, 0, 45])
+        group.pay(1, 1, payee=2, amount=10, seq=0)
+        group.pay(0, 1, payee=1, amount=30, seq=0)
+        group.pay(0, 2, payee=2, amount=500, seq=1)
+        group.settle([1, 1, 0, 2], [75, 20, 10, 45])
+        wanted = [
+            ["out 0 to 1 30", "in 3 1 5", "end 0 balance 75"],
+            ["out 0 to 2 10", "in 0 0 30", "end 1 balance 20"],
+            ["in 1 0 10", "end 2 balance 10"],
+            ["void 0", "out 1 to 0 5", "end 3 balance 45"],
+        ]
+        for own, node in group.nodes.items():
+            same([node.statement(account) for account in range(4)], wanted, f"the statements at {own}")
+            for owner, seq, state in ((0, 0, "settled"), (0, 1, "waiting"), (0, 2, "unknown"), (3, 0, "settled")):
+                until(lambda: node.ask(f"STATE {owner} {seq}"), f"state {owner} {seq} {state}", of=f"at {own}")
+        group.stop()
 
 
 @test

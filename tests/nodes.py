@@ -6,6 +6,7 @@ Nothing here waits for a fixed time: answers are asked for again until they are 
 import json
 import os
 import random
+import re
 import select
 import signal
 import socket
@@ -48,6 +49,15 @@ def until(ask, wanted, of):
         time.sleep(PAUSE)
 
 
+# what a node says of its peers on standard error
+NEWS = re.compile(r"payd: peer (\d+) (met|lost|given up)\n")
+
+
+def told_apart(errors):
+    """What standard error says of peers, and all else that is there."""
+    return [(int(peer), word) for peer, word in NEWS.findall(errors)], NEWS.sub("", errors)
+
+
 def write_json(folder, name, value):
     with open(os.path.join(folder, name), "w", encoding="ascii") as file:
         json.dump(value, file)
@@ -62,6 +72,7 @@ class Node:
         self.child = subprocess.Popen(words, cwd=folder, stdin=pipe, stdout=pipe, stderr=pipe, bufsize=0)
         self.own = own
         self.held = b""
+        self.said = b""
 
     def write(self, text):
         self.child.stdin.write(text.encode())
@@ -107,19 +118,37 @@ class Node:
         except (FileNotFoundError, ProcessLookupError):
             return None
 
-    def threads(self):
+    def status(self, name):
+        """A number that the system has of the program: `Threads`, or kibibytes, as `VmRSS`."""
         with open(f"/proc/{self.program()}/status", encoding="ascii") as lines:
-            return next(int(line.split()[1]) for line in lines if line.startswith("Threads:"))
+            return next(int(line.split()[1]) for line in lines if line.startswith(f"{name}:"))
+
+    def threads(self):
+        return self.status("Threads")
 
     def open_files(self):
         return len(os.listdir(f"/proc/{self.program()}/fd"))
 
+    def news(self):
+        """What standard error said of peers so far."""
+        while not self.child.stderr.closed and select.select([self.child.stderr], [], [], 0)[0]:
+            piece = os.read(self.child.stderr.fileno(), 65536)
+            if piece == b"":
+                break
+            self.said += piece
+        return told_apart(self.said.decode())[0]
+
+    def end(self):
+        """Waits for the node's end: its status, what it still wrote, and its errors, without what it says of peers."""
+        output, errors = self.child.communicate(timeout=PATIENCE)
+        self.said += errors
+        return self.child.returncode, (self.held + output).decode("ascii"), told_apart(self.said.decode())[1]
+
     def stop(self):
-        """Ends the input, and waits for the node's end: its status, what it still wrote, and its errors."""
+        """Ends the input, and waits for the node's end."""
         self.child.stdin.close()
         self.child.stdin = None
-        output, errors = self.child.communicate(timeout=PATIENCE)
-        return self.child.returncode, (self.held + output).decode("ascii"), errors.decode()
+        return self.end()
 
     def kill(self):
         """Ends both processes as they stand, if they haven't ended: the node's first, for it would still export."""
@@ -139,11 +168,12 @@ class Group:
     Behind its `with` no process is left, however it ends.
     """
 
-    def __init__(self, opening, running=None, ports=None):
+    def __init__(self, opening, running=None, ports=None, options=()):
         self.members = len(opening)
         self.opening = opening
         self.faults = (self.members - 1) // 3
         self.ports = ports or free_ports(self.members)
+        self.options = options
         self.nodes = {}
         self.running = range(self.members) if running is None else running
 
@@ -171,7 +201,7 @@ class Group:
         self.place.cleanup()
 
     def start(self, own, ports="ports", options=()):
-        self.nodes[own] = Node(own, self.place.name, ports, options)
+        self.nodes[own] = Node(own, self.place.name, ports, [*self.options, *options])
         return self.nodes[own]
 
     def kill(self, own):
@@ -202,7 +232,7 @@ class Group:
 
 
 def compact(export):
-    """An export's only spelling."""
+    """An export's only encoding."""
     return json.dumps(export, separators=(",", ":"), sort_keys=True)
 
 

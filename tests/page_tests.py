@@ -1,4 +1,4 @@
-"""Whether the pages that are made from the sources are what the sources make."""
+"""Whether the page that is made from the sources is what the sources make."""
 
 import os
 import subprocess
@@ -10,6 +10,6 @@ MAKE = os.path.join(TOP, "tools", "make-inventory")
 
 
 @test
-def pages_are_as_made():
+def page_is_as_made():
     done = subprocess.run([MAKE, "--check"], capture_output=True, text=True, timeout=SECONDS)
     same((done.returncode, done.stderr), (0, ""), done.stdout)

@@ -54,10 +54,10 @@ def readme_shows_what_is_printed():
 
 
 @test
-def example_stream_is_spelled():
-    spelled = subprocess.run([os.path.join(TOP, "examples", "make-frames")], capture_output=True, check=True)
+def example_stream_is_encoded():
+    encoded = subprocess.run([os.path.join(TOP, "examples", "make-frames")], capture_output=True, check=True)
     with open(os.path.join(TOP, "examples", "frames.bin"), "rb") as stream:
-        same(stream.read(), spelled.stdout, "examples/frames.bin")
+        same(stream.read(), encoded.stdout, "examples/frames.bin")
 
 
 # ---- how it is run

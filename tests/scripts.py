@@ -17,8 +17,13 @@ FIVE_AND_VOID = payments([(1, 5), (3, 1)]).hex()
 ONE_OF_SEVERAL = payments([(1, 5)]).hex()
 
 
+def world_of(faults, *opening):
+    """The line of a world in which nobody lies."""
+    return json.dumps({"faults": faults, "liars": [], "members": len(opening), "opening": opening})
+
+
 def four_honest(*opening):
-    return json.dumps({"faults": 1, "liars": [], "members": 4, "opening": opening})
+    return world_of(1, *opening)
 
 
 def shown(members, front, balances):
@@ -251,6 +256,7 @@ WORKED = [
             f"lie 3 0 18446744073709551615 send 3 0 {A}",
             "raw 0 -",
             "raw 0 05",
+            f"raw 0 0036010100000001{'00' * 49}",
             "raw 9 -",
             "lie 3 0 0 want 0 0 -",
             f"lie 3 0 next send 1 0 {A}",
@@ -260,6 +266,7 @@ WORKED = [
             "refused link 6 Gap next 0",
             "refused frame 7 Truncated",
             "refused frame 1 BadLength",
+            "refused frame 8 Trailing",
             "ignored",
             "wanted 3 0",
             "took",

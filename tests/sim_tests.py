@@ -4,9 +4,9 @@ import os
 import random
 
 from frames import ECHO, SEND, frame, payment
-from model import play
+from model import MOST_MEMBERS, play
 from runs import TOP, run, run_byte_by_byte, same, shows, test
-from scripts import FOUR_ONE_LIAR, LONG, WORKED, RandomScripts, script_of
+from scripts import FOUR_ONE_LIAR, LONG, WORKED, RandomScripts, script_of, world_of
 
 LIMIT = 1_000_000
 
@@ -48,6 +48,46 @@ def examples_of_scripts():
             text = answers.read()
         shows(run(["sim"], lines), status, text, of=name)
         same(play(lines), (text, status), f"the model of {name}")
+
+
+def voted(commands, last):
+    """These frames, of which the last makes something known."""
+    return [(it, "took") for it in commands[:-1]] + [(it, f"took {last}") for it in commands[-1:]]
+
+
+def thresholds(members, faults):
+    """A payment of member 0, of whose votes one after the other is brought, and what comes of each.
+
+    The last member takes only the READYs of others, and the ECHOs that come before these, and so is READY by them.
+    """
+    quorum, settles = (members + faults) // 2 + 1, "deliver settle 1"
+    others = range(1, members - 1)
+    yield "ask 0 1 5", "asked 0 seq 0"
+    for member in others:
+        yield f"bring 0 {member} 0", "took echo"
+    # with its own ECHO a quorum; with its own READY as many as deliver, where nobody lies
+    quorum_said = "ready" if faults else f"ready {settles}"
+    yield from voted([f"bring {it} 0 0" for it in others[: quorum - 1]], quorum_said)
+    senders = others[: max(2 * faults, 1)]
+    for member in senders:
+        echoes = [f"bring {it} {member} {0 if it else 1}" for it in (0, *others) if it != member]
+        yield from voted(echoes[: quorum - 1], quorum_said)
+    for heard, member in enumerate(senders, 1):
+        amplified, delivered = heard == faults + 1, heard == len(senders)
+        yield f"bring {member} {members - 1} 0", "took"
+        said = ["took", *["ready"] * amplified, *[settles] * delivered]
+        yield f"bring {member} {members - 1} 1", " ".join(said)
+
+
+@test
+def thresholds_of_each_size():
+    """A quorum of ECHOs, more than f READYs and more than 2f of them, in groups of each size."""
+    for members in range(3, MOST_MEMBERS + 1):
+        most = (members - 1) // 3
+        for faults in range(most + 1) if members < 20 else (0, most):
+            commands, lines = zip(*thresholds(members, faults))
+            world = world_of(faults, 5, *[0] * (members - 1))
+            shows(run(["sim"], script_of(world, commands)), 0, text_of(lines), of=f"{members} members, {faults} liars")
 
 
 def with_a_bit_turned(frame):

@@ -1,5 +1,5 @@
-"""Reads what the sources say of themselves: crates, their functions with the names of their clauses, their definitions,
-and their wrong bodies. It needs no toolchain: sources are read as `rt fmt` lays them out."""
+"""Reads what the sources say of themselves: crates, their functions with the names of their clauses, and their wrong
+bodies. It needs no toolchain: sources are read as `rt fmt` lays them out."""
 
 import os
 import re
@@ -9,7 +9,6 @@ TOP = os.path.dirname(os.path.dirname(os.path.realpath(__file__)))
 
 FUNCTION = re.compile(r"( *)(pub |pub\([a-z]+\) )?(?:const )?fn (\w+)")
 CLAUSE = re.compile(r" *(ensures|requires)\*? (\w+ )?\{")
-DEFINITION = re.compile(r"(?:(?:abbrev|unfoldable|opaque) )*pub (?:record |data )?([\w◌]\S*)")
 
 
 @dataclass
@@ -60,8 +59,6 @@ class Crate:
     stands_on: list
     about: str
     functions: list
-    # By file, each a name with its first sentence.
-    definitions: dict
     bodies: list
 
 
@@ -174,20 +171,7 @@ def functions_of(text, module):
         yield function
 
 
-# ---- definitions, wrong bodies, crates
-
-
-def read_definitions(folder):
-    """The public definitions of a crate by file, each with the first sentence that stands above it."""
-    found = {}
-    for path in files_below(f"{folder}/specs", ".antt"):
-        comment = []
-        for line in read_file(f"{folder}/specs/{path}").splitlines():
-            named = DEFINITION.match(line)
-            if named and not line.startswith("pub mod "):
-                found.setdefault(path, []).append((named[1], first_sentence(comment)))
-            comment = [*comment, line.removeprefix("--")] if line.startswith("--") else []
-    return found
+# ---- wrong bodies, crates
 
 
 def read_bodies(folder):
@@ -206,7 +190,7 @@ def read_crate(name, stands_on):
     head = re.match(r"(?://!.*\n)*", read_file(f"{folder}/src/{root}"))[0]
     about = first_sentence([it.removeprefix("//!") for it in head.partition("\n//!\n")[0].splitlines()])
     functions, bodies = list(read_functions(folder)), list(read_bodies(folder))
-    return Crate(name, stands_on, about, functions, read_definitions(folder), bodies)
+    return Crate(name, stands_on, about, functions, bodies)
 
 
 def read_crates():

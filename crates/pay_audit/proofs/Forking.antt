@@ -21,7 +21,7 @@ agree_at k (x ∷ vs) (y ∷ ws) h zero v w hv hw =
 agree_at k (x ∷ vs) (y ∷ ws) h (suc s) v w hv hw =
     agree_at (k + 1) vs ws (rest_none (bytes_eq x y) k (first_from if_differ (k + 1) (zip vs ws)) h) s v w hv hw
 
-at_agree : (k : ℕ) (vs ws : List (List ℕ)) → Agreeing vs ws → first_from if_differ k (zip vs ws) ≡ None
+pub at_agree : (k : ℕ) (vs ws : List (List ℕ)) → Agreeing vs ws → first_from if_differ k (zip vs ws) ≡ None
 at_agree k [] ws same = refl
 at_agree k (x ∷ vs) [] same = refl
 at_agree k (x ∷ vs) (y ∷ ws) same =

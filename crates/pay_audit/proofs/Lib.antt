@@ -1,5 +1,7 @@
+mod Adding
 mod Backward
-mod Beginnings
+mod OneList
+mod Comparing
 mod Firsts
 mod Forking
 mod Forks
@@ -8,5 +10,6 @@ mod Numbers
 mod Pushing
 mod Saying
 mod Showing
+mod Taking
 mod Text
 mod Verdicts

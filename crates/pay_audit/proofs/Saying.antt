@@ -52,7 +52,7 @@ genesis_same g h is =
 all_true : (a b c : Bool) → a ≡ true → b ≡ true → c ≡ true → (a && b && c) ≡ true
 all_true a b c ea eb ec = cc
 
-same_itself : (g : GenesisFields) → same_genesis g g ≡ true
+pub same_itself : (g : GenesisFields) → same_genesis g g ≡ true
 same_itself g =
     all_true (g.members == g.members) (g.faults == g.faults) (bytes_eq g.opening g.opening) (eq-eqb g.members g.members refl)
     (eq-eqb g.faults g.faults refl) ((bytes_eq-Decides g.opening g.opening).1 refl)

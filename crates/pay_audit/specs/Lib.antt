@@ -5,6 +5,8 @@ pub mod Replay
 pub mod Verdict
 pub mod Laws
 pub mod Said
-pub mod Beginnings
+pub mod OneList
 pub mod ReadBack
 pub mod FileLaws
+pub mod Compared
+pub mod Auditor

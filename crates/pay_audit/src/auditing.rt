@@ -1,11 +1,13 @@
 ghost use Rattle.std.specs.Prelude.{◌≡◌, ◌↔◌, ◌+◌, ◌^◌, ◌<◌, ◌≤◌, length, take, IfOk, IsTrue};
 ghost use Rattle.std.specs.Str.{bytes_eq};
 ghost use Rattle.pay_link.specs.Genesis.{IsGenesis};
-ghost use Rattle.pay_audit.specs.Beginnings.{HaveOneList, HaveOneListEach};
+ghost use Rattle.pay_audit.specs.OneList.{HaveOneList, HaveOneListEach};
 ghost use Rattle.pay_audit.specs.Export.{lists_of};
 ghost use Rattle.pay_audit.specs.Laws.{Agreeing};
 ghost use Rattle.pay_audit.specs.Said.{Each};
-ghost use Rattle.pay_audit.specs.Verdict.{book_of, first_from, fork_between, fork_from, fork_place, other_genesis, other_genesis_at, same_genesis, verdict_of, wrong_balance_of, wrong_book, wrong_front_of};
+ghost use Rattle.pay_audit.specs.Verdict.{book_of, first_from, fork_between, fork_from, fork_place};
+ghost use Rattle.pay_audit.specs.Verdict.{other_genesis, other_genesis_at, same_genesis};
+ghost use Rattle.pay_audit.specs.Verdict.{verdict_of, wrong_balance_of, wrong_book, wrong_front_of};
 
 use crate::exported::Export;
 use crate::owner_list::OwnerList;
@@ -51,7 +53,7 @@ fn other_than(genesis: &Genesis, exports: &[Export]) -> Option<Verdict>
     None
 }
 
-fn is_same_genesis(one: &Genesis, other: &Genesis) -> bool
+pub(crate) fn is_same_genesis(one: &Genesis, other: &Genesis) -> bool
     ensures { result ≡ same_genesis one.now other.now }
 {
     one.members() == other.members()
@@ -98,7 +100,7 @@ pub(crate) fn wrong_book(alloc: Global, exports: &[Export]) -> Result<Option<Ver
 
 // The first account whose front isn't that of the book.
 #[tactic(auto, unfolding(crate::specs::Verdict::wrong_front_of))]
-fn wrong_front_of<B: Settle>(export: &Export, book: &B) -> Option<u16>
+pub(crate) fn wrong_front_of<B: Settle>(export: &Export, book: &B) -> Option<u16>
     requires { B.shows book.now ≡ book_of export.now }
     ensures { result ≡ wrong_front_of export.now }
 {
@@ -112,7 +114,7 @@ fn wrong_front_of<B: Settle>(export: &Export, book: &B) -> Option<u16>
 
 // The first account whose balance isn't that of the book.
 #[tactic(auto, unfolding(crate::specs::Verdict::wrong_balance_of))]
-fn wrong_balance_of<B: Settle>(export: &Export, book: &B) -> Option<u16>
+pub(crate) fn wrong_balance_of<B: Settle>(export: &Export, book: &B) -> Option<u16>
     requires { B.shows book.now ≡ book_of export.now }
     ensures { result ≡ wrong_balance_of export.now }
 {
@@ -243,7 +245,7 @@ fn fork_between(one: usize, export: &Export, other: usize, against: &Export) -> 
 
 // The first place that two lists both have and where their values differ.
 #[tactic(auto, unfolding(crate::specs::Verdict::fork_place))]
-fn fork_place(one: &OwnerList, other: &OwnerList) -> Option<u32>
+pub(crate) fn fork_place(one: &OwnerList, other: &OwnerList) -> Option<u32>
     ensures { result ≡ fork_place one.now other.now }
 {
     for (place, value) in one.values().iter().enumerate() {

@@ -5,7 +5,8 @@ ghost use Rattle.std.specs.String.{string_bytes};
 ghost use Rattle.serde_json.specs.View.{view};
 ghost use Rattle.serde_json.specs.Written.{compact_text};
 ghost use Rattle.pay_audit.specs.Export.{export_in};
-ghost use Rattle.pay_audit.specs.Exporting.{export_data, exported, list_data, lists_data, numbers_data, value_data};
+ghost use Rattle.pay_audit.specs.Exporting.{export_data, exported, list_data};
+ghost use Rattle.pay_audit.specs.Exporting.{lists_data, numbers_data, value_data};
 
 use crate::laws::export_reads_back;
 use hex::encode;

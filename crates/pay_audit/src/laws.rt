@@ -1,7 +1,7 @@
 //! Laws of the definitions: what a verdict's parts say of an export. Each function's contract is the law; its body only
 //! names the laws below that it stands on.
 
-ghost use Rattle.pay_audit.specs.Beginnings.{OneListIsNoFork};
+ghost use Rattle.pay_audit.specs.OneList.{OneListIsNoFork};
 ghost use Rattle.pay_audit.specs.FileLaws.{BadGenesisCause, BadJsonCause, BadShapeCause};
 ghost use Rattle.pay_audit.specs.Laws.{BalancesAreJudged, ForkIsJudged, FrontIsJudged};
 ghost use Rattle.pay_audit.specs.ReadBack.{ExportReadsBack};

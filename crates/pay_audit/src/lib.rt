@@ -3,10 +3,14 @@
 #![tactic(auto)]
 
 mod auditing;
+mod auditor;
+mod comparison;
+mod differences;
 mod export_fault;
 mod exported;
 mod exporting;
 pub mod laws;
+mod lengths;
 mod owner_list;
 mod pairs;
 mod parts;
@@ -15,8 +19,10 @@ mod replay_fault;
 mod replaying;
 mod settling;
 mod verdict;
+mod wrong;
 
 pub use auditing::audit;
+pub use auditor::Auditor;
 pub use export_fault::ExportFault;
 pub use exported::Export;
 pub use exporting::{export, export_text};

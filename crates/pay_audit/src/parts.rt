@@ -16,13 +16,13 @@ use std::marker::Model;
 
 /// What an object says that a ledger began with.
 #[derive(Drop)]
-pub(crate) struct Beginning {
+pub(crate) struct GenesisParts {
     pub(crate) members: u64,
     pub(crate) faults: u64,
     pub(crate) opening: Vec<u64>,
 }
 
-impl Model for Beginning {
+impl Model for GenesisParts {
     ghost use Rattle.pay_link.specs.Genesis.{GenesisFields};
 
     ghost Value = { GenesisFields };
@@ -34,7 +34,7 @@ impl Model for Beginning {
 /// What an object says of an export, whatever its sizes.
 #[derive(Drop)]
 pub(crate) struct Parts {
-    pub(crate) genesis: Beginning,
+    pub(crate) genesis: GenesisParts,
     pub(crate) member: u64,
     pub(crate) lists: Vec<OwnerList>,
     pub(crate) front: Vec<u64>,
@@ -62,7 +62,7 @@ impl Model for Parts {
 pub(crate) fn parts_in(alloc: Global, value: &Value) -> Result<Option<Parts>, AllocError>
     ensures { IfOk result (λ parts. parts ≡ export.parts_in (view value.now)) }
 {
-    let Some(genesis) = beginning_in(alloc, value)? else {
+    let Some(genesis) = genesis_said(alloc, value)? else {
         return Ok(None);
     };
     let Some(member) = number_at(value, "member") else {
@@ -86,7 +86,7 @@ pub(crate) fn parts_in(alloc: Global, value: &Value) -> Result<Option<Parts>, Al
     }))
 }
 
-fn beginning_in(alloc: Global, value: &Value) -> Result<Option<Beginning>, AllocError>
+fn genesis_said(alloc: Global, value: &Value) -> Result<Option<GenesisParts>, AllocError>
     ensures { IfOk result (λ genesis. genesis ≡ genesis_said (view value.now)) }
 {
     let Some(members) = number_at(value, "members") else {
@@ -98,7 +98,7 @@ fn beginning_in(alloc: Global, value: &Value) -> Result<Option<Beginning>, Alloc
     let Some(opening) = numbers_at(alloc, value, "opening")? else {
         return Ok(None);
     };
-    Ok(Some(Beginning {
+    Ok(Some(GenesisParts {
         members,
         faults,
         opening,

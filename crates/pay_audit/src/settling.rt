@@ -16,11 +16,11 @@ use std::alloc::{AllocError, Global};
 
 /// The lists of the first owners, and of the others none: a book settles after one list grew.
 #[derive(Drop)]
-struct Shown<'a> {
+struct FirstLists<'a> {
     lists: &'a [OwnerList],
 }
 
-impl Source for Shown<'_> {
+impl Source for FirstLists<'_> {
     ghost lists = { λ shown. list_in shown.lists.now };
 
     fn length(&self, owner: u16) -> u32 {
@@ -46,7 +46,7 @@ pub fn settled<B: Settle + Drop>(alloc: Global, export: &Export) -> Result<B, Al
     settled_book_is_one();
     let mut book = B::new(alloc, &export.genesis)?;
     for owner in 0..export.genesis.members() {
-        let shown = Shown {
+        let shown = FirstLists {
             lists: &export.lists[..usize::from(owner) + 1],
         };
         book.settle(&shown, owner);

@@ -6,8 +6,6 @@ use pay_book::PlainBook;
 use pay_link::Genesis;
 use pay_pending::WaitingBook;
 use std::alloc::{AllocError, Global};
-use std::process::Abort;
-use std::test::Fail;
 
 /// A value among four accounts: one payment or up to four, each of them void at times, or a value
 /// that has fewer payments than it says.
@@ -26,35 +24,54 @@ fn value_of(alloc: Global, draws: &mut Draws) -> Result<Vec<u8>, AllocError> {
     Ok(value)
 }
 
-/// Plays drawn values to two new books, and says how many entries settled; nothing where the books
-/// answered differently or came to stand elsewhere.
-fn settled_alike(alloc: Global, draws: &mut Draws) -> Result<Option<u32>, Fail> {
-    let opening = [draws.below(20), draws.below(20), draws.below(20), 0].map(u64::from);
-    let genesis = Genesis::new(alloc, 4, 1, &opening)?;
-    let mut plain: Ledger<PlainBook> = Ledger::new(alloc, &genesis)?;
-    let mut waiting: Ledger<WaitingBook> = Ledger::new(alloc, &genesis)?;
+/// Puts a drawn value on the same list of both, and says how many entries settled; nothing where they answered
+/// differently or came to stand elsewhere.
+fn added_alike(
+    alloc: Global,
+    draws: &mut Draws,
+    plain: &mut Ledger<PlainBook>,
+    waiting: &mut Ledger<WaitingBook>,
+) -> Option<u32> {
+    let owner = u16::from(draws.below(4));
+    let value = value_of(alloc, draws).ok()?;
+    let again = value.as_slice().to_vec(alloc).ok()?;
+    let answer = plain.add(owner, value).ok()?;
+    if waiting.add(owner, again) != Ok(answer) || !waiting.stands_as(plain) {
+        return None;
+    }
+    Some(answer.unwrap_or(0))
+}
+
+fn all_added_alike(
+    alloc: Global,
+    draws: &mut Draws,
+    plain: &mut Ledger<PlainBook>,
+    waiting: &mut Ledger<WaitingBook>,
+) -> Option<u32> {
     let mut settled: u32 = 0;
     for _value in 0..10 {
-        let owner = u16::from(draws.below(4));
-        let value = value_of(alloc, draws)?;
-        let answer = plain.add(owner, value.as_slice().to_vec(alloc)?)?;
-        if waiting.add(owner, value)? != answer || !waiting.stands_as(&plain) {
-            return Ok(None);
-        }
-        settled = settled.saturating_add(answer.unwrap_or(0));
+        settled = settled.saturating_add(added_alike(alloc, draws, plain, waiting)?);
     }
-    Ok(Some(settled))
+    Some(settled)
+}
+
+/// The same of ten values and two new books.
+fn settled_alike(alloc: Global, draws: &mut Draws) -> Option<u32> {
+    let opening = [draws.below(20), draws.below(20), draws.below(20), 0].map(u64::from);
+    let genesis = Genesis::new(alloc, 4, 1, &opening).ok()?;
+    let mut plain = Ledger::new(alloc, &genesis).ok()?;
+    let mut waiting = Ledger::new(alloc, &genesis).ok()?;
+    all_added_alike(alloc, draws, &mut plain, &mut waiting)
 }
 
 #[test]
-fn both_books_settle_alike(rt: HostRuntime) -> Result<(), Fail> {
+fn both_books_settle_alike(rt: HostRuntime) {
     let mut draws = Draws::new(1);
     let mut settled: u32 = 0;
     for case in 0..10_000 {
-        let here = settled_alike(rt.alloc(), &mut draws)?;
+        let here = settled_alike(rt.alloc(), &mut draws);
         assert!(rt; here.is_some(), "{case}");
         settled = settled.saturating_add(here.unwrap_or(0));
     }
     assert!(rt; settled > 10_000);
-    Ok(())
 }

@@ -1,4 +1,4 @@
-//! Tests of books: worked examples, played on any book over lists held in memory.
+//! Tests of books over lists held in memory: worked examples on the plain one, drawn lists on both.
 #![tactic(auto)]
 
 #[cfg(test)]

@@ -1,7 +1,7 @@
 //! Worked examples of four accounts, as steps on a new book and what each is to give.
 
 use crate::ledger::Ledger;
-use pay_book::{Entry, Line, Settle};
+use pay_book::{Line, Settle};
 use std::alloc::{AllocError, Global};
 
 /// What is done to a book, or looked at, with what comes of it.
@@ -65,8 +65,6 @@ const TEN_TO_0: &[u8] = &[1, 0, 0, 0, 0, 0, 0, 0, 0, 0, 10];
 
 const TEN_TO_1: &[u8] = &[1, 0, 1, 0, 0, 0, 0, 0, 0, 0, 10];
 
-const THIRTY_TO_1: &[u8] = &[1, 0, 1, 0, 0, 0, 0, 0, 0, 0, 30];
-
 const FIFTY_TO_0: &[u8] = &[1, 0, 0, 0, 0, 0, 0, 0, 0, 0, 50];
 
 const ONE_FIFTY_TO_1: &[u8] = &[1, 0, 1, 0, 0, 0, 0, 0, 0, 0, 150];
@@ -78,10 +76,6 @@ const GREATEST_TOTAL_TO_1: &[u8] = &[1, 0, 1, 127, 255, 255, 255, 255, 255, 255,
 const FIVE_TO_0: &[u8] = &[1, 0, 0, 0, 0, 0, 0, 0, 0, 0, 5];
 
 const FIVE_TO_1: &[u8] = &[1, 0, 1, 0, 0, 0, 0, 0, 0, 0, 5];
-
-const FIVE_TO_2: &[u8] = &[1, 0, 2, 0, 0, 0, 0, 0, 0, 0, 5];
-
-const FIVE_TO_3: &[u8] = &[1, 0, 3, 0, 0, 0, 0, 0, 0, 0, 5];
 
 const FIVE_TO_4: &[u8] = &[1, 0, 4, 0, 0, 0, 0, 0, 0, 0, 5];
 
@@ -98,88 +92,13 @@ const FOUR_PAYMENTS: &[u8] = &[
     40, 0, 2, 0, 0, 0, 0, 0, 0, 0, 20,
 ];
 
-pub(crate) const FIVE_TO_1_ONE_TO_3: &[u8] = &[
+const FIVE_TO_1_ONE_TO_3: &[u8] = &[
     2, 2, 0, 1, 0, 0, 0, 0, 0, 0, 0, 5, 0, 3, 0, 0, 0, 0, 0, 0, 0, 1,
 ];
 
 const NO_PAYMENTS: &[u8] = &[2, 0];
 
-const SEVERAL_BYTE_SHORT: &[u8] = &[2, 1, 0, 1, 0, 0, 0, 0, 0, 0, 0];
-
-const SEVERAL_BYTE_LONG: &[u8] = &[2, 1, 0, 1, 0, 0, 0, 0, 0, 0, 0, 5, 0];
-
 const LONG: &[u8] = &[255; 1024];
-
-/// Values in the list of account 3, and the entries that they are.
-pub(crate) const VALUES: [(&[u8], &[Entry]); 14] = [
-    (
-        THIRTY_TO_1,
-        &[Entry::Pay {
-            payee: 1,
-            amount: 30,
-        }],
-    ),
-    (
-        FIVE_TO_0,
-        &[Entry::Pay {
-            payee: 0,
-            amount: 5,
-        }],
-    ),
-    (
-        FIVE_TO_1,
-        &[Entry::Pay {
-            payee: 1,
-            amount: 5,
-        }],
-    ),
-    (
-        FIVE_TO_2,
-        &[Entry::Pay {
-            payee: 2,
-            amount: 5,
-        }],
-    ),
-    (FIVE_TO_3, &[Entry::Void]),
-    (FIVE_TO_4, &[Entry::Void]),
-    (OTHER_VERSION, &[Entry::Void]),
-    (BYTE_SHORT, &[Entry::Void]),
-    (NOTHING_TO_1, &[Entry::Void]),
-    (
-        FOUR_PAYMENTS,
-        &[
-            Entry::Pay {
-                payee: 1,
-                amount: 30,
-            },
-            Entry::Pay {
-                payee: 2,
-                amount: 50,
-            },
-            Entry::Pay {
-                payee: 1,
-                amount: 40,
-            },
-            Entry::Pay {
-                payee: 2,
-                amount: 20,
-            },
-        ],
-    ),
-    (
-        FIVE_TO_1_ONE_TO_3,
-        &[
-            Entry::Pay {
-                payee: 1,
-                amount: 5,
-            },
-            Entry::Void,
-        ],
-    ),
-    (NO_PAYMENTS, &[Entry::Void]),
-    (SEVERAL_BYTE_SHORT, &[Entry::Void]),
-    (SEVERAL_BYTE_LONG, &[Entry::Void]),
-];
 
 /// Examples that every book meets.
 pub(crate) const ROWS: [Row; 9] = [

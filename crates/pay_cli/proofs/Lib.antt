@@ -1,3 +1,5 @@
 pub mod Room
 pub mod Counting
 pub mod Starting
+pub mod Verdicts
+pub mod Cuts

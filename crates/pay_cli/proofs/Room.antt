@@ -48,5 +48,5 @@ zeros_in_line members m =
       | inr past ↦ rw (get_or_past {X = ℕ} (replicate members 0) m 0 (omega (arith, length-replicate {A = ℕ} members 0))) (omega arith)
     ]
 
-pub room_at_start : (k : KeyFields) (n : ℕ) → n < 2 ^ 32 → HasRoom k (at_start k) n
+pub room_at_start : (k : KeyFields) (n : ℕ) → n < 2 ^ 40 → HasRoom k (at_start k) n
 room_at_start k n few = room_for k (at_start k) n (length-replicate {A = ℕ} (length k.keys) 0) (zeros_in_line (length k.keys)) (omega arith)

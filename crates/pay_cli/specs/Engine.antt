@@ -15,7 +15,7 @@ check_start k input before =
     record { first = []; state = at_start k; input = input; before = before }
 
 -- What is written, by how the engine ended: the whole text at the input's end, or up to the fault
--- in what was read; else a beginning of it.
+-- in what was read; else a prefix of it.
 abbrev pub Writes :
     KeyFields → Option (List ℕ) → Option (List ℕ) → Option (List ℕ) → Option (List ℕ)
     → Result ⊤ EngineFault → Type 0

@@ -1,3 +1,4 @@
 pub mod Lines
 pub mod CheckText
 pub mod Engine
+pub mod Verdicts

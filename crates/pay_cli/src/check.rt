@@ -1,68 +1,35 @@
-ghost use Rattle.std.specs.Prelude.{◌+◌, ◌≤◌, IsErrOf};
+ghost use Rattle.std.specs.Prelude.{◌+◌, ◌≤◌, List, [], IsErrOf};
 ghost use Rattle.pay_frame.specs.Device.{Gave, RoseBy};
+ghost use Rattle.pay_frame.specs.Frame.{FrameFields};
+ghost use Rattle.pay_frame.specs.Stream.{IsFramesThen};
 ghost use Rattle.pay_link.specs.Keys.{IsKeysOf};
-ghost use Rattle.pay_engine.specs.Exact.{exactly};
-ghost use Rattle.pay_cli.specs.CheckText.{checking};
-ghost use Rattle.pay_cli.specs.Engine.{HasRoom, Writes};
-ghost use Rattle.std.proofs.Common.{subst, sym};
-ghost use Rattle.std.proofs.Math.Numerals.{add-one};
+ghost use Rattle.pay_cli.specs.Engine.{Writes};
+ghost use Rattle.pay_cli.specs.Verdicts.{JudgesAll};
 
+use crate::checking::Checking;
+use crate::cores::{LEAST_PART, OverCores};
+use crate::judging::Judged;
 use crate::laws::every_text;
-use crate::lines::push_fault;
-use crate::progress::{Progress, push_line};
-use pay_engine::{FrameHandler, exact_text, handle_stream};
-use pay_frame::{EngineFault, FrameFault, FrameRef, Input, MOST_READS, Output};
+use crate::progress::Progress;
+use crate::sharing::judge_parts;
+use pay_engine::{exact_text, handle_stream};
+use pay_frame::{EngineFault, Input, MOST_READS, Output};
 use pay_hmac::Tagger;
 use pay_link::{Genesis, Keys};
 use std::alloc::{AllocError, Global};
-
-/// Writes a line for each frame, and one for a fault.
-#[derive(Drop)]
-struct Checking<'a, T> {
-    tagger: &'a T,
-    keys: &'a Keys,
-}
-
-impl<T: Tagger> FrameHandler<Progress> for Checking<'_, T> {
-    ghost handling = { λ c. exactly (checking c.keys.now) };
-
-    ghost has_room = { λ c. HasRoom c.keys.now };
-
-    ghost keeps_room = { λ c p q f text n step room.
-        subst (λ s. HasRoom c.keys.now s n) (sym step.0)
-        ((subst (HasRoom c.keys.now p) (add-one n) room).1 f) };
-
-    fn at_once(&self) -> usize {
-        usize::MAX
-    }
-
-    fn handle(
-        &self,
-        _alloc: Global,
-        progress: &mut Progress,
-        frame: FrameRef<'_>,
-        out: &mut Vec<u8>,
-    ) -> Result<bool, AllocError> {
-        push_line(out, self.tagger, self.keys, progress, frame)?;
-        Ok(true)
-    }
-
-    fn end(
-        &self,
-        progress: &Progress,
-        fault: FrameFault,
-        out: &mut Vec<u8>,
-    ) -> Result<(), AllocError> {
-        push_fault(out, progress.line, fault)
-    }
-}
+use std::thread::Threads;
 
 /// Reads frames to the input's end, and writes what the member with these keys would make of each:
 /// the text of all bytes that were read, however they come in pieces.
 ///
+/// So many threads judge what a read gave, this one among them, and fewer where it is little or no
+/// thread can be made.
+///
 /// A fault in the frames ends the text with its line, and is then answered. After another fault
 /// what was written is a prefix of the text.
-pub fn run_check<R: Input, W: Output, T: Tagger>(
+pub fn run_check<H: Threads + Sync, R: Input, W: Output, T: Tagger + Sync>(
+    rt: &H,
+    jobs: usize,
     alloc: Global,
     t: &T,
     genesis: &Genesis,
@@ -87,6 +54,24 @@ pub fn run_check<R: Input, W: Output, T: Tagger>(
     every_text();
     exact_text::<Progress>();
     let mut progress = Progress::new(alloc, genesis.members())?;
+    let judge = |frames: &[u8]| -> Result<Judged, AllocError>
+        requires { (fs : List FrameFields) × IsFramesThen frames.now fs [] }
+        ensures { JudgesAll keys.entry.now frames.now result }
+    {
+        judge_parts(
+            rt,
+            alloc,
+            t,
+            keys,
+            frames,
+            jobs.min(frames.len() / LEAST_PART),
+        )
+    };
     let checking = Checking { tagger: t, keys };
-    handle_stream(alloc, &checking, &mut progress, &[], reader, writer)
+    let over = OverCores {
+        jobs,
+        judge: &judge,
+        checking,
+    };
+    handle_stream(alloc, &over, &mut progress, &[], reader, writer)
 }

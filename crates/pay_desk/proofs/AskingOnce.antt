@@ -13,7 +13,7 @@ use Rattle.pay_desk.specs.declared.teller_fault.TellerFault.{TellerFault}
 use Rattle.pay_desk.specs.declared.teller_fault.TellerFault.TheVariants.{Memory, NoAccount, Spent}
 use Rattle.pay_desk.specs.Answers.{Answers, AnswersPay, Calls, GaveUp, Pays, Unless, account_fault, pay_fault}
 use Rattle.pay_desk.specs.Calls as call
-use Rattle.pay_desk.specs.Calls.{Call, Reply, asked_by, only_reads}
+use Rattle.pay_desk.specs.Calls.{Call, TellerReply, asked_by, only_reads}
 use Rattle.pay_desk.specs.Desk.{DeskSays, command_at}
 use Rattle.pay_desk.specs.Kept.{kept_after, kept_under}
 use Rattle.pay_desk.specs.Laws.{AreUnderFreeIds, AsksOnce}
@@ -22,7 +22,7 @@ use Rattle.pay_desk.specs.Payments.{pairs_of, value_of}
 abbrev asked_of : Kept → List ℕ
 asked_of k = k.value
 
-module _ {T : Type 0} (says : T → Call → Reply → T → Type 0) (asked : T → List (List ℕ)) (only_asks : (old new : T) (called : Call) (reply : Reply) → says old called reply new → asked new ≡ asked old ++ asked_by called reply) where
+module _ {T : Type 0} (says : T → Call → TellerReply → T → Type 0) (asked : T → List (List ℕ)) (only_asks : (old new : T) (called : Call) (reply : TellerReply) → says old called reply new → asked new ≡ asked old ++ asked_by called reply) where
   -- nothing is broadcast, and nothing kept
   nothing : (old new : Desk T) → new.kept ≡ old.kept → asked new.teller ≡ asked old.teller ++ [] → AsksOnce asked old new
   nothing old new kept same = record { more = []; kept = kept ∙ sym (append-nil old.kept); broadcast = same; free = tt }
@@ -36,10 +36,10 @@ module _ {T : Type 0} (says : T → Call → Reply → T → Type 0) (asked : T 
   by_unless None old new words P otherwise p = otherwise p
 
   -- a call that broadcasts nothing
-  by_call : {X : Type 0} (called : Call) (reply : X → Reply) (words : X → List ℕ) (old new : Desk T) (t : List ℕ) → ((r : Reply) → asked_by called r ≡ []) → Calls says called reply words old t new → AsksOnce asked old new
+  by_call : {X : Type 0} (called : Call) (reply : X → TellerReply) (words : X → List ℕ) (old new : Desk T) (t : List ℕ) → ((r : TellerReply) → asked_by called r ≡ []) → Calls says called reply words old t new → AsksOnce asked old new
   by_call {X} called reply words old new t silent calls =
       nothing old new (ap (λ (d : Desk T). d.kept) calls.same) (by_outcome calls.outcome calls.replied) where
-        said : (r : Reply) → says old.teller called r new.teller → asked new.teller ≡ asked old.teller ++ []
+        said : (r : TellerReply) → says old.teller called r new.teller → asked new.teller ≡ asked old.teller ++ []
         said r s = only_asks old.teller new.teller called r s ∙ ap (λ vs. asked old.teller ++ vs) (silent r)
 
         by_outcome : (r : Result X TellerFault) → call.Replies says old.teller called reply r new.teller → asked new.teller ≡ asked old.teller ++ []
@@ -83,7 +83,7 @@ module _ {T : Type 0} (says : T → Call → Reply → T → Type 0) (asked : T 
       by_unless (account_fault old.accounts account) old new t _ (by_call (call.Statement account) _ _ old new t (λ r. refl)) answer
   by_answer (Some Front) old new t answer = by_call call.Fronts _ _ old new t (λ r. refl) answer
 
-  silent : (called : Call) (r : Reply) → only_reads called ≡ true → asked_by called r ≡ []
+  silent : (called : Call) (r : TellerReply) → only_reads called ≡ true → asked_by called r ≡ []
   silent (call.Ask value) r reads = absurd (let bad : false ≡ true = reads in cc)
   silent (call.Query account) r reads = refl
   silent (call.State owner seq) r reads = refl

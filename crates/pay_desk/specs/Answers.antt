@@ -11,7 +11,7 @@ use Rattle.pay_desk.specs.declared.fault.DeskFault.TheVariants.{BadLine, NoAccou
 use Rattle.pay_desk.specs.declared.kept.Kept.{Kept}
 use Rattle.pay_desk.specs.declared.teller_fault.TellerFault.{TellerFault}
 use Rattle.pay_desk.specs.Calls as call
-use Rattle.pay_desk.specs.Calls.{Call, Reply, Replies, only_reads}
+use Rattle.pay_desk.specs.Calls.{Call, TellerReply, Replies, only_reads}
 use Rattle.pay_desk.specs.Faults.{desk_fault_of}
 use Rattle.pay_desk.specs.Kept.{kept_under, is_value, kept_after}
 use Rattle.pay_desk.specs.Payments.{pairs_of, value_of, if_named}
@@ -64,14 +64,14 @@ Unless (Some fault) old text new Otherwise = IsRefused fault old text new
 Unless None old text new Otherwise = Otherwise
 
 -- The teller is called, and the words are those of its reply. Nothing but the teller changes.
-pub record Calls {T X : Type 0} (says : T → Call → Reply → T → Type 0) (called : Call) (reply : X → Reply) (words : X → List ℕ) (old : Desk T) (text : List ℕ) (new : Desk T) : Type 0 where
+pub record Calls {T X : Type 0} (says : T → Call → TellerReply → T → Type 0) (called : Call) (reply : X → TellerReply) (words : X → List ℕ) (old : Desk T) (text : List ℕ) (new : Desk T) : Type 0 where
   pub outcome : Result X TellerFault
   pub replied : Replies says old.teller called reply outcome new.teller
   pub told : text ≡ told_or_refused words outcome
   pub same : new ≡ record old { teller = new.teller }
 
 -- The teller is asked to broadcast a value, which is kept under its id unless it is refused.
-pub record Pays {T : Type 0} (says : T → Call → Reply → T → Type 0) (id : ℕ) (value : List ℕ) (old : Desk T) (text : List ℕ) (new : Desk T) : Type 0 where
+pub record Pays {T : Type 0} (says : T → Call → TellerReply → T → Type 0) (id : ℕ) (value : List ℕ) (old : Desk T) (text : List ℕ) (new : Desk T) : Type 0 where
   pub outcome : Result ℕ TellerFault
   pub replied : Replies says old.teller (call.Ask value) call.Asked outcome new.teller
   pub told : text ≡ told_or_refused (asked_words id) outcome
@@ -83,32 +83,32 @@ pub record IsKeptAnswer {T : Type 0} (kept : Kept) (order : Order) (old : Desk T
   pub words : text ≡ kept_words kept order.id (if_named order.payments (value_of order.payments))
   pub same : new ≡ old
 
-abbrev pub AnswersPay : {T : Type 0} → (T → Call → Reply → T → Type 0) → Option Kept → Order → Desk T → List ℕ → Desk T → Type 0
+abbrev pub AnswersPay : {T : Type 0} → (T → Call → TellerReply → T → Type 0) → Option Kept → Order → Desk T → List ℕ → Desk T → Type 0
 AnswersPay says (Some kept) order old text new = IsKeptAnswer kept order old text new
 AnswersPay says None order old text new =
     Unless (pay_fault old.accounts old.own (pairs_of order.payments)) old text new
     (Pays says order.id (value_of order.payments) old text new)
 
-abbrev pub AnswersBalance : {T : Type 0} → (T → Call → Reply → T → Type 0) → ℕ → Desk T → List ℕ → Desk T → Type 0
+abbrev pub AnswersBalance : {T : Type 0} → (T → Call → TellerReply → T → Type 0) → ℕ → Desk T → List ℕ → Desk T → Type 0
 AnswersBalance says account old text new =
     Unless (account_fault old.accounts account) old text new
     (Calls says (call.Query account) call.Queried (λ told. balance_words account told.balance) old text new)
 
-abbrev pub AnswersState : {T : Type 0} → (T → Call → Reply → T → Type 0) → ℕ → ℕ → Desk T → List ℕ → Desk T → Type 0
+abbrev pub AnswersState : {T : Type 0} → (T → Call → TellerReply → T → Type 0) → ℕ → ℕ → Desk T → List ℕ → Desk T → Type 0
 AnswersState says owner seq old text new =
     Unless (account_fault old.accounts owner) old text new
     (Calls says (call.State owner seq) call.Stood (state_words owner seq) old text new)
 
-abbrev pub AnswersStatement : {T : Type 0} → (T → Call → Reply → T → Type 0) → ℕ → Desk T → List ℕ → Desk T → Type 0
+abbrev pub AnswersStatement : {T : Type 0} → (T → Call → TellerReply → T → Type 0) → ℕ → Desk T → List ℕ → Desk T → Type 0
 AnswersStatement says account old text new =
     Unless (account_fault old.accounts account) old text new
     (Calls says (call.Statement account) call.stated (stated_words account) old text new)
 
-abbrev pub AnswersFront : {T : Type 0} → (T → Call → Reply → T → Type 0) → Desk T → List ℕ → Desk T → Type 0
+abbrev pub AnswersFront : {T : Type 0} → (T → Call → TellerReply → T → Type 0) → Desk T → List ℕ → Desk T → Type 0
 AnswersFront says old text new = Calls says call.Fronts call.Settled front_words old text new
 
 -- The answer to a command, and to a line that is none. `says` is what becomes of the teller.
-abbrev pub Answers : {T : Type 0} → (T → Call → Reply → T → Type 0) → Option Command → Desk T → List ℕ → Desk T → Type 0
+abbrev pub Answers : {T : Type 0} → (T → Call → TellerReply → T → Type 0) → Option Command → Desk T → List ℕ → Desk T → Type 0
 Answers says None old text new = IsRefused BadLine old text new
 Answers says (Some (Pay order)) old text new = AnswersPay says (kept_under order.id old.kept) order old text new
 Answers says (Some (Balance account)) old text new = AnswersBalance says account old text new
@@ -119,11 +119,11 @@ Answers says (Some Front) old text new = AnswersFront says old text new
 -- ---- memory
 
 -- the teller is as it was, or was called by one that only reads
-abbrev pub OnlyRead : {T : Type 0} → (T → Call → Reply → T → Type 0) → T → T → Type 0
+abbrev pub OnlyRead : {T : Type 0} → (T → Call → TellerReply → T → Type 0) → T → T → Type 0
 OnlyRead says old new =
-    (new ≡ old) ⊎ ((called : Call) × (reply : Reply) × (only_reads called ≡ true) × says old called reply new)
+    (new ≡ old) ⊎ ((called : Call) × (reply : TellerReply) × (only_reads called ≡ true) × says old called reply new)
 
 -- Where memory was refused nothing changed, but that the teller may have been read.
-pub record GaveUp {T : Type 0} (says : T → Call → Reply → T → Type 0) (old new : Desk T) : Type 0 where
+pub record GaveUp {T : Type 0} (says : T → Call → TellerReply → T → Type 0) (old new : Desk T) : Type 0 where
   pub teller : OnlyRead says old.teller new.teller
   pub same : new ≡ record old { teller = new.teller }

@@ -18,17 +18,17 @@ pub data Call : Type 0 where
   -- for how many entries of each account are settled
   Fronts : Call
 
-pub data Reply : Type 0 where
-  Asked : ℕ → Reply
-  Queried : Told → Reply
-  Stood : PaymentState → Reply
-  Stated : List Line → ℕ → Reply
-  Settled : List ℕ → Reply
-  Refused : TellerFault → Reply
+pub data TellerReply : Type 0 where
+  Asked : ℕ → TellerReply
+  Queried : Told → TellerReply
+  Stood : PaymentState → TellerReply
+  Stated : List Line → ℕ → TellerReply
+  Settled : List ℕ → TellerReply
+  Refused : TellerFault → TellerReply
 
 -- A call came to its end: it replied, or memory was refused and nothing changed. `says` is what becomes of a teller:
 -- who it was, what it was asked, what it replied, and who it is then.
-abbrev pub Replies : {T X : Type 0} → (T → Call → Reply → T → Type 0) → T → Call → (X → Reply) → Result X TellerFault → T → Type 0
+abbrev pub Replies : {T X : Type 0} → (T → Call → TellerReply → T → Type 0) → T → Call → (X → TellerReply) → Result X TellerFault → T → Type 0
 Replies says old call reply (Ok x) new = says old call (reply x) new
 Replies says old call reply (Err Memory) new = new ≡ old
 Replies says old call reply (Err NoAccount) new = says old call (Refused NoAccount) new
@@ -40,11 +40,11 @@ seen_as (Ok x) see = Ok (see x)
 seen_as (Err fault) see = Err fault
 
 -- a statement that was told: its lines, and the account's balance
-abbrev pub stated : List Line × ℕ → Reply
+abbrev pub stated : List Line × ℕ → TellerReply
 stated (lines, balance) = Stated lines balance
 
 -- what was broadcast by a call with this reply
-abbrev pub asked_by : Call → Reply → List (List ℕ)
+abbrev pub asked_by : Call → TellerReply → List (List ℕ)
 asked_by (Ask value) (Asked seq) = value ∷ []
 asked_by (Ask value) (Queried told) = []
 asked_by (Ask value) (Stood state) = []

@@ -6,7 +6,7 @@ use Rattle.pay_desk.specs.declared.fault.DeskFault.TheVariants.{NoAccount, ZeroO
 use Rattle.pay_desk.specs.declared.kept.Kept.{Kept}
 use Rattle.pay_desk.specs.declared.payments.Payments.{Payments}
 use Rattle.pay_desk.specs.Answers.{account_fault, pay_fault}
-use Rattle.pay_desk.specs.Calls.{Call, Reply}
+use Rattle.pay_desk.specs.Calls.{Call, TellerReply}
 use Rattle.pay_desk.specs.Desk.{DeskSays}
 use Rattle.pay_desk.specs.Kept.{kept_under, is_value}
 use Rattle.pay_desk.specs.Payments.{pairs_of, value_of, if_named}
@@ -57,12 +57,12 @@ pub record AsksOnce {T : Type 0} (asked : T → List (List ℕ)) (old new : Desk
   pub broadcast : asked new.teller ≡ asked old.teller ++ map (λ k. k.value) more
   pub free : AreUnderFreeIds old.kept more
 
-abbrev pub LineAsksOnce : {T : Type 0} → (T → Call → Reply → T → Type 0) → (T → List (List ℕ)) → Type 0
+abbrev pub LineAsksOnce : {T : Type 0} → (T → Call → TellerReply → T → Type 0) → (T → List (List ℕ)) → Type 0
 LineAsksOnce {T} says asked =
     (old new : Desk T) (line : Option (List ℕ)) (text : List ℕ) (on : Bool)
     → DeskSays says old line text on new → AsksOnce asked old new
 
-abbrev pub LinesAskOnce : {T : Type 0} → (T → Call → Reply → T → Type 0) → (T → List (List ℕ)) → Type 0
+abbrev pub LinesAskOnce : {T : Type 0} → (T → Call → TellerReply → T → Type 0) → (T → List (List ℕ)) → Type 0
 LinesAskOnce {T} says asked =
     (old new : Desk T) (lines : List (Option (List ℕ))) (text : List ℕ) (on : Bool)
     → Answers (DeskSays says) old lines text on new → AsksOnce asked old new

@@ -11,7 +11,7 @@ use Rattle.pay_member.specs.Events.{events}
 use Rattle.pay_member.specs.Member.{MemberFields, with_entry}
 use Rattle.pay_member.specs.Reply.{told_of}
 use Rattle.pay_desk.specs.declared.teller_fault.TellerFault.TheVariants.{Spent}
-use Rattle.pay_desk.specs.Calls.{Call, Ask, Query, State, Statement, Fronts, Reply, Asked, Refused, asked_by}
+use Rattle.pay_desk.specs.Calls.{Call, Ask, Query, State, Statement, Fronts, TellerReply, Asked, Refused, asked_by}
 use Rattle.pay_desk.specs.OneMember.{MemberSays, member_after, reply_by, value_asked, values_asked}
 
 one_more : (m : MemberFields) (e : HistoryEntry)
@@ -48,8 +48,8 @@ by_call stamp m (Statement account) = sym (append-nil (values_asked m.history))
 by_call stamp m Fronts = sym (append-nil (values_asked m.history))
 
 -- nothing is broadcast but what is asked for and gets a number
-pub member_asks : (stamp : ℕ) (old new : MemberFields) (called : Call) (replied : Reply) → MemberSays stamp old called replied new
+pub member_asks : (stamp : ℕ) (old new : MemberFields) (called : Call) (replied : TellerReply) → MemberSays stamp old called replied new
     → values_asked new.history ≡ values_asked old.history ++ asked_by called replied
 member_asks stamp old new called replied said =
     ap (λ (m : MemberFields). values_asked m.history) said.after ∙ by_call stamp old called
-    ∙ ap (λ (r : Reply). values_asked old.history ++ asked_by called r) (sym said.reply)
+    ∙ ap (λ (r : TellerReply). values_asked old.history ++ asked_by called r) (sym said.reply)

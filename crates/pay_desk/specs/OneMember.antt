@@ -16,18 +16,18 @@ use Rattle.pay_member.specs.Member.{MemberFields, with_entry}
 use Rattle.pay_member.specs.Reading.{state_of}
 use Rattle.pay_member.specs.Reply.{told_of}
 use Rattle.pay_desk.specs.declared.teller_fault.TellerFault.TheVariants.{NoAccount, Spent}
-use Rattle.pay_desk.specs.Calls.{Call, Ask, Query, State, Statement, Fronts, Reply, Asked, Queried, Stood, Stated, Settled, Refused}
+use Rattle.pay_desk.specs.Calls.{Call, Ask, Query, State, Statement, Fronts, TellerReply, Asked, Queried, Stood, Stated, Settled, Refused}
 
 -- the book of what a member took
 abbrev pub book_of : MemberFields → Standing
 book_of m = book_after m.genesis m.keys.own (events m.history)
 
 -- a reply about an account that is there
-abbrev pub if_account : MemberFields → ℕ → Reply → Reply
+abbrev pub if_account : MemberFields → ℕ → TellerReply → TellerReply
 if_account m account reply = if nat_lt account m.genesis.members then reply else Refused NoAccount
 
 -- what a member replies to a call, by its history
-unfoldable pub reply_by : MemberFields → Call → Reply
+unfoldable pub reply_by : MemberFields → Call → TellerReply
 reply_by m (Ask value) =
     if nat_le SEQS (asks (events m.history)) then Refused Spent else Asked (asks (events m.history))
 reply_by m (Query account) =
@@ -59,7 +59,7 @@ member_after stamp m (Statement account) = m
 member_after stamp m Fronts = m
 
 -- what becomes of a member by a call
-pub record MemberSays (stamp : ℕ) (old : MemberFields) (called : Call) (replied : Reply) (new : MemberFields) : Type 0 where
+pub record MemberSays (stamp : ℕ) (old : MemberFields) (called : Call) (replied : TellerReply) (new : MemberFields) : Type 0 where
   pub reply : replied ≡ reply_by old called
   pub after : new ≡ member_after stamp old called
 

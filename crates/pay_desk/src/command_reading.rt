@@ -2,7 +2,8 @@
 
 ghost use Rattle.std.specs.Prelude.{◌≡◌, drop, IfOk, IfSome};
 ghost use Rattle.std.specs.Str.{bytes_eq};
-ghost use Rattle.pay_desk.specs.Commands.{AsksFew, balance_in, command_by, command_in, first_seq, if_last, pay_in, pays_in, state_in, statement_in};
+ghost use Rattle.pay_desk.specs.Commands.{AsksFew, balance_in, command_by, command_in, first_seq};
+ghost use Rattle.pay_desk.specs.Commands.{if_last, pay_in, pays_in, state_in, statement_in};
 
 use crate::command::{Command, MOST_LINE, Order};
 use crate::payments::Payments;

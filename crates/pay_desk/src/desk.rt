@@ -1,6 +1,10 @@
-ghost use Rattle.std.specs.Prelude.{◌≡◌, ◌≤◌, [], length, IfOk, IfSome, OnErr, None, Some, MatchResult};
+ghost use Rattle.std.specs.Prelude.{◌≡◌, ◌≤◌, [], length, IfOk, IfSome};
+ghost use Rattle.std.specs.Prelude.{OnErr, None, Some, MatchResult};
 ghost use Rattle.std.specs.List.{list_all, list_any};
-ghost use Rattle.pay_desk.specs.Answers.{Answers, AnswersBalance, AnswersFront, AnswersPay, AnswersState, AnswersStatement, Calls, GaveUp, Pays, account_fault, is_account, is_void, pay_fault, stated_words};
+ghost use Rattle.pay_desk.specs.Answers.{Answers, AnswersBalance, AnswersFront};
+ghost use Rattle.pay_desk.specs.Answers.{AnswersPay, AnswersState, AnswersStatement};
+ghost use Rattle.pay_desk.specs.Answers.{Calls, GaveUp, Pays, account_fault};
+ghost use Rattle.pay_desk.specs.Answers.{is_account, is_void, pay_fault, stated_words};
 ghost use Rattle.pay_desk.specs.Payments.{HasFew, if_named, pairs_of, value_of};
 ghost use Rattle.pay_desk.specs.Calls as call;
 ghost use Rattle.pay_desk.specs.Commands.{command_in};

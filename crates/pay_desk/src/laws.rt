@@ -1,7 +1,8 @@
 //! Laws of a desk's refusals, and of a desk over all lines: each function's contract is the law, and its body does
 //! nothing.
 
-ghost use Rattle.pay_desk.specs.Laws.{AccountCause, KeptAnswersItsOwn, LineAsksOnce, LinesAskOnce, PayeeCause, PaymentCause};
+ghost use Rattle.pay_desk.specs.Laws.{AccountCause, KeptAnswersItsOwn, LineAsksOnce};
+ghost use Rattle.pay_desk.specs.Laws.{LinesAskOnce, PayeeCause, PaymentCause};
 
 use crate::teller::Teller;
 use pay_book::what_was_encoded;

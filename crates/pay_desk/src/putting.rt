@@ -1,10 +1,12 @@
 //! Answers of one line each, put into room that was made before: so nothing stands between a
 //! teller's reply and the answer that tells it.
 
-ghost use Rattle.std.specs.Prelude.{◌≡◌, ◌+◌, ◌++◌, ◌≤◌, [], IfOk, decimal, length, vec_capacity, vec_len};
+ghost use Rattle.std.specs.Prelude.{◌≡◌, ◌+◌, ◌++◌, ◌≤◌, [], IfOk};
+ghost use Rattle.std.specs.Prelude.{decimal, length, vec_capacity, vec_len};
 ghost use Rattle.pay_desk.specs.Answers.{kept_words};
 ghost use Rattle.pay_desk.specs.Kept.{is_value};
-ghost use Rattle.pay_desk.specs.Words.{asked_words, balance_words, refused_words, state_name, state_words};
+ghost use Rattle.pay_desk.specs.Words.{asked_words, balance_words};
+ghost use Rattle.pay_desk.specs.Words.{refused_words, state_name, state_words};
 
 use crate::fault::DeskFault;
 use crate::kept::Kept;

@@ -1,5 +1,5 @@
 ghost use Rattle.std.specs.Prelude.{◌≡◌, ◌++◌, ◌≤◌, ℕ, List, length};
-ghost use Rattle.pay_desk.specs.Calls.{Call, Reply, Replies, asked_by, seen_as};
+ghost use Rattle.pay_desk.specs.Calls.{Call, TellerReply, Replies, asked_by, seen_as};
 ghost use Rattle.pay_desk.specs.Calls as call;
 
 use crate::teller_fault::TellerFault;
@@ -14,7 +14,7 @@ use std::alloc::Global;
 /// behind a teller nothing is said between two calls.
 pub trait Teller {
     // What becomes of a teller by a call: who it was, the call, the reply, and who it is then.
-    ghost says: { Self → Call → Reply → Self → Type 0 };
+    ghost says: { Self → Call → TellerReply → Self → Type 0 };
 
     // The values that were broadcast through it, oldest first.
     ghost asked: { Self → List (List ℕ) };
@@ -44,6 +44,6 @@ pub trait Teller {
             (seen_as result (λ fronts. fronts.items)) self.new };
 
     // Nothing is broadcast but what is asked for and gets a number.
-    ghost only_asks: { (old new : Self) (called : Call) (reply : Reply) → says old called reply new
-        → asked new ≡ asked old ++ asked_by called reply };
+    ghost only_asks: { (old new : Self) (called : Call) (reply : TellerReply)
+        → says old called reply new → asked new ≡ asked old ++ asked_by called reply };
 }

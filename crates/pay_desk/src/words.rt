@@ -3,7 +3,8 @@
 ghost use Rattle.std.specs.Prelude.{◌≡◌, ◌++◌, OnOk};
 ghost use Rattle.std.specs.List.{flat_map};
 ghost use Rattle.pay_book.specs.declared.line.Line.TheVariants as line;
-ghost use Rattle.pay_desk.specs.Words.{end_words, front_words, line_words, number_words, statement_words};
+ghost use Rattle.pay_desk.specs.Words.{end_words, front_words, line_words};
+ghost use Rattle.pay_desk.specs.Words.{number_words, statement_words};
 
 use pay_book::Line;
 use pay_text::{push_number, push_word};

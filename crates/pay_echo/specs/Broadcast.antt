@@ -52,12 +52,12 @@ abbrev pub find_map : {X : Type 0} → (X → Option (List ℕ)) → List X → 
 find_map f [] = None
 find_map f (x ∷ xs) = option_or (f x) (find_map f xs)
 
--- all beginnings of a list, the shortest first
+-- all prefixes of a list, the shortest first
 abbrev pub beginnings : {X : Type 0} → List X → List (List X)
 beginnings [] = [] ∷ []
 beginnings (x ∷ xs) = [] ∷ map (λ b. x ∷ b) (beginnings xs)
 
--- At the shortest beginning at which the test holds of some value voted for: that value.
+-- At the shortest prefix at which the test holds of some value voted for: that value.
 unfoldable pub first_known : (List Vote → List ℕ → Bool) → List Vote → Option (List ℕ)
 first_known test votes = find_map (λ b. find (test b) (map value_of b)) (beginnings votes)
 

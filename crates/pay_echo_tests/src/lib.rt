@@ -1,4 +1,4 @@
-//! Tests of `pay_echo`: the worked rows, over any representation of an instance, and the thresholds.
+//! Tests of `pay_echo`: the worked rows and the thresholds, over the plain form.
 #![tactic(auto)]
 
 #[cfg(test)]

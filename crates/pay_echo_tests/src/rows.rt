@@ -1,105 +1,123 @@
 ghost use Rattle.std.specs.Prelude.{◌≤◌, ◌<◌};
 
 use crate::telling::{is_foreign, tell};
-use pay_echo::{Group, Instance, MaskInstance, Moves, PlainInstance, VoteRef};
+use pay_echo::{Group, Instance, Moves, PlainInstance, VoteRef};
 use pay_frame::MOST_MEMBERS;
-use std::alloc::Global;
-use std::process::Abort;
+use std::alloc::{AllocError, Global};
 use std::test::Fail;
 
 const A: &[u8] = b"A";
 
 const B: &[u8] = b"B";
 
-// Process 0 of four, of which one may be faulty.
-const FOUR: Group = Group {
-    members: 4,
-    faults: 1,
-    own: 0,
+const NOTHING: Moves = Moves {
+    echo: false,
+    ready: false,
+    deliver: false,
 };
 
-const ALONE: Group = Group {
-    members: 1,
-    faults: 0,
-    own: 0,
+const ECHO: Moves = Moves {
+    echo: true,
+    ..NOTHING
 };
 
-// What is echoed, readied and delivered in the end.
-type Known = [Option<&'static [u8]>; 3];
+const READY: Moves = Moves {
+    ready: true,
+    ..NOTHING
+};
 
-const fn moves(echo: bool, ready: bool, deliver: bool) -> Moves {
-    Moves {
-        echo,
-        ready,
-        deliver,
-    }
+const DELIVERED: Moves = Moves {
+    deliver: true,
+    ..NOTHING
+};
+
+// READY by amplification, with which there are enough.
+const READY_AND_DELIVERED: Moves = Moves {
+    deliver: true,
+    ..READY
+};
+
+const ALL: Moves = Moves {
+    echo: true,
+    ..READY_AND_DELIVERED
+};
+
+/// Process 0 of so many, of whom so many may be faulty; votes, and what each makes known; and what is echoed, readied
+/// and delivered in the end.
+struct Row {
+    members: u16,
+    faults: u16,
+    steps: &'static [(VoteRef<'static>, Moves)],
+    known: [Option<&'static [u8]>; 3],
 }
 
-// Tells a fresh instance these votes. Each makes known what stands beside it, as was foreseen, and this is known
-// in the end.
-fn run<I: Instance + Drop>(
-    rt: &impl Abort,
-    alloc: Global,
-    group: Group,
-    steps: &[(VoteRef<'static>, Moves)],
-    known: Known,
-) -> Result<(), Fail>
-    requires few { group.members ≤ MOST_MEMBERS }
-    requires member { group.own < group.members }
-{
+const ROWS: [Row; 3] = [
+    Row {
+        members: 4,
+        faults: 1,
+        steps: &[
+            (VoteRef::Send(A), ECHO),
+            (VoteRef::Echo(1, A), NOTHING),
+            (VoteRef::Echo(2, B), NOTHING),
+            (VoteRef::Echo(2, A), NOTHING),
+            (VoteRef::Echo(3, A), READY),
+            (VoteRef::Ready(1, A), NOTHING),
+            (VoteRef::Ready(1, A), NOTHING),
+            (VoteRef::Ready(2, A), DELIVERED),
+            (VoteRef::Ready(3, B), NOTHING),
+        ],
+        known: [Some(A), Some(A), Some(A)],
+    },
+    Row {
+        members: 4,
+        faults: 1,
+        steps: &[
+            (VoteRef::Ready(1, A), NOTHING),
+            (VoteRef::Ready(2, A), READY_AND_DELIVERED),
+            (VoteRef::Send(B), ECHO),
+            (VoteRef::Send(A), NOTHING),
+        ],
+        known: [Some(B), Some(A), Some(A)],
+    },
+    Row {
+        members: 1,
+        faults: 0,
+        steps: &[(VoteRef::Send(A), ALL)],
+        known: [Some(A), Some(A), Some(A)],
+    },
+];
+
+// Whether each vote makes known what it has to, as was foreseen, and all of it is known in the end.
+fn is_met<I: Instance + Drop>(alloc: Global, row: &Row) -> Result<bool, AllocError> {
+    let group = Group {
+        members: row.members,
+        faults: row.faults,
+        own: 0,
+    };
+    if group.members == 0 || group.members > MOST_MEMBERS {
+        return Ok(false);
+    }
     let mut instance = I::fresh(alloc, group)?;
-    for (vote, told) in steps {
-        assert!(rt; is_foreign(group, *vote));
-        assert_eq!(rt; instance.moves(*vote), *told);
-        assert_eq!(rt; tell(&mut instance, alloc, *vote)?, *told);
+    for (vote, told) in row.steps {
+        if !is_foreign(group, *vote)
+            || instance.moves(*vote) != *told
+            || tell(&mut instance, alloc, *vote)? != *told
+        {
+            return Ok(false);
+        }
     }
-    let [echoed, readied, delivered] = known;
-    assert_eq!(rt; instance.echoed(), echoed);
-    assert_eq!(rt; instance.readied(), readied);
-    assert_eq!(rt; instance.delivered(), delivered);
+    let [echoed, readied, delivered] = row.known;
+    Ok(
+        instance.echoed() == echoed
+            && instance.readied() == readied
+            && instance.delivered() == delivered,
+    )
+}
+
+#[test]
+fn worked_rows(rt: HostRuntime) -> Result<(), Fail> {
+    for (place, row) in ROWS.iter().enumerate() {
+        assert!(rt; is_met::<PlainInstance>(rt.alloc(), row)?, "row {place}");
+    }
     Ok(())
-}
-
-fn echo_quorum_of_three<I: Instance + Drop>(rt: &impl Abort, alloc: Global) -> Result<(), Fail> {
-    let steps = [
-        (VoteRef::Send(A), moves(true, false, false)),
-        (VoteRef::Echo(1, A), Moves::NONE),
-        (VoteRef::Echo(2, B), Moves::NONE),
-        (VoteRef::Echo(2, A), Moves::NONE),
-        (VoteRef::Echo(3, A), moves(false, true, false)),
-        (VoteRef::Ready(1, A), Moves::NONE),
-        (VoteRef::Ready(1, A), Moves::NONE),
-        (VoteRef::Ready(2, A), moves(false, false, true)),
-        (VoteRef::Ready(3, B), Moves::NONE),
-    ];
-    run::<I>(rt, alloc, FOUR, &steps, [Some(A), Some(A), Some(A)])
-}
-
-fn amplified_first<I: Instance + Drop>(rt: &impl Abort, alloc: Global) -> Result<(), Fail> {
-    let steps = [
-        (VoteRef::Ready(1, A), Moves::NONE),
-        (VoteRef::Ready(2, A), moves(false, true, true)),
-        (VoteRef::Send(B), moves(true, false, false)),
-        (VoteRef::Send(A), Moves::NONE),
-    ];
-    run::<I>(rt, alloc, FOUR, &steps, [Some(B), Some(A), Some(A)])
-}
-
-fn one_process<I: Instance + Drop>(rt: &impl Abort, alloc: Global) -> Result<(), Fail> {
-    let steps = [(VoteRef::Send(A), moves(true, true, true))];
-    run::<I>(rt, alloc, ALONE, &steps, [Some(A), Some(A), Some(A)])
-}
-
-#[test]
-fn rows_of_the_plain_form(rt: HostRuntime) -> Result<(), Fail> {
-    echo_quorum_of_three::<PlainInstance>(&rt, rt.alloc())?;
-    amplified_first::<PlainInstance>(&rt, rt.alloc())?;
-    one_process::<PlainInstance>(&rt, rt.alloc())
-}
-
-#[test]
-fn rows_of_the_mask_form(rt: HostRuntime) -> Result<(), Fail> {
-    echo_quorum_of_three::<MaskInstance>(&rt, rt.alloc())?;
-    amplified_first::<MaskInstance>(&rt, rt.alloc())?;
-    one_process::<MaskInstance>(&rt, rt.alloc())
 }

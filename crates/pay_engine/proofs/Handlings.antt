@@ -1,16 +1,17 @@
 -- A stream that is handled frame by frame, and read by read.
-use Rattle.std.proofs.Common.{◌≡◌, ℕ, ◌+◌, ◌-◌, ◌<◌, ◌≤◌, ◌⊎◌, inl, inr, min, List, [], ◌∷◌, ◌++◌, length, take, drop, length-drop, refl, sym, ◌∙◌, ap, subst, arith, append_assoc, Option, Some, None, Result, Ok, Err}
+use Rattle.std.proofs.Common.{eqb, ◌≡◌, ℕ, ◌+◌, ◌-◌, ◌<◌, ◌≤◌, ◌⊎◌, inl, inr, List, [], ◌∷◌, ◌++◌, length, take, drop, length-drop, refl, sym, ◌∙◌, ap, subst, arith, append_assoc, Option, Some, None, Result, Ok, Err}
 use Rattle.std.specs.Prelude.{IfSome, Bool, true, false}
 use Rattle.std.specs.List.{All, flat_map}
 use Rattle.std.proofs.lemmas.List.Elements.{All-nil, All-cons, All-head, All-tail}
 use Rattle.std.proofs.lemmas.Grind.{flat_map-append}
+use Rattle.std.proofs.lemmas.Bool.Decides.{nat_tests}
 use Rattle.std.specs.Io.KnownBytes.{Appends, Consumes, IsAtEnd, Keeps}
 use Rattle.std.proofs.KnownBytes.{Appends-nil, Appends-trans, Consumes-nil, Consumes-trans}
-use Rattle.std.proofs.lemmas.List.{append-nil, length-append, take_all}
+use Rattle.std.proofs.lemmas.List.{append-nil, length-append, nil_from_length, take_all}
 use Rattle.std.proofs.Math.Seq.{take-append-add, drop-append_seam}
 use Rattle.pay_frame.specs.declared.fault.FrameFault.{FrameFault}
-use Rattle.pay_frame.specs.declared.limits.TheConstants.{CUTTER_ROOM, GREATEST_FRAME, GREATEST_PIECE}
-use Rattle.pay_frame.specs.Cutting.{Held, Feeds}
+use Rattle.pay_engine.specs.declared.read_buffer.TheConstants.{GREATEST_READ}
+use Rattle.pay_engine.specs.Held.{ReadsMore}
 use Rattle.pay_frame.specs.Device.{Gave, WroteBeginning}
 use Rattle.pay_frame.specs.Frame.{FrameFields, IsFrame, frame_bytes}
 use Rattle.pay_frame.specs.Reading.{IsFault, IsReading}
@@ -59,11 +60,20 @@ stream_at_end (Some bytes) (Some more) None read frames ending consumed none end
 stream_at_end (Some bytes) (Some more) (Some rest) read frames ending consumed none end stream =
     subst (λ xs. IsStream xs frames ending) (sym (consumed ∙ ap (λ xs. read ++ xs) (none ∙ end) ∙ append-nil read)) stream
 
+pub some_bytes : (xs ys : List ℕ) → eqb (length xs) 0 ≡ false → xs ≡ ys → 0 < length ys
+some_bytes xs ys some same = rw (sym same) (grind (arith, nat_tests))
+
 -- a read that failed took nothing
 pub nothing_read : (a b : Option (List ℕ)) → Keeps a b → Consumes a b []
 nothing_read None b kept = tt
 nothing_read (Some xs) None kept = absurd kept
 nothing_read (Some xs) (Some ys) kept = sym kept
+
+-- a read that gave nothing took nothing, and leaves what was held
+pub nothing_more : (old new : List ℕ) (left rest : Option (List ℕ)) (count : ℕ) → ReadsMore old new left rest count → count ≡ 0 → Consumes left rest [] × (new ≡ old)
+nothing_more old new left rest count more zero =
+    let none : more.piece ≡ [] = nil_from_length more.piece (more.sized ∙ zero) in
+    (subst (Consumes left rest) none more.taken, more.behind ∙ ap (λ xs. old ++ xs) none ∙ append-nil old)
 
 -- the first of some frames in front
 pub first_of_them : (x r : List ℕ) (fs gs : List FrameFields) → IsFramesThen x (fs ++ gs) r → IsFramesThen x fs (flat_map frame_bytes gs ++ r)
@@ -176,7 +186,7 @@ module _ {S : Type 0} (h : Handling S) where
 
   pub reads_more :
       (start : Start S) (state : S) (left rest after : Option (List ℕ)) (held piece : List ℕ) (reads : ℕ) → Grows
-      → InProgress h start state left after held reads → Consumes left rest piece → 0 < length piece → length piece ≤ GREATEST_PIECE → InProgress h start state rest after (held ++ piece) (reads + 1)
+      → InProgress h start state left after held reads → Consumes left rest piece → 0 < length piece → length piece ≤ GREATEST_READ → InProgress h start state rest after (held ++ piece) (reads + 1)
   reads_more start state left rest after held piece reads grows g consumed some fits =
       let few = g.few in
       let many = g.many in
@@ -313,21 +323,31 @@ module _ {S : Type 0} (h : Handling S) where
   pub gave : (start : Start S) (state : S) (left after : Option (List ℕ)) (held : List ℕ) (reads count : ℕ) → InProgress h start state left after held reads → count ≤ reads → Gave count start.input left
   gave start state left after held reads count g le = let many = g.many in (g.read, g.consumed, omega arith)
 
-  -- a piece that fits is held whole
-  held_whole : (old new : Held) (piece : List ℕ) (taken : ℕ) → Feeds old new piece taken → old.met ≡ None → length old.bytes < GREATEST_FRAME → length piece ≤ GREATEST_PIECE → new.bytes ≡ old.bytes ++ piece
-  held_whole old new piece taken feeds none short fits =
-      let count : taken ≡ min (length piece) (CUTTER_ROOM - length old.bytes) = rw none at feeds.count in
-      let all : take taken piece ≡ piece = take_all taken piece (omega arith) in
-      feeds.appended ∙ ap (λ (xs : List ℕ). old.bytes ++ xs) all
-
   -- what is held behind a piece that was read
   pub fed_piece :
-      (start : Start S) (state : S) (left rest after : Option (List ℕ)) (old new : Held) (piece : List ℕ) (taken reads : ℕ) → Grows
-      → Feeds old new piece taken → old.met ≡ None → length old.bytes < GREATEST_FRAME → 0 < length piece → length piece ≤ GREATEST_PIECE → Consumes left rest piece
-      → InProgress h start state left after old.bytes reads → InProgress h start state rest after new.bytes (reads + 1)
-  fed_piece start state left rest after old new piece taken reads grows feeds none short some fits consumed going =
-      subst (λ xs. InProgress h start state rest after xs (reads + 1)) (sym (held_whole old new piece taken feeds none short fits))
-      (reads_more start state left rest after old.bytes piece reads grows going consumed some fits)
+      (start : Start S) (state : S) (left rest after : Option (List ℕ)) (old new : List ℕ) (count reads : ℕ) → Grows
+      → ReadsMore old new left rest count → 0 < count → InProgress h start state left after old reads → InProgress h start state rest after new (reads + 1)
+  fed_piece start state left rest after old new count reads grows more some going =
+      let sized = more.sized in
+      let most = more.most in
+      subst (λ xs. InProgress h start state rest after xs (reads + 1)) (sym more.behind)
+      (reads_more start state left rest after old more.piece reads grows going more.taken (omega arith) (omega arith))
+
+  -- the same is held
+  abbrev pub held_again :
+      (start : Start S) (state : S) (left after : Option (List ℕ)) (old new : List ℕ) (reads : ℕ)
+      → new ≡ old → InProgress h start state left after old reads → InProgress h start state left after new reads
+  held_again start state left after old new reads same g = record {
+    read = g.read;
+    consumed = g.consumed;
+    frames = g.frames;
+    cut = subst (IsFramesThen g.read g.frames) (sym same) g.cut;
+    text = g.text;
+    handled = g.handled;
+    written = g.written;
+    few = g.few;
+    many = g.many;
+  }
 
   -- ---- a batch
 

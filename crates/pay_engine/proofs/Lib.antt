@@ -1,2 +1,3 @@
 pub mod Handlings
+pub mod Fronts
 pub mod Exactly

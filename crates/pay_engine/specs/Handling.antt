@@ -6,11 +6,12 @@ use Rattle.std.specs.declared.alloc.AllocError.{AllocError}
 use Rattle.pay_frame.specs.declared.engine_fault.EngineFault.{EngineFault}
 use Rattle.pay_frame.specs.declared.engine_fault.EngineFault.TheVariants.{Memory, Frame, Read, Write, Bound}
 use Rattle.pay_frame.specs.declared.fault.FrameFault.{FrameFault}
-use Rattle.pay_frame.specs.declared.limits.TheConstants.{GREATEST_PIECE, MOST_READS}
+use Rattle.pay_frame.specs.declared.limits.TheConstants.{MOST_READS}
 use Rattle.pay_frame.specs.Device.{WroteBeginning}
 use Rattle.pay_frame.specs.Frame.{FrameFields}
 use Rattle.pay_frame.specs.Reading.{IsProperBeginning}
 use Rattle.pay_frame.specs.Stream.{IsFramesThen, IsStream}
+use Rattle.pay_engine.specs.declared.read_buffer.TheConstants.{GREATEST_READ}
 
 -- A step takes a state to the next by a frame, and has a text. Behind which frames a stream may be
 -- left, before it ends: they have no text, and the state stays. And the text of the fault that ends
@@ -152,7 +153,7 @@ pub record InProgress {S : Type 0} (h : Handling S) (start : Start S) (state : S
   pub text : List ℕ
   pub handled : Steps h start.state state frames text
   pub written : Appends start.before after (start.first ++ text)
-  pub few : length read ≤ reads * GREATEST_PIECE
+  pub few : length read ≤ reads * GREATEST_READ
   pub many : reads ≤ length read
 
 -- All that so many reads gave was handled, but for the beginning of a frame, and all texts are

@@ -1,2 +1,4 @@
 pub mod Handling
 pub mod Exact
+pub mod Held
+pub mod Window

@@ -4,7 +4,8 @@ ghost use Rattle.pay_frame.specs.Lent.{fields_of};
 ghost use Rattle.pay_frame.specs.Stream.{IsFramesThen};
 ghost use Rattle.pay_engine.specs.Handling.{Handling, HandlesBatch, HandlesOne};
 
-use pay_frame::{FrameFault, FrameRef, frame_sizes, read, read_again};
+use crate::read_buffer::GREATEST_READ;
+use pay_frame::{CUTTER_ROOM, FrameFault, FrameRef, frame_sizes, read, read_again};
 use std::alloc::{AllocError, Global};
 
 /// What is done with the frames of a stream.
@@ -14,9 +15,18 @@ pub trait FrameHandler<S> {
     // The state allows so many frames more.
     ghost has_room: { Self → S → ℕ → Type 0 };
 
-    /// How many frames are handled at most before their texts are written.
-    fn at_once(&self) -> usize
+    /// How many of the frames that the held bytes begin with are handled at most before their texts
+    /// are written.
+    fn at_once(&self, held: &[u8]) -> usize
         ensures some { 0 < result };
+
+    /// How many bytes are held at most, so that a read gives no more.
+    fn buffer_size(&self) -> usize
+        ensures room { CUTTER_ROOM ≤ result }
+        ensures most { result ≤ GREATEST_READ }
+    {
+        CUTTER_ROOM
+    }
 
     /// Handles a frame, and writes its text behind what stands in `out`. Returns whether the stream
     /// goes on. Where memory is refused the frame was handled, or the state is as it was.

@@ -4,8 +4,10 @@
 
 mod frame_handler;
 mod laws;
+mod read_buffer;
 mod stream;
 
 pub use frame_handler::FrameHandler;
 pub use laws::exact_text;
+pub use read_buffer::GREATEST_READ;
 pub use stream::handle_stream;

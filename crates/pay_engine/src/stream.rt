@@ -6,9 +6,9 @@ ghost use Rattle.pay_frame.specs.Stream.{IsStream};
 ghost use Rattle.pay_engine.specs.Handling.{HandlesOnce, HasHandled, InProgress, Start};
 
 use crate::frame_handler::FrameHandler;
+use crate::read_buffer::{GREATEST_READ, ReadBuffer, frames_in_front};
 use pay_frame::{
-    Cutter, EngineFault, FrameFault, GREATEST_PIECE, Input, MOST_READS, Output,
-    beginning_is_drained, cutter_follows_stream, fault_is_for_good, frame_sizes,
+    EngineFault, FrameFault, Input, MOST_READS, Output, fault_is_for_good, frame_sizes,
     nothing_is_a_beginning, stream_grows, write_all,
 };
 use std::alloc::Global;
@@ -16,7 +16,7 @@ use std::alloc::Global;
 /// What is held between two reads, and what is written next.
 #[derive(Drop)]
 struct Work {
-    cutter: Cutter,
+    read: ReadBuffer,
     out: Vec<u8>,
 }
 
@@ -34,7 +34,7 @@ pub fn handle_stream<S, H: FrameHandler<S>, In: Input, Out: Output>(
     reader: &mut In,
     writer: &mut Out,
 ) -> Result<(), EngineFault>
-    requires room { (n : ℕ) → n < 2 ^ 32 → H.has_room handler.now state.old n }
+    requires room { (n : ℕ) → n < 2 ^ 40 → H.has_room handler.now state.old n }
     ensures handled { HasHandled (H.handling handler.now)
         (record {
           first = first.now;
@@ -57,9 +57,9 @@ pub fn handle_stream<S, H: FrameHandler<S>, In: Input, Out: Output>(
     nothing_is_a_beginning();
     frame_sizes();
     stream_grows();
-    let cutter = Cutter::new(alloc)?;
+    let read = ReadBuffer::new(alloc, handler.buffer_size())?;
     let mut work = Work {
-        cutter,
+        read,
         out: Vec::new(alloc),
     };
     write_out(writer, first)?;
@@ -80,17 +80,15 @@ fn read_once<S, H: FrameHandler<S>, In: Input, Out: Output>(
     reader: &mut In,
     writer: &mut Out,
 ) -> Result<bool, EngineFault>
-    requires room { (n : ℕ) → n ≤ length work.old.cutter.bytes + GREATEST_PIECE + 1
+    requires room { (n : ℕ) → n ≤ length work.old.read + GREATEST_READ + 1
         → H.has_room handler.now state.old n }
-    requires begins { IsProperBeginning work.old.cutter.bytes }
-    requires met { work.old.cutter.met ≡ None }
+    requires begins { IsProperBeginning work.old.read }
     ensures handles { (start : Start S) (reads : ℕ)
         → InProgress (H.handling handler.now) start state.old (In.remaining reader.old)
-        (Out.contents writer.old) work.old.cutter.bytes reads
+        (Out.contents writer.old) work.old.read reads
         → HandlesOnce (H.handling handler.now) start state.new
-        (In.remaining reader.new) (Out.contents writer.new) work.new.cutter.bytes (reads + 1) result }
-    ensures begins { IfOk result (λ on. IsTrue on → IsProperBeginning work.new.cutter.bytes) }
-    ensures met { IfOk result (λ on. IsTrue on → work.new.cutter.met ≡ None) }
+        (In.remaining reader.new) (Out.contents writer.new) work.new.read (reads + 1) result }
+    ensures begins { IfOk result (λ on. IsTrue on → IsProperBeginning work.new.read) }
     ensures called { In.call_count reader.new ≡ counted (In.call_count reader.old) }
     ensures bound { ¬ (IsErrOf result EngineFault.Bound) }
     ensures read { IsErrOf result EngineFault.Read
@@ -102,30 +100,19 @@ fn read_once<S, H: FrameHandler<S>, In: Input, Out: Output>(
         (Out.failure_count writer.new ≡ Out.failure_count writer.old) }
 {
     // laws that the proof stands on: the calls do nothing
-    beginning_is_drained();
-    cutter_follows_stream();
     frame_sizes();
     stream_grows();
-    let mut buffer = [0u8; GREATEST_PIECE];
-    let count = match reader.read(&mut buffer) {
+    let count = match work.read.fill(reader) {
         Ok(count) => count,
         Err(_) => return Err(EngineFault::Read),
     };
-    if count == 0 {
-        return match work.cutter.end() {
-            Ok(()) => Ok(false),
-            Err(fault) => end_at(handler, state, &mut work.out, writer, fault),
-        };
+    if count > 0 {
+        return handle_held(alloc, handler, state, &mut work.read, &mut work.out, writer);
     }
-    work.cutter.feed(&buffer[..count]);
-    handle_held(
-        alloc,
-        handler,
-        state,
-        &mut work.cutter,
-        &mut work.out,
-        writer,
-    )
+    if work.read.held().is_empty() {
+        return Ok(false);
+    }
+    end_at(handler, state, &mut work.out, writer, FrameFault::Truncated)
 }
 
 /// Handles the whole frames that are held, all or up to one that the stream is left behind, and
@@ -134,20 +121,18 @@ fn handle_held<S, H: FrameHandler<S>, Out: Output>(
     alloc: Global,
     handler: &H,
     state: &mut S,
-    cutter: &mut Cutter,
+    read: &mut ReadBuffer,
     out: &mut Vec<u8>,
     writer: &mut Out,
 ) -> Result<bool, EngineFault>
-    requires room { (n : ℕ) → n ≤ length cutter.old.bytes + 1
+    requires room { (n : ℕ) → n ≤ length read.old + 1
         → H.has_room handler.now state.old n }
-    requires met { cutter.old.met ≡ None }
     ensures handles { (start : Start S) (left : Option (List ℕ)) (reads : ℕ)
         → InProgress (H.handling handler.now) start state.old left (Out.contents writer.old)
-        cutter.old.bytes reads
+        read.old reads
         → HandlesOnce (H.handling handler.now) start state.new left
-        (Out.contents writer.new) cutter.new.bytes reads result }
-    ensures begins { IfOk result (λ on. IsTrue on → IsProperBeginning cutter.new.bytes) }
-    ensures met { IfOk result (λ on. IsTrue on → cutter.new.met ≡ None) }
+        (Out.contents writer.new) read.new reads result }
+    ensures begins { IfOk result (λ on. IsTrue on → IsProperBeginning read.new) }
     ensures bound { ¬ (IsErrOf result EngineFault.Bound) }
     ensures read { ¬ (IsErrOf result EngineFault.Read) }
     ensures write { IsErrOf result EngineFault.Write
@@ -156,18 +141,18 @@ fn handle_held<S, H: FrameHandler<S>, Out: Output>(
         (Out.failure_count writer.new ≡ Out.failure_count writer.old) }
 {
     // laws that the proof stands on: the calls do nothing
-    cutter_follows_stream();
     fault_is_for_good();
     frame_sizes();
     stream_grows();
     'batches: loop {
-        match cutter.pass_frames(handler.at_once()) {
-            Ok(passed) => {
-                if passed == 0 {
+        match frames_in_front(read.held(), handler.at_once(read.held())) {
+            Ok(size) => {
+                if size == 0 {
                     return Ok(true);
                 }
                 out.clear();
-                let goes_on = handler.handle_batch(alloc, state, cutter.given(), out)?;
+                let goes_on = handler.handle_batch(alloc, state, &read.held()[..size], out)?;
+                read.pass(size);
                 write_out(writer, out)?;
                 if !goes_on {
                     return Ok(false);

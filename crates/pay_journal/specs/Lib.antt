@@ -1,1 +1,3 @@
 pub mod Statements
+pub mod Journal
+pub mod Rows

@@ -1,7 +1,13 @@
-//! What people and their tools read of a member's export: statements as a desk answers them. All of it follows from
-//! the export's opening balances and lists; its own front and balances are an auditor's matter.
+//! What people and their tools read of a member's export: statements as a desk answers them, and a journal for programs
+//! that keep books. All of it follows from the export's opening balances and lists; its own front and balances are an
+//! auditor's matter.
 #![tactic(auto)]
 
+mod dates;
+mod journal;
+pub mod rows;
 mod statements;
 
+pub use dates::date_named;
+pub use journal::journal_text;
 pub use statements::{account_named, statement_text, statements_text};

@@ -2,9 +2,15 @@
 //! Each function's contract is the law; its body only names the laws below that it stands on.
 
 ghost use Rattle.pay_member.specs.EventLaws.{NoEventsAtFirst, EventsByOneMore};
-ghost use Rattle.pay_member.specs.Laws.{NoneIsLegal, LegalByOneMore, PrefixIsLegal, LegalEventsMayCome, DeliveredAreValues, EventsGrow, SentGrows, ListsOfHistoryGrow, SettledStays, FrontsGrow, BookIsSettled, TotalIsKept, NobodyOwes, EqualListsEqualBooksAfter, OpenedIn, EventIn, BroughtMayCome};
+ghost use Rattle.pay_member.specs.Laws.{NoneIsLegal, LegalByOneMore, PrefixIsLegal};
+ghost use Rattle.pay_member.specs.Laws.{LegalEventsMayCome, DeliveredAreValues};
+ghost use Rattle.pay_member.specs.Laws.{EventsGrow, SentGrows, ListsOfHistoryGrow};
+ghost use Rattle.pay_member.specs.Laws.{SettledStays, FrontsGrow, BookIsSettled};
+ghost use Rattle.pay_member.specs.Laws.{TotalIsKept, NobodyOwes, EqualListsEqualBooksAfter};
+ghost use Rattle.pay_member.specs.Laws.{OpenedIn, EventIn, BroughtMayCome};
 ghost use Rattle.pay_member.specs.OpeningLaws.{WhatOpens};
-ghost use Rattle.pay_member.specs.RefusalLaws.{TooLongCause, SpentCause, WrongKeyCause, RepeatCause, GapCause, NoAccountCause};
+ghost use Rattle.pay_member.specs.RefusalLaws.{TooLongCause, SpentCause, WrongKeyCause};
+ghost use Rattle.pay_member.specs.RefusalLaws.{RepeatCause, GapCause, NoAccountCause};
 
 use pay_book::laws::{
     book_keeps_total, equal_lists_equal_books, largest_grows, nobody_owes_once_settled,
@@ -29,7 +35,7 @@ pub fn events_in_order()
     ensures one_more { EventsByOneMore }
 {}
 
-/// A history that a member can have stays one with an owed entry more, and so does each beginning
+/// A history that a member can have stays one with an owed entry more, and so does each prefix
 /// of one. What it holds may come to the channel of the member's group, and what is delivered are
 /// values that a frame has room for.
 pub fn legal_histories()

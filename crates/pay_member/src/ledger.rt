@@ -1,4 +1,5 @@
-ghost use Rattle.std.specs.Prelude.{true, ◌≡◌, ◌<◌, [], drop, take, length, slice_get, slice_index, IfOk, OnErr};
+ghost use Rattle.std.specs.Prelude.{true, ◌≡◌, ◌<◌, [], drop, take, length};
+ghost use Rattle.std.specs.Prelude.{slice_get, slice_index, IfOk, OnErr};
 ghost use Rattle.std.specs.Option.{option_copied};
 ghost use Rattle.pay_channel.specs.History.{IsEvent, is_ask, owner_of, seqs};
 ghost use Rattle.pay_channel.specs.State.{lists_of};

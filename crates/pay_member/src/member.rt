@@ -1,4 +1,6 @@
-ghost use Rattle.std.specs.Prelude.{◌≡◌, ◌≢◌, ◌<◌, ◌&&◌, ◌++◌, nat_lt, min, [], length, slice_get, slice_index, Some, None, MatchOption, IfOk, OnOk, OnErr, IsOkUnless};
+ghost use Rattle.std.specs.Prelude.{◌≡◌, ◌≢◌, ◌<◌, ◌&&◌, ◌++◌, nat_lt, min, []};
+ghost use Rattle.std.specs.Prelude.{length, slice_get, slice_index, Some, None};
+ghost use Rattle.std.specs.Prelude.{MatchOption, IfOk, OnOk, OnErr, IsOkUnless};
 ghost use Rattle.std.specs.Option.{option_copied, option_map, option_to_list};
 ghost use Rattle.pay_link.specs.Keys.{IsKeysOf};
 ghost use Rattle.pay_frame.specs.Lent.{fields_of};
@@ -17,7 +19,8 @@ ghost use Rattle.pay_member.specs.Answer.{IsAnswer};
 ghost use Rattle.pay_member.specs.Reading.{state_of, fetched};
 ghost use Rattle.pay_member.specs.Legal.{Legal};
 ghost use Rattle.pay_member.specs.Member.{with_entry};
-ghost use Rattle.pay_member.specs.Bringing.{IsOutcome, answer_to, opened_in, event_in, event_of, want_for, want_after, with_taken, with_brought};
+ghost use Rattle.pay_member.specs.Bringing.{IsOutcome, answer_to, opened_in, event_in, event_of};
+ghost use Rattle.pay_member.specs.Bringing.{want_for, want_after, with_taken, with_brought};
 ghost use Rattle.pay_member.specs.Serving.{after_frame, want_of};
 
 use crate::bringing::{open_bytes, open_frame};

@@ -17,20 +17,20 @@ use std::alloc::{AllocError, Global};
 
 /// Brings each frame to a member, and writes the WANT of its answer.
 #[derive(Drop)]
-struct Feeding<'a, T> {
+struct FromPeer<'a, T> {
     stamp: u16,
     tagger: &'a T,
 }
 
 impl<I: Instance + Drop, B: Settle + Drop, T: Tagger> FrameHandler<Member<I, B>>
-    for Feeding<'_, T> {
+    for FromPeer<'_, T> {
     ghost handling = { λ f. exactly (serving f.stamp) };
 
     ghost has_room = { λ _ _ _. Unit {0} };
 
     ghost keeps_room = { λ _ _ _ _ _ _ _ _. tt };
 
-    fn at_once(&self) -> usize {
+    fn at_once(&self, _held: &[u8]) -> usize {
         usize::MAX
     }
 
@@ -100,7 +100,7 @@ where
     let first = want(tagger, member.keys(), peer, member.next(peer));
     handle_stream(
         alloc,
-        &Feeding { stamp, tagger },
+        &FromPeer { stamp, tagger },
         member,
         &first,
         reader,

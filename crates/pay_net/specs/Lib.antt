@@ -2,3 +2,4 @@ pub mod Faults
 pub mod Guests
 pub mod Ports
 pub mod Running
+pub mod Contacts

@@ -3,7 +3,8 @@ use pay_book::Settle;
 use pay_echo::Instance;
 use pay_frame::{Reader, Writer};
 use pay_hmac::Tagger;
-use pay_node::{Claim, Node, Seat, write_peer};
+use pay_node::{Node, Seat};
+use pay_peers::{Claim, Lookout, write_peer};
 use std::alloc::Global;
 use std::net::{TcpListener, TcpStream};
 use std::sync::atomic::{AtomicBool, Ordering};
@@ -23,13 +24,13 @@ const PAUSE_MILLIS: u64 = 10;
 const LEAVE_MILLIS: u64 = 1;
 
 /// Who answers those that connect.
-pub(crate) trait Serve {
+pub(crate) trait Host {
     /// The place of a connection among those that stand, if it may. Where all are taken, one is given up and its place
     /// waited for.
     fn admit<R: Wait + Clock>(&self, rt: &R, stream: &TcpStream) -> Option<usize>;
 
     /// Answers a connection until it ends, and gives its place back.
-    fn serve<R: Wait>(&self, rt: &R, stream: &TcpStream, place: usize);
+    fn attend<R: Wait>(&self, rt: &R, stream: &TcpStream, place: usize);
 
     /// Gives back the place of a connection that nobody answers.
     fn turn_away<R: Wait>(&self, rt: &R, place: usize);
@@ -37,30 +38,42 @@ pub(crate) trait Serve {
 
 /// What those who answer WANTs share: the node, and a seat for each peer.
 #[derive(Drop)]
-pub(crate) struct Answering<'a, I: Instance + Drop, B: Settle + Drop, T> {
+pub(crate) struct Answering<'a, I: Instance + Drop, B: Settle + Drop, T, L> {
     pub alloc: Global,
     pub node: &'a Node<I, B>,
     pub seats: &'a [(u16, Mutex<Seat>)],
     pub tagger: &'a T,
     pub guests: &'a Guests,
+    pub lookout: &'a L,
     pub stop: &'a AtomicBool,
 }
 
-/// Has the connection at a place be a peer's.
+/// Has the connection at a place be a peer's, who so was heard.
 #[derive(Drop)]
-struct Claiming<'a, I: Instance + Drop, B: Settle + Drop> {
+struct Claiming<'a, I: Instance + Drop, B: Settle + Drop, L> {
     node: &'a Node<I, B>,
     guests: &'a Guests,
+    lookout: &'a L,
     place: usize,
 }
 
-impl<I: Instance + Drop, B: Settle + Drop> Claim for Claiming<'_, I, B> {
+impl<I: Instance + Drop, B: Settle + Drop, L: Lookout> Claim for Claiming<'_, I, B, L> {
     fn claim<R: Wait>(&self, rt: &R, peer: u16) -> bool {
-        self.guests.claim(rt, self.node, self.place, peer)
+        let stands = self.guests.claim(rt, self.node, self.place, peer);
+        if stands {
+            self.lookout.heard(peer);
+        }
+        stands
     }
 }
 
-impl<I: Instance + Drop, B: Settle + Drop, T: Tagger> Serve for Answering<'_, I, B, T> {
+impl<I, B, T, L> Host for Answering<'_, I, B, T, L>
+where
+    I: Instance + Drop,
+    B: Settle + Drop,
+    T: Tagger,
+    L: Lookout,
+{
     fn admit<R: Wait + Clock>(&self, rt: &R, stream: &TcpStream) -> Option<usize> {
         for _ in rt.forever() {
             match self.guests.admit(rt, self.node, self.stop, stream) {
@@ -73,7 +86,7 @@ impl<I: Instance + Drop, B: Settle + Drop, T: Tagger> Serve for Answering<'_, I,
         unreachable!()
     }
 
-    fn serve<R: Wait>(&self, rt: &R, stream: &TcpStream, place: usize) {
+    fn attend<R: Wait>(&self, rt: &R, stream: &TcpStream, place: usize) {
         if let Some(leave) = self.guests.leave(place) {
             let _ = stream.set_nodelay(true);
             let mut reader = Reader::new(stream);
@@ -81,6 +94,7 @@ impl<I: Instance + Drop, B: Settle + Drop, T: Tagger> Serve for Answering<'_, I,
             let claim = Claiming {
                 node: self.node,
                 guests: self.guests,
+                lookout: self.lookout,
                 place,
             };
             let _ = write_peer(
@@ -105,10 +119,10 @@ impl<I: Instance + Drop, B: Settle + Drop, T: Tagger> Serve for Answering<'_, I,
 
 /// Takes connections and has each answered, in a thread of its own, until the node stops and the listening socket is
 /// shut. Returns once all of these threads have ended.
-pub(crate) fn accept_all<R, S>(rt: &R, server: &S, stop: &AtomicBool, listener: &TcpListener)
+pub(crate) fn accept_all<R, S>(rt: &R, host: &S, stop: &AtomicBool, listener: &TcpListener)
 where
     R: Threads + Wait + Clock + Sync,
-    S: Serve + Sync,
+    S: Host + Sync,
 {
     thread::scope(thread::scope_env(), rt, |scope| {
         for _ in rt.forever() {
@@ -119,12 +133,12 @@ where
             let Some(stream) = stream else {
                 continue;
             };
-            let Some(place) = server.admit(rt, &stream) else {
+            let Some(place) = host.admit(rt, &stream) else {
                 continue;
             };
-            let started = scope.spawn(move || server.serve(rt, &stream, place));
+            let started = scope.spawn(move || host.attend(rt, &stream, place));
             if started.is_err() {
-                server.turn_away(rt, place);
+                host.turn_away(rt, place);
             }
         }
     });

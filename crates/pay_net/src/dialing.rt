@@ -1,7 +1,7 @@
+use crate::connections::Connections;
 use crate::ports::Ports;
-use crate::standing::Standing;
 use pay_frame::{Reader, Writer};
-use pay_node::{Dial, Dialed};
+use pay_peers::{Dial, Dialed};
 use std::io;
 use std::io::Read;
 use std::net::{IpAddr, Ipv4Addr, Net, SocketAddr, TcpListener, TcpStream};
@@ -17,14 +17,14 @@ const DIAL_MILLIS: u64 = 1_000;
 pub(crate) struct Dialer<'a, R> {
     pub rt: &'a R,
     pub ports: &'a Ports,
-    pub dialed: &'a Standing,
+    pub dialed: &'a Connections,
     pub stop: &'a AtomicBool,
 }
 
 /// A connection that was dialed, and its place among those that stand. Shut where it is dropped.
 pub(crate) struct DialedStream<'a, R: Wait> {
     rt: &'a R,
-    dialed: &'a Standing,
+    dialed: &'a Connections,
     place: usize,
     stream: TcpStream,
 }

@@ -3,19 +3,23 @@
 #![tactic(auto)]
 
 mod accepting;
+mod connections;
+mod contact;
+mod contacts;
 mod dialing;
 mod guest;
 mod guest_list;
 mod guests;
 mod listening;
+mod news;
 mod node_fault;
 mod ports;
 mod ports_fault;
 mod receipts;
 mod running;
-mod standing;
 
 pub use accepting::MOST_CONNECTIONS;
+pub use news::{News, Onlooker};
 pub use node_fault::NodeFault;
 pub use ports::Ports;
 pub use ports_fault::PortsFault;

@@ -1,26 +1,31 @@
-ghost use Rattle.std.specs.Prelude.{◌≡◌, ◌≢◌, ◌+◌, ◌-◌, ◌*◌, ◌<◌, ℕ, [], Some, IfErr, IfOk, length, slice_get};
-ghost use Rattle.pay_node.specs.Closing.{AllSettled};
-ghost use Rattle.pay_node.specs.Nodes.{IsOwn};
+ghost use Rattle.std.specs.Prelude.{◌≡◌, ◌≢◌, ◌+◌, ◌-◌, ◌*◌, ◌<◌, ◌++◌, ◌∷◌, ℕ, List, Option, [], Some, IfErr, IfOk, length, slice_get};
+ghost use Rattle.pay_desk.specs.Desk.{WritesAnswers};
+ghost use Rattle.pay_node.specs.Nodes.{AreFresh, IsOwn};
+ghost use Rattle.pay_node.specs.Seats.{SeatFields};
+ghost use Rattle.pay_peers.specs.Telling.{TellerSays};
 ghost use Rattle.pay_net.specs.declared.receipts.Receipts.TheVariants.{BorneOut};
 ghost use Rattle.pay_node.specs.declared.close_fault.CloseFault.TheVariants.{Memory};
 ghost use Rattle.pay_net.specs.declared.node_fault.NodeFault.TheVariants.{Close};
-ghost use Rattle.pay_net.specs.Running.{IsClosed, NamesPort, node_of};
+ghost use Rattle.pay_net.specs.Running.{HasRun, HasServed, IsClosed, NamesPort, desk_from, node_of};
 
 use crate::accepting::{Answering, MOST_CONNECTIONS, accept_all};
+use crate::connections::Connections;
+use crate::contacts::Contacts;
 use crate::dialing::Dialer;
 use crate::guests::Guests;
 use crate::listening::Listening;
+use crate::news::Onlooker;
 use crate::node_fault::NodeFault;
 use crate::ports::Ports;
 use crate::receipts::Receipts;
-use crate::standing::Standing;
 use pay_book::Settle;
 use pay_desk::{Desk, run_desk};
 use pay_echo::Instance;
 use pay_frame::{EngineFault, Input, Output};
 use pay_hmac::Tagger;
 use pay_member::Member;
-use pay_node::{CloseFault, Dials, Node, NodeTeller, OpenGate, Seat, run_readers};
+use pay_node::{CloseFault, Node, OpenGate, Seat};
+use pay_peers::{Ahead, Asking, Dials, NodeTeller, run_readers};
 use std::alloc::{AllocError, Global};
 use std::net::{Net, TcpListener, TcpStream};
 use std::sync::atomic::{AtomicBool, Ordering};
@@ -33,23 +38,25 @@ use std::time::Clock;
 /// one.
 #[derive(Drop)]
 struct Seats {
-    readers: Vec<(u16, Seat)>,
+    readers: Vec<(u16, Asking)>,
     writers: Vec<(u16, Mutex<Seat>)>,
     desk: Seat,
 }
 
 /// What the threads of a node share.
 #[derive(Drop)]
-struct Running<'a, H, I: Instance + Drop, B: Settle + Drop, T> {
+struct Running<'a, H, I: Instance + Drop, B: Settle + Drop, T, O> {
     rt: &'a H,
     alloc: Global,
     node: &'a Node<I, B>,
     tagger: &'a T,
     ports: &'a Ports,
     dials: Dials,
+    ahead: Ahead,
     listening: &'a Listening,
-    dialed: &'a Standing,
+    dialed: &'a Connections,
     guests: &'a Guests,
+    contacts: &'a Contacts<'a, H, O>,
     stop: &'a AtomicBool,
 }
 
@@ -58,14 +65,17 @@ struct Running<'a, H, I: Instance + Drop, B: Settle + Drop, T> {
 /// not to be lost then.
 ///
 /// It listens on its own port, which the fault `Port` names where it can't be had, and dials those of all others, as
-/// often as `dials` says. A fault of the desk ends it too, and is answered.
-pub fn run_node<H, I, B, T, In, Out>(
+/// often as `dials` says, with as many of their frames asked for as `ahead` says. The onlooker is told which peers are
+/// met, lost and given up. A fault of the desk ends it too, and is answered.
+pub fn run_node<H, I, B, T, O, In, Out>(
     rt: &H,
     alloc: Global,
     member: Member<I, B>,
     tagger: &T,
     ports: &Ports,
     dials: Dials,
+    ahead: Ahead,
+    onlooker: &O,
     reader: &mut In,
     writer: &mut Out,
 ) -> Result<(Member<I, B>, Receipts), NodeFault>
@@ -74,12 +84,15 @@ where
     I: Instance + Drop + Send,
     B: Settle + Drop + Send,
     T: Tagger + Sync,
+    O: Onlooker + Sync,
     In: Input,
     Out: Output,
     requires fresh { member.history ≡ [] }
     requires ports { length ports.now ≡ length member.keys.keys }
     ensures own { IfOk result (λ ended. IsOwn (node_of member) ended.0) }
-    ensures closed { IfOk result (λ ended. ended.1 ≡ BorneOut → IsClosed (node_of member) ended.0) }
+    ensures closed { IfOk result (λ ended. ended.1 ≡ BorneOut → IsClosed (node_of member) ended.0
+        (In.remaining reader.old) (In.remaining reader.new)
+        (Out.contents writer.old) (Out.contents writer.new)) }
     ensures port { IfErr result (λ fault. (port : ℕ) → NamesPort fault port
         → slice_get ports.now member.keys.own ≡ Some port) }
     ensures kept { IfErr result (λ fault. fault ≢ Close Memory) }
@@ -96,19 +109,21 @@ where
         return Err(NodeFault::Engine(EngineFault::Memory));
     };
     let seats = run_threads(
-        rt, alloc, &node, tagger, ports, dials, &listening, seats, reader, writer,
+        rt, alloc, &node, tagger, ports, dials, ahead, onlooker, &listening, seats, reader, writer,
     )?;
     closed(alloc, node, seats.as_slice())
 }
 
 // Runs the threads of a node until the input of its desk ends, and hands all seats back.
-fn run_threads<H, I, B, T, In, Out>(
+fn run_threads<H, I, B, T, O, In, Out>(
     rt: &H,
     alloc: Global,
     node: &Node<I, B>,
     tagger: &T,
     ports: &Ports,
     dials: Dials,
+    ahead: Ahead,
+    onlooker: &O,
     listening: &Listening,
     seats: Vec<Seat>,
     reader: &mut In,
@@ -119,17 +134,23 @@ where
     I: Instance + Drop + Send,
     B: Settle + Drop + Send,
     T: Tagger + Sync,
+    O: Onlooker + Sync,
     In: Input,
     Out: Output,
-    requires { length seats.items + 1 ≡ 2 * length node.now.keys.keys }
+    requires fresh { AreFresh node.now.seats seats.items }
+    requires count { node.now.seats + 1 ≡ 2 * length node.now.keys.keys }
+    ensures ran { IfOk result (λ seats. HasRun node.now seats.items
+        (In.remaining reader.old) (In.remaining reader.new)
+        (Out.contents writer.old) (Out.contents writer.new)) }
     ensures port { IfErr result (λ fault. (port : ℕ) → NamesPort fault port → ⊥) }
     ensures kept { IfErr result (λ fault. fault ≢ Close Memory) }
 {
     let keys = node.keys();
-    let dialed = Standing::new(alloc, keys.members())?;
+    let dialed = Connections::new(alloc, keys.members())?;
     let guests = Guests::new(alloc, MOST_CONNECTIONS)?;
     let seats = seated(alloc, keys.own(), keys.members(), seats)?;
     let stop = AtomicBool::new(false);
+    let contacts = Contacts::new(rt, alloc, onlooker, &stop, keys.members())?;
     let running = Running {
         rt,
         alloc,
@@ -137,9 +158,11 @@ where
         tagger,
         ports,
         dials,
+        ahead,
         listening,
         dialed: &dialed,
         guests: &guests,
+        contacts: &contacts,
         stop: &stop,
     };
     let (seats, ended) = running.run(seats, reader, writer);
@@ -155,9 +178,10 @@ fn closed<I: Instance + Drop, B: Settle + Drop>(
     seats: &[Seat],
 ) -> Result<(Member<I, B>, Receipts), NodeFault>
     ensures own { IfOk result (λ ended. IsOwn node ended.0) }
-    ensures settled { IfOk result (λ ended.
-        ended.1 ≡ BorneOut → AllSettled ended.0 node.seats seats.now) }
-    ensures closed { IfOk result (λ ended. ended.1 ≡ BorneOut → IsClosed node ended.0) }
+    ensures closed { (input left before after : Option (List ℕ))
+        → HasRun node seats.now input left before after
+        → IfOk result (λ ended. ended.1 ≡ BorneOut
+        → IsClosed node ended.0 input left before after) }
     ensures port { IfErr result (λ fault. (port : ℕ) → NamesPort fault port → ⊥) }
     ensures kept { IfErr result (λ fault. fault ≢ Close Memory) }
 {
@@ -168,12 +192,13 @@ fn closed<I: Instance + Drop, B: Settle + Drop>(
     }
 }
 
-impl<H, I, B, T> Running<'_, H, I, B, T>
+impl<'a, H, I, B, T, O> Running<'a, H, I, B, T, O>
 where
     H: Threads + Wait + Clock + Net<Listener = TcpListener, Stream = TcpStream> + Sync,
     I: Instance + Drop + Send,
     B: Settle + Drop + Send,
     T: Tagger + Sync,
+    O: Onlooker + Sync,
 {
     // Answers the lines of the desk while the workers run. Where no thread can be made they run last, and end at once.
     fn run<In: Input, Out: Output>(
@@ -181,61 +206,41 @@ where
         seats: Seats,
         reader: &mut In,
         writer: &mut Out,
-    ) -> (Seats, Result<(), EngineFault>) {
+    ) -> (Seats, Result<(), EngineFault>)
+        ensures { HasServed self.now.node.now seats.desk result.0.desk
+            (In.remaining reader.old) (In.remaining reader.new)
+            (Out.contents writer.old) (Out.contents writer.new) result.1 }
+    {
         let Seats {
-            readers,
+            mut readers,
             writers,
             desk,
         } = seats;
-        let ((readers, writers), (desk, ended)) = thread::join(
+        let mut desk = self.desk(desk);
+        let (_, ended) = thread::join_mut(
             self.rt,
-            || self.work(readers, writers),
-            || self.answer_lines(desk, reader, writer),
+            &mut || self.work(&mut readers, writers.as_slice()),
+            &mut || self.answer_lines(&mut desk, reader, writer),
         );
         let seats = Seats {
             readers,
             writers,
-            desk,
+            desk: desk.into_teller().into_seat(),
         };
         (seats, ended)
     }
 
-    // Answers the lines of the desk, and then stops the workers.
-    fn answer_lines<In: Input, Out: Output>(
-        &self,
-        seat: Seat,
-        reader: &mut In,
-        writer: &mut Out,
-    ) -> (Seat, Result<(), EngineFault>) {
-        let keys = self.node.keys();
-        let teller = NodeTeller {
-            rt: self.rt,
-            node: self.node,
-            seat,
-        };
-        let mut desk = Desk::new(self.alloc, teller, keys.members(), keys.own());
-        let ended = run_desk(self.alloc, &mut desk, reader, writer);
-        self.stop_workers();
-        (desk.into_teller().seat, ended)
-    }
-
     // Reads from all peers and answers those who connect, until told to stop.
-    fn work(
-        &self,
-        readers: Vec<(u16, Seat)>,
-        writers: Vec<(u16, Mutex<Seat>)>,
-    ) -> (Vec<(u16, Seat)>, Vec<(u16, Mutex<Seat>)>) {
-        let (writers, readers) = thread::join(
+    fn work(&self, readers: &mut Vec<(u16, Asking)>, writers: &[(u16, Mutex<Seat>)]) {
+        thread::join(
             self.rt,
             || self.write(writers),
-            || self.read(readers),
+            || self.read(readers.as_mut_slice()),
         );
-        (readers, writers)
     }
 
     // Reads from all peers, each in a thread of its own.
-    fn read(&self, readers: Vec<(u16, Seat)>) -> Vec<(u16, Seat)> {
-        let mut readers = readers;
+    fn read(&self, readers: &mut [(u16, Asking)]) {
         let dialer = Dialer {
             rt: self.rt,
             ports: self.ports,
@@ -249,24 +254,58 @@ where
             self.tagger,
             &OpenGate,
             &dialer,
+            self.contacts,
             self.dials,
-            readers.as_mut_slice(),
+            self.ahead,
+            readers,
         );
-        readers
     }
 
     // Answers those who connect, each in a thread of its own.
-    fn write(&self, seats: Vec<(u16, Mutex<Seat>)>) -> Vec<(u16, Mutex<Seat>)> {
+    fn write(&self, seats: &[(u16, Mutex<Seat>)]) {
         let answering = Answering {
             alloc: self.alloc,
             node: self.node,
-            seats: seats.as_slice(),
+            seats,
             tagger: self.tagger,
             guests: self.guests,
+            lookout: self.contacts,
             stop: self.stop,
         };
         accept_all(self.rt, &answering, self.stop, &self.listening.listener);
-        seats
+    }
+}
+
+// The desk's thread is the caller's own, so nothing that it calls asks what another thread may have.
+impl<'a, H, I, B, T, O> Running<'a, H, I, B, T, O>
+where
+    H: Wait,
+    I: Instance + Drop,
+    B: Settle + Drop,
+{
+    // A desk over the node, which calls it from this seat.
+    fn desk(&self, seat: Seat) -> Desk<NodeTeller<'a, H, I, B>>
+        ensures { result ≡ desk_from self.now.node.now seat }
+    {
+        let keys = self.node.keys();
+        let teller = NodeTeller::new(self.rt, self.node, seat);
+        Desk::new(self.alloc, teller, keys.members(), keys.own())
+    }
+
+    // Answers the lines of the desk, and then stops the workers.
+    fn answer_lines<In: Input, Out: Output>(
+        &self,
+        desk: &mut Desk<NodeTeller<'a, H, I, B>>,
+        reader: &mut In,
+        writer: &mut Out,
+    ) -> Result<(), EngineFault>
+        ensures { WritesAnswers TellerSays desk.old desk.new
+            (In.remaining reader.old) (In.remaining reader.new)
+            (Out.contents writer.old) (Out.contents writer.new) result }
+    {
+        let ended = run_desk(self.alloc, desk, reader, writer);
+        self.stop_workers();
+        ended
     }
 
     // Ends all that a worker can wait for. The flag is set first: who finds it unset is shut or woken here.
@@ -281,21 +320,23 @@ where
     }
 }
 
-// Gives each worker its seat.
+// Gives the desk the last seat, and each worker one of the others.
 fn seated(alloc: Global, own: u16, members: u16, seats: Vec<Seat>) -> Result<Seats, AllocError>
     requires own { own < members }
     requires count { length seats.items + 1 ≡ 2 * members }
+    ensures { IfOk result (λ seated. (others : List SeatFields)
+        × (seats.items ≡ others ++ seated.desk ∷ [])) }
 {
     let mut left = seats;
+    let desk = last_of(&mut left);
     let mut readers = Vec::new(alloc);
     let mut writers = Vec::new(alloc);
     for peer in 0..members {
         if peer != own {
-            readers.push((peer, next_of(&mut left)))?;
-            writers.push((peer, Mutex::new(next_of(&mut left))))?;
+            readers.push((peer, Asking::new(last_of(&mut left))))?;
+            writers.push((peer, Mutex::new(last_of(&mut left))))?;
         }
     }
-    let desk = next_of(&mut left);
     Ok(Seats {
         readers,
         writers,
@@ -303,10 +344,10 @@ fn seated(alloc: Global, own: u16, members: u16, seats: Vec<Seat>) -> Result<Sea
     })
 }
 
-// One of the seats that are left.
-fn next_of(left: &mut Vec<Seat>) -> Seat
+// The last of the seats that are left.
+fn last_of(left: &mut Vec<Seat>) -> Seat
     requires { 0 < length left.old.items }
-    ensures { length left.new.items + 1 ≡ length left.old.items }
+    ensures { left.old.items ≡ left.new.items ++ result ∷ [] }
 {
     match left.pop() {
         Some(seat) => seat,
@@ -314,15 +355,19 @@ fn next_of(left: &mut Vec<Seat>) -> Seat
     }
 }
 
-// All seats in one list.
-fn gathered(alloc: Global, seats: Seats) -> Result<Vec<Seat>, AllocError> {
+// All seats in one list, the desk's at its end.
+fn gathered(alloc: Global, seats: Seats) -> Result<Vec<Seat>, AllocError>
+    ensures { IfOk result (λ all. (others : List SeatFields)
+        × (all.items ≡ others ++ seats.desk ∷ [])) }
+{
     let Seats {
         readers,
         writers,
         desk,
     } = seats;
     let mut all = Vec::new(alloc);
-    for (_, seat) in readers {
+    for (_, asking) in readers {
+        let Asking { seat, window: _ } = asking;
         all.push(seat)?;
     }
     for (_, seat) in writers {

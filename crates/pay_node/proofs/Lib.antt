@@ -1,12 +1,9 @@
 pub mod Counted
-pub mod Feedings
 pub mod Fresh
-pub mod Growings
 pub mod Judged
+pub mod Kept
 pub mod Replayed
 pub mod Replays
 pub mod Rights
 pub mod Verdicts
-pub mod Sendings
 pub mod Sent
-pub mod Wants

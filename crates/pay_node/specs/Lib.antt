@@ -3,12 +3,7 @@ pub mod Receipts
 pub mod Seats
 pub mod Sending
 pub mod Nodes
-pub mod Feeding
-pub mod Growing
 pub mod Judging
 pub mod Faults
 pub mod Closing
-pub mod Dialing
-pub mod Telling
-pub mod SeatAsks
-pub mod Answering
+pub mod Keeping

@@ -1,5 +1,5 @@
 -- What a node's calls answer, and what they leave at their seat.
-use Rattle.std.specs.Prelude.{◌≡◌, ℕ, ◌+◌, ◌<◌, List, [], length, slice_get, Option, Some, None, Result, Ok, Err, ⊤}
+use Rattle.std.specs.Prelude.{◌≡◌, ℕ, ◌+◌, ◌<◌, List, [], length, slice_get, Option, Some, None, Result, Ok, Err}
 use Rattle.pay_frame.specs.Frame.{FrameFields, frame_bytes}
 use Rattle.pay_link.specs.Genesis.{GenesisFields}
 use Rattle.pay_link.specs.Keys.{KeyFields}
@@ -46,7 +46,7 @@ pub record IsOwn (n : NodeFields) (m : MemberFields) : Type 0 where
 
 -- a seat from which nothing was called
 abbrev pub fresh_seat : ℕ → SeatFields
-fresh_seat stamp = record { stamp = stamp; receipts = [] }
+fresh_seat stamp = record { stamp = stamp; receipts = []; marks = [] }
 
 -- so many fresh seats, with stamps from 0 on
 pub record AreFresh (count : ℕ) (seats : List SeatFields) : Type 0 where

@@ -1,5 +1,6 @@
 -- Receipts of a node's calls, and when a history bears one out.
 use Rattle.std.specs.Prelude.{◌≡◌, ◌≢◌, ℕ, ◌+◌, ◌≤◌, nat_lt, min, Bool, true, false, if◌then◌else◌, List, [], ◌∷◌, take, length, slice_get, slice_index, Some, Result, Ok, Err, ⊤}
+use Rattle.pay_frame.specs.Frame.{BodyFields}
 use Rattle.pay_channel.specs.History.{list_of}
 use Rattle.pay_book.specs.Statement.{statement_of}
 use Rattle.pay_member.specs.declared.member.TheConstants.{MOST_FETCHED}
@@ -98,3 +99,7 @@ receipts_of seen event (Err NoAccount) = record { seen = seen; call = Handed eve
 -- of what was read
 abbrev pub reading_receipt : ℕ → Question → Shown → List Receipt
 reading_receipt seen question shown = record { seen = seen; call = Read question shown } ∷ []
+
+-- the receipt shows this body alone, as that of a number
+abbrev pub ShowsAlone : Receipt → ℕ → BodyFields → Type 0
+ShowsAlone r number body = r.call ≡ Read (question.Sent number 1) (shown.Sent (body ∷ []))

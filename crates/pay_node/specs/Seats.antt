@@ -1,14 +1,16 @@
 -- Seats, and when a history bears out all that a seat was told.
-use Rattle.std.specs.Prelude.{◌≡◌, ℕ, ◌≤◌, ◌==◌, List, ◌++◌}
+use Rattle.std.specs.Prelude.{◌≡◌, ℕ, ◌≤◌, ◌==◌, List, ◌++◌, Option}
 use Rattle.std.specs.List.{All, AllPairs, count_by}
 use Rattle.pay_member.specs.Member.{MemberFields}
 use Rattle.pay_node.specs.declared.receipt.Receipt.{Receipt}
 use Rattle.pay_node.specs.Receipts.{IsBorneOut, has_entry, entries_after}
 
--- A stamp, and the receipts of the calls that were made under it, oldest first.
+-- A stamp, the receipts of the calls that were made under it, oldest first, and the marks: at which place among them is
+-- that of a number's body, if it is kept.
 pub record SeatFields : Type 0 where
   pub stamp : ℕ
   pub receipts : List Receipt
+  pub marks : List (Option ℕ)
 
 abbrev pub with_receipts : SeatFields → List Receipt → SeatFields
 with_receipts seat more = record seat { receipts = seat.receipts ++ more }

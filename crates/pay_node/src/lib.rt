@@ -4,17 +4,14 @@
 //! against the member's history: it is one that a single thread could have made, with these very calls.
 #![tactic(auto)]
 
-mod claim;
 mod close_fault;
 mod closing;
-mod feeding;
 mod gate;
 mod judging;
+mod marks;
 mod node;
 mod once;
-mod patience;
 mod question;
-mod readers;
 mod receipt;
 mod replaying;
 mod same;
@@ -22,21 +19,12 @@ mod seat;
 mod showing;
 mod shown;
 mod stopped;
-mod teller;
-mod wanted;
-mod writing;
 
-pub use claim::Claim;
 pub use close_fault::CloseFault;
-pub use feeding::read_peer;
 pub use gate::{Gate, OpenGate};
 pub use node::{MOST_SEATS, Node};
-pub use patience::{Dials, MOST_IDLE};
 pub use question::Question;
-pub use readers::{Dial, Dialed, run_readers};
 pub use receipt::{Call, Receipt};
 pub use seat::Seat;
 pub use shown::{Bodies, Fronts, Shown, Statement};
 pub use stopped::Stopped;
-pub use teller::NodeTeller;
-pub use writing::write_peer;

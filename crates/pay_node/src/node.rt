@@ -6,8 +6,8 @@ ghost use Rattle.pay_member.specs.declared.event.Event.TheVariants.{Ask, Query, 
 ghost use Rattle.pay_member.specs.Bringing.{IsOpening, judged};
 ghost use Rattle.pay_member.specs.Legal.{Legal};
 ghost use Rattle.std.specs.Sync.Mutex.{mutex_guard_value};
-ghost use Rattle.pay_node.specs.Answering.{IsSentFrom, IsSentTo};
 ghost use Rattle.pay_node.specs.Closing.{AllSettled, IsFault};
+ghost use Rattle.pay_node.specs.Keeping.{IsFetched};
 ghost use Rattle.pay_node.specs.Receipts.{HadMemory, LackedMemory};
 ghost use Rattle.pay_node.specs.Sending.{HasSent};
 ghost use Rattle.pay_node.specs.Nodes.{AreFresh, IsAnswered, IsAnsweredAs, IsBrought, IsOwn, IsShown, IsTaken, asked, outcome_of, taken, told, want_of};
@@ -16,16 +16,15 @@ use crate::close_fault::CloseFault;
 use crate::gate::Gate;
 use crate::question::Question;
 use crate::seat::Seat;
-use crate::showing::{copy_of_statement, state_of, statement_of};
+use crate::showing::{copy_of_statement, sent_count, state_of, statement_of};
 use crate::shown::{Bodies, Fronts, Shown, Statement};
 use crate::stopped::Stopped;
-use crate::wanted::Wanted;
 use pay_book::Settle;
 use pay_channel::laws::{one_event_more, taken_in_order};
 use pay_echo::Instance;
 use pay_frame::{Body, Bytes, FrameRef, Kind};
 use pay_hmac::Tagger;
-use pay_link::{Checked, Genesis, Keys, LinkFault, Opened, seal, want};
+use pay_link::{Checked, Genesis, Keys, LinkFault, Opened, want};
 use pay_member::laws::events_in_order;
 use pay_member::{
     Brought, Member, MemberFault, Outcome, PaymentState, Told, Took, open_bytes, open_frame,
@@ -54,6 +53,7 @@ pub struct Node<I: Instance + Drop, B: Settle + Drop> {
 impl<I: Instance + Drop, B: Settle + Drop> Model for Node<I, B> {
     ghost use Rattle.pay_member.specs.Legal.{Legal};
     ghost use Rattle.pay_node.specs.Closing.{AllSettled, IsFault};
+    ghost use Rattle.pay_node.specs.Keeping.{IsFetched};
     ghost use Rattle.pay_node.specs.Receipts.{HadMemory, LackedMemory};
     ghost use Rattle.pay_node.specs.Nodes.{NodeFields};
 
@@ -134,6 +134,31 @@ impl<I: Instance + Drop, B: Settle + Drop> Node<I, B> {
         }
     }
 
+    /// The same of a frame that was read already.
+    pub fn bring_frame<R: Wait, T: Tagger, G: Gate>(
+        &self,
+        rt: &R,
+        alloc: Global,
+        seat: &mut Seat,
+        tagger: &T,
+        gate: &G,
+        frame: FrameRef<'_>,
+    ) -> Result<Brought, AllocError>
+        ensures brought { IfOk result (λ brought. IsAnsweredAs self.now seat.old seat.new
+            (judged (judgement self.now.keys (fields_of frame.entry))) brought) }
+        ensures err { OnErr result (seat.new ≡ seat.old) }
+        ensures memory { OnErr result ((opened : OpenedFields)
+            × (judged (judgement self.now.keys (fields_of frame.entry)) ≡ Ok opened)) }
+    {
+        match open_frame(tagger, &self.keys, frame) {
+            Ok(opened) => self.take_opened(rt, alloc, seat, tagger, gate, &opened),
+            Err(outcome) => Ok(Brought {
+                outcome,
+                want: None,
+            }),
+        }
+    }
+
     /// Has the member broadcast a value of its own.
     pub fn ask<R: Wait>(
         &self,
@@ -194,6 +219,24 @@ impl<I: Instance + Drop, B: Settle + Drop> Node<I, B> {
         let copy = bodies.copy(alloc)?;
         seat.note(&*member, Question::Sent { from, max }, Shown::Sent(copy))?;
         Ok(bodies.into_vec())
+    }
+
+    /// A copy of the body that the member sent at a place of all, if it is there. However often it is fetched from a seat,
+    /// one receipt is kept of it.
+    pub fn fetch_once<R: Wait>(
+        &self,
+        rt: &R,
+        alloc: Global,
+        seat: &mut Seat,
+        number: usize,
+    ) -> Result<Option<Body>, AllocError>
+        ensures fetched { IfOk result (λ found.
+            IsFetched self.now seat.old seat.new number found) }
+        ensures err { OnErr result (seat.new ≡ seat.old) }
+    {
+        seat.make_room()?;
+        let member = self.locked(rt);
+        seat.note_once(alloc, &*member, number)
     }
 
     /// How far the payment under a number of an account has come.
@@ -263,23 +306,20 @@ impl<I: Instance + Drop, B: Settle + Drop> Node<I, B> {
         Ok(fronts.into_vec())
     }
 
-    /// The frame that a WANT asks for, once its body is sent, or none once it is told to stop.
-    pub(crate) fn answer_want<R: Wait, T: Tagger>(
-        &self,
-        rt: &R,
-        alloc: Global,
-        tagger: &T,
-        stop: &AtomicBool,
-        wanted: &Wanted<'_>,
-    ) -> Result<Option<Vec<u8>>, AllocError>
-        requires { IsPeer self.now.keys wanted.now.from }
-        ensures { IfOk result (λ reply. IfSome reply (λ bytes.
-            IsSentTo self.now wanted.now.from wanted.now.number bytes.items)) }
-    {
-        if !self.waited_for(rt, wanted.number, stop) {
-            return Ok(None);
-        }
-        self.sealed_for(rt, alloc, wanted.seat, tagger, wanted.from, wanted.number)
+    /// How many bodies the member sent to all by now. No clause can say so, for none says what a
+    /// lock keeps.
+    pub fn sent_len<R: Wait>(&self, rt: &R) -> u64 {
+        let member = self.member.lock(rt);
+        sent_count(&*member)
+    }
+
+    /// Waits until the member sent a body at a place, or until told to stop. Answers whether it did.
+    /// No clause can say so, for none says what a lock keeps; it is tested.
+    pub fn wait_until_sent<R: Wait>(&self, rt: &R, place: u64, stop: &AtomicBool) -> bool {
+        let member = self.changed.wait_while(rt, self.member.lock(rt), |member| {
+            member.sent(place).is_none() && !stop.load(Ordering::SeqCst)
+        });
+        member.sent(place).is_some()
     }
 
     /// Tells those to stop who wait for what the member has still to send: a writer then has no
@@ -304,53 +344,6 @@ impl<I: Instance + Drop, B: Settle + Drop> Node<I, B> {
         ensures { IsTrue result ↔ IsOwn self.now member.now }
     {
         self.genesis.is_same(member.genesis()) && self.keys.is_same(member.keys())
-    }
-
-    // Waits until a place is sent, or until it is told to stop. Answers whether the place is sent.
-    fn waited_for<R: Wait>(&self, rt: &R, place: u64, stop: &AtomicBool) -> bool {
-        let member = self.changed.wait_while(rt, self.member.lock(rt), |member| {
-            member.sent(place).is_none() && !stop.load(Ordering::SeqCst)
-        });
-        member.sent(place).is_some()
-    }
-
-    // The frame to a peer with the body at a place of what was sent, if it is there.
-    fn sealed_for<R: Wait, T: Tagger>(
-        &self,
-        rt: &R,
-        alloc: Global,
-        seat: &Mutex<Seat>,
-        tagger: &T,
-        to: u16,
-        number: u64,
-    ) -> Result<Option<Vec<u8>>, AllocError>
-        requires { IsPeer self.now.keys to }
-        ensures { IfOk result (λ reply. IfSome reply (λ bytes.
-            IsSentTo self.now to number bytes.items)) }
-    {
-        let mut seat = seat.lock(rt);
-        self.sealed_from(rt, alloc, &mut *seat, tagger, to, number)
-    }
-
-    // The same from a seat that is lent: what is sealed is what its receipt says.
-    fn sealed_from<R: Wait, T: Tagger>(
-        &self,
-        rt: &R,
-        alloc: Global,
-        seat: &mut Seat,
-        tagger: &T,
-        to: u16,
-        number: u64,
-    ) -> Result<Option<Vec<u8>>, AllocError>
-        requires { IsPeer self.now.keys to }
-        ensures { IfOk result (λ reply. IfSome reply (λ bytes.
-            IsSentFrom self.now to number seat.old seat.new bytes.items)) }
-    {
-        let bodies = self.fetch(rt, alloc, seat, number as usize, 1)?;
-        match bodies.first() {
-            Some(body) => Ok(Some(seal(alloc, tagger, self.keys(), to, number, body)?)),
-            None => Ok(None),
-        }
     }
 
     /// Takes the member out of the lock, once no thread calls the node any more.
@@ -380,31 +373,6 @@ impl<I: Instance + Drop, B: Settle + Drop> Node<I, B> {
         ensures back { IfErr result (λ back. back.1.node ≡ self) }
     {
         self.stop().close(alloc, seats)
-    }
-
-    // Brings a frame that was read already.
-    pub(crate) fn bring_frame<R: Wait, T: Tagger, G: Gate>(
-        &self,
-        rt: &R,
-        alloc: Global,
-        seat: &mut Seat,
-        tagger: &T,
-        gate: &G,
-        frame: FrameRef<'_>,
-    ) -> Result<Brought, AllocError>
-        ensures brought { IfOk result (λ brought. IsAnsweredAs self.now seat.old seat.new
-            (judged (judgement self.now.keys (fields_of frame.entry))) brought) }
-        ensures err { OnErr result (seat.new ≡ seat.old) }
-        ensures memory { OnErr result ((opened : OpenedFields)
-            × (judged (judgement self.now.keys (fields_of frame.entry)) ≡ Ok opened)) }
-    {
-        match open_frame(tagger, &self.keys, frame) {
-            Ok(opened) => self.take_opened(rt, alloc, seat, tagger, gate, &opened),
-            Err(outcome) => Ok(Brought {
-                outcome,
-                want: None,
-            }),
-        }
     }
 
     // Takes a frame that opened, and answers with the WANT for what is next.

@@ -1,5 +1,10 @@
+ghost use Rattle.std.specs.Prelude.{◌≡◌, ◌↔◌, [], ◌∷◌, IsTrue};
+ghost use Rattle.pay_node.specs.Receipts.{ShowsAlone};
+
 use crate::question::Question;
+use crate::same::is_same_body;
 use crate::shown::Shown;
+use pay_frame::Body;
 use pay_member::{Event, MemberFault, Reply};
 
 /// What was called, and what was answered.
@@ -23,4 +28,26 @@ pub struct Receipt {
     /// How many entries the history had before the call. It is the place of the call's own entry, if it has one.
     pub seen: usize,
     pub call: Call,
+}
+
+impl Receipt {
+    /// Whether it shows this body alone, as that of a number.
+    pub(crate) fn shows_alone(&self, number: usize, body: &Body) -> bool
+        ensures { IsTrue result ↔ ShowsAlone self.now number body.now }
+    {
+        match &self.call {
+            Call::Read {
+                question: Question::Sent { from, max },
+                shown: Shown::Sent(bodies),
+            } => *from == number && *max == 1 && is_alone(bodies.as_slice(), body),
+            _ => false,
+        }
+    }
+}
+
+// Whether bodies are this one alone.
+fn is_alone(bodies: &[Body], body: &Body) -> bool
+    ensures { IsTrue result ↔ (bodies.now ≡ body.now ∷ []) }
+{
+    bodies.len() == 1 && is_same_body(&bodies[0], body)
 }

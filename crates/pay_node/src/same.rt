@@ -32,7 +32,7 @@ fn is_same_frame(a: &Checked, b: &Checked) -> bool
         && a.key() == b.key()
 }
 
-fn is_same_body(a: &Body, b: &Body) -> bool
+pub(crate) fn is_same_body(a: &Body, b: &Body) -> bool
     ensures { IsTrue result ↔ (a.now ≡ b.now) }
 {
     a.kind() == b.kind() && a.owner() == b.owner() && a.seq() == b.seq() && a.value() == b.value()

@@ -1,27 +1,31 @@
-ghost use Rattle.std.specs.Prelude.{◌≡◌, ◌≢◌, ◌<◌, [], ◌++◌, IfOk, OnErr, OnOk, length, vec_len, vec_capacity};
+ghost use Rattle.std.specs.Prelude.{◌≡◌, ◌≢◌, ◌↔◌, ◌+◌, ◌<◌, ℕ, Some, [], ◌++◌, IfOk, IsTrue, OnErr, OnOk, length, max, vec_len, vec_capacity};
 ghost use Rattle.pay_member.specs.Answer.{IsAnswer};
 ghost use Rattle.pay_member.specs.Legal.{Legal};
 ghost use Rattle.pay_member.specs.Member.{with_entry};
+ghost use Rattle.pay_node.specs.Keeping.{IsKeptFor, IsNoted, mark_of};
 ghost use Rattle.pay_node.specs.Nodes.{asked, taken, told};
 ghost use Rattle.pay_node.specs.Receipts.{HadMemory, reading_receipt, receipts_of, shown_of};
 ghost use Rattle.pay_node.specs.Seats.{Right, SeatFields, with_receipts};
 
+use crate::marks::Marks;
 use crate::question::Question;
 use crate::receipt::{Call, Receipt};
-use crate::shown::Shown;
+use crate::shown::{Bodies, Shown};
 use pay_book::Settle;
 use pay_echo::Instance;
-use pay_frame::Bytes;
+use pay_frame::{Body, Bytes};
 use pay_link::Checked;
 use pay_member::{Event, Member, MemberFault, Reply, Told, Took};
 use std::alloc::{AllocError, Global};
 use std::marker::Model;
 
-/// From where calls are made, one at a time: a stamp, and a receipt of each call that was answered.
+/// From where calls are made, one at a time: a stamp, a receipt of each call that was answered, and which of them is of a
+/// body that was fetched once.
 #[derive(Drop)]
 pub struct Seat {
     stamp: u16,
     receipts: Vec<Receipt>,
+    marks: Marks,
 }
 
 impl Model for Seat {
@@ -29,16 +33,21 @@ impl Model for Seat {
 
     ghost Value = { SeatFields };
 
-    ghost view = { λ s. record { stamp = s.stamp; receipts = s.receipts.items } };
+    ghost view = { λ s. record {
+      stamp = s.stamp;
+      receipts = s.receipts.items;
+      marks = s.marks;
+    } };
 }
 
 impl Seat {
     pub(crate) fn new(alloc: Global, stamp: u16) -> Seat
-        ensures { result ≡ record { stamp = stamp; receipts = [] } }
+        ensures { result ≡ record { stamp = stamp; receipts = []; marks = [] } }
     {
         Seat {
             stamp,
             receipts: Vec::new(alloc),
+            marks: Marks::new(alloc),
         }
     }
 
@@ -182,6 +191,86 @@ impl Seat {
             seen,
             call: Call::Read { question, shown },
         })?;
+        Ok(())
+    }
+
+    /// A copy of the body that a member sent at a place of all, if it is there. Where a receipt is kept that shows this
+    /// body, no second one is left. What was right stays so.
+    pub(crate) fn note_once<I: Instance + Drop, B: Settle + Drop>(
+        &mut self,
+        alloc: Global,
+        member: &Member<I, B>,
+        number: usize,
+    ) -> Result<Option<Body>, AllocError>
+        ensures noted { IfOk result (λ found.
+            IsNoted member.now self.old self.new number found) }
+        ensures err { OnErr result (self.new ≡ self.old) }
+        ensures legal { OnOk result (Legal member.now.genesis member.now.keys
+            member.now.history) }
+        ensures own { Right member.now self.old → Right member.now self.new }
+    {
+        let seen = member.history().len();
+        match member.sent(number as u64) {
+            // no mark, for it may still come
+            None => {
+                let question = Question::Sent {
+                    from: number,
+                    max: 1,
+                };
+                let none = Shown::Sent(Bodies::new(Vec::new(alloc)));
+                self.note(member, question, none)?;
+                Ok(None)
+            }
+            Some(body) => {
+                let found = body.copy(alloc)?;
+                if self.keeps(number, body) {
+                    return Ok(Some(found));
+                }
+                let bodies = Bodies::alone(alloc, body)?;
+                self.keep_body(seen, number, bodies)?;
+                Ok(Some(found))
+            }
+        }
+    }
+
+    // Whether a receipt is marked for a number that shows this body.
+    fn keeps(&self, number: usize, body: &Body) -> bool
+        ensures { IsTrue result ↔ IsKeptFor self.now number body.now }
+    {
+        match self.marks.get(number) {
+            Some(place) => match self.receipts.get(place) {
+                Some(receipt) => receipt.shows_alone(number, body),
+                None => false,
+            },
+            None => false,
+        }
+    }
+
+    // Keeps the receipt of a number's body, and marks it.
+    fn keep_body(&mut self, seen: usize, number: usize, bodies: Bodies) -> Result<(), AllocError>
+        ensures stamp { self.new.stamp ≡ self.old.stamp }
+        ensures receipt { OnOk result (self.new.receipts ≡ self.old.receipts
+            ++ reading_receipt seen (Question.Sent number 1) (Shown.Sent bodies)) }
+        ensures mark { OnOk result
+            (mark_of self.new.marks number ≡ Some (length self.old.receipts)) }
+        ensures others { OnOk result ((k : ℕ) → k ≢ number
+            → mark_of self.new.marks k ≡ mark_of self.old.marks k) }
+        ensures room { OnOk result
+            (length self.new.marks ≡ max (length self.old.marks) (number + 1)) }
+        ensures err { OnErr result (self.new ≡ self.old) }
+    {
+        self.receipts.reserve(1)?;
+        self.marks.set(number, self.receipts.len())?;
+        self.receipts.push_reserved(Receipt {
+            seen,
+            call: Call::Read {
+                question: Question::Sent {
+                    from: number,
+                    max: 1,
+                },
+                shown: Shown::Sent(bodies),
+            },
+        });
         Ok(())
     }
 }

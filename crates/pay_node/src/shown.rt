@@ -1,4 +1,4 @@
-ghost use Rattle.std.specs.Prelude.{◌≡◌, IfOk};
+ghost use Rattle.std.specs.Prelude.{◌≡◌, [], ◌∷◌, IfOk};
 
 use pay_book::Line;
 use pay_frame::Body;
@@ -35,6 +35,15 @@ impl Bodies {
         ensures { result ≡ bodies.items }
     {
         Bodies { bodies }
+    }
+
+    /// A copy of one.
+    pub(crate) fn alone(alloc: Global, body: &Body) -> Result<Bodies, AllocError>
+        ensures { IfOk result (λ bodies. bodies ≡ body.now ∷ []) }
+    {
+        let mut bodies = Vec::new(alloc);
+        bodies.push(body.copy(alloc)?)?;
+        Ok(Bodies { bodies })
     }
 
     pub fn as_slice(&self) -> &[Body]

@@ -4,10 +4,9 @@ use crate::step::{Group, Said, Step};
 use pay_book::PlainBook;
 use pay_echo::MaskInstance;
 use pay_frame::{Body, Bytes};
-use pay_hmac::HmacSha256;
 use pay_link::{Genesis, test_keys};
-use pay_member::{Member, Outcome};
-use pay_node::{Call, MOST_SEATS, Node, OpenGate, Receipt, Seat};
+use pay_member::Member;
+use pay_node::{Call, MOST_SEATS, Node, Receipt, Seat};
 use std::alloc::Global;
 use std::sync::Wait;
 
@@ -34,51 +33,22 @@ pub(crate) fn meets<R: Wait>(
     step: &Step,
 ) -> bool {
     match *step {
-        Step::Bring(bytes, outcome, wants) => {
-            brings(rt, alloc, node, seat, bytes, outcome, wants)
-        }
         Step::Ask(value, answer) => match Bytes::from_slice(alloc, value) {
             Ok(value) => node.ask(rt, alloc, seat, value) == answer,
             Err(_) => false,
         },
-        Step::Query(account, answer) => node.query(rt, alloc, seat, account) == answer,
         Step::Fetch(from, max, said) => match node.fetch(rt, alloc, seat, from, max) {
             Ok(bodies) => are_said(bodies.as_slice(), said),
             Err(_) => false,
         },
-        Step::State(owner, seq, answer) => node.state(rt, alloc, seat, owner, seq) == answer,
-        Step::Statement(account, lines, balance) => {
-            match node.statement(rt, alloc, seat, account) {
-                Ok(statement) => statement.lines() == lines && statement.balance() == balance,
-                Err(_) => false,
-            }
-        }
-        Step::NoStatement(account, fault) => match node.statement(rt, alloc, seat, account) {
-            Ok(_) => false,
-            Err(found) => found == fault,
-        },
-        Step::Fronts(fronts) => match node.fronts(rt, alloc, seat) {
-            Ok(found) => found.as_slice() == fronts,
+        Step::FetchOnce(number, said) => match node.fetch_once(rt, alloc, seat, number) {
+            Ok(Some(body)) => said.get(number).is_some_and(|said| is_said(&body, said)),
+            Ok(None) => said.get(number).is_none(),
             Err(_) => false,
         },
         Step::Receipts(all, with_entry) => {
             seat.receipts().len() == all && entries_in(seat.receipts()) == with_entry
         }
-    }
-}
-
-fn brings<R: Wait>(
-    rt: &R,
-    alloc: Global,
-    node: &Tried,
-    seat: &mut Seat,
-    bytes: &[u8],
-    outcome: Outcome,
-    wants: bool,
-) -> bool {
-    match node.bring(rt, alloc, seat, &HmacSha256, &OpenGate, bytes) {
-        Ok(brought) => brought.outcome == outcome && brought.want.is_some() == wants,
-        Err(_) => false,
     }
 }
 

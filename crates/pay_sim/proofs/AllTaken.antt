@@ -22,8 +22,8 @@ use Rattle.pay_member.specs.OpeningLaws.{WhatOpens}
 use Rattle.pay_member.specs.Reply.{took_by}
 use Rattle.pay_world.specs.declared.event.WorldEvent.{WorldEvent}
 use Rattle.pay_world.specs.declared.event.WorldEvent.TheVariants.{Bring}
-use Rattle.pay_world.specs.declared.reply.Reply.{Reply}
-use Rattle.pay_world.specs.declared.reply.Reply.TheVariants.{Asked, Refused, Brought, Ignored}
+use Rattle.pay_world.specs.declared.reply.WorldReply.{WorldReply}
+use Rattle.pay_world.specs.declared.reply.WorldReply.TheVariants.{Asked, Refused, Brought, Ignored}
 use Rattle.pay_world.specs.Answer.{brought_to, deed_with}
 use Rattle.pay_world.specs.DeedLaws.{ForgedIsTold}
 use Rattle.pay_world.specs.Deeds.{Brings}
@@ -32,9 +32,9 @@ use Rattle.pay_world.specs.GroupKeys.{group_test_keys}
 use Rattle.pay_world.specs.Liars.{is_listed, setting_of}
 use Rattle.pay_world.specs.Setting.{group_at}
 use Rattle.pay_sim.specs.declared.game.TheConstants.{MOST_EVENTS}
-use Rattle.pay_sim.specs.declared.group.Group.{Group}
-use Rattle.pay_sim.specs.declared.stop.Stop.{Stop}
-use Rattle.pay_sim.specs.declared.stop.Stop.TheVariants.{BadLine, Forged, Limit}
+use Rattle.pay_sim.specs.declared.group.ScriptGroup.{ScriptGroup}
+use Rattle.pay_sim.specs.declared.stop.RunStop.{RunStop}
+use Rattle.pay_sim.specs.declared.stop.RunStop.TheVariants.{BadLine, Forged, Limit}
 use Rattle.pay_sim.specs.All.{BringsAll, Draws, Enough, Again, Feeds, Further, Halted, InTurn, Nothing, Passes, Stopped}
 use Rattle.pay_sim.specs.Made.{IsBroughtTo, IsReplyBehind, Makes, history_at, is_forged_by, is_there, keys_at, next_number, sent_frame, untaken}
 use Rattle.pay_sim.specs.RunLaws.{AreTaken, IsGroup}
@@ -80,13 +80,13 @@ pub record Laws : Type 0 where
   pub forged : ForgedIsTold
 
 -- what a frame of a member's list is
-pub record IsSentBy (c : Group) (es : List WorldEvent) (from to number : ℕ) (frame : List ℕ) (body : BodyFields) : Type 0 where
+pub record IsSentBy (c : ScriptGroup) (es : List WorldEvent) (from to number : ℕ) (frame : List ℕ) (body : BodyFields) : Type 0 where
   pub there : is_there c from ≡ true
   pub other : from ≢ to
   pub at : slice_get (out (group_in c.genesis from) (history_at c es from)) number ≡ Some body
   pub is : frame ≡ test_frame from to number body
 
-pub sent_by : (c : Group) (es : List WorldEvent) (from to number : ℕ) (frame : List ℕ) → sent_frame c es from to number ≡ Some frame
+pub sent_by : (c : ScriptGroup) (es : List WorldEvent) (from to number : ℕ) (frame : List ℕ) → sent_frame c es from to number ≡ Some frame
     → (body : BodyFields) × IsSentBy c es from to number frame body
 unfolding sent_frame
 sent_by c es from to number frame is =
@@ -95,7 +95,7 @@ sent_by c es from to number frame is =
     let found = some_of_map (test_frame from to number) _ frame first.1 in
     (found.0, record { there = tests.0; other = differ from to tests.1; at = found.1; is = sym found.2 })
 
-module _ (laws : Laws) (c : Group) (group : IsGroup c) where
+module _ (laws : Laws) (c : ScriptGroup) (group : IsGroup c) where
   pub member : (i : ℕ) → is_there c i ≡ true → i < c.genesis.members
   member i is =
       let less = is_less i c.liars.members (and_parts (nat_lt i c.liars.members) (not (is_listed c.liars.liars i)) is).0 in
@@ -175,21 +175,21 @@ module _ (laws : Laws) (c : Group) (group : IsGroup c) where
       ∙ (laws.forged w (history_at c es) (Brings to from number body)).1
       (λ here away. ap (λ (g : one.Group). slice_get (out g (history_at c es from)) number) (same_group from) ∙ s.at)
 
-  brought_took : (es : List WorldEvent) (from to : ℕ) (bytes : List ℕ) (body : BodyFields) (reply : Reply) → (o : Option KeyFields) → o ≡ Some (test_keys_of c.genesis.members to)
+  brought_took : (es : List WorldEvent) (from to : ℕ) (bytes : List ℕ) (body : BodyFields) (reply : WorldReply) → (o : Option KeyFields) → o ≡ Some (test_keys_of c.genesis.members to)
       → ((outcome : Outcome) → IsOutcome c.genesis (test_keys_of c.genesis.members to) (history_at c es to) bytes outcome → (t : took.Took) × (outcome ≡ Took t))
       → MatchOption o (reply ≡ Ignored) (λ k. IsReplyBehind c.genesis k (history_at c es to) (Bring to bytes) reply) → (t : took.Took) × (reply ≡ Brought (Took t))
   brought_took es from to bytes body reply None is taken said = absurd cc
   brought_took es from to bytes body reply (Some k) is taken said =
       let same : k ≡ test_keys_of c.genesis.members to = cc in
       go reply (subst (λ x. IsReplyBehind c.genesis x (history_at c es to) (Bring to bytes) reply) same said) where
-        go : (r : Reply) → IsBroughtTo c.genesis (test_keys_of c.genesis.members to) (history_at c es to) bytes r → (t : took.Took) × (r ≡ Brought (Took t))
+        go : (r : WorldReply) → IsBroughtTo c.genesis (test_keys_of c.genesis.members to) (history_at c es to) bytes r → (t : took.Took) × (r ≡ Brought (Took t))
         go (Brought outcome) x = let t = taken outcome x in (t.0, ap Brought t.1)
         go (Asked number) x = absurd x
         go (Refused fault) x = absurd x
         go Ignored x = absurd x
 
   -- it is taken
-  frame_is_taken : (es : List WorldEvent) (from to : ℕ) (frame : List ℕ) (reply : Reply) → untaken c es from to ≡ Some frame → Makes c es (Bring to frame) (Ok reply)
+  frame_is_taken : (es : List WorldEvent) (from to : ℕ) (frame : List ℕ) (reply : WorldReply) → untaken c es from to ≡ Some frame → Makes c es (Bring to frame) (Ok reply)
       → (t : took.Took) × (reply ≡ Brought (Took t))
   frame_is_taken es from to frame reply is (room, unforged, said) =
       let n = c.genesis.members in
@@ -210,7 +210,7 @@ module _ (laws : Laws) (c : Group) (group : IsGroup c) where
       )) said
 
   -- and stopped by the limit alone
-  frame_is_stopped : (es : List WorldEvent) (from to : ℕ) (frame : List ℕ) (stop : Stop) → untaken c es from to ≡ Some frame → Makes c es (Bring to frame) (Err stop) → stop ≡ Limit
+  frame_is_stopped : (es : List WorldEvent) (from to : ℕ) (frame : List ℕ) (stop : RunStop) → untaken c es from to ≡ Some frame → Makes c es (Bring to frame) (Err stop) → stop ≡ Limit
   frame_is_stopped es from to frame Limit is made = refl
   frame_is_stopped es from to frame BadLine is made = absurd made
   frame_is_stopped es from to frame (Forged k) is (room, forged, place) =
@@ -253,10 +253,10 @@ module _ (laws : Laws) (c : Group) (group : IsGroup c) where
         each brought taken (suc k) x at =
             subst (λ before. (t : took.Took) × Makes c before x (Ok (Brought (Took t)))) (append_assoc es (e ∷ []) (take k brought)) (taken.each k x at)
 
-  abbrev Ends : Option Stop → Type 0
+  abbrev Ends : Option RunStop → Type 0
   Ends stop = (stop ≡ None) ⊎ (stop ≡ Some Limit)
 
-  draws_take : (from to : ℕ) {es last : List WorldEvent} {stop : Option Stop} → Draws c from to es last stop → Chain es last × Ends stop
+  draws_take : (from to : ℕ) {es last : List WorldEvent} {stop : Option RunStop} → Draws c from to es last stop → Chain es last × Ends stop
   draws_take from to (Nothing is) = (NoMore, inl refl)
   draws_take from to {es = es} (Stopped frame stop is made) = (NoMore, inr (ap Some (frame_is_stopped es from to frame stop is made)))
   draws_take from to {es = es} (Further frame reply is made rest) =
@@ -264,21 +264,21 @@ module _ (laws : Laws) (c : Group) (group : IsGroup c) where
       let more = draws_take from to rest in
       (OneMore (Bring to frame) took.0 (subst (λ r. Makes c es (Bring to frame) (Ok r)) took.1 made) more.0, more.1)
 
-  in_turn_take : (does : ℕ → List WorldEvent → List WorldEvent → Option Stop → Type 0)
-      → ((i : ℕ) (es last : List WorldEvent) (stop : Option Stop) → does i es last stop → Chain es last × Ends stop)
-      → (is : List ℕ) (es last : List WorldEvent) (stop : Option Stop) → InTurn does is es last stop → Chain es last × Ends stop
+  in_turn_take : (does : ℕ → List WorldEvent → List WorldEvent → Option RunStop → Type 0)
+      → ((i : ℕ) (es last : List WorldEvent) (stop : Option RunStop) → does i es last stop → Chain es last × Ends stop)
+      → (is : List ℕ) (es last : List WorldEvent) (stop : Option RunStop) → InTurn does is es last stop → Chain es last × Ends stop
   in_turn_take does each [] es last stop x = (subst (λ l. Chain es l) (sym x.0) NoMore, inl x.1)
   in_turn_take does each (i ∷ is) es last stop (mid, met, first, rest) = go met (each i es mid met first) (λ x. in_turn_take does each is mid last stop x) rest where
-    go : (o : Option Stop) → Chain es mid × Ends o → (InTurn does is mid last stop → Chain mid last × Ends stop) → MatchOption o (InTurn does is mid last stop) (λ s. (last ≡ mid) × (stop ≡ Some s)) → Chain es last × Ends stop
+    go : (o : Option RunStop) → Chain es mid × Ends o → (InTurn does is mid last stop → Chain mid last × Ends stop) → MatchOption o (InTurn does is mid last stop) (λ s. (last ≡ mid) × (stop ≡ Some s)) → Chain es last × Ends stop
     go None (chain, ends) on x = let more = on x in (chained chain more.0, more.1)
     go (Some s) (chain, ends) on x = (subst (λ l. Chain es l) (sym x.0) chain, subst Ends (sym x.1) ends)
 
-  passes_take : (es last : List WorldEvent) (stop : Option Stop) → Passes c es last stop → Chain es last × Ends stop
+  passes_take : (es last : List WorldEvent) (stop : Option RunStop) → Passes c es last stop → Chain es last × Ends stop
   passes_take =
       in_turn_take (Feeds c) (λ to. in_turn_take (λ from. Draws c from to) (λ from es last stop x. draws_take from to x) (range_with_len 0 c.genesis.members))
       (range_with_len 0 c.genesis.members)
 
-  all_takes : {es last : List WorldEvent} {stop : Option Stop} → BringsAll c es last stop → Chain es last × Ends stop
+  all_takes : {es last : List WorldEvent} {stop : Option RunStop} → BringsAll c es last stop → Chain es last × Ends stop
   all_takes {es = es} {last = last} (Enough passes same) = passes_take es last None passes
   all_takes {es = es} {last = last} (Halted stop passes) = passes_take es last (Some stop) passes
   all_takes {es = es} (Again {mid = mid} passes less rest) =
@@ -286,7 +286,7 @@ module _ (laws : Laws) (c : Group) (group : IsGroup c) where
       let more = all_takes rest in
       (chained one.0 more.0, more.1)
 
-  pub all_is_taken : (es last : List WorldEvent) (stop : Option Stop) → BringsAll c es last stop
+  pub all_is_taken : (es last : List WorldEvent) (stop : Option RunStop) → BringsAll c es last stop
       → (brought : List WorldEvent) × (last ≡ es ++ brought) × AreTaken c es brought × ((stop ≡ None) ⊎ (stop ≡ Some Limit))
   all_is_taken es last stop brings =
       let all = all_takes brings in

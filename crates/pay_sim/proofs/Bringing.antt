@@ -3,26 +3,26 @@ use Rattle.std.proofs.Common.{◌≡◌, ℕ, suc, ◌+◌, ◌-◌, ◌<◌, �
 use Rattle.std.specs.List.{range_with_len}
 use Rattle.pay_world.specs.declared.event.WorldEvent.{WorldEvent}
 use Rattle.pay_world.specs.declared.event.WorldEvent.TheVariants.{Bring}
-use Rattle.pay_world.specs.declared.reply.Reply.{Reply}
-use Rattle.pay_sim.specs.declared.group.Group.{Group}
+use Rattle.pay_world.specs.declared.reply.WorldReply.{WorldReply}
+use Rattle.pay_sim.specs.declared.group.ScriptGroup.{ScriptGroup}
 use Rattle.pay_sim.specs.declared.stop.Halt.{Halt}
 use Rattle.pay_sim.specs.declared.stop.Halt.TheVariants as halt
-use Rattle.pay_sim.specs.declared.stop.Stop.{Stop}
+use Rattle.pay_sim.specs.declared.stop.RunStop.{RunStop}
 use Rattle.pay_sim.specs.Made.{untaken}
 use Rattle.pay_sim.specs.All.{Draws, Nothing, Stopped, Further, InTurn, Passes, BringsAll, Enough, Halted, Again}
 use Rattle.pay_sim.specs.Playing.{GameFields, IsBehind, IsBrought, IsMade, Leads}
 
 -- ---- from one list
 
-pub draw_done : (c : Group) (from to : ℕ) (es : List WorldEvent) (now : GameFields) → (l : Leads c now (Draws c from to) (Draws c from to es))
+pub draw_done : (c : ScriptGroup) (from to : ℕ) (es : List WorldEvent) (now : GameFields) → (l : Leads c now (Draws c from to) (Draws c from to es))
     → untaken c l.0 from to ≡ None → (last : List WorldEvent) × Draws c from to es last None × IsBehind c last now
 draw_done c from to es now l none = (l.0, l.2 l.0 None (Nothing none), l.1)
 
-pub draw_more : (c : Group) (from to : ℕ) (es : List WorldEvent) (now new : GameFields) (frame : List ℕ) (reply : Reply) → (l : Leads c now (Draws c from to) (Draws c from to es))
+pub draw_more : (c : ScriptGroup) (from to : ℕ) (es : List WorldEvent) (now new : GameFields) (frame : List ℕ) (reply : WorldReply) → (l : Leads c now (Draws c from to) (Draws c from to es))
     → untaken c l.0 from to ≡ Some frame → IsMade c l.0 (Bring to frame) new (Ok reply) → Leads c new (Draws c from to) (Draws c from to es)
 draw_more c from to es now new frame reply l at made = (l.0 ++ Bring to frame ∷ [], made.1, λ last stop rest. l.2 last stop (Further frame reply at made.0 rest))
 
-pub draw_broken : (c : Group) (from to : ℕ) (es : List WorldEvent) (now new : GameFields) (frame : List ℕ) (h : Halt) → (l : Leads c now (Draws c from to) (Draws c from to es))
+pub draw_broken : (c : ScriptGroup) (from to : ℕ) (es : List WorldEvent) (now new : GameFields) (frame : List ℕ) (h : Halt) → (l : Leads c now (Draws c from to) (Draws c from to es))
     → untaken c l.0 from to ≡ Some frame → IsMade c l.0 (Bring to frame) new (Err h) → IsBrought (Draws c from to es) c new (Err h)
 draw_broken c from to es now new frame halt.Memory l at made = tt
 draw_broken c from to es now new frame (halt.Stop stop) l at made = (l.0, l.2 l.0 (Some stop) (Stopped frame stop at made))
@@ -35,7 +35,7 @@ range_next a n less = let more : n - a ≡ suc (n - (a + 1)) = omega arith in ap
 range_none : (a n : ℕ) → n ≤ a → range_with_len a (n - a) ≡ []
 range_none a n le = let none : n - a ≡ 0 = omega arith in ap (range_with_len a) none
 
-module _ (c : Group) (does : ℕ → List WorldEvent → List WorldEvent → Option Stop → Type 0) (n : ℕ) (whole : List WorldEvent → Option Stop → Type 0) where
+module _ (c : ScriptGroup) (does : ℕ → List WorldEvent → List WorldEvent → Option RunStop → Type 0) (n : ℕ) (whole : List WorldEvent → Option RunStop → Type 0) where
   pub turn_more : (a : ℕ) (now new : GameFields) → a < n → Leads c now (InTurn does (range_with_len a (n - a))) whole
       → ((es : List WorldEvent) → IsBehind c es now → IsBrought (does a es) c new (Ok tt)) → Leads c new (InTurn does (range_with_len (a + 1) (n - (a + 1)))) whole
   turn_more a now new less l brought =
@@ -54,7 +54,7 @@ module _ (c : Group) (does : ℕ → List WorldEvent → List WorldEvent → Opt
 
 -- ---- again and again
 
-pub passes_done : (c : Group) (es : List WorldEvent) (now new : GameFields) → Leads c now (BringsAll c) (BringsAll c es)
+pub passes_done : (c : ScriptGroup) (es : List WorldEvent) (now new : GameFields) → Leads c now (BringsAll c) (BringsAll c es)
     → ((mid : List WorldEvent) → IsBehind c mid now → IsBrought (Passes c mid) c new (Ok tt)) → new.made ≡ now.made → IsBrought (BringsAll c es) c new (Ok tt)
 passes_done c es now new l brought same =
     let one = brought l.0 l.1 in
@@ -62,7 +62,7 @@ passes_done c es now new l brought same =
     let is = one.2.made in
     (one.0, l.2 one.0 None (Enough one.1 (sym is ∙ same ∙ was)), one.2)
 
-pub passes_more : (c : Group) (es : List WorldEvent) (now new : GameFields) → Leads c now (BringsAll c) (BringsAll c es)
+pub passes_more : (c : ScriptGroup) (es : List WorldEvent) (now new : GameFields) → Leads c now (BringsAll c) (BringsAll c es)
     → ((mid : List WorldEvent) → IsBehind c mid now → IsBrought (Passes c mid) c new (Ok tt)) → now.made < new.made → Leads c new (BringsAll c) (BringsAll c es)
 passes_more c es now new l brought more =
     let one = brought l.0 l.1 in
@@ -70,7 +70,7 @@ passes_more c es now new l brought more =
     let is = one.2.made in
     (one.0, one.2, λ last stop rest. l.2 last stop (Again one.1 (omega arith) rest))
 
-pub passes_broken : (c : Group) (es : List WorldEvent) (now new : GameFields) (h : Halt) → Leads c now (BringsAll c) (BringsAll c es)
+pub passes_broken : (c : ScriptGroup) (es : List WorldEvent) (now new : GameFields) (h : Halt) → Leads c now (BringsAll c) (BringsAll c es)
     → ((mid : List WorldEvent) → IsBehind c mid now → IsBrought (Passes c mid) c new (Err h)) → IsBrought (BringsAll c es) c new (Err h)
 passes_broken c es now new halt.Memory l brought = tt
 passes_broken c es now new (halt.Stop stop) l brought =

@@ -18,23 +18,23 @@ use Rattle.pay_text.specs.Answers.{Answers}
 use Rattle.pay_text.specs.Lines.{lines_within}
 use Rattle.pay_world.specs.declared.event.WorldEvent.{WorldEvent}
 use Rattle.pay_world.specs.declared.event.WorldEvent.TheVariants as event
-use Rattle.pay_world.specs.declared.reply.Reply.{Reply}
-use Rattle.pay_world.specs.declared.reply.Reply.TheVariants.{Brought, Ignored}
+use Rattle.pay_world.specs.declared.reply.WorldReply.{WorldReply}
+use Rattle.pay_world.specs.declared.reply.WorldReply.TheVariants.{Brought, Ignored}
 use Rattle.pay_world.specs.Answer.{one_more, receiver}
 use Rattle.pay_world.specs.Convergence.{AllTaken, HasTaken}
 use Rattle.pay_world.specs.DeedLaws.{CorrectIsTold}
 use Rattle.pay_world.specs.Liars.{setting_of}
 use Rattle.pay_world.specs.Setting.{Setting, group_at, is_correct}
-use Rattle.pay_sim.specs.declared.command.Command.{Command}
-use Rattle.pay_sim.specs.declared.command.Command.TheVariants.{Ask, Bring, Lie, Raw, All, Show}
+use Rattle.pay_sim.specs.declared.command.ScriptCommand.{ScriptCommand}
+use Rattle.pay_sim.specs.declared.command.ScriptCommand.TheVariants.{Ask, Bring, Lie, Raw, All, Show}
 use Rattle.pay_sim.specs.declared.command.TheConstants.{MEMBERS}
 use Rattle.pay_sim.specs.declared.game.TheConstants.{MOST_EVENTS}
-use Rattle.pay_sim.specs.declared.group.Group.{Group}
+use Rattle.pay_sim.specs.declared.group.ScriptGroup.{ScriptGroup}
 use Rattle.pay_sim.specs.declared.run.TheConstants.{LONGEST_LINE}
 use Rattle.pay_sim.specs.declared.sim_end.SimEnd.{SimEnd}
 use Rattle.pay_sim.specs.declared.sim_end.SimEnd.TheVariants as end
-use Rattle.pay_sim.specs.declared.stop.Stop.{Stop}
-use Rattle.pay_sim.specs.declared.stop.Stop.TheVariants.{BadLine, Forged, Limit}
+use Rattle.pay_sim.specs.declared.stop.RunStop.{RunStop}
+use Rattle.pay_sim.specs.declared.stop.RunStop.TheVariants.{BadLine, Forged, Limit}
 use Rattle.pay_sim.specs.All.{BringsAll, Draws, Enough, Again, Feeds, Further, Halted, InTurn, Nothing, Passes, Stopped}
 use Rattle.pay_sim.specs.Commands.{command_in}
 use Rattle.pay_sim.specs.Group.{group_in}
@@ -52,7 +52,7 @@ pub record Ground : Type 0 where
   pub laws : Laws
   pub reads : (bytes : List ℕ) → IsBytes bytes → (answer : Result FrameFields FrameFault) × IsOneReading bytes answer
   pub correct : CorrectIsTold
-  pub groups : (line : List ℕ) (c : Group) → group_in line ≡ Some c → IsGroup c
+  pub groups : (line : List ℕ) (c : ScriptGroup) → group_in line ≡ Some c → IsGroup c
 
 -- ---- what can be decided
 
@@ -95,29 +95,29 @@ abbrev CanRead : List WorldEvent → WorldEvent → Type 0
 CanRead es (event.Ask i v) = Unit {0}
 CanRead es (event.Bring i bytes) = length es < MOST_EVENTS → (answer : Result FrameFields FrameFault) × IsOneReading bytes answer
 
-behind_exists : (g : GenesisFields) (k : KeyFields) (before : List Event) (es : List WorldEvent) (e : WorldEvent) → CanRead es e → length es < MOST_EVENTS → (reply : Reply) × IsReplyBehind g k before e reply
+behind_exists : (g : GenesisFields) (k : KeyFields) (before : List Event) (es : List WorldEvent) (e : WorldEvent) → CanRead es e → length es < MOST_EVENTS → (reply : WorldReply) × IsReplyBehind g k before e reply
 behind_exists g k before es (event.Ask i v) can room = (_, refl)
 behind_exists g k before es (event.Bring i bytes) can room =
     let read = can room in
     (Brought (outcome_of g k.own before (opening k read.0)), record { reading = read.0; reads = read.1; is = refl })
 
-module _ (c : Group) where
-  reply_exists : (es : List WorldEvent) (e : WorldEvent) → CanRead es e → length es < MOST_EVENTS → (reply : Reply) × IsReplyTo c es e reply
+module _ (c : ScriptGroup) where
+  reply_exists : (es : List WorldEvent) (e : WorldEvent) → CanRead es e → length es < MOST_EVENTS → (reply : WorldReply) × IsReplyTo c es e reply
   reply_exists es e can room = go (keys_at c (receiver e)) where
-    go : (o : Option KeyFields) → (reply : Reply) × MatchOption o (reply ≡ Ignored) (λ k. IsReplyBehind c.genesis k (history_at c es (receiver e)) e reply)
+    go : (o : Option KeyFields) → (reply : WorldReply) × MatchOption o (reply ≡ Ignored) (λ k. IsReplyBehind c.genesis k (history_at c es (receiver e)) e reply)
     go None = (Ignored, refl)
     go (Some k) = behind_exists c.genesis k (history_at c es (receiver e)) es e can room
 
-  makes_exists : (es : List WorldEvent) (e : WorldEvent) → CanRead es e → (r : Result Reply Stop) × Makes c es e r
+  makes_exists : (es : List WorldEvent) (e : WorldEvent) → CanRead es e → (r : Result WorldReply RunStop) × Makes c es e r
   makes_exists es e can = go (cases_lt (length es) MOST_EVENTS) (is_forged_by c es e) refl where
-    go : ((length es < MOST_EVENTS) ⊎ (MOST_EVENTS ≤ length es)) → (b : Bool) → is_forged_by c es e ≡ b → (r : Result Reply Stop) × Makes c es e r
+    go : ((length es < MOST_EVENTS) ⊎ (MOST_EVENTS ≤ length es)) → (b : Bool) → is_forged_by c es e ≡ b → (r : Result WorldReply RunStop) × Makes c es e r
     go (inr full) b is = (Err Limit, full)
     go (inl room) true is = (Err (Forged (length es)), (room, is, refl))
     go (inl room) false is = let reply = reply_exists es e can room in (Ok reply.0, (room, is, reply.1))
 
   tells_exists : (es : List WorldEvent) (e : WorldEvent) → CanRead es e → (told : Told) × Tells c es e told
   tells_exists es e can = go (makes_exists es e can) where
-    go : ((r : Result Reply Stop) × Makes c es e r) → (told : Told) × Tells c es e told
+    go : ((r : Result WorldReply RunStop) × Makes c es e r) → (told : Told) × Tells c es e told
     go (Ok reply, made) = (Prints (reply_line (receiver e) reply) (es ++ e ∷ []), (reply, made, refl, refl))
     go (Err stop, made) = (Stops stop, made)
 
@@ -134,20 +134,20 @@ grows_on es mid last (inr less) (inl also) = inr ((let one = less.0 in omega ari
 grows_on es mid last (inr less) (inr more) = inr ((let one = less.0 in let two = more.0 in omega arith), more.1)
 
 -- from these events on a relation leads on
-abbrev LeadsOn : (List WorldEvent → List WorldEvent → Option Stop → Type 0) → List WorldEvent → Type 0
-LeadsOn does es = (last : List WorldEvent) × (stop : Option Stop) × does es last stop × Grows es last
+abbrev LeadsOn : (List WorldEvent → List WorldEvent → Option RunStop → Type 0) → List WorldEvent → Type 0
+LeadsOn does es = (last : List WorldEvent) × (stop : Option RunStop) × does es last stop × Grows es last
 
-in_turn_exists : (does : ℕ → List WorldEvent → List WorldEvent → Option Stop → Type 0) → ((i : ℕ) (es : List WorldEvent) → LeadsOn (does i) es) → (is : List ℕ) (es : List WorldEvent)
+in_turn_exists : (does : ℕ → List WorldEvent → List WorldEvent → Option RunStop → Type 0) → ((i : ℕ) (es : List WorldEvent) → LeadsOn (does i) es) → (is : List ℕ) (es : List WorldEvent)
     → LeadsOn (InTurn does is) es
 in_turn_exists does each [] es = (es, None, (refl, refl), inl refl)
 in_turn_exists does each (i ∷ is) es =
     let one = each i es in
     go one.0 one.1 one.2 one.3 (in_turn_exists does each is one.0) where
-      go : (mid : List WorldEvent) (met : Option Stop) → does i es mid met → Grows es mid → LeadsOn (InTurn does is) mid → LeadsOn (InTurn does (i ∷ is)) es
+      go : (mid : List WorldEvent) (met : Option RunStop) → does i es mid met → Grows es mid → LeadsOn (InTurn does is) mid → LeadsOn (InTurn does (i ∷ is)) es
       go mid None first grown rest = (rest.0, rest.1, (mid, None, first, rest.2), grows_on es mid rest.0 grown rest.3)
       go mid (Some s) first grown rest = (mid, Some s, (mid, Some s, first, (refl, refl)), grown)
 
-module _ (on : Ground) (c : Group) (group : IsGroup c) where
+module _ (on : Ground) (c : ScriptGroup) (group : IsGroup c) where
   sent_reads : (es : List WorldEvent) (from to number : ℕ) (frame : List ℕ) → sent_frame c es from to number ≡ Some frame → is_there c to ≡ true → number < 2 ^ 64
       → (answer : Result FrameFields FrameFault) × IsOneReading frame answer
   sent_reads es from to number frame is there small =
@@ -169,7 +169,7 @@ module _ (on : Ground) (c : Group) (group : IsGroup c) where
   draw_step : (from to : ℕ) (es : List WorldEvent)
       → ((frame : List ℕ) → length es < MOST_EVENTS → LeadsOn (Draws c from to) (es ++ event.Bring to frame ∷ [])) → LeadsOn (Draws c from to) es
   draw_step from to es further = go (untaken c es from to) refl where
-    made : (frame : List ℕ) → untaken c es from to ≡ Some frame → ((r : Result Reply Stop) × Makes c es (event.Bring to frame) r) → LeadsOn (Draws c from to) es
+    made : (frame : List ℕ) → untaken c es from to ≡ Some frame → ((r : Result WorldReply RunStop) × Makes c es (event.Bring to frame) r) → LeadsOn (Draws c from to) es
     made frame is (Err stop, stopped) = (es, Some stop, Stopped frame stop is stopped, inl refl)
     made frame is (Ok reply, brought) =
         let rest = further frame brought.0 in
@@ -197,11 +197,11 @@ module _ (on : Ground) (c : Group) (group : IsGroup c) where
       (range_with_len 0 c.genesis.members)
 
   abbrev AllFrom : List WorldEvent → Type 0
-  AllFrom es = (last : List WorldEvent) × (stop : Option Stop) × BringsAll c es last stop
+  AllFrom es = (last : List WorldEvent) × (stop : Option RunStop) × BringsAll c es last stop
 
   all_step : (es : List WorldEvent) → ((mid : List WorldEvent) → length es < length mid → length mid ≤ MOST_EVENTS → AllFrom mid) → AllFrom es
   all_step es again = let one = passes_exist es in go one.0 one.1 one.2 one.3 where
-    go : (mid : List WorldEvent) (stop : Option Stop) → Passes c es mid stop → Grows es mid → AllFrom es
+    go : (mid : List WorldEvent) (stop : Option RunStop) → Passes c es mid stop → Grows es mid → AllFrom es
     go mid (Some s) passes grown = (mid, Some s, Halted s passes)
     go mid None passes (inl same) = (mid, None, Enough passes same)
     go mid None passes (inr more) = let rest = again mid more.0 more.1 in (rest.0, rest.1, Again passes more.0 rest.2)
@@ -218,7 +218,7 @@ module _ (on : Ground) (c : Group) (group : IsGroup c) where
 
   all_tells : (es : List WorldEvent) → (told : Told) × TellsAll c es told
   all_tells es = let all = all_within MOST_EVENTS es (omega arith) in go all.0 all.1 all.2 where
-    go : (last : List WorldEvent) (stop : Option Stop) → BringsAll c es last stop → (told : Told) × TellsAll c es told
+    go : (last : List WorldEvent) (stop : Option RunStop) → BringsAll c es last stop → (told : Told) × TellsAll c es told
     go last (Some stop) brings = (Stops stop, (last, brings))
     go last None brings =
         let words = converged_exists last in
@@ -249,7 +249,7 @@ module _ (on : Ground) (c : Group) (group : IsGroup c) where
   lie_small es from to (Some number) small room = small
   lie_small es from to None small room = next_below on.laws c group es from to room
 
-  obeys_exists : (es : List WorldEvent) (command : Command) → FitsFrame command → (told : Told) × Obeys c es command told
+  obeys_exists : (es : List WorldEvent) (command : ScriptCommand) → FitsFrame command → (told : Told) × Obeys c es command told
   obeys_exists es (Ask member value) fits = tells_exists c es _ tt
   obeys_exists es (Bring from to number) fits = bring_exists es from to number fits
   obeys_exists es (Lie from to number body) fits =
@@ -259,7 +259,7 @@ module _ (on : Ground) (c : Group) (group : IsGroup c) where
   obeys_exists es All fits = all_tells es
   obeys_exists es Show fits = (Prints (show_text c es) es, refl)
 
-  command_exists : (es : List WorldEvent) (o : Option Command) → AskedFits o → (told : Told) × CommandTells c es o told
+  command_exists : (es : List WorldEvent) (o : Option ScriptCommand) → AskedFits o → (told : Told) × CommandTells c es o told
   command_exists es None fits = (Stops BadLine, refl)
   command_exists es (Some command) fits = obeys_exists es command fits
 
@@ -269,19 +269,19 @@ module _ (on : Ground) (c : Group) (group : IsGroup c) where
 
 -- ---- line by line
 
-abbrev IsSound : Option Group → Type 0
+abbrev IsSound : Option ScriptGroup → Type 0
 IsSound None = Unit {0}
 IsSound (Some c) = IsGroup c
 
-does_exists : Ground → (group : Option Group) (es : List WorldEvent) (line : Option (List ℕ)) → IsSound group → (then : Option Group) × (told : Told) × Does group es line then told × IsSound then
+does_exists : Ground → (group : Option ScriptGroup) (es : List WorldEvent) (line : Option (List ℕ)) → IsSound group → (then : Option ScriptGroup) × (told : Told) × Does group es line then told × IsSound then
 does_exists on group es None sound = (group, Stops BadLine, (refl, refl), sound)
 does_exists on (Some c) es (Some line) sound = let told = line_exists on c sound es line in (Some c, told.0, (told.1, refl), sound)
 does_exists on None es (Some line) sound = go (group_in line) refl where
-  go : (o : Option Group) → group_in line ≡ o → (then : Option Group) × (told : Told) × Founds es o then told × IsSound then
+  go : (o : Option ScriptGroup) → group_in line ≡ o → (then : Option ScriptGroup) × (told : Told) × Founds es o then told × IsSound then
   go None is = (None, Stops BadLine, (refl, refl), tt)
   go (Some c) is = (Some c, Prints [] es, (refl, refl), on.groups line c is)
 
-follows_exists : (m : Moment) (group : Option Group) (told : Told) → (text : List ℕ) × (goes : Bool) × (n : Moment) × Follows m group told text goes n × (n.group ≡ group)
+follows_exists : (m : Moment) (group : Option ScriptGroup) (told : Told) → (text : List ℕ) × (goes : Bool) × (n : Moment) × Follows m group told text goes n × (n.group ≡ group)
 follows_exists m group (Prints words last) = (words, true, record m { lines = one_more m.lines; group = group; events = last }, (refl, refl, refl), refl)
 follows_exists m group (Stops stop) = (with_feed (last_words stop (one_more m.lines)), false, record m { lines = one_more m.lines; group = group; stopped = Some stop }, (refl, refl, refl), refl)
 

@@ -16,9 +16,9 @@ use Rattle.pay_frame.specs.Stream.{IsBytes}
 use Rattle.pay_text.specs.Numbers.{first_number, number_of}
 use Rattle.pay_text.specs.Words.{first_word, is_none, words_of}
 use Rattle.std.specs.Str.Parse.{digits_value}
-use Rattle.pay_sim.specs.declared.command.Command.{Command}
+use Rattle.pay_sim.specs.declared.command.ScriptCommand.{ScriptCommand}
 use Rattle.pay_book.specs.Payment.{payment_value}
-use Rattle.pay_sim.specs.declared.command.Command.TheVariants.{Ask, Bring, Lie, Raw, All, Show}
+use Rattle.pay_sim.specs.declared.command.ScriptCommand.TheVariants.{Ask, Bring, Lie, Raw, All, Show}
 use Rattle.pay_sim.specs.declared.command.TheConstants.{MEMBERS, ACCOUNTS}
 use Rattle.pay_sim.specs.Commands.{alone_in, ask_in, asks_in, below, body_in, bring_in, bringing_in, bytes_of, command_in, command_of, decoded, first_bytes, first_kind, first_turn, if_below, if_body, if_last, lie_in, raw_in, several_in, turn_of}
 
@@ -28,7 +28,7 @@ IsTurn None = Unit {0}
 IsTurn (Some number) = number < 2 ^ 64
 
 -- what such a command brings may be read
-abbrev pub FitsFrame : Command → Type 0
+abbrev pub FitsFrame : ScriptCommand → Type 0
 FitsFrame (Ask member value) = Unit {0}
 FitsFrame (Bring from to number) = number < 2 ^ 64
 FitsFrame (Lie from to number body) = (from < MEMBERS) × (to < MEMBERS) × IsTurn number × IsBody body
@@ -36,7 +36,7 @@ FitsFrame (Raw to bytes) = IsBytes bytes
 FitsFrame All = Unit {0}
 FitsFrame Show = Unit {0}
 
-abbrev pub AskedFits : Option Command → Type 0
+abbrev pub AskedFits : Option ScriptCommand → Type 0
 AskedFits None = Unit {0}
 AskedFits (Some command) = FitsFrame command
 
@@ -207,7 +207,7 @@ map_is : {X Y : Type 0} (f : X → Y) (o : Option X) (y : Y) → option_map f o 
 map_is f None y is = absurd cc
 map_is f (Some x) y is = (x, refl, cc)
 
-ask_fits : (words : List (List ℕ)) (command : Command) → ask_in words ≡ Some command → FitsFrame command
+ask_fits : (words : List (List ℕ)) (command : ScriptCommand) → ask_in words ≡ Some command → FitsFrame command
 unfolding ask_in
 ask_fits words command is =
     let member = then_is _ (below MEMBERS words) command is in
@@ -215,14 +215,14 @@ ask_fits words command is =
     let amount = then_is _ (first_number (drop 1 (drop 1 words))) command payee.2 in
     subst FitsFrame (last_is (drop 1 (drop 1 (drop 1 words))) (Ask member.0 (payment_value payee.0 amount.0)) command amount.2) tt
 
-asks_fits : (words : List (List ℕ)) (command : Command) → asks_in words ≡ Some command → FitsFrame command
+asks_fits : (words : List (List ℕ)) (command : ScriptCommand) → asks_in words ≡ Some command → FitsFrame command
 unfolding asks_in
 asks_fits words command is =
     let member = then_is _ (below MEMBERS words) command is in
     let value = map_is (Ask member.0) (several_in (drop 1 words)) command member.2 in
     subst FitsFrame value.2 tt
 
-bring_fits : (words : List (List ℕ)) (command : Command) → bring_in words ≡ Some command → FitsFrame command
+bring_fits : (words : List (List ℕ)) (command : ScriptCommand) → bring_in words ≡ Some command → FitsFrame command
 unfolding bring_in
 bring_fits words command is =
     let from = then_is _ (below MEMBERS words) command is in
@@ -230,7 +230,7 @@ bring_fits words command is =
     let number = then_is _ (first_number (drop 1 (drop 1 words))) command to.2 in
     subst FitsFrame (last_is (drop 1 (drop 1 (drop 1 words))) (Bring from.0 to.0 number.0) command number.2) (first_small (drop 1 (drop 1 words)) number.0 number.1)
 
-lie_fits : (words : List (List ℕ)) (command : Command) → lie_in words ≡ Some command → FitsFrame command
+lie_fits : (words : List (List ℕ)) (command : ScriptCommand) → lie_in words ≡ Some command → FitsFrame command
 unfolding lie_in
 lie_fits words command is =
     let from = then_is _ (below MEMBERS words) command is in
@@ -240,14 +240,14 @@ lie_fits words command is =
     subst FitsFrame body.2
     (below_is MEMBERS words from.0 from.1, below_is MEMBERS (drop 1 words) to.0 to.1, turn_is (drop 1 (drop 1 words)) number.0 number.1, body_in_is (drop 1 (drop 1 (drop 1 words))) body.0 body.1)
 
-raw_fits : (words : List (List ℕ)) (command : Command) → raw_in words ≡ Some command → FitsFrame command
+raw_fits : (words : List (List ℕ)) (command : ScriptCommand) → raw_in words ≡ Some command → FitsFrame command
 unfolding raw_in
 raw_fits words command is =
     let to = then_is _ (below MEMBERS words) command is in
     let bytes = then_is _ (first_bytes (drop 1 words)) command to.2 in
     subst FitsFrame (last_is (drop 1 (drop 1 words)) (Raw to.0 bytes.0) command bytes.2) (first_bytes_are (drop 1 words) bytes.0 bytes.1)
 
-alone_fits : (name : List ℕ) (words : List (List ℕ)) (command : Command) → alone_in name words ≡ Some command → FitsFrame command
+alone_fits : (name : List ℕ) (words : List (List ℕ)) (command : ScriptCommand) → alone_in name words ≡ Some command → FitsFrame command
 unfolding alone_in
 alone_fits name words command is = go (bytes_eq name _) (bytes_eq name _) is where
   go : (a b : Bool) → cond a (if_last words All) (cond b (if_last words Show) None) ≡ Some command → FitsFrame command
@@ -255,7 +255,7 @@ alone_fits name words command is = go (bytes_eq name _) (bytes_eq name _) is whe
   go false true is = subst FitsFrame (last_is words Show command is) tt
   go false false is = absurd cc
 
-bringing_fits : (name : List ℕ) (words : List (List ℕ)) (command : Command) → bringing_in name words ≡ Some command → FitsFrame command
+bringing_fits : (name : List ℕ) (words : List (List ℕ)) (command : ScriptCommand) → bringing_in name words ≡ Some command → FitsFrame command
 unfolding bringing_in
 bringing_fits name words command is = go (bytes_eq name _) (bytes_eq name _) (bytes_eq name _) is where
   go : (b d e : Bool) → cond b (bring_in words) (cond d (lie_in words) (cond e (raw_in words) (alone_in name words))) ≡ Some command → FitsFrame command
@@ -264,14 +264,14 @@ bringing_fits name words command is = go (bytes_eq name _) (bytes_eq name _) (by
   go false false true is = raw_fits words command is
   go false false false is = alone_fits name words command is
 
-named_fits : (words : List (List ℕ)) (name : List ℕ) (command : Command) → command_of words name ≡ Some command → FitsFrame command
+named_fits : (words : List (List ℕ)) (name : List ℕ) (command : ScriptCommand) → command_of words name ≡ Some command → FitsFrame command
 named_fits words name command is = go (bytes_eq name _) (bytes_eq name _) is where
   go : (a s : Bool) → cond a (ask_in words) (cond s (asks_in words) (bringing_in name words)) ≡ Some command → FitsFrame command
   go true s is = ask_fits words command is
   go false true is = asks_fits words command is
   go false false is = bringing_fits name words command is
 
-command_fits : (line : List ℕ) (command : Command) → command_in line ≡ Some command → FitsFrame command
+command_fits : (line : List ℕ) (command : ScriptCommand) → command_in line ≡ Some command → FitsFrame command
 unfolding command_in
 command_fits line command is =
     let found = then_is (command_of (drop 1 (words_of line))) (first_word (words_of line)) command is in
@@ -279,6 +279,6 @@ command_fits line command is =
 
 pub asked_fits : (line : List ℕ) → AskedFits (command_in line)
 asked_fits line = go (command_in line) refl where
-  go : (o : Option Command) → command_in line ≡ o → AskedFits o
+  go : (o : Option ScriptCommand) → command_in line ≡ o → AskedFits o
   go None is = tt
   go (Some command) is = command_fits line command is

@@ -9,7 +9,7 @@ use Rattle.pay_link.specs.Files.{◌>>=◌, genesis_in, genesis_said}
 use Rattle.pay_link.specs.Genesis.{GenesisFields, IsGenesis, genesis_fault}
 use Rattle.pay_world.specs.declared.liar_fault.LiarFault.{LiarFault}
 use Rattle.pay_world.specs.Liars.{AreLiars, LiarFields, liar_fault, liars_in}
-use Rattle.pay_sim.specs.declared.group.Group.{Group}
+use Rattle.pay_sim.specs.declared.group.ScriptGroup.{ScriptGroup}
 use Rattle.pay_sim.specs.Group.{fitting, group_in, liars_said, with_liars}
 use Rattle.pay_sim.specs.RunLaws.{IsGroup}
 use Rattle.std.specs.Prelude.{ok_or}
@@ -38,7 +38,7 @@ some_ok (Ok y) x is = cc
 some_ok (Err e) x is = absurd cc
 
 pub said_group : ((g : GenesisFields) → (genesis_fault g ≡ None) ↔ IsGenesis g) → ((l : LiarFields) → (liar_fault l ≡ None) ↔ AreLiars l)
-    → (line : List ℕ) (c : Group) → group_in line ≡ Some c → IsGroup c
+    → (line : List ℕ) (c : ScriptGroup) → group_in line ≡ Some c → IsGroup c
 unfolding group_in with_liars
 said_group limits lying line c is =
     let first = some_and_then (λ g. option_and_then (with_liars g) (fitting (liars_said line))) (result_ok (genesis_in line)) c is in
@@ -51,5 +51,5 @@ said_group limits lying line c is =
           → IsGenesis g → IsGroup c
       go g l (Some f) at same sound = absurd cc
       go g l None at same sound =
-          let is : ◌≡◌ {A = Group} (record { genesis = g; liars = liars_in g l }) c = cc in
+          let is : ◌≡◌ {A = ScriptGroup} (record { genesis = g; liars = liars_in g l }) c = cc in
           subst IsGroup is (record { genesis = sound; liars = (lying (liars_in g l)).0 at; of = record { members = refl; faults = refl } })

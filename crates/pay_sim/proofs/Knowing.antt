@@ -12,7 +12,7 @@ use Rattle.pay_world.specs.declared.event.WorldEvent.{WorldEvent}
 use Rattle.pay_world.specs.Setting.{is_correct}
 use Rattle.pay_world.specs.Liars.{LiarFields, setting_of}
 use Rattle.pay_world.specs.World.{IsWorld, member_in}
-use Rattle.pay_sim.specs.declared.group.Group.{Group}
+use Rattle.pay_sim.specs.declared.group.ScriptGroup.{ScriptGroup}
 use Rattle.pay_sim.specs.TestFrames.{test_frame}
 use Rattle.pay_sim.specs.Made.{frame_for, history_at, is_there, next_number, sent_frame, untaken}
 use Rattle.pay_sim.specs.Playing.{GameFields, IsBehind}
@@ -50,11 +50,11 @@ other_test x y p = search (rules, tests)
 less_test : (x y : ℕ) → x < y → ltb x y ≡ true
 less_test x y p = search (rules, tests)
 
-pub sent_to_itself : (c : Group) (es : List WorldEvent) (from to number : ℕ) → from ≡ to → None ≡ sent_frame c es from to number
+pub sent_to_itself : (c : ScriptGroup) (es : List WorldEvent) (from to number : ℕ) → from ≡ to → None ≡ sent_frame c es from to number
 unfolding sent_frame
 sent_to_itself c es from to number same = sym (leaves_second (is_there c from) (eqb from to) _ _ (same_test from to same))
 
-pub untaken_unsent : (c : Group) (es : List WorldEvent) (from to : ℕ) → ((number : ℕ) → None ≡ sent_frame c es from to number) → None ≡ untaken c es from to
+pub untaken_unsent : (c : ScriptGroup) (es : List WorldEvent) (from to : ℕ) → ((number : ℕ) → None ≡ sent_frame c es from to number) → None ≡ untaken c es from to
 unfolding untaken
 untaken_unsent c es from to none = go (is_there c to) where
   go : (b : Bool) → None ≡ cond b (sent_frame c es from to (next_number c es from to)) None
@@ -63,7 +63,7 @@ untaken_unsent c es from to none = go (is_there c to) where
 
 -- ---- what is known
 
-module _ (c : Group) (es : List WorldEvent) (g : GameFields) (b : IsBehind c es g) (world : IsWorld g.world) where
+module _ (c : ScriptGroup) (es : List WorldEvent) (g : GameFields) (b : IsBehind c es g) (world : IsWorld g.world) where
   there_is : (i : ℕ) → is_there c i ≡ is_some (member_in g.world i)
   there_is i = ap (λ (l : LiarFields). is_correct (setting_of l) i) (sym b.after.liars) ∙ sym (world.there i)
 

@@ -14,15 +14,15 @@ use Rattle.pay_member.specs.Member.{MemberFields}
 use Rattle.pay_world.specs.declared.event.WorldEvent.{WorldEvent}
 use Rattle.pay_world.specs.declared.event.WorldEvent.TheVariants.{Ask, Bring}
 use Rattle.pay_world.specs.declared.fault.WorldFault.TheVariants.{Forged}
-use Rattle.pay_world.specs.declared.reply.Reply.{Reply}
-use Rattle.pay_world.specs.declared.reply.Reply.TheVariants.{Asked, Refused, Brought, Ignored}
+use Rattle.pay_world.specs.declared.reply.WorldReply.{WorldReply}
+use Rattle.pay_world.specs.declared.reply.WorldReply.TheVariants.{Asked, Refused, Brought, Ignored}
 use Rattle.pay_world.specs.Genuine.{is_forged_in}
 use Rattle.pay_world.specs.Liars.{LiarFields, setting_of}
 use Rattle.pay_world.specs.World.{WorldFields, member_in, history_in, keys_in}
 use Rattle.pay_world.specs.Answer.{Answers, IsReply, IsReplyOf, deed_of, is_forged_at, member_after, one_more, receiver}
 use Rattle.pay_world.specs.RunLaws.{AnsweredIsUnforged, IsSaidTo, SaidIsForged, WorldByOneMore}
 use Rattle.pay_world.specs.GroupKeys.{group_test_keys}
-use Rattle.pay_sim.specs.declared.group.Group.{Group}
+use Rattle.pay_sim.specs.declared.group.ScriptGroup.{ScriptGroup}
 use Rattle.pay_sim.specs.declared.game.TheConstants.{MOST_EVENTS}
 use Rattle.pay_sim.specs.Made.{IsReplyBehind, IsReplyTo, Makes, history_at, is_forged_by, keys_at}
 use Rattle.pay_sim.specs.Playing.{GameFields, IsBehind}
@@ -37,7 +37,7 @@ brought_keeps m (Frame fault) (Some f) = refl
 brought_keeps m (Link fault) (Some f) = refl
 brought_keeps m WrongKey (Some f) = refl
 
-genesis_kept : (e : WorldEvent) (reply : Reply) (m : MemberFields) → (member_after e reply m).genesis ≡ m.genesis
+genesis_kept : (e : WorldEvent) (reply : WorldReply) (m : MemberFields) → (member_after e reply m).genesis ≡ m.genesis
 genesis_kept (Ask i v) (Asked number) m = refl
 genesis_kept (Ask i v) (Refused fault) m = refl
 genesis_kept (Ask i v) (Brought outcome) m = refl
@@ -49,15 +49,15 @@ genesis_kept (Bring i bytes) Ignored m = refl
 
 -- ---- the reply
 
-as_behind : (m : MemberFields) (e : WorldEvent) (reply : Reply) → IsReplyOf m e reply → IsReplyBehind m.genesis m.keys (events m.history) e reply
+as_behind : (m : MemberFields) (e : WorldEvent) (reply : WorldReply) → IsReplyOf m e reply → IsReplyBehind m.genesis m.keys (events m.history) e reply
 as_behind m (Ask i v) reply said = said
 as_behind m (Bring i bytes) (Asked number) said = said
 as_behind m (Bring i bytes) (Refused fault) said = said
 as_behind m (Bring i bytes) (Brought outcome) said = said
 as_behind m (Bring i bytes) Ignored said = said
 
-module _ (c : Group) (es : List WorldEvent) (g : GameFields) (b : IsBehind c es g) where
-  reply_is : (e : WorldEvent) (reply : Reply) → IsReply g.world e reply → IsReplyTo c es e reply
+module _ (c : ScriptGroup) (es : List WorldEvent) (g : GameFields) (b : IsBehind c es g) where
+  reply_is : (e : WorldEvent) (reply : WorldReply) → IsReply g.world e reply → IsReplyTo c es e reply
   reply_is e reply said = go (member_in g.world (receiver e)) refl said where
     To : Option KeyFields → Type 0
     To o = MatchOption o (reply ≡ Ignored) (λ k. IsReplyBehind c.genesis k (history_at c es (receiver e)) e reply)
@@ -79,7 +79,7 @@ module _ (c : Group) (es : List WorldEvent) (g : GameFields) (b : IsBehind c es 
 
   -- ---- an event that is made
 
-  each_kept : (new : WorldFields) (e : WorldEvent) (reply : Reply) → Answers g.world new e reply → (i : ℕ) (m : MemberFields) → member_in new i ≡ Some m → m.genesis ≡ c.genesis
+  each_kept : (new : WorldFields) (e : WorldEvent) (reply : WorldReply) → Answers g.world new e reply → (i : ℕ) (m : MemberFields) → member_in new i ≡ Some m → m.genesis ≡ c.genesis
   each_kept new e reply answers i m is = go (cases_eq i (receiver e)) where
     some_is : (x y : MemberFields) → Some x ≡ Some y → x ≡ y
     some_is x y same = cc
@@ -97,7 +97,7 @@ module _ (c : Group) (es : List WorldEvent) (g : GameFields) (b : IsBehind c es 
     go (inr other) = b.each i m (sym (answers.others i other) ∙ is)
 
   pub makes_one :
-      WorldByOneMore → AnsweredIsUnforged → (new : GameFields) (e : WorldEvent) (reply : Reply) → length es < MOST_EVENTS
+      WorldByOneMore → AnsweredIsUnforged → (new : GameFields) (e : WorldEvent) (reply : WorldReply) → length es < MOST_EVENTS
       → IsSaidTo g.world e (Ok reply)
       → Answers g.world new.world e reply → new.world.answered ≡ one_more g.world.answered → new.members ≡ g.members → new.made ≡ g.made + 1
       → Makes c es e (Ok reply) × IsBehind c (es ++ e ∷ []) new

@@ -12,16 +12,16 @@ use Rattle.pay_text.specs.Answers.{Answers, Either, IsOver}
 use Rattle.pay_text.specs.Lines.{lines_within}
 use Rattle.pay_world.specs.declared.event.WorldEvent.{WorldEvent}
 use Rattle.pay_world.specs.declared.event.WorldEvent.TheVariants as event
-use Rattle.pay_world.specs.declared.reply.Reply.{Reply}
-use Rattle.pay_world.specs.declared.reply.Reply.TheVariants.{Asked, Refused, Brought, Ignored}
+use Rattle.pay_world.specs.declared.reply.WorldReply.{WorldReply}
+use Rattle.pay_world.specs.declared.reply.WorldReply.TheVariants.{Asked, Refused, Brought, Ignored}
 use Rattle.pay_world.specs.Answer.{receiver}
-use Rattle.pay_sim.specs.declared.command.Command.{Command}
-use Rattle.pay_sim.specs.declared.command.Command.TheVariants.{Ask, Bring, Lie, Raw, All, Show}
-use Rattle.pay_sim.specs.declared.group.Group.{Group}
+use Rattle.pay_sim.specs.declared.command.ScriptCommand.{ScriptCommand}
+use Rattle.pay_sim.specs.declared.command.ScriptCommand.TheVariants.{Ask, Bring, Lie, Raw, All, Show}
+use Rattle.pay_sim.specs.declared.group.ScriptGroup.{ScriptGroup}
 use Rattle.pay_sim.specs.declared.run.TheConstants.{LONGEST_LINE}
 use Rattle.pay_sim.specs.declared.sim_end.SimEnd.{SimEnd}
-use Rattle.pay_sim.specs.declared.stop.Stop.{Stop}
-use Rattle.pay_sim.specs.declared.stop.Stop.TheVariants.{BadLine, Forged, Limit}
+use Rattle.pay_sim.specs.declared.stop.RunStop.{RunStop}
+use Rattle.pay_sim.specs.declared.stop.RunStop.TheVariants.{BadLine, Forged, Limit}
 use Rattle.pay_sim.specs.All.{BringsAll, Draws, Enough, Again, Feeds, Further, Halted, InTurn, Nothing, Passes, Stopped}
 use Rattle.pay_sim.specs.Commands.{command_in}
 use Rattle.pay_sim.specs.Group.{group_in}
@@ -60,7 +60,7 @@ outcome_one : OneReading → (g : GenesisFields) (k : KeyFields) (before : List 
 outcome_one unique g k before bytes one other x y =
     x.is ∙ ap (λ r. outcome_of g k.own before (opening k r)) (unique bytes x.reading y.reading x.reads y.reads) ∙ sym y.is
 
-brought_one : OneReading → (g : GenesisFields) (k : KeyFields) (before : List Event) (bytes : List ℕ) (one other : Reply) → IsBroughtTo g k before bytes one → IsBroughtTo g k before bytes other → one ≡ other
+brought_one : OneReading → (g : GenesisFields) (k : KeyFields) (before : List Event) (bytes : List ℕ) (one other : WorldReply) → IsBroughtTo g k before bytes one → IsBroughtTo g k before bytes other → one ≡ other
 brought_one unique g k before bytes (Brought one) (Brought other) x y = ap Brought (outcome_one unique g k before bytes one other x y)
 brought_one unique g k before bytes (Brought one) (Asked n) x y = absurd y
 brought_one unique g k before bytes (Brought one) (Refused f) x y = absurd y
@@ -69,12 +69,12 @@ brought_one unique g k before bytes (Asked n) other x y = absurd x
 brought_one unique g k before bytes (Refused f) other x y = absurd x
 brought_one unique g k before bytes Ignored other x y = absurd x
 
-behind_one : OneReading → (g : GenesisFields) (k : KeyFields) (before : List Event) (e : WorldEvent) (one other : Reply) → IsReplyBehind g k before e one → IsReplyBehind g k before e other → one ≡ other
+behind_one : OneReading → (g : GenesisFields) (k : KeyFields) (before : List Event) (e : WorldEvent) (one other : WorldReply) → IsReplyBehind g k before e one → IsReplyBehind g k before e other → one ≡ other
 behind_one unique g k before (event.Ask i v) one other x y = x ∙ sym y
 behind_one unique g k before (event.Bring i bytes) one other x y = brought_one unique g k before bytes one other x y
 
-module _ (unique : OneReading) (c : Group) where
-  reply_one : (es : List WorldEvent) (e : WorldEvent) (one other : Reply) → IsReplyTo c es e one → IsReplyTo c es e other → one ≡ other
+module _ (unique : OneReading) (c : ScriptGroup) where
+  reply_one : (es : List WorldEvent) (e : WorldEvent) (one other : WorldReply) → IsReplyTo c es e one → IsReplyTo c es e other → one ≡ other
   reply_one es e one other x y = go (keys_at c (receiver e)) x y where
     go : (o : Option KeyFields)
         → MatchOption o (one ≡ Ignored) (λ k. IsReplyBehind c.genesis k (history_at c es (receiver e)) e one)
@@ -82,7 +82,7 @@ module _ (unique : OneReading) (c : Group) where
     go None x y = x ∙ sym y
     go (Some k) x y = behind_one unique c.genesis k (history_at c es (receiver e)) e one other x y
 
-  makes_one : (es : List WorldEvent) (e : WorldEvent) (one other : Result Reply Stop) → Makes c es e one → Makes c es e other → one ≡ other
+  makes_one : (es : List WorldEvent) (e : WorldEvent) (one other : Result WorldReply RunStop) → Makes c es e one → Makes c es e other → one ≡ other
   makes_one es e (Ok one) (Ok other) x y = ap Ok (reply_one es e one other x.2 y.2)
   makes_one es e (Ok one) (Err Limit) x y = absurd (let less = x.0 in omega arith)
   makes_one es e (Ok one) (Err (Forged k)) x y = absurd (true_false (sym y.1 ∙ x.1))
@@ -97,21 +97,21 @@ module _ (unique : OneReading) (c : Group) where
   makes_one es e (Err (Forged k)) (Err BadLine) x y = absurd y
   makes_one es e (Err BadLine) other x y = absurd x
 
-  replies_same : (es : List WorldEvent) (e : WorldEvent) (one other : Reply) → Makes c es e (Ok one) → Makes c es e (Ok other) → one ≡ other
+  replies_same : (es : List WorldEvent) (e : WorldEvent) (one other : WorldReply) → Makes c es e (Ok one) → Makes c es e (Ok other) → one ≡ other
   replies_same es e one other x y = ok_same one other (makes_one es e (Ok one) (Ok other) x y)
 
-  stops_same : (es : List WorldEvent) (e : WorldEvent) (one other : Stop) → Makes c es e (Err one) → Makes c es e (Err other) → one ≡ other
+  stops_same : (es : List WorldEvent) (e : WorldEvent) (one other : RunStop) → Makes c es e (Err one) → Makes c es e (Err other) → one ≡ other
   stops_same es e one other x y = err_same one other (makes_one es e (Err one) (Err other) x y)
 
-  not_both : (es : List WorldEvent) (e : WorldEvent) (reply : Reply) (stop : Stop) → Makes c es e (Ok reply) → Makes c es e (Err stop) → ⊥
+  not_both : (es : List WorldEvent) (e : WorldEvent) (reply : WorldReply) (stop : RunStop) → Makes c es e (Ok reply) → Makes c es e (Err stop) → ⊥
   not_both es e reply stop x y = ok_err reply stop (makes_one es e (Ok reply) (Err stop) x y)
 
   -- ---- `all` brings the same
 
-  Same : List WorldEvent → List WorldEvent → Option Stop → Option Stop → Type 0
+  Same : List WorldEvent → List WorldEvent → Option RunStop → Option RunStop → Type 0
   Same one other stop end = (one ≡ other) × (stop ≡ end)
 
-  draws_one : (from to : ℕ) {es one other : List WorldEvent} {stop end : Option Stop} → Draws c from to es one stop → Draws c from to es other end → (one ≡ other) × (stop ≡ end)
+  draws_one : (from to : ℕ) {es one other : List WorldEvent} {stop end : Option RunStop} → Draws c from to es one stop → Draws c from to es other end → (one ≡ other) × (stop ≡ end)
   draws_one from to (Nothing p) (Nothing q) = (refl, refl)
   draws_one from to (Nothing p) (Stopped frame stop q made) = absurd (none_some frame (sym p ∙ q))
   draws_one from to (Nothing p) (Further frame reply q made rest) = absurd (none_some frame (sym p ∙ q))
@@ -131,32 +131,32 @@ module _ (unique : OneReading) (c : Group) where
       draws_one from to rest (subst (λ (b : List ℕ). Draws c from to (es ++ event.Bring to b ∷ []) last end) same more)
 
 -- what each does has one end
-abbrev pub OneEnd : (List WorldEvent → List WorldEvent → Option Stop → Type 0) → Type 0
+abbrev pub OneEnd : (List WorldEvent → List WorldEvent → Option RunStop → Type 0) → Type 0
 OneEnd does =
-    (es one other : List WorldEvent) (stop end : Option Stop) → does es one stop → does es other end
+    (es one other : List WorldEvent) (stop end : Option RunStop) → does es one stop → does es other end
     → (one ≡ other) × (stop ≡ end)
 
-in_turn_one : (does : ℕ → List WorldEvent → List WorldEvent → Option Stop → Type 0) → ((i : ℕ) → OneEnd (does i)) → (is : List ℕ) → OneEnd (InTurn does is)
+in_turn_one : (does : ℕ → List WorldEvent → List WorldEvent → Option RunStop → Type 0) → ((i : ℕ) → OneEnd (does i)) → (is : List ℕ) → OneEnd (InTurn does is)
 in_turn_one does each [] es one other stop end x y = (x.0 ∙ sym y.0, x.1 ∙ sym y.1)
 in_turn_one does each (i ∷ is) es one other stop end (mid, met, first, rest) (mid2, met2, second, more) =
     let same = each i es mid mid2 met met2 first second in
     go met (λ x y. in_turn_one does each is mid one other stop end x y) rest
-    (subst (λ (o : Option Stop). MatchOption o (InTurn does is mid other end) (λ s. (other ≡ mid) × (end ≡ Some s))) (sym same.1)
+    (subst (λ (o : Option RunStop). MatchOption o (InTurn does is mid other end) (λ s. (other ≡ mid) × (end ≡ Some s))) (sym same.1)
     (subst (λ (l : List WorldEvent). MatchOption met2 (InTurn does is l other end) (λ s. (other ≡ l) × (end ≡ Some s))) (sym same.0) more)) where
-      go : (o : Option Stop) → (InTurn does is mid one stop → InTurn does is mid other end → (one ≡ other) × (stop ≡ end))
+      go : (o : Option RunStop) → (InTurn does is mid one stop → InTurn does is mid other end → (one ≡ other) × (stop ≡ end))
           → MatchOption o (InTurn does is mid one stop) (λ s. (one ≡ mid) × (stop ≡ Some s))
           → MatchOption o (InTurn does is mid other end) (λ s. (other ≡ mid) × (end ≡ Some s)) → (one ≡ other) × (stop ≡ end)
       go None on x y = on x y
       go (Some s) on x y = (x.0 ∙ sym y.0, x.1 ∙ sym y.1)
 
-module _ (unique : OneReading) (c : Group) where
+module _ (unique : OneReading) (c : ScriptGroup) where
   feeds_one : (to : ℕ) → OneEnd (Feeds c to)
   feeds_one to = in_turn_one (λ from. Draws c from to) (λ from es one other stop end x y. draws_one unique c from to x y) (range_with_len 0 c.genesis.members)
 
   passes_one : OneEnd (Passes c)
   passes_one = in_turn_one (Feeds c) feeds_one (range_with_len 0 c.genesis.members)
 
-  all_one : {es one other : List WorldEvent} {stop end : Option Stop} → BringsAll c es one stop → BringsAll c es other end → (one ≡ other) × (stop ≡ end)
+  all_one : {es one other : List WorldEvent} {stop end : Option RunStop} → BringsAll c es one stop → BringsAll c es other end → (one ≡ other) × (stop ≡ end)
   all_one {es = es} {one = one} {other = other} (Enough p same) (Enough q also) = passes_one es one other None None p q
   all_one {es = es} {one = one} {other = other} (Enough p same) (Halted stop q) = absurd (none_some stop (passes_one es one other None (Some stop) p q).1)
   all_one {es = es} {one = one} (Enough p same) (Again {mid = mid} q more rest) =
@@ -202,7 +202,7 @@ module _ (unique : OneReading) (c : Group) where
   all_tells_one es (Stops stop) (Prints text last) (end, x) y = absurd (none_some stop (all_one y.0 x).1)
   all_tells_one es (Stops stop) (Stops halt) (last, x) (end, y) = ap Stops (some_same stop halt (all_one x y).1)
 
-  obeys_one : (es : List WorldEvent) (command : Command) (one other : Told) → Obeys c es command one → Obeys c es command other → one ≡ other
+  obeys_one : (es : List WorldEvent) (command : ScriptCommand) (one other : Told) → Obeys c es command one → Obeys c es command other → one ≡ other
   obeys_one es (Ask member value) one other x y = tells_one es _ one other x y
   obeys_one es (Bring from to number) one other x y = sent_one es to (frame_for c es from to number) one other x y
   obeys_one es (Lie from to number body) one other x y = tells_one es (event.Bring to (lie_frame c es from to number body)) one other x y
@@ -210,7 +210,7 @@ module _ (unique : OneReading) (c : Group) where
   obeys_one es All one other x y = all_tells_one es one other x y
   obeys_one es Show one other x y = x ∙ sym y
 
-  command_one : (es : List WorldEvent) (o : Option Command) (one other : Told) → CommandTells c es o one → CommandTells c es o other → one ≡ other
+  command_one : (es : List WorldEvent) (o : Option ScriptCommand) (one other : Told) → CommandTells c es o one → CommandTells c es o other → one ≡ other
   command_one es None one other x y = x ∙ sym y
   command_one es (Some command) one other x y = obeys_one es command one other x y
 
@@ -220,11 +220,11 @@ module _ (unique : OneReading) (c : Group) where
 
 -- ---- so does any line of a script
 
-founds_one : (es : List WorldEvent) (o then also : Option Group) (one other : Told) → Founds es o then one → Founds es o also other → (then ≡ also) × (one ≡ other)
+founds_one : (es : List WorldEvent) (o then also : Option ScriptGroup) (one other : Told) → Founds es o then one → Founds es o also other → (then ≡ also) × (one ≡ other)
 founds_one es None then also one other x y = (x.1 ∙ sym y.1, x.0 ∙ sym y.0)
 founds_one es (Some c) then also one other x y = (x.1 ∙ sym y.1, x.0 ∙ sym y.0)
 
-does_one : OneReading → (group : Option Group) (es : List WorldEvent) (line : Option (List ℕ)) (then also : Option Group) (one other : Told)
+does_one : OneReading → (group : Option ScriptGroup) (es : List WorldEvent) (line : Option (List ℕ)) (then also : Option ScriptGroup) (one other : Told)
     → Does group es line then one → Does group es line also other → (then ≡ also) × (one ≡ other)
 does_one unique group es None then also one other x y = (x.1 ∙ sym y.1, x.0 ∙ sym y.0)
 does_one unique None es (Some line) then also one other x y = founds_one es (group_in line) then also one other x y
@@ -236,7 +236,7 @@ OneAnswer {A} says =
     (a : A) (line : Option (List ℕ)) (text words : List ℕ) (on goes : Bool) (b d : A) → says a line text on b → says a line words goes d
     → (text ≡ words) × (on ≡ goes) × (b ≡ d)
 
-follows_one : (m : Moment) (group : Option Group) (told : Told) (text words : List ℕ) (on goes : Bool) (b d : Moment)
+follows_one : (m : Moment) (group : Option ScriptGroup) (told : Told) (text words : List ℕ) (on goes : Bool) (b d : Moment)
     → Follows m group told text on b → Follows m group told words goes d → (text ≡ words) × (on ≡ goes) × (b ≡ d)
 follows_one m group (Prints said last) text words on goes b d x y = (x.0 ∙ sym y.0, x.1 ∙ sym y.1, x.2 ∙ sym y.2)
 follows_one m group (Stops stop) text words on goes b d x y = (x.0 ∙ sym y.0, x.1 ∙ sym y.1, x.2 ∙ sym y.2)
@@ -245,7 +245,7 @@ reads_one : OneReading → OneAnswer Reads
 reads_one unique m line text words on goes b d (group, told, does, follows) (also, other, acts, comes) =
     let same = does_one unique m.group m.events line group also told other does acts in
     follows_one m group told text words on goes b d follows
-    (subst (λ (t : Told). Follows m group t words goes d) (sym same.1) (subst (λ (g : Option Group). Follows m g other words goes d) (sym same.0) comes))
+    (subst (λ (t : Told). Follows m group t words goes d) (sym same.1) (subst (λ (g : Option ScriptGroup). Follows m g other words goes d) (sym same.0) comes))
 
 answers_one : {A : Type 0} (says : A → Option (List ℕ) → List ℕ → Bool → A → Type 0) → OneAnswer says → (lines : List (Option (List ℕ))) (a : A) (text words : List ℕ) (on goes : Bool) (b d : A)
     → Answers says a lines text on b → Answers says a lines words goes d → (text ≡ words) × (b ≡ d)

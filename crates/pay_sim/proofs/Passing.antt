@@ -16,7 +16,7 @@ use Rattle.pay_world.specs.GroupKeys.{group_test_keys}
 use Rattle.pay_world.specs.Liars.{is_listed}
 use Rattle.pay_world.specs.Passing.{MayPass, frame_by, frame_of}
 use Rattle.pay_world.specs.World.{member_in}
-use Rattle.pay_sim.specs.declared.group.Group.{Group}
+use Rattle.pay_sim.specs.declared.group.ScriptGroup.{ScriptGroup}
 use Rattle.pay_sim.specs.TestFrames.{test_frame}
 use Rattle.pay_sim.specs.Playing.{GameFields, IsBehind}
 use Rattle.pay_sim.proofs.Sealed.{spelled_is}
@@ -30,7 +30,7 @@ unlisted : {X : Type 0} (b : Bool) (o : Option X) (x : X) → Some x ≡ cond b 
 unlisted true o x is = absurd cc
 unlisted false o x is = is
 
-module _ (c : Group) (es : List WorldEvent) (g : GameFields) (b : IsBehind c es g) where
+module _ (c : ScriptGroup) (es : List WorldEvent) (g : GameFields) (b : IsBehind c es g) where
   key_at : (i : ℕ) (m : MemberFields) → member_in g.world i ≡ Some m → Some m.keys ≡ slice_get (group_test_keys c.genesis.members) i
   key_at i m is =
       unlisted (is_listed c.liars.liars i) (slice_get (group_test_keys c.genesis.members) i) m.keys

@@ -9,11 +9,11 @@ use Rattle.pay_text.specs.Answers.{Answers, Either}
 use Rattle.pay_text.specs.Engine.{AnswersAll, AnswersFirst, Writes}
 use Rattle.pay_text.specs.Lines.{line_feed, lines_of, lines_within, within}
 use Rattle.pay_text.specs.Words.{onto_first}
-use Rattle.pay_sim.specs.declared.group.Group.{Group}
+use Rattle.pay_sim.specs.declared.group.ScriptGroup.{ScriptGroup}
 use Rattle.pay_sim.specs.declared.run.TheConstants.{LONGEST_LINE}
 use Rattle.pay_sim.specs.declared.sim_end.SimEnd.TheVariants as end
-use Rattle.pay_sim.specs.declared.stop.Stop.{Stop}
-use Rattle.pay_sim.specs.declared.stop.Stop.TheVariants.{BadLine, Forged, Limit}
+use Rattle.pay_sim.specs.declared.stop.RunStop.{RunStop}
+use Rattle.pay_sim.specs.declared.stop.RunStop.TheVariants.{BadLine, Forged, Limit}
 use Rattle.pay_sim.specs.Script.{Told, Prints, Stops, Follows, IsRun, IsRunBegun, Moment, Reads, WritesRun, end_of, no_line, start}
 use Rattle.pay_sim.specs.Playing.{IsAnswer, IsAt, IsGameAt, IsGoing, IsStopped, MayBeAny, PlayFields}
 
@@ -47,12 +47,12 @@ lines_is false q n at = at.lines
 
 -- ---- a run that is stopped isn't done
 
-not_done : (s : Stop) → end_of (Some s) ≡ end.Done → ⊥
+not_done : (s : RunStop) → end_of (Some s) ≡ end.Done → ⊥
 not_done BadLine same = cc
 not_done (Forged k) same = cc
 not_done Limit same = cc
 
-stops_here : (m n : Moment) (group : Option Group) (told : Told) (text : List ℕ) → Follows m group told text false n → end_of n.stopped ≡ end.Done → ⊥
+stops_here : (m n : Moment) (group : Option ScriptGroup) (told : Told) (text : List ℕ) → Follows m group told text false n → end_of n.stopped ≡ end.Done → ⊥
 stops_here m n group (Prints words last) text (said, goes, is) done = true_false (sym goes)
 stops_here m n group (Stops stop) text (said, over, is) done = not_done stop (sym (ap (λ (x : Moment). end_of x.stopped) is) ∙ done)
 
@@ -64,7 +64,7 @@ stopped_is_not_done m n (line ∷ lines) text on over (first, rest, false, mid, 
 
 -- ---- how many lines there were
 
-counts_one : (m n : Moment) (group : Option Group) (told : Told) (text : List ℕ) (on : Bool) → Follows m group told text on n → 1 ≤ n.lines
+counts_one : (m n : Moment) (group : Option ScriptGroup) (told : Told) (text : List ℕ) (on : Bool) → Follows m group told text on n → 1 ≤ n.lines
 counts_one m n group (Prints words last) text on (said, goes, is) = let count = ap (λ (x : Moment). x.lines) is in omega arith
 counts_one m n group (Stops stop) text on (said, over, is) = let count = ap (λ (x : Moment). x.lines) is in omega arith
 

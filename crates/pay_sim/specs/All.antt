@@ -3,43 +3,43 @@ use Rattle.std.specs.Prelude.{◌≡◌, ℕ, ◌<◌, List, [], ◌∷◌, ◌+
 use Rattle.std.specs.List.{range_with_len}
 use Rattle.pay_world.specs.declared.event.WorldEvent.{WorldEvent}
 use Rattle.pay_world.specs.declared.event.WorldEvent.TheVariants.{Bring}
-use Rattle.pay_world.specs.declared.reply.Reply.{Reply}
-use Rattle.pay_sim.specs.declared.group.Group.{Group}
-use Rattle.pay_sim.specs.declared.stop.Stop.{Stop}
+use Rattle.pay_world.specs.declared.reply.WorldReply.{WorldReply}
+use Rattle.pay_sim.specs.declared.group.ScriptGroup.{ScriptGroup}
+use Rattle.pay_sim.specs.declared.stop.RunStop.{RunStop}
 use Rattle.pay_sim.specs.Made.{Makes, untaken}
 
 -- Each relation is of the events that were made before, those that were made after, and what stopped the run
 -- in between, if anything did.
 
 -- Member `to` takes of member `from`, frame after frame, until nothing of it is untaken.
-pub data Draws (c : Group) (from to : ℕ) : List WorldEvent → List WorldEvent → Option Stop → Type 0 where
+pub data Draws (c : ScriptGroup) (from to : ℕ) : List WorldEvent → List WorldEvent → Option RunStop → Type 0 where
   Nothing : {es : List WorldEvent} → untaken c es from to ≡ None → Draws c from to es es None
-  Stopped : {es : List WorldEvent} → (frame : List ℕ) → (stop : Stop) → untaken c es from to ≡ Some frame
+  Stopped : {es : List WorldEvent} → (frame : List ℕ) → (stop : RunStop) → untaken c es from to ≡ Some frame
       → Makes c es (Bring to frame) (Err stop) → Draws c from to es es (Some stop)
-  Further : {es last : List WorldEvent} → {stop : Option Stop} → (frame : List ℕ) → (reply : Reply)
+  Further : {es last : List WorldEvent} → {stop : Option RunStop} → (frame : List ℕ) → (reply : WorldReply)
       → untaken c es from to ≡ Some frame → Makes c es (Bring to frame) (Ok reply)
       → Draws c from to (es ++ Bring to frame ∷ []) last stop → Draws c from to es last stop
 
 -- one after the other, up to the first that is stopped
-abbrev pub InTurn : (ℕ → List WorldEvent → List WorldEvent → Option Stop → Type 0) → List ℕ → List WorldEvent → List WorldEvent → Option Stop → Type 0
+abbrev pub InTurn : (ℕ → List WorldEvent → List WorldEvent → Option RunStop → Type 0) → List ℕ → List WorldEvent → List WorldEvent → Option RunStop → Type 0
 InTurn does [] es last stop = (last ≡ es) × (stop ≡ None)
 InTurn does (i ∷ is) es last stop =
-    (mid : List WorldEvent) × (met : Option Stop) × does i es mid met
+    (mid : List WorldEvent) × (met : Option RunStop) × does i es mid met
     × MatchOption met (InTurn does is mid last stop) (λ s. (last ≡ mid) × (stop ≡ Some s))
 
 -- a member takes of each other one, in the order of their numbers
-abbrev pub Feeds : Group → ℕ → List WorldEvent → List WorldEvent → Option Stop → Type 0
+abbrev pub Feeds : ScriptGroup → ℕ → List WorldEvent → List WorldEvent → Option RunStop → Type 0
 Feeds c to = InTurn (λ from. Draws c from to) (range_with_len 0 c.genesis.members)
 
 -- each member does, in this order
-abbrev pub Passes : Group → List WorldEvent → List WorldEvent → Option Stop → Type 0
+abbrev pub Passes : ScriptGroup → List WorldEvent → List WorldEvent → Option RunStop → Type 0
 Passes c = InTurn (Feeds c) (range_with_len 0 c.genesis.members)
 
 -- They do so again and again, until nothing was brought.
-pub data BringsAll (c : Group) : List WorldEvent → List WorldEvent → Option Stop → Type 0 where
+pub data BringsAll (c : ScriptGroup) : List WorldEvent → List WorldEvent → Option RunStop → Type 0 where
   Enough : {es last : List WorldEvent} → Passes c es last None → length last ≡ length es
       → BringsAll c es last None
-  Halted : {es last : List WorldEvent} → (stop : Stop) → Passes c es last (Some stop)
+  Halted : {es last : List WorldEvent} → (stop : RunStop) → Passes c es last (Some stop)
       → BringsAll c es last (Some stop)
-  Again : {es mid last : List WorldEvent} → {stop : Option Stop} → Passes c es mid None
+  Again : {es mid last : List WorldEvent} → {stop : Option RunStop} → Passes c es mid None
       → length es < length mid → BringsAll c mid last stop → BringsAll c es last stop

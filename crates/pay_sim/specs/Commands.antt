@@ -13,8 +13,8 @@ use Rattle.pay_text.specs.Numbers.{number_of, first_number}
 use Rattle.pay_text.specs.Pairs.{pairs_within}
 use Rattle.pay_book.specs.declared.payment.TheConstants.{MOST_PAYMENTS}
 use Rattle.pay_book.specs.Payment.{payment_value, payments_named, payments_value}
-use Rattle.pay_sim.specs.declared.command.Command.{Command}
-use Rattle.pay_sim.specs.declared.command.Command.TheVariants.{Ask, Bring, Lie, Raw, All, Show}
+use Rattle.pay_sim.specs.declared.command.ScriptCommand.{ScriptCommand}
+use Rattle.pay_sim.specs.declared.command.ScriptCommand.TheVariants.{Ask, Bring, Lie, Raw, All, Show}
 use Rattle.pay_sim.specs.declared.command.TheConstants.{MEMBERS, ACCOUNTS}
 
 -- ---- single words
@@ -64,7 +64,7 @@ abbrev pub if_last : {X : Type 0} → List (List ℕ) → X → Option X
 if_last words x = if is_none words then Some x else None
 
 -- `I PAYEE AMOUNT`
-unfoldable pub ask_in : List (List ℕ) → Option Command
+unfoldable pub ask_in : List (List ℕ) → Option ScriptCommand
 ask_in words =
     option_and_then (λ member. option_and_then (λ payee. option_and_then (λ amount.
     if_last (drop 1 (drop 1 (drop 1 words))) (Ask member (payment_value payee amount)))
@@ -78,13 +78,13 @@ several_in words =
     option_map payments_value (option_and_then payments_named (pairs_within MOST_PAYMENTS words))
 
 -- `I PAYEE AMOUNT ..`
-unfoldable pub asks_in : List (List ℕ) → Option Command
+unfoldable pub asks_in : List (List ℕ) → Option ScriptCommand
 asks_in words =
     option_and_then (λ member. option_map (Ask member) (several_in (drop 1 words)))
     (below MEMBERS words)
 
 -- `FROM TO M`
-unfoldable pub bring_in : List (List ℕ) → Option Command
+unfoldable pub bring_in : List (List ℕ) → Option ScriptCommand
 bring_in words =
     option_and_then (λ from. option_and_then (λ to. option_and_then (λ number.
     if_last (drop 1 (drop 1 (drop 1 words))) (Bring from to number))
@@ -108,7 +108,7 @@ body_in words =
     (first_kind words)
 
 -- `FROM TO M` and a body
-unfoldable pub lie_in : List (List ℕ) → Option Command
+unfoldable pub lie_in : List (List ℕ) → Option ScriptCommand
 lie_in words =
     option_and_then (λ from. option_and_then (λ to. option_and_then (λ number.
     option_map (Lie from to number) (body_in (drop 1 (drop 1 (drop 1 words)))))
@@ -117,7 +117,7 @@ lie_in words =
     (below MEMBERS words)
 
 -- `TO HEX`
-unfoldable pub raw_in : List (List ℕ) → Option Command
+unfoldable pub raw_in : List (List ℕ) → Option ScriptCommand
 raw_in words =
     option_and_then (λ to. option_and_then (λ bytes.
     if_last (drop 1 (drop 1 words)) (Raw to bytes))
@@ -125,14 +125,14 @@ raw_in words =
     (below MEMBERS words)
 
 -- a name that is a command by itself
-unfoldable pub alone_in : List ℕ → List (List ℕ) → Option Command
+unfoldable pub alone_in : List ℕ → List (List ℕ) → Option ScriptCommand
 alone_in name words =
     if bytes_eq name (codes "all") then if_last words All
     else if bytes_eq name (codes "show") then if_last words Show
     else None
 
 -- the command of a name by which something is brought, or that is a command by itself
-unfoldable pub bringing_in : List ℕ → List (List ℕ) → Option Command
+unfoldable pub bringing_in : List ℕ → List (List ℕ) → Option ScriptCommand
 bringing_in name words =
     if bytes_eq name (codes "bring") then bring_in words
     else if bytes_eq name (codes "lie") then lie_in words
@@ -140,11 +140,11 @@ bringing_in name words =
     else alone_in name words
 
 -- the command of this name
-abbrev pub command_of : List (List ℕ) → List ℕ → Option Command
+abbrev pub command_of : List (List ℕ) → List ℕ → Option ScriptCommand
 command_of words name =
     if bytes_eq name (codes "ask") then ask_in words
     else if bytes_eq name (codes "asks") then asks_in words
     else bringing_in name words
 
-unfoldable pub command_in : List ℕ → Option Command
+unfoldable pub command_in : List ℕ → Option ScriptCommand
 command_in line = option_and_then (command_of (drop 1 (words_of line))) (first_word (words_of line))

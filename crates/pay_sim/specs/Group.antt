@@ -7,7 +7,7 @@ use Rattle.pay_json.specs.File.{numbers_at, value_in}
 use Rattle.pay_link.specs.Genesis.{GenesisFields}
 use Rattle.pay_link.specs.Files.{genesis_in}
 use Rattle.pay_world.specs.Liars.{liar_fault, liars_in}
-use Rattle.pay_sim.specs.declared.group.Group.{Group}
+use Rattle.pay_sim.specs.declared.group.ScriptGroup.{ScriptGroup}
 
 -- the liars that a file of JSON says
 unfoldable pub liars_said : List ℕ → Option (List ℕ)
@@ -22,12 +22,12 @@ abbrev pub fitting : Option (List ℕ) → Option (List ℕ)
 fitting said = option_and_then if_short said
 
 -- the group with these liars, if they have no fault
-unfoldable pub with_liars : GenesisFields → List ℕ → Option Group
+unfoldable pub with_liars : GenesisFields → List ℕ → Option ScriptGroup
 with_liars g liars =
     option_map_or (λ fault. None) (liar_fault (liars_in g liars))
     (Some (record { genesis = g; liars = liars_in g liars }))
 
 -- the group that a file says, if its genesis and its liars have no fault
-unfoldable pub group_in : List ℕ → Option Group
+unfoldable pub group_in : List ℕ → Option ScriptGroup
 group_in bytes =
     option_and_then (λ g. option_and_then (with_liars g) (fitting (liars_said bytes))) (result_ok (genesis_in bytes))

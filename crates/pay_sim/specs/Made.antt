@@ -11,38 +11,38 @@ use Rattle.pay_member.specs.Bringing.{IsOutcome}
 use Rattle.pay_member.specs.Refusal.{refusal}
 use Rattle.pay_world.specs.declared.event.WorldEvent.{WorldEvent}
 use Rattle.pay_world.specs.declared.event.WorldEvent.TheVariants.{Ask, Bring}
-use Rattle.pay_world.specs.declared.reply.Reply.{Reply}
-use Rattle.pay_world.specs.declared.reply.Reply.TheVariants.{Asked, Refused, Brought, Ignored}
+use Rattle.pay_world.specs.declared.reply.WorldReply.{WorldReply}
+use Rattle.pay_world.specs.declared.reply.WorldReply.TheVariants.{Asked, Refused, Brought, Ignored}
 use Rattle.pay_world.specs.Setting.{is_correct}
 use Rattle.pay_world.specs.Genuine.{is_forged_in}
 use Rattle.pay_world.specs.Liars.{setting_of}
 use Rattle.pay_world.specs.Answer.{answer_to_ask, deed_of, receiver}
 use Rattle.pay_world.specs.Run.{correct_keys, history_of}
 use Rattle.pay_world.specs.GroupKeys.{group_test_keys}
-use Rattle.pay_sim.specs.declared.group.Group.{Group}
+use Rattle.pay_sim.specs.declared.group.ScriptGroup.{ScriptGroup}
 use Rattle.pay_sim.specs.declared.game.TheConstants.{MOST_EVENTS}
-use Rattle.pay_sim.specs.declared.stop.Stop.{Stop}
-use Rattle.pay_sim.specs.declared.stop.Stop.TheVariants.{BadLine, Forged, Limit}
+use Rattle.pay_sim.specs.declared.stop.RunStop.{RunStop}
+use Rattle.pay_sim.specs.declared.stop.RunStop.TheVariants.{BadLine, Forged, Limit}
 use Rattle.pay_sim.specs.TestFrames.{test_frame}
 
 -- ---- what members know
 
 -- whether a member is there and doesn't lie
-abbrev pub is_there : Group → ℕ → Bool
+abbrev pub is_there : ScriptGroup → ℕ → Bool
 is_there c i = is_correct (setting_of c.liars) i
 
 -- its keys: all members have the test keys
-abbrev pub keys_at : Group → ℕ → Option KeyFields
+abbrev pub keys_at : ScriptGroup → ℕ → Option KeyFields
 keys_at c i = correct_keys (group_test_keys c.genesis.members) c.liars i
 
 -- what it took of the events
-abbrev pub history_at : Group → List WorldEvent → ℕ → List Event
+abbrev pub history_at : ScriptGroup → List WorldEvent → ℕ → List Event
 history_at c es i = history_of (group_test_keys c.genesis.members) c.liars es i
 
 -- ---- what is sent
 
 -- the frame at a place of all that a correct member sent, for another
-unfoldable pub sent_frame : Group → List WorldEvent → ℕ → ℕ → ℕ → Option (List ℕ)
+unfoldable pub sent_frame : ScriptGroup → List WorldEvent → ℕ → ℕ → ℕ → Option (List ℕ)
 sent_frame c es from to number =
     if is_there c from && not (from == to)
     then option_map (test_frame from to number)
@@ -50,51 +50,51 @@ sent_frame c es from to number =
     else None
 
 -- the same, where the other is a correct member; else no bytes
-unfoldable pub frame_for : Group → List WorldEvent → ℕ → ℕ → ℕ → Option (List ℕ)
+unfoldable pub frame_for : ScriptGroup → List WorldEvent → ℕ → ℕ → ℕ → Option (List ℕ)
 frame_for c es from to number =
     if is_there c to then sent_frame c es from to number else Some []
 
 -- the number that a correct member takes next from another; 0 where there is no such link
-unfoldable pub next_number : Group → List WorldEvent → ℕ → ℕ → ℕ
+unfoldable pub next_number : ScriptGroup → List WorldEvent → ℕ → ℕ → ℕ
 next_number c es from to =
     if nat_lt from c.genesis.members && not (from == to) && is_there c to
     then next from (history_at c es to)
     else 0
 
 -- the frame that correct member `to` takes next of all that correct member `from` sent, if that is there
-unfoldable pub untaken : Group → List WorldEvent → ℕ → ℕ → Option (List ℕ)
+unfoldable pub untaken : ScriptGroup → List WorldEvent → ℕ → ℕ → Option (List ℕ)
 untaken c es from to =
     if is_there c to then sent_frame c es from to (next_number c es from to) else None
 
 -- ---- what comes of an event
 
 -- whether it brings a frame that the correct member which it names didn't send
-unfoldable pub is_forged_by : Group → List WorldEvent → WorldEvent → Bool
+unfoldable pub is_forged_by : ScriptGroup → List WorldEvent → WorldEvent → Bool
 is_forged_by c es e =
     option_map_or (is_forged_in (setting_of c.liars) (history_at c es)) (deed_of (keys_at c) e) false
 
 -- what comes of bytes at the member with these keys
-abbrev pub IsBroughtTo : GenesisFields → KeyFields → List Event → List ℕ → Reply → Type 0
+abbrev pub IsBroughtTo : GenesisFields → KeyFields → List Event → List ℕ → WorldReply → Type 0
 IsBroughtTo g k before bytes (Brought outcome) = IsOutcome g k before bytes outcome
 IsBroughtTo g k before bytes (Asked number) = ⊥
 IsBroughtTo g k before bytes (Refused fault) = ⊥
 IsBroughtTo g k before bytes Ignored = ⊥
 
 -- the reply of the member with these keys, behind these events of its own
-abbrev pub IsReplyBehind : GenesisFields → KeyFields → List Event → WorldEvent → Reply → Type 0
+abbrev pub IsReplyBehind : GenesisFields → KeyFields → List Event → WorldEvent → WorldReply → Type 0
 IsReplyBehind g k before (Ask i v) reply =
     reply ≡ answer_to_ask (refusal g k before (entry.Ask v)) (asks before)
 IsReplyBehind g k before (Bring i bytes) reply = IsBroughtTo g k before bytes reply
 
 -- the reply to an event: that of the member to which it happens, if it is there
-abbrev pub IsReplyTo : Group → List WorldEvent → WorldEvent → Reply → Type 0
+abbrev pub IsReplyTo : ScriptGroup → List WorldEvent → WorldEvent → WorldReply → Type 0
 IsReplyTo c es e reply =
     MatchOption (keys_at c (receiver e)) (reply ≡ Ignored)
     (λ k. IsReplyBehind c.genesis k (history_at c es (receiver e)) e reply)
 
 -- An event is made and has its reply; or the run stops before it, where as many as there may be were
 -- made, or where it is forged.
-abbrev pub Makes : Group → List WorldEvent → WorldEvent → Result Reply Stop → Type 0
+abbrev pub Makes : ScriptGroup → List WorldEvent → WorldEvent → Result WorldReply RunStop → Type 0
 Makes c es e (Ok reply) =
     (length es < MOST_EVENTS) × (is_forged_by c es e ≡ false) × IsReplyTo c es e reply
 Makes c es e (Err Limit) = MOST_EVENTS ≤ length es

@@ -2,15 +2,15 @@
 use Rattle.std.specs.Prelude.{◌≡◌, ℕ, ◌<◌, Bool, true, false, List, [], ◌∷◌, ◌++◌, length, Option, Some, None, Result, Ok, Err, ⊤}
 use Rattle.pay_member.specs.Member.{MemberFields}
 use Rattle.pay_world.specs.declared.event.WorldEvent.{WorldEvent}
-use Rattle.pay_world.specs.declared.reply.Reply.{Reply}
+use Rattle.pay_world.specs.declared.reply.WorldReply.{WorldReply}
 use Rattle.pay_world.specs.World.{WorldFields, member_in}
 use Rattle.pay_world.specs.Run.{IsWorldAfter}
 use Rattle.pay_world.specs.GroupKeys.{group_test_keys}
-use Rattle.pay_sim.specs.declared.group.Group.{Group}
+use Rattle.pay_sim.specs.declared.group.ScriptGroup.{ScriptGroup}
 use Rattle.pay_sim.specs.declared.stop.Halt.{Halt}
 use Rattle.pay_sim.specs.declared.stop.Halt.TheVariants as halt
-use Rattle.pay_sim.specs.declared.stop.Stop.{Stop}
-use Rattle.pay_sim.specs.declared.stop.Stop.TheVariants.{BadLine}
+use Rattle.pay_sim.specs.declared.stop.RunStop.{RunStop}
+use Rattle.pay_sim.specs.declared.stop.RunStop.TheVariants.{BadLine}
 use Rattle.pay_sim.specs.Group.{group_in}
 use Rattle.pay_sim.specs.Made.{Makes}
 use Rattle.pay_sim.specs.Script.{Told, Prints, Stops, Moment, Does, Reads}
@@ -24,7 +24,7 @@ pub record GameFields : Type 0 where
   pub made : ℕ
 
 -- It is the world of this group behind these events.
-pub record IsBehind (c : Group) (es : List WorldEvent) (g : GameFields) : Type 0 where
+pub record IsBehind (c : ScriptGroup) (es : List WorldEvent) (g : GameFields) : Type 0 where
   pub after : IsWorldAfter c.genesis (group_test_keys c.genesis.members) c.liars es g.world
   pub each : (i : ℕ) (m : MemberFields) → member_in g.world i ≡ Some m → m.genesis ≡ c.genesis
   pub members : g.members ≡ c.genesis.members
@@ -33,18 +33,18 @@ pub record IsBehind (c : Group) (es : List WorldEvent) (g : GameFields) : Type 0
 
 -- It is the world of some group behind some events: so all its members have the test keys.
 pub record IsGame (g : GameFields) : Type 0 where
-  pub group : Group
+  pub group : ScriptGroup
   pub events : List WorldEvent
   pub behind : IsBehind group events g
 
 -- an event more was made, or not
-abbrev pub IsMade : Group → List WorldEvent → WorldEvent → GameFields → Result Reply Halt → Type 0
+abbrev pub IsMade : ScriptGroup → List WorldEvent → WorldEvent → GameFields → Result WorldReply Halt → Type 0
 IsMade c es e new (Ok reply) = Makes c es e (Ok reply) × IsBehind c (es ++ e ∷ []) new
 IsMade c es e new (Err (halt.Stop stop)) = Makes c es e (Err stop)
 IsMade c es e new (Err halt.Memory) = Unit {0}
 
 -- a command was done, and its text is written behind what stands there
-abbrev pub IsDone : (Told → Type 0) → Group → List ℕ → List ℕ → GameFields → Result ⊤ Halt → Type 0
+abbrev pub IsDone : (Told → Type 0) → ScriptGroup → List ℕ → List ℕ → GameFields → Result ⊤ Halt → Type 0
 IsDone does c before after new (Ok _) =
     (text : List ℕ) × (last : List WorldEvent) × does (Prints text last) × (after ≡ before ++ text)
     × IsBehind c last new
@@ -52,25 +52,25 @@ IsDone does c before after new (Err (halt.Stop stop)) = does (Stops stop)
 IsDone does c before after new (Err halt.Memory) = Unit {0}
 
 -- frames were brought
-abbrev pub IsBrought : (List WorldEvent → Option Stop → Type 0) → Group → GameFields → Result ⊤ Halt → Type 0
+abbrev pub IsBrought : (List WorldEvent → Option RunStop → Type 0) → ScriptGroup → GameFields → Result ⊤ Halt → Type 0
 IsBrought does c new (Ok _) = (last : List WorldEvent) × does last None × IsBehind c last new
 IsBrought does c new (Err (halt.Stop stop)) = (last : List WorldEvent) × does last (Some stop)
 IsBrought does c new (Err halt.Memory) = Unit {0}
 
 -- what the one relation says from the events of this moment on, the other says
-abbrev pub Leads : Group → GameFields → (List WorldEvent → List WorldEvent → Option Stop → Type 0) → (List WorldEvent → Option Stop → Type 0) → Type 0
+abbrev pub Leads : ScriptGroup → GameFields → (List WorldEvent → List WorldEvent → Option RunStop → Type 0) → (List WorldEvent → Option RunStop → Type 0) → Type 0
 Leads c now rest whole =
     (mid : List WorldEvent) × IsBehind c mid now
-    × ((last : List WorldEvent) (stop : Option Stop) → rest mid last stop → whole last stop)
+    × ((last : List WorldEvent) (stop : Option RunStop) → rest mid last stop → whole last stop)
 
 -- ---- line by line
 
 pub record PlayFields : Type 0 where
   pub lines : ℕ
   pub game : Option GameFields
-  pub stop : Option Stop
+  pub stop : Option RunStop
 
-abbrev pub IsGameAt : Option GameFields → Option Group → List WorldEvent → Type 0
+abbrev pub IsGameAt : Option GameFields → Option ScriptGroup → List WorldEvent → Type 0
 IsGameAt None None es = es ≡ []
 IsGameAt None (Some c) es = ⊥
 IsGameAt (Some g) None es = ⊥
@@ -93,17 +93,17 @@ IsAt false p m = IsStopped p m
 
 -- the world that a script's first line says, before any event
 abbrev pub IsFounded : List ℕ → Result GameFields Halt → Type 0
-IsFounded line (Ok g) = (c : Group) × (group_in line ≡ Some c) × IsBehind c [] g
+IsFounded line (Ok g) = (c : ScriptGroup) × (group_in line ≡ Some c) × IsBehind c [] g
 IsFounded line (Err (halt.Stop stop)) = (stop ≡ BadLine) × (group_in line ≡ None)
 IsFounded line (Err halt.Memory) = Unit {0}
 
 -- what a line does where the script has come to this group and these events
-abbrev pub IsRead : Option Group → List WorldEvent → Option (List ℕ) → List ℕ → List ℕ → Option GameFields → Result ⊤ Halt → Type 0
+abbrev pub IsRead : Option ScriptGroup → List WorldEvent → Option (List ℕ) → List ℕ → List ℕ → Option GameFields → Result ⊤ Halt → Type 0
 IsRead group es line before after new (Ok _) =
-    (text : List ℕ) × (then : Option Group) × (last : List WorldEvent)
+    (text : List ℕ) × (then : Option ScriptGroup) × (last : List WorldEvent)
     × Does group es line then (Prints text last) × (after ≡ before ++ text) × IsGameAt new then last
 IsRead group es line before after new (Err (halt.Stop stop)) =
-    (then : Option Group) × Does group es line then (Stops stop)
+    (then : Option ScriptGroup) × Does group es line then (Stops stop)
 IsRead group es line before after new (Err halt.Memory) = Unit {0}
 
 -- A line is answered as a script's is, however far it has come.

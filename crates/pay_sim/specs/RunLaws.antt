@@ -4,12 +4,12 @@ use Rattle.pay_link.specs.Genesis.{IsGenesis}
 use Rattle.pay_member.specs.declared.outcome.Outcome.TheVariants.{Took}
 use Rattle.pay_member.specs.declared.took.Took as took
 use Rattle.pay_world.specs.declared.event.WorldEvent.{WorldEvent}
-use Rattle.pay_world.specs.declared.reply.Reply.TheVariants.{Brought}
+use Rattle.pay_world.specs.declared.reply.WorldReply.TheVariants.{Brought}
 use Rattle.pay_world.specs.Liars.{AreLiars, AreLiarsOf}
-use Rattle.pay_sim.specs.declared.group.Group.{Group}
+use Rattle.pay_sim.specs.declared.group.ScriptGroup.{ScriptGroup}
 use Rattle.pay_sim.specs.declared.sim_end.SimEnd.{SimEnd}
-use Rattle.pay_sim.specs.declared.stop.Stop.{Stop}
-use Rattle.pay_sim.specs.declared.stop.Stop.TheVariants.{Limit}
+use Rattle.pay_sim.specs.declared.stop.RunStop.{RunStop}
+use Rattle.pay_sim.specs.declared.stop.RunStop.TheVariants.{Limit}
 use Rattle.pay_sim.specs.All.{BringsAll}
 use Rattle.pay_sim.specs.Group.{group_in}
 use Rattle.pay_sim.specs.Made.{Makes}
@@ -30,18 +30,18 @@ EachRuns = (script : List ℕ) → (text : List ℕ) × (ended : SimEnd) × IsRu
 -- ---- its group
 
 -- within the limits of a genesis and of its liars
-pub record IsGroup (c : Group) : Type 0 where
+pub record IsGroup (c : ScriptGroup) : Type 0 where
   pub genesis : IsGenesis c.genesis
   pub liars : AreLiars c.liars
   pub of : AreLiarsOf c.genesis c.liars
 
 abbrev pub FirstLineIsGroup : Type 0
-FirstLineIsGroup = (line : List ℕ) (c : Group) → group_in line ≡ Some c → IsGroup c
+FirstLineIsGroup = (line : List ℕ) (c : ScriptGroup) → group_in line ≡ Some c → IsGroup c
 
 -- ---- what `all` brings
 
 -- Behind these events those are brought, and each is a frame that its receiver takes.
-pub record AreTaken (c : Group) (es brought : List WorldEvent) : Type 0 where
+pub record AreTaken (c : ScriptGroup) (es brought : List WorldEvent) : Type 0 where
   pub each :
       (k : ℕ) (e : WorldEvent) → slice_get brought k ≡ Some e
       → (t : took.Took) × Makes c (es ++ take k brought) e (Ok (Brought (Took t)))
@@ -49,6 +49,6 @@ pub record AreTaken (c : Group) (es brought : List WorldEvent) : Type 0 where
 -- All that `all` brings is taken, and nothing but the limit stops it.
 abbrev pub AllIsTaken : Type 0
 AllIsTaken =
-    (c : Group) (es last : List WorldEvent) (stop : Option Stop) → IsGroup c → BringsAll c es last stop
+    (c : ScriptGroup) (es last : List WorldEvent) (stop : Option RunStop) → IsGroup c → BringsAll c es last stop
     → (brought : List WorldEvent) × (last ≡ es ++ brought) × AreTaken c es brought
     × ((stop ≡ None) ⊎ (stop ≡ Some Limit))

@@ -11,18 +11,18 @@ use Rattle.pay_text.specs.Engine.{AnswersFirst}
 use Rattle.pay_text.specs.Lines.{line_feed, lines_within}
 use Rattle.pay_world.specs.declared.event.WorldEvent.{WorldEvent}
 use Rattle.pay_world.specs.declared.event.WorldEvent.TheVariants as event
-use Rattle.pay_world.specs.declared.reply.Reply.{Reply}
+use Rattle.pay_world.specs.declared.reply.WorldReply.{WorldReply}
 use Rattle.pay_world.specs.Answer.{one_more, receiver}
 use Rattle.pay_world.specs.Convergence.{AllTaken}
 use Rattle.pay_world.specs.Liars.{setting_of}
-use Rattle.pay_sim.specs.declared.command.Command.{Command}
-use Rattle.pay_sim.specs.declared.command.Command.TheVariants.{Ask, Bring, Lie, Raw, All, Show}
-use Rattle.pay_sim.specs.declared.group.Group.{Group}
+use Rattle.pay_sim.specs.declared.command.ScriptCommand.{ScriptCommand}
+use Rattle.pay_sim.specs.declared.command.ScriptCommand.TheVariants.{Ask, Bring, Lie, Raw, All, Show}
+use Rattle.pay_sim.specs.declared.group.ScriptGroup.{ScriptGroup}
 use Rattle.pay_sim.specs.declared.run.TheConstants.{LONGEST_LINE}
 use Rattle.pay_sim.specs.declared.sim_end.SimEnd.{SimEnd}
 use Rattle.pay_sim.specs.declared.sim_end.SimEnd.TheVariants as end
-use Rattle.pay_sim.specs.declared.stop.Stop.{Stop}
-use Rattle.pay_sim.specs.declared.stop.Stop.TheVariants.{BadLine, Forged, Limit}
+use Rattle.pay_sim.specs.declared.stop.RunStop.{RunStop}
+use Rattle.pay_sim.specs.declared.stop.RunStop.TheVariants.{BadLine, Forged, Limit}
 use Rattle.pay_sim.specs.Commands.{command_in}
 use Rattle.pay_sim.specs.Words.{book_words, reply_line}
 use Rattle.pay_sim.specs.TestFrames.{test_frame}
@@ -38,40 +38,40 @@ with_feed words = words ++ line_feed ∷ []
 -- What a line does: it prints this, and all events are then these; or it stops the run.
 pub data Told : Type 0 where
   Prints : List ℕ → List WorldEvent → Told
-  Stops : Stop → Told
+  Stops : RunStop → Told
 
 -- an event is made, and its reply printed
-abbrev pub Tells : Group → List WorldEvent → WorldEvent → Told → Type 0
+abbrev pub Tells : ScriptGroup → List WorldEvent → WorldEvent → Told → Type 0
 Tells c es e (Prints text last) =
-    (reply : Reply) × Makes c es e (Ok reply) × (text ≡ reply_line (receiver e) reply)
+    (reply : WorldReply) × Makes c es e (Ok reply) × (text ≡ reply_line (receiver e) reply)
     × (last ≡ es ++ e ∷ [])
 Tells c es e (Stops stop) = Makes c es e (Err stop)
 
 -- the frame at that place is brought, if it is there
-abbrev pub TellsSent : Group → List WorldEvent → ℕ → Option (List ℕ) → Told → Type 0
+abbrev pub TellsSent : ScriptGroup → List WorldEvent → ℕ → Option (List ℕ) → Told → Type 0
 TellsSent c es to None told = told ≡ Prints (with_feed (codes "absent")) es
 TellsSent c es to (Some frame) told = Tells c es (event.Bring to frame) told
 
 -- to a liar, and where there is no member, no bytes are brought
-abbrev pub TellsBring : Group → List WorldEvent → ℕ → ℕ → ℕ → Told → Type 0
+abbrev pub TellsBring : ScriptGroup → List WorldEvent → ℕ → ℕ → ℕ → Told → Type 0
 TellsBring c es from to number told = TellsSent c es to (frame_for c es from to number) told
 
 -- the number that a lie says, or the next one
-abbrev pub lie_number : Group → List WorldEvent → ℕ → ℕ → Option ℕ → ℕ
+abbrev pub lie_number : ScriptGroup → List WorldEvent → ℕ → ℕ → Option ℕ → ℕ
 lie_number c es from to (Some number) = number
 lie_number c es from to None = next_number c es from to
 
-abbrev pub lie_frame : Group → List WorldEvent → ℕ → ℕ → Option ℕ → BodyFields → List ℕ
+abbrev pub lie_frame : ScriptGroup → List WorldEvent → ℕ → ℕ → Option ℕ → BodyFields → List ℕ
 lie_frame c es from to number body = test_frame from to (lie_number c es from to number) body
 
 -- a line more, where each member that doesn't lie took all that the others sent
-abbrev pub IsConverged : Group → List WorldEvent → List ℕ → Type 0
+abbrev pub IsConverged : ScriptGroup → List WorldEvent → List ℕ → Type 0
 IsConverged c es words =
     (AllTaken (setting_of c.liars) (history_at c es) × (words ≡ with_feed (codes "converged")))
     ⊎ (¬ (AllTaken (setting_of c.liars) (history_at c es)) × (words ≡ []))
 
 -- all is brought, and how many frames that were is printed
-abbrev pub TellsAll : Group → List WorldEvent → Told → Type 0
+abbrev pub TellsAll : ScriptGroup → List WorldEvent → Told → Type 0
 TellsAll c es (Prints text last) =
     BringsAll c es last None
     × ((words : List ℕ) × IsConverged c last words
@@ -79,17 +79,17 @@ TellsAll c es (Prints text last) =
 TellsAll c es (Stops stop) = (last : List WorldEvent) × BringsAll c es last (Some stop)
 
 -- the book of a member that is there
-abbrev pub shown : Group → List WorldEvent → ℕ → List ℕ
+abbrev pub shown : ScriptGroup → List WorldEvent → ℕ → List ℕ
 shown c es i =
     if is_there c i
     then with_feed (book_words c.genesis.members i (book_after c.genesis i (history_at c es i)))
     else []
 
 -- those of all members, in the order of their numbers
-unfoldable pub show_text : Group → List WorldEvent → List ℕ
+unfoldable pub show_text : ScriptGroup → List WorldEvent → List ℕ
 show_text c es = flat_map (shown c es) (range_with_len 0 c.genesis.members)
 
-abbrev pub Obeys : Group → List WorldEvent → Command → Told → Type 0
+abbrev pub Obeys : ScriptGroup → List WorldEvent → ScriptCommand → Told → Type 0
 Obeys c es (Ask member value) told = Tells c es (event.Ask member value) told
 Obeys c es (Bring from to number) told = TellsBring c es from to number told
 Obeys c es (Lie from to number body) told =
@@ -98,12 +98,12 @@ Obeys c es (Raw to bytes) told = Tells c es (event.Bring to bytes) told
 Obeys c es All told = TellsAll c es told
 Obeys c es Show told = told ≡ Prints (show_text c es) es
 
-abbrev pub CommandTells : Group → List WorldEvent → Option Command → Told → Type 0
+abbrev pub CommandTells : ScriptGroup → List WorldEvent → Option ScriptCommand → Told → Type 0
 CommandTells c es None told = told ≡ Stops BadLine
 CommandTells c es (Some command) told = Obeys c es command told
 
 -- a command's line; an empty one does nothing
-abbrev pub LineTells : Group → List WorldEvent → List ℕ → Told → Type 0
+abbrev pub LineTells : ScriptGroup → List WorldEvent → List ℕ → Told → Type 0
 LineTells c es [] told = told ≡ Prints [] es
 LineTells c es (b ∷ line) told = CommandTells c es (command_in (b ∷ line)) told
 
@@ -113,22 +113,22 @@ LineTells c es (b ∷ line) told = CommandTells c es (command_in (b ∷ line)) t
 -- anything did.
 pub record Moment : Type 0 where
   pub lines : ℕ
-  pub group : Option Group
+  pub group : Option ScriptGroup
   pub events : List WorldEvent
-  pub stopped : Option Stop
+  pub stopped : Option RunStop
 
 abbrev pub start : Moment
 start = record { lines = 0; group = None; events = []; stopped = None }
 
 -- how a run ends
-abbrev pub end_of : Option Stop → SimEnd
+abbrev pub end_of : Option RunStop → SimEnd
 end_of None = end.Done
 end_of (Some BadLine) = end.BadLine
 end_of (Some (Forged k)) = end.Forged
 end_of (Some Limit) = end.Limit
 
 -- the last line of one that is stopped
-abbrev pub last_words : Stop → ℕ → List ℕ
+abbrev pub last_words : RunStop → ℕ → List ℕ
 last_words BadLine line = codes "bad line " ++ decimal line
 last_words (Forged k) line = codes "forged " ++ decimal k
 last_words Limit line = codes "limit"
@@ -136,17 +136,17 @@ last_words Limit line = codes "limit"
 -- What a line does, and the group that the script then has: the first line says it, and each other one is a
 -- command. A line over the bound is neither.
 
-abbrev pub Founds : List WorldEvent → Option Group → Option Group → Told → Type 0
+abbrev pub Founds : List WorldEvent → Option ScriptGroup → Option ScriptGroup → Told → Type 0
 Founds es None after told = (told ≡ Stops BadLine) × (after ≡ None)
 Founds es (Some c) after told = (told ≡ Prints [] es) × (after ≡ Some c)
 
-abbrev pub Does : Option Group → List WorldEvent → Option (List ℕ) → Option Group → Told → Type 0
+abbrev pub Does : Option ScriptGroup → List WorldEvent → Option (List ℕ) → Option ScriptGroup → Told → Type 0
 Does group es None after told = (told ≡ Stops BadLine) × (after ≡ group)
 Does None es (Some line) after told = Founds es (group_in line) after told
 Does (Some c) es (Some line) after told = LineTells c es line told × (after ≡ Some c)
 
 -- It prints this text, a line may follow or not, and so far the script has come then.
-abbrev pub Follows : Moment → Option Group → Told → List ℕ → Bool → Moment → Type 0
+abbrev pub Follows : Moment → Option ScriptGroup → Told → List ℕ → Bool → Moment → Type 0
 Follows old group (Prints words last) text on new =
     (text ≡ words) × (on ≡ true)
     × (new ≡ record old { lines = one_more old.lines; group = group; events = last })
@@ -156,7 +156,7 @@ Follows old group (Stops stop) text on new =
 
 abbrev pub Reads : Moment → Option (List ℕ) → List ℕ → Bool → Moment → Type 0
 Reads old line text on new =
-    (group : Option Group) × (told : Told) × Does old.group old.events line group told
+    (group : Option ScriptGroup) × (told : Told) × Does old.group old.events line group told
     × Follows old group told text on new
 
 -- ---- the whole run
@@ -172,7 +172,7 @@ IsRun (b ∷ script) text ended =
     (on : Bool) × (last : Moment) × Answers Reads start (lines_within LONGEST_LINE (b ∷ script)) text on last
     × (ended ≡ end_of last.stopped)
 
--- It was broken off: what was written is a beginning of the text that a script's first lines print.
+-- It was broken off: what was written is a prefix of the text that a script's first lines print.
 abbrev pub IsRunBegun : List ℕ → Option (List ℕ) → Option (List ℕ) → Type 0
 IsRunBegun [] before after = WroteBeginning before after no_line
 IsRunBegun (b ∷ script) before after =

@@ -9,7 +9,7 @@ use Rattle.pay_link.specs.TestKeys.{pair_key}
 unfoldable pub test_tag : ℕ → ℕ → ℕ → BodyFields → List ℕ
 test_tag from to number body = mac (pair_key from to) (tagged_bytes from to number body)
 
--- the bytes of the frame that spells a body, with that tag
+-- the bytes of the frame that encodes a body, with that tag
 unfoldable pub test_frame : ℕ → ℕ → ℕ → BodyFields → List ℕ
 test_frame from to number body =
     frame_bytes (record {

@@ -15,8 +15,8 @@ use Rattle.pay_member.specs.Events.{events}
 use Rattle.pay_member.specs.Member.{MemberFields}
 use Rattle.pay_member.specs.Faults.{member_fault_number, member_fault_name}
 use Rattle.pay_text.specs.Lines.{line_feed}
-use Rattle.pay_world.specs.declared.reply.Reply.{Reply}
-use Rattle.pay_world.specs.declared.reply.Reply.TheVariants as reply
+use Rattle.pay_world.specs.declared.reply.WorldReply.{WorldReply}
+use Rattle.pay_world.specs.declared.reply.WorldReply.TheVariants as reply
 
 -- `refused WHERE C NAME`
 unfoldable pub refused_words : List ℕ → ℕ → List ℕ → List ℕ
@@ -60,14 +60,14 @@ outcome_words WrongKey =
     refused_words (codes "member") (member_fault_number member.WrongKey) (member_fault_name member.WrongKey)
 
 -- what member i replied: `asked I seq S`, `refused member C NAME`, what came of bytes, or `ignored`
-unfoldable pub reply_words : ℕ → Reply → List ℕ
+unfoldable pub reply_words : ℕ → WorldReply → List ℕ
 reply_words i (reply.Asked number) = codes "asked " ++ decimal i ++ codes " seq " ++ decimal number
 reply_words i (reply.Refused fault) =
     refused_words (codes "member") (member_fault_number fault) (member_fault_name fault)
 reply_words i (reply.Brought outcome) = outcome_words outcome
 reply_words i reply.Ignored = codes "ignored"
 
-unfoldable pub reply_line : ℕ → Reply → List ℕ
+unfoldable pub reply_line : ℕ → WorldReply → List ℕ
 reply_line i r = reply_words i r ++ line_feed ∷ []
 
 -- the book that a member shows

@@ -8,7 +8,7 @@ pub const ACCOUNTS: u32 = 65_536;
 
 /// What a line of a script asks for.
 #[derive(Debug, Drop)]
-pub enum Command {
+pub enum ScriptCommand {
     /// A member is asked to broadcast the value of a payment, or of several.
     Ask {
         member: u8,

@@ -3,9 +3,12 @@
 ghost use Rattle.std.specs.Prelude.{◌≡◌, ◌≤◌, IfOk, drop};
 ghost use Rattle.std.specs.Str.{bytes_eq};
 ghost use Rattle.pay_frame.specs.OneFrame.{is_body};
-ghost use Rattle.pay_sim.specs.Commands.{alone_in, ask_in, asks_in, below, body_in, bring_in, bringing_in, bytes_of, command_in, first_bytes, first_kind, first_turn, if_last, kind_of, lie_in, raw_in, several_in, turn_of};
+ghost use Rattle.pay_sim.specs.Commands.{alone_in, ask_in, asks_in, below, body_in};
+ghost use Rattle.pay_sim.specs.Commands.{bring_in, bringing_in, bytes_of, command_in};
+ghost use Rattle.pay_sim.specs.Commands.{first_bytes, first_kind, first_turn, if_last};
+ghost use Rattle.pay_sim.specs.Commands.{kind_of, lie_in, raw_in, several_in, turn_of};
 
-use crate::command::{ACCOUNTS, Command, MEMBERS};
+use crate::command::{ACCOUNTS, MEMBERS, ScriptCommand};
 use hex::{FromHexError, decode};
 use pay_book::{MOST_PAYMENTS, payment_value, payments_named, payments_value};
 use pay_frame::{Body, Bytes, GREATEST_VALUE, Kind, SEQS};
@@ -14,7 +17,7 @@ use std::alloc::{AllocError, Global};
 
 /// What a line of a script asks for, or `None` where it is no command.
 #[tactic(auto, unfolding(crate::specs::Commands::command_in))]
-pub fn read_command(alloc: Global, line: &[u8]) -> Result<Option<Command>, AllocError>
+pub fn read_command(alloc: Global, line: &[u8]) -> Result<Option<ScriptCommand>, AllocError>
     ensures { IfOk result (λ command. command ≡ command_in line.now) }
 {
     let mut words = Words::new(line);
@@ -36,7 +39,7 @@ fn read_bringing(
     alloc: Global,
     name: &[u8],
     words: &mut Words,
-) -> Result<Option<Command>, AllocError>
+) -> Result<Option<ScriptCommand>, AllocError>
     ensures { IfOk result (λ command. command ≡ bringing_in name.now words.old) }
 {
     if is_word(name, "bring") {
@@ -51,7 +54,7 @@ fn read_bringing(
 }
 
 #[tactic(auto, unfolding(crate::specs::Commands::ask_in))]
-fn read_ask(alloc: Global, words: &mut Words) -> Result<Option<Command>, AllocError>
+fn read_ask(alloc: Global, words: &mut Words) -> Result<Option<ScriptCommand>, AllocError>
     ensures { IfOk result (λ command. command ≡ ask_in words.old) }
 {
     let (Some(member), Some(payee), Some(amount)) = (
@@ -62,11 +65,11 @@ fn read_ask(alloc: Global, words: &mut Words) -> Result<Option<Command>, AllocEr
         return Ok(None);
     };
     let value = Bytes::from_slice(alloc, &payment_value(payee, amount))?;
-    Ok(if_last(words, Command::Ask { member, value }))
+    Ok(if_last(words, ScriptCommand::Ask { member, value }))
 }
 
 #[tactic(auto, unfolding(crate::specs::Commands::asks_in))]
-fn read_asks(alloc: Global, words: &mut Words) -> Result<Option<Command>, AllocError>
+fn read_asks(alloc: Global, words: &mut Words) -> Result<Option<ScriptCommand>, AllocError>
     ensures { IfOk result (λ command. command ≡ asks_in words.old) }
 {
     let Some(member) = next_member(words) else {
@@ -75,7 +78,7 @@ fn read_asks(alloc: Global, words: &mut Words) -> Result<Option<Command>, AllocE
     let Some(value) = several_value(alloc, words)? else {
         return Ok(None);
     };
-    Ok(Some(Command::Ask { member, value }))
+    Ok(Some(ScriptCommand::Ask { member, value }))
 }
 
 // The value of the payments that the last words say.
@@ -93,17 +96,17 @@ fn several_value(alloc: Global, words: &mut Words) -> Result<Option<Bytes>, Allo
 }
 
 #[tactic(auto, unfolding(crate::specs::Commands::bring_in))]
-fn read_bring(words: &mut Words) -> Option<Command>
+fn read_bring(words: &mut Words) -> Option<ScriptCommand>
     ensures { result ≡ bring_in words.old }
 {
     let from = next_member(words)?;
     let to = next_member(words)?;
     let number = words.next_number()?;
-    if_last(words, Command::Bring { from, to, number })
+    if_last(words, ScriptCommand::Bring { from, to, number })
 }
 
 #[tactic(auto, unfolding(crate::specs::Commands::lie_in))]
-fn read_lie(alloc: Global, words: &mut Words) -> Result<Option<Command>, AllocError>
+fn read_lie(alloc: Global, words: &mut Words) -> Result<Option<ScriptCommand>, AllocError>
     ensures { IfOk result (λ command. command ≡ lie_in words.old) }
 {
     let (Some(from), Some(to), Some(number)) = (
@@ -116,7 +119,7 @@ fn read_lie(alloc: Global, words: &mut Words) -> Result<Option<Command>, AllocEr
     let Some(body) = read_body(alloc, words)? else {
         return Ok(None);
     };
-    Ok(Some(Command::Lie {
+    Ok(Some(ScriptCommand::Lie {
         from,
         to,
         number,
@@ -145,7 +148,7 @@ fn read_body(alloc: Global, words: &mut Words) -> Result<Option<Body>, AllocErro
 }
 
 #[tactic(auto, unfolding(crate::specs::Commands::raw_in))]
-fn read_raw(alloc: Global, words: &mut Words) -> Result<Option<Command>, AllocError>
+fn read_raw(alloc: Global, words: &mut Words) -> Result<Option<ScriptCommand>, AllocError>
     ensures { IfOk result (λ command. command ≡ raw_in words.old) }
 {
     let Some(to) = next_member(words) else {
@@ -154,18 +157,18 @@ fn read_raw(alloc: Global, words: &mut Words) -> Result<Option<Command>, AllocEr
     let Some(bytes) = next_bytes(alloc, words)? else {
         return Ok(None);
     };
-    Ok(if_last(words, Command::Raw { to, bytes }))
+    Ok(if_last(words, ScriptCommand::Raw { to, bytes }))
 }
 
 // A command that is its name alone.
 #[tactic(auto, unfolding(crate::specs::Commands::alone_in))]
-fn read_alone(name: &[u8], words: &Words) -> Option<Command>
+fn read_alone(name: &[u8], words: &Words) -> Option<ScriptCommand>
     ensures { result ≡ alone_in name.now words.now }
 {
     if is_word(name, "all") {
-        if_last(words, Command::All)
+        if_last(words, ScriptCommand::All)
     } else if is_word(name, "show") {
-        if_last(words, Command::Show)
+        if_last(words, ScriptCommand::Show)
     } else {
         None
     }
@@ -269,7 +272,7 @@ fn next_below(words: &mut Words, bound: u32) -> Option<u16>
     }
 }
 
-fn if_last(words: &Words, command: Command) -> Option<Command>
+fn if_last(words: &Words, command: ScriptCommand) -> Option<ScriptCommand>
     ensures { result ≡ if_last words.now command }
 {
     if words.is_done() { Some(command) } else { None }

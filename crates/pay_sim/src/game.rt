@@ -1,21 +1,23 @@
 //! A script's world, and what its commands do there.
 
-ghost use Rattle.std.specs.Prelude.{◌≡◌, ◌+◌, ◌++◌, ◌<◌, ◌≤◌, ℕ, List, [], IfOk, IfSome, OnOk, option_map};
+ghost use Rattle.std.specs.Prelude.{◌≡◌, ◌+◌, ◌++◌, ◌<◌, ◌≤◌, ℕ, List};
+ghost use Rattle.std.specs.Prelude.{[], IfOk, IfSome, OnOk, option_map};
 ghost use Rattle.pay_world.specs.declared.event.WorldEvent.{WorldEvent};
 ghost use Rattle.pay_world.specs.Answer.{receiver};
 ghost use Rattle.pay_world.specs.Liars.{AreLiarsOf};
 ghost use Rattle.pay_world.specs.Passing.{MayPass, frame_of, passing};
-ghost use Rattle.pay_sim.specs.declared.group.Group.{Group};
+ghost use Rattle.pay_sim.specs.declared.group.ScriptGroup.{ScriptGroup};
 ghost use Rattle.pay_sim.specs.Made.{frame_for, next_number, sent_frame, untaken};
 ghost use Rattle.pay_sim.specs.All.{BringsAll, Draws, Feeds, Passes};
-ghost use Rattle.pay_sim.specs.Script.{IsConverged, Obeys, Tells, TellsAll, TellsBring, lie_frame, lie_number, show_text, shown};
+ghost use Rattle.pay_sim.specs.Script.{IsConverged, Obeys, Tells, TellsAll, TellsBring};
+ghost use Rattle.pay_sim.specs.Script.{lie_frame, lie_number, show_text, shown};
 ghost use Rattle.pay_sim.specs.Playing.{IsBehind, IsBrought, IsDone, IsMade};
 
 use crate::book_words::push_book;
-use crate::command::Command;
-use crate::group::Group;
+use crate::command::ScriptCommand;
+use crate::group::ScriptGroup;
 use crate::reply_words::push_reply;
-use crate::stop::{Halt, Stop};
+use crate::stop::{Halt, RunStop};
 use crate::test_frames::{PairTagger, test_frame};
 use pay_book::Settle;
 use pay_echo::Instance;
@@ -23,7 +25,7 @@ use pay_frame::{Body, Bytes};
 use pay_link::laws::shared_test_keys;
 use pay_text::{push_number, push_word};
 use pay_world::{
-    Reply, World, WorldEvent, WorldFault, all_taken, group_test_keys, what_is_forged,
+    World, WorldEvent, WorldFault, WorldReply, all_taken, group_test_keys, what_is_forged,
     world_by_events,
 };
 use std::alloc::{AllocError, Global};
@@ -56,7 +58,7 @@ impl<I: Instance + Drop, B: Settle + Drop> Model for Game<I, B> {
 
 impl<I: Instance + Drop, B: Settle + Drop> Game<I, B> {
     /// The world of a group before any event.
-    pub(crate) fn new(alloc: Global, group: &Group) -> Result<Game<I, B>, AllocError>
+    pub(crate) fn new(alloc: Global, group: &ScriptGroup) -> Result<Game<I, B>, AllocError>
         requires { AreLiarsOf group.now.genesis group.now.liars }
         ensures { IfOk result (λ game. IsBehind group.now [] game) }
     {
@@ -76,30 +78,30 @@ impl<I: Instance + Drop, B: Settle + Drop> Game<I, B> {
     pub(crate) fn obey(
         &mut self,
         alloc: Global,
-        command: Command,
+        command: ScriptCommand,
         out: &mut Vec<u8>,
     ) -> Result<(), Halt>
-        ensures { (c : Group) (es : List WorldEvent) → IsBehind c es self.old
+        ensures { (c : ScriptGroup) (es : List WorldEvent) → IsBehind c es self.old
             → IsDone (Obeys c es command) c out.old.items out.new.items self.new result }
     {
         match command {
-            Command::Ask { member, value } => {
+            ScriptCommand::Ask { member, value } => {
                 self.tell(alloc, WorldEvent::Ask(u16::from(member), value), out)
             }
-            Command::Bring { from, to, number } => {
+            ScriptCommand::Bring { from, to, number } => {
                 self.bring(alloc, u16::from(from), u16::from(to), number, out)
             }
-            Command::Lie {
+            ScriptCommand::Lie {
                 from,
                 to,
                 number,
                 body,
             } => self.lie(alloc, u16::from(from), u16::from(to), number, &body, out),
-            Command::Raw { to, bytes } => {
+            ScriptCommand::Raw { to, bytes } => {
                 self.tell(alloc, WorldEvent::Bring(u16::from(to), bytes), out)
             }
-            Command::All => self.all(alloc, out),
-            Command::Show => {
+            ScriptCommand::All => self.all(alloc, out),
+            ScriptCommand::Show => {
                 self.show(out)?;
                 Ok(())
             }
@@ -115,8 +117,8 @@ impl<I: Instance + Drop, B: Settle + Drop> Game<I, B> {
     }
 
     /// Makes an event, unless there were as many as there may be.
-    fn make(&mut self, alloc: Global, event: WorldEvent) -> Result<Reply, Halt>
-        ensures made { (c : Group) (es : List WorldEvent) → IsBehind c es self.old
+    fn make(&mut self, alloc: Global, event: WorldEvent) -> Result<WorldReply, Halt>
+        ensures made { (c : ScriptGroup) (es : List WorldEvent) → IsBehind c es self.old
             → IsMade c es event self.new result }
         ensures count { OnOk result ((self.old.made < MOST_EVENTS)
             × (self.new.made ≡ self.old.made + 1)) }
@@ -124,7 +126,7 @@ impl<I: Instance + Drop, B: Settle + Drop> Game<I, B> {
         world_by_events();
         what_is_forged();
         if self.made >= MOST_EVENTS {
-            return Err(Halt::Stop(Stop::Limit));
+            return Err(Halt::Stop(RunStop::Limit));
         }
         match self.world.apply(alloc, &self.tagger, event) {
             Ok(reply) => {
@@ -132,13 +134,13 @@ impl<I: Instance + Drop, B: Settle + Drop> Game<I, B> {
                 Ok(reply)
             }
             Err(WorldFault::Memory) => Err(Halt::Memory),
-            Err(WorldFault::Forged(place)) => Err(Halt::Stop(Stop::Forged(place))),
+            Err(WorldFault::Forged(place)) => Err(Halt::Stop(RunStop::Forged(place))),
         }
     }
 
     /// Makes an event, and writes what its member replied.
     fn tell(&mut self, alloc: Global, event: WorldEvent, out: &mut Vec<u8>) -> Result<(), Halt>
-        ensures { (c : Group) (es : List WorldEvent) → IsBehind c es self.old
+        ensures { (c : ScriptGroup) (es : List WorldEvent) → IsBehind c es self.old
             → IsDone (Tells c es event) c out.old.items out.new.items self.new result }
     {
         let member = receiver(&event);
@@ -157,7 +159,7 @@ impl<I: Instance + Drop, B: Settle + Drop> Game<I, B> {
     ) -> Result<(), Halt>
         requires from { from < 256 }
         requires to { to < 256 }
-        ensures { (c : Group) (es : List WorldEvent) → IsBehind c es self.old
+        ensures { (c : ScriptGroup) (es : List WorldEvent) → IsBehind c es self.old
             → IsDone (TellsBring c es from to number) c
             out.old.items out.new.items self.new result }
     {
@@ -182,7 +184,7 @@ impl<I: Instance + Drop, B: Settle + Drop> Game<I, B> {
     ) -> Result<(), Halt>
         requires from { from < 256 }
         requires to { to < 256 }
-        ensures { (c : Group) (es : List WorldEvent) → IsBehind c es self.old
+        ensures { (c : ScriptGroup) (es : List WorldEvent) → IsBehind c es self.old
             → IsDone (Tells c es (WorldEvent.Bring to (lie_frame c es from to number body.now))) c
             out.old.items out.new.items self.new result }
     {
@@ -192,7 +194,7 @@ impl<I: Instance + Drop, B: Settle + Drop> Game<I, B> {
     }
 
     fn lie_number(&self, from: u16, to: u16, number: Option<u64>) -> u64
-        ensures { (c : Group) (es : List WorldEvent) → IsBehind c es self.now
+        ensures { (c : ScriptGroup) (es : List WorldEvent) → IsBehind c es self.now
             → result ≡ lie_number c es from to number }
     {
         match number {
@@ -203,7 +205,7 @@ impl<I: Instance + Drop, B: Settle + Drop> Game<I, B> {
 
     /// Brings all that is untaken between correct members, and writes how many frames that were.
     fn all(&mut self, alloc: Global, out: &mut Vec<u8>) -> Result<(), Halt>
-        ensures { (c : Group) (es : List WorldEvent) → IsBehind c es self.old
+        ensures { (c : ScriptGroup) (es : List WorldEvent) → IsBehind c es self.old
             → IsDone (TellsAll c es) c out.old.items out.new.items self.new result }
     {
         let before = self.made();
@@ -218,7 +220,7 @@ impl<I: Instance + Drop, B: Settle + Drop> Game<I, B> {
 
     /// Writes whether each correct member took all that the others sent.
     fn push_converged(&self, out: &mut Vec<u8>) -> Result<(), AllocError>
-        ensures { OnOk result ((c : Group) (es : List WorldEvent) → IsBehind c es self.now
+        ensures { OnOk result ((c : ScriptGroup) (es : List WorldEvent) → IsBehind c es self.now
             → (words : List ℕ) × IsConverged c es words
             × (out.new.items ≡ out.old.items ++ words)) }
     {
@@ -232,7 +234,7 @@ impl<I: Instance + Drop, B: Settle + Drop> Game<I, B> {
     /// Lets each member take what it didn't yet of the others, again and again, until nothing is
     /// left.
     fn bring_all(&mut self, alloc: Global) -> Result<(), Halt>
-        ensures brought { (c : Group) (es : List WorldEvent) → IsBehind c es self.old
+        ensures brought { (c : ScriptGroup) (es : List WorldEvent) → IsBehind c es self.old
             → IsBrought (BringsAll c es) c self.new result }
         ensures count { OnOk result (self.old.made ≤ self.new.made) }
     {
@@ -247,7 +249,7 @@ impl<I: Instance + Drop, B: Settle + Drop> Game<I, B> {
 
     /// Lets each member take what it didn't yet of the others.
     fn pass(&mut self, alloc: Global) -> Result<(), Halt>
-        ensures brought { (c : Group) (es : List WorldEvent) → IsBehind c es self.old
+        ensures brought { (c : ScriptGroup) (es : List WorldEvent) → IsBehind c es self.old
             → IsBrought (Passes c es) c self.new result }
         ensures count { OnOk result (self.old.made ≤ self.new.made) }
     {
@@ -260,7 +262,7 @@ impl<I: Instance + Drop, B: Settle + Drop> Game<I, B> {
     /// Lets a member take what it didn't yet of the others.
     fn feed(&mut self, alloc: Global, to: u16) -> Result<(), Halt>
         requires { to < 256 }
-        ensures brought { (c : Group) (es : List WorldEvent) → IsBehind c es self.old
+        ensures brought { (c : ScriptGroup) (es : List WorldEvent) → IsBehind c es self.old
             → IsBrought (Feeds c to es) c self.new result }
         ensures count { OnOk result (self.old.made ≤ self.new.made) }
     {
@@ -274,7 +276,7 @@ impl<I: Instance + Drop, B: Settle + Drop> Game<I, B> {
     fn draw(&mut self, alloc: Global, from: u16, to: u16) -> Result<(), Halt>
         requires from { from < 256 }
         requires to { to < 256 }
-        ensures brought { (c : Group) (es : List WorldEvent) → IsBehind c es self.old
+        ensures brought { (c : ScriptGroup) (es : List WorldEvent) → IsBehind c es self.old
             → IsBrought (Draws c from to es) c self.new result }
         ensures count { OnOk result (self.old.made ≤ self.new.made) }
     {
@@ -288,9 +290,15 @@ impl<I: Instance + Drop, B: Settle + Drop> Game<I, B> {
 
     /// Passes on a frame that one correct member sent another, unless there were as many events as
     /// there may be.
-    fn pass_on(&mut self, alloc: Global, from: u16, to: u16, number: u64) -> Result<Reply, Halt>
+    fn pass_on(
+        &mut self,
+        alloc: Global,
+        from: u16,
+        to: u16,
+        number: u64,
+    ) -> Result<WorldReply, Halt>
         requires { MayPass self.old.world from to number }
-        ensures made { (c : Group) (es : List WorldEvent) → IsBehind c es self.old
+        ensures made { (c : ScriptGroup) (es : List WorldEvent) → IsBehind c es self.old
             → IsMade c es (passing self.old.world from to number) self.new result }
         ensures count { OnOk result ((self.old.made < MOST_EVENTS)
             × (self.new.made ≡ self.old.made + 1)) }
@@ -306,13 +314,13 @@ impl<I: Instance + Drop, B: Settle + Drop> Game<I, B> {
                 Err(_) => Err(Halt::Memory),
             }
         } else {
-            Err(Halt::Stop(Stop::Limit))
+            Err(Halt::Stop(RunStop::Limit))
         }
     }
 
     /// The number of the frame that a member takes next of another's list, if the list has it.
     fn untaken(&self, from: u16, to: u16) -> Option<u64>
-        ensures frame { (c : Group) (es : List WorldEvent) → IsBehind c es self.now
+        ensures frame { (c : ScriptGroup) (es : List WorldEvent) → IsBehind c es self.now
             → option_map (frame_of self.now.world from to) result ≡ untaken c es from to }
         ensures there { IfSome result (MayPass self.now.world from to) }
     {
@@ -344,7 +352,7 @@ impl<I: Instance + Drop, B: Settle + Drop> Game<I, B> {
     ) -> Result<Option<Bytes>, AllocError>
         requires from { from < 256 }
         requires to { to < 256 }
-        ensures { IfOk result (λ frame. (c : Group) (es : List WorldEvent)
+        ensures { IfOk result (λ frame. (c : ScriptGroup) (es : List WorldEvent)
             → IsBehind c es self.now → frame ≡ frame_for c es from to number) }
     {
         match self.world.member(to) {
@@ -363,7 +371,7 @@ impl<I: Instance + Drop, B: Settle + Drop> Game<I, B> {
     ) -> Result<Option<Bytes>, AllocError>
         requires from { from < 256 }
         requires to { to < 256 }
-        ensures { IfOk result (λ frame. (c : Group) (es : List WorldEvent)
+        ensures { IfOk result (λ frame. (c : ScriptGroup) (es : List WorldEvent)
             → IsBehind c es self.now → frame ≡ sent_frame c es from to number) }
     {
         if from == to {
@@ -380,7 +388,7 @@ impl<I: Instance + Drop, B: Settle + Drop> Game<I, B> {
 
     /// The number that a correct member takes next from another, or 0 where there is no such link.
     fn next(&self, from: u16, to: u16) -> u64
-        ensures { (c : Group) (es : List WorldEvent) → IsBehind c es self.now
+        ensures { (c : ScriptGroup) (es : List WorldEvent) → IsBehind c es self.now
             → result ≡ next_number c es from to }
     {
         let Some(receiver) = self.world.member(to) else {
@@ -394,7 +402,7 @@ impl<I: Instance + Drop, B: Settle + Drop> Game<I, B> {
 
     /// Writes the book of each correct member.
     fn show(&self, out: &mut Vec<u8>) -> Result<(), AllocError>
-        ensures { OnOk result ((c : Group) (es : List WorldEvent) → IsBehind c es self.now
+        ensures { OnOk result ((c : ScriptGroup) (es : List WorldEvent) → IsBehind c es self.now
             → out.new.items ≡ out.old.items ++ show_text c es) }
     {
         for number in 0..self.members {
@@ -405,7 +413,7 @@ impl<I: Instance + Drop, B: Settle + Drop> Game<I, B> {
 
     /// Writes the book of a member, if it is correct.
     fn push_shown(&self, out: &mut Vec<u8>, number: u16) -> Result<(), AllocError>
-        ensures { OnOk result ((c : Group) (es : List WorldEvent) → IsBehind c es self.now
+        ensures { OnOk result ((c : ScriptGroup) (es : List WorldEvent) → IsBehind c es self.now
             → out.new.items ≡ out.old.items ++ shown c es number) }
     {
         let Some(member) = self.world.member(number) else {

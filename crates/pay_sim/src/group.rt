@@ -11,14 +11,14 @@ use std::alloc::{AllocError, Global};
 
 /// The group of a script.
 #[derive(Debug, Drop)]
-pub(crate) struct Group {
+pub(crate) struct ScriptGroup {
     pub(crate) genesis: Genesis,
     pub(crate) liars: Liars,
 }
 
 /// The group that a file of JSON says, or `None` where it says none.
 #[tactic(auto, unfolding(crate::specs::Group::group_in, crate::specs::Group::with_liars))]
-pub(crate) fn read_group(alloc: Global, bytes: &[u8]) -> Result<Option<Group>, AllocError>
+pub(crate) fn read_group(alloc: Global, bytes: &[u8]) -> Result<Option<ScriptGroup>, AllocError>
     ensures value { IfOk result (λ group. group ≡ group_in bytes.now) }
     ensures liars { IfOk result (λ group. IfSome group (λ g. AreLiarsOf g.genesis g.liars)) }
 {
@@ -31,7 +31,7 @@ pub(crate) fn read_group(alloc: Global, bytes: &[u8]) -> Result<Option<Group>, A
         return Ok(None);
     };
     match Liars::new(alloc, &genesis, numbers.as_slice()) {
-        Ok(liars) => Ok(Some(Group { genesis, liars })),
+        Ok(liars) => Ok(Some(ScriptGroup { genesis, liars })),
         Err(LiarFault::Memory) => Err(AllocError),
         Err(_) => Ok(None),
     }

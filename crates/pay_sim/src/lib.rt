@@ -15,7 +15,7 @@ mod stop;
 mod test_frames;
 
 pub use book_words::push_book;
-pub use command::{ACCOUNTS, Command, MEMBERS};
+pub use command::{ACCOUNTS, MEMBERS, ScriptCommand};
 pub use command_reading::read_command;
 pub use game::MOST_EVENTS;
 pub use reply_words::push_outcome;

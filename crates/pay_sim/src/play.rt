@@ -1,14 +1,15 @@
-ghost use Rattle.std.specs.Prelude.{◌≡◌, ◌↔◌, ◌++◌, true, ℕ, List, Option, None, IfOk, OnOk, decimal};
+ghost use Rattle.std.specs.Prelude.{◌≡◌, ◌↔◌, ◌++◌, true, ℕ, List};
+ghost use Rattle.std.specs.Prelude.{Option, None, IfOk, OnOk, decimal};
 ghost use Rattle.std.specs.Option.{option_copied};
 ghost use Rattle.pay_world.specs.declared.event.WorldEvent.{WorldEvent};
-ghost use Rattle.pay_sim.specs.declared.group.Group.{Group};
+ghost use Rattle.pay_sim.specs.declared.group.ScriptGroup.{ScriptGroup};
 ghost use Rattle.pay_sim.specs.Script.{LineTells, last_words, with_feed};
 ghost use Rattle.pay_sim.specs.Playing.{IsBehind, IsDone, IsFounded, IsGameAt, IsRead};
 
 use crate::command_reading::read_command;
 use crate::game::Game;
 use crate::group::read_group;
-use crate::stop::{Halt, Stop};
+use crate::stop::{Halt, RunStop};
 use pay_book::Settle;
 use pay_echo::Instance;
 use pay_text::{Answer, Answerer, Text, push_number, push_word};
@@ -20,7 +21,7 @@ use std::marker::Model;
 pub(crate) struct Play<I: Instance + Drop, B: Settle + Drop> {
     lines: u64,
     game: Option<Game<I, B>>,
-    stop: Option<Stop>,
+    stop: Option<RunStop>,
 }
 
 impl<I: Instance + Drop, B: Settle + Drop> Model for Play<I, B> {
@@ -51,7 +52,7 @@ impl<I: Instance + Drop, B: Settle + Drop> Play<I, B> {
     }
 
     /// What stopped the run, if anything did.
-    pub(crate) fn stop(&self) -> Option<Stop>
+    pub(crate) fn stop(&self) -> Option<RunStop>
         ensures { result ≡ self.now.stop }
     {
         self.stop
@@ -59,7 +60,7 @@ impl<I: Instance + Drop, B: Settle + Drop> Play<I, B> {
 
     /// Does what a line says, and writes what it prints.
     fn obey(&mut self, alloc: Global, line: Option<&[u8]>, out: &mut Vec<u8>) -> Result<(), Halt>
-        ensures read { (group : Option Group) (es : List WorldEvent)
+        ensures read { (group : Option ScriptGroup) (es : List WorldEvent)
             → IsGameAt self.old.game group es
             → IsRead group es (option_copied line.entry) out.old.items out.new.items self.new.game
             result }
@@ -67,7 +68,7 @@ impl<I: Instance + Drop, B: Settle + Drop> Play<I, B> {
         ensures stop { self.new.stop ≡ self.old.stop }
     {
         let Some(line) = line else {
-            return Err(Halt::Stop(Stop::BadLine));
+            return Err(Halt::Stop(RunStop::BadLine));
         };
         match &mut self.game {
             Some(game) => obey_line(alloc, game, line, out),
@@ -115,7 +116,7 @@ fn found<I: Instance + Drop, B: Settle + Drop>(
 {
     match read_group(alloc, line)? {
         Some(group) => Ok(Game::new(alloc, &group)?),
-        None => Err(Halt::Stop(Stop::BadLine)),
+        None => Err(Halt::Stop(RunStop::BadLine)),
     }
 }
 
@@ -126,7 +127,7 @@ fn obey_line<I: Instance + Drop, B: Settle + Drop>(
     line: &[u8],
     out: &mut Vec<u8>,
 ) -> Result<(), Halt>
-    ensures { (c : Group) (es : List WorldEvent) → IsBehind c es game.old
+    ensures { (c : ScriptGroup) (es : List WorldEvent) → IsBehind c es game.old
         → IsDone (LineTells c es line.now) c out.old.items out.new.items game.new result }
 {
     if line.is_empty() {
@@ -134,19 +135,19 @@ fn obey_line<I: Instance + Drop, B: Settle + Drop>(
     }
     match read_command(alloc, line)? {
         Some(command) => game.obey(alloc, command, out),
-        None => Err(Halt::Stop(Stop::BadLine)),
+        None => Err(Halt::Stop(RunStop::BadLine)),
     }
 }
 
 /// The last line of a run that is stopped.
-fn last_line(alloc: Global, stop: Stop, line: u64) -> Result<Vec<u8>, AllocError>
+fn last_line(alloc: Global, stop: RunStop, line: u64) -> Result<Vec<u8>, AllocError>
     ensures { IfOk result (λ text. text.items ≡ with_feed (last_words stop line)) }
 {
     let mut out = Vec::new(alloc);
     match stop {
-        Stop::BadLine => push_numbered(&mut out, "bad line ", line)?,
-        Stop::Forged(place) => push_numbered(&mut out, "forged ", place)?,
-        Stop::Limit => push_word(&mut out, "limit")?,
+        RunStop::BadLine => push_numbered(&mut out, "bad line ", line)?,
+        RunStop::Forged(place) => push_numbered(&mut out, "forged ", place)?,
+        RunStop::Limit => push_word(&mut out, "limit")?,
     }
     push_word(&mut out, "\n")?;
     Ok(out)

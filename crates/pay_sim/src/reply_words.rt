@@ -1,17 +1,22 @@
 //! What a script prints of replies, written behind what is written already.
 
 ghost use Rattle.std.specs.Prelude.{◌≡◌, ◌++◌, OnOk, codes, decimal};
-ghost use Rattle.pay_sim.specs.Words.{if_so, link_words, next_words, outcome_words, refused_words, reply_line, reply_words, settle_words, took_words};
+ghost use Rattle.pay_sim.specs.Words.{if_so, link_words, next_words, outcome_words, refused_words};
+ghost use Rattle.pay_sim.specs.Words.{reply_line, reply_words, settle_words, took_words};
 
 use pay_link::LinkFault;
 use pay_member::{MemberFault, Outcome, Took};
 use pay_text::{push_number, push_word};
-use pay_world::Reply;
+use pay_world::WorldReply;
 use std::alloc::AllocError;
 
 /// The line of what a member replied.
 #[tactic(auto, unfolding(crate::specs::Words::reply_line))]
-pub(crate) fn push_reply(out: &mut Vec<u8>, member: u16, reply: Reply) -> Result<(), AllocError>
+pub(crate) fn push_reply(
+    out: &mut Vec<u8>,
+    member: u16,
+    reply: WorldReply,
+) -> Result<(), AllocError>
     ensures { OnOk result (out.new.items ≡ out.old.items ++ reply_line member reply) }
 {
     push_reply_words(out, member, reply)?;
@@ -19,14 +24,14 @@ pub(crate) fn push_reply(out: &mut Vec<u8>, member: u16, reply: Reply) -> Result
 }
 
 #[tactic(auto, unfolding(crate::specs::Words::reply_words))]
-fn push_reply_words(out: &mut Vec<u8>, member: u16, reply: Reply) -> Result<(), AllocError>
+fn push_reply_words(out: &mut Vec<u8>, member: u16, reply: WorldReply) -> Result<(), AllocError>
     ensures { OnOk result (out.new.items ≡ out.old.items ++ reply_words member reply) }
 {
     match reply {
-        Reply::Asked(seq) => push_asked(out, member, seq),
-        Reply::Refused(fault) => push_refused(out, "member", fault.number(), fault.name()),
-        Reply::Brought(outcome) => push_outcome(out, &outcome),
-        Reply::Ignored => push_word(out, "ignored"),
+        WorldReply::Asked(seq) => push_asked(out, member, seq),
+        WorldReply::Refused(fault) => push_refused(out, "member", fault.number(), fault.name()),
+        WorldReply::Brought(outcome) => push_outcome(out, &outcome),
+        WorldReply::Ignored => push_word(out, "ignored"),
     }
 }
 

@@ -6,7 +6,7 @@ ghost use Rattle.pay_sim.specs.Script.{WritesRun, end_of, no_line};
 
 use crate::play::Play;
 use crate::sim_end::SimEnd;
-use crate::stop::Stop;
+use crate::stop::RunStop;
 use pay_book::Settle;
 use pay_echo::Instance;
 use pay_frame::{EngineFault, Input, MOST_READS, Output, write_all};
@@ -69,13 +69,13 @@ fn write_no_line<W: Output>(writer: &mut W) -> Result<(), EngineFault>
     Ok(())
 }
 
-fn end_of(stop: Option<Stop>) -> SimEnd
+fn end_of(stop: Option<RunStop>) -> SimEnd
     ensures { result ≡ end_of stop }
 {
     match stop {
         None => SimEnd::Done,
-        Some(Stop::BadLine) => SimEnd::BadLine,
-        Some(Stop::Forged(_)) => SimEnd::Forged,
-        Some(Stop::Limit) => SimEnd::Limit,
+        Some(RunStop::BadLine) => SimEnd::BadLine,
+        Some(RunStop::Forged(_)) => SimEnd::Forged,
+        Some(RunStop::Limit) => SimEnd::Limit,
     }
 }

@@ -1,8 +1,8 @@
 use std::alloc::AllocError;
 
-/// Why a run ends before its input does.
+/// Why a run stops before its input ends.
 #[derive(Clone, Copy, Debug, PartialEq, Eq)]
-pub(crate) enum Stop {
+pub(crate) enum RunStop {
     /// A line is no command, over the bound, or a first one that says no group.
     BadLine,
     /// The event of this number brings a forged frame.
@@ -16,7 +16,7 @@ pub(crate) enum Stop {
 pub(crate) enum Halt {
     /// Memory was refused.
     Memory,
-    Stop(Stop),
+    Stop(RunStop),
 }
 
 impl From<AllocError> for Halt {

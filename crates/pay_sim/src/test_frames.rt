@@ -7,36 +7,52 @@ use pay_frame::{Body, Bytes, HEAD_LEN, TAG_LEN, head_into, write};
 use pay_hmac::{HmacSha256, PreparedKey, Tagger};
 use pay_link::pair_key;
 use std::alloc::{AllocError, Global};
+use std::cell::OnceCell;
 
-/// Tags as `HmacSha256` does, and keeps the test keys of all pairs of a group prepared.
+/// Tags as `HmacSha256` does, and keeps the test keys of a group's pairs prepared, each from its
+/// first tag on. Where memory is refused for one, it isn't kept.
 #[derive(Drop)]
 pub(crate) struct PairTagger {
+    alloc: Global,
     members: u16,
-    keys: Vec<PreparedKey>,
+    keys: Vec<OnceCell<Box<PreparedKey>>>,
 }
 
 impl PairTagger {
     pub(crate) fn new(alloc: Global, members: u16) -> Result<PairTagger, AllocError>
         requires { members < 256 }
     {
-        let mut keys = Vec::new(alloc);
-        for place in 0..members * members {
-            keys.push(PreparedKey::new(&pair_key(place / members, place % members)))?;
+        let mut keys = Vec::with_capacity(alloc, usize::from(members * members))?;
+        for _pair in 0..members * members {
+            keys.push(OnceCell::new())?;
         }
-        Ok(PairTagger { members, keys })
+        Ok(PairTagger {
+            alloc,
+            members,
+            keys,
+        })
+    }
+
+    /// What is kept at the place of a key's pair: this key, if it is the test key of one.
+    fn kept(&self, key: &[u8; 32]) -> Option<&PreparedKey> {
+        let place = usize::from(key[30]) * usize::from(self.members) + usize::from(key[31]);
+        let kept = self.keys.get(place)?;
+        let prepared = kept.get_or_try_init(|| -> Result<Box<PreparedKey>, AllocError> {
+            Ok(Box::new(self.alloc, PreparedKey::new(key))?)
+        });
+        match prepared {
+            Ok(prepared) => Some(prepared),
+            Err(_) => None,
+        }
     }
 }
 
 impl Tagger for PairTagger {
     fn tag(&self, key: &[u8; 32], head: &[u8], rest: &[u8]) -> [u8; 32] {
-        let place = usize::from(key[30]) * usize::from(self.members) + usize::from(key[31]);
-        let Some(prepared) = self.keys.get(place) else {
-            return HmacSha256.tag(key, head, rest);
-        };
-        if !prepared.is_for(key) {
-            return HmacSha256.tag(key, head, rest);
+        match self.kept(key) {
+            Some(prepared) if prepared.is_for(key) => prepared.tag(head, rest),
+            _ => HmacSha256.tag(key, head, rest),
         }
-        prepared.tag(head, rest)
     }
 }
 

@@ -27,8 +27,8 @@ use Rattle.pay_member.specs.OpeningLaws.{WhatOpens}
 use Rattle.pay_world.specs.declared.event.WorldEvent.{WorldEvent}
 use Rattle.pay_world.specs.declared.event.WorldEvent.TheVariants.{Ask, Bring}
 use Rattle.pay_world.specs.declared.fault.WorldFault.{WorldFault}
-use Rattle.pay_world.specs.declared.reply.Reply.{Reply}
-use Rattle.pay_world.specs.declared.reply.Reply.TheVariants.{Asked, Refused, Brought, Ignored}
+use Rattle.pay_world.specs.declared.reply.WorldReply.{WorldReply}
+use Rattle.pay_world.specs.declared.reply.WorldReply.TheVariants.{Asked, Refused, Brought, Ignored}
 use Rattle.pay_world.specs.Setting.{Setting, HasFewFaulty}
 use Rattle.pay_world.specs.Deeds.{Deed, Asks, member_of, is_want, may_come, counts, adds}
 use Rattle.pay_world.specs.Genuine.{IsGenuineIn, is_forged_in}
@@ -87,7 +87,7 @@ module _ (w : WorldFields) (e : WorldEvent) (m new : MemberFields) (here : slice
     go (inr differs) = ap (λ (o : Option MemberFields). option_map_or (λ (x : MemberFields). events x.history) o []) (member_elsewhere w.members (receiver e) m new here i differs)
 
   pub answers_by :
-      (reply : Reply) → IsReplyOf m e reply → new ≡ member_after e reply m
+      (reply : WorldReply) → IsReplyOf m e reply → new ≡ member_after e reply m
       → ((i : ℕ) → history_at (set w.members (receiver e) (Some new)) i ≡ history_in w i ++ added_in w e i)
       → Answers w (record { genesis = w.genesis; liars = w.liars; members = set w.members (receiver e) (Some new); answered = w.answered }) e reply
   answers_by reply said is grown = record {
@@ -128,13 +128,13 @@ module _ (w : WorldFields) (e : WorldEvent) (m new : MemberFields) (here : slice
 
 -- ---- an ask
 
-pub ask_keeps_genesis : (m : MemberFields) (v : List ℕ) (reply : Reply) → (after_ask m v reply).genesis ≡ m.genesis
+pub ask_keeps_genesis : (m : MemberFields) (v : List ℕ) (reply : WorldReply) → (after_ask m v reply).genesis ≡ m.genesis
 ask_keeps_genesis m v (Asked number) = refl
 ask_keeps_genesis m v (Refused fault) = refl
 ask_keeps_genesis m v (Brought outcome) = refl
 ask_keeps_genesis m v Ignored = refl
 
-pub ask_keeps_keys : (m : MemberFields) (v : List ℕ) (reply : Reply) → (after_ask m v reply).keys ≡ m.keys
+pub ask_keeps_keys : (m : MemberFields) (v : List ℕ) (reply : WorldReply) → (after_ask m v reply).keys ≡ m.keys
 ask_keeps_keys m v (Asked number) = refl
 ask_keeps_keys m v (Refused fault) = refl
 ask_keeps_keys m v (Brought outcome) = refl
@@ -156,7 +156,7 @@ counted a n = ap (λ b. b && ltb n SEQS) (flip GREATEST_VALUE a) ∙ ap (λ b. n
 
 -- what an ask adds to its member's history
 pub ask_grows :
-    EventsByOneMore → (s : Setting) (m new : MemberFields) (i : ℕ) (v : List ℕ) (reply : Reply)
+    EventsByOneMore → (s : Setting) (m new : MemberFields) (i : ℕ) (v : List ℕ) (reply : WorldReply)
     → reply ≡ answer_to_ask (refusal m.genesis m.keys (events m.history) (entry.Ask v)) (asks (events m.history)) → new ≡ after_ask m v reply
     → events new.history ≡ events m.history ++ adds s i (events m.history) (Asks i v)
 ask_grows one_more s m new i v reply said is =
@@ -240,7 +240,7 @@ bring_stays m new bytes none grown =
     ∙ ap (λ (o : Option FrameFields). events m.history ++ option_to_list (option_and_then (event_of (events m.history)) o)) none
     ∙ append-nil (events m.history)
 
-after_keeps : (m : MemberFields) (bytes : List ℕ) (reply : Reply) → ((after_bring m bytes reply).genesis ≡ m.genesis) × ((after_bring m bytes reply).keys ≡ m.keys)
+after_keeps : (m : MemberFields) (bytes : List ℕ) (reply : WorldReply) → ((after_bring m bytes reply).genesis ≡ m.genesis) × ((after_bring m bytes reply).keys ≡ m.keys)
 after_keeps m bytes (Brought outcome) = bring_keeps m outcome _
 after_keeps m bytes (Asked number) = (refl, refl)
 after_keeps m bytes (Refused fault) = (refl, refl)
@@ -253,26 +253,26 @@ abbrev pub with_place : WorldFields → ℕ → Option MemberFields → WorldFie
 with_place w i p = record { genesis = w.genesis; liars = w.liars; members = set w.members i p; answered = w.answered }
 
 -- it is still a world, and the answer is the place's
-pub record IsDone (w : WorldFields) (i : ℕ) (p : Option MemberFields) (e : WorldEvent) (reply : Reply) : Type 0 where
+pub record IsDone (w : WorldFields) (i : ℕ) (p : Option MemberFields) (e : WorldEvent) (reply : WorldReply) : Type 0 where
   pub world : IsWorld (with_place w i p)
   pub answers : Answers w (with_place w i p) e reply
 
 -- where nobody is there
 empty_done :
-    (w : WorldFields) (i : ℕ) (e : WorldEvent) (reply : Reply) → IsWorld w → receiver e ≡ i → slice_get w.members i ≡ Some None → reply ≡ Ignored
+    (w : WorldFields) (i : ℕ) (e : WorldEvent) (reply : WorldReply) → IsWorld w → receiver e ≡ i → slice_get w.members i ≡ Some None → reply ≡ Ignored
     → IsDone w i None e reply
 empty_done w i e reply is to here said =
     let same : set w.members i None ≡ w.members = set_same w.members i None here in
     let none : member_in w (receiver e) ≡ None = ap (member_in w) to ∙ ap (option_and_then (λ x. x)) here in
     let At : List (Option MemberFields) → Type 0 = λ members. IsWorld (record { genesis = w.genesis; liars = w.liars; members = members; answered = w.answered }) in
-    let Told : List (Option MemberFields) → Reply → Type 0 = λ members r. Answers w (record { genesis = w.genesis; liars = w.liars; members = members; answered = w.answered }) e r in
+    let Told : List (Option MemberFields) → WorldReply → Type 0 = λ members r. Answers w (record { genesis = w.genesis; liars = w.liars; members = members; answered = w.answered }) e r in
     record {
       world = subst At (sym same) (counted_is_world w w.answered is);
       answers = subst (λ members. Told members reply) (sym same) (subst (λ r. Told w.members r) (sym said) (ignored w e none));
     }
 
 pub ask_done :
-    EventsByOneMore → StandsByDeed → (w : WorldFields) (i : ℕ) (v : List ℕ) (o p : Option MemberFields) (reply : Reply)
+    EventsByOneMore → StandsByDeed → (w : WorldFields) (i : ℕ) (v : List ℕ) (o p : Option MemberFields) (reply : WorldReply)
     → IsWorld w → HasFewFaulty (setting_in w) → slice_get w.members i ≡ Some o
     → IsReplyFrom o (Ask i v) reply → p ≡ option_map (member_after (Ask i v) reply) o → IsDone w i p (Ask i v) reply
 ask_done one_more deed w i v None p reply is few here said after =
@@ -289,7 +289,7 @@ ask_done one_more deed w i v (Some m) p reply is few here said after = subst (λ
   }
 
 pub bring_done :
-    WhatOpens → ForgedIsTold → StandsByDeed → (w : WorldFields) (i : ℕ) (bytes : List ℕ) (o p : Option MemberFields) (reply : Reply)
+    WhatOpens → ForgedIsTold → StandsByDeed → (w : WorldFields) (i : ℕ) (bytes : List ℕ) (o p : Option MemberFields) (reply : WorldReply)
     → IsWorld w → HasFewFaulty (setting_in w) → slice_get w.members i ≡ Some o → is_forged_at w (Bring i bytes) ≡ false
     → IsReplyFrom o (Bring i bytes) reply → p ≡ option_map (member_after (Bring i bytes) reply) o → IsGrownBy o p bytes → IsDone w i p (Bring i bytes) reply
 bring_done what told deed w i bytes None p reply is few here unforged said after grown =
@@ -328,7 +328,7 @@ bring_done what told deed w i bytes (Some m) p reply is few here unforged said a
 -- ---- whatever the place answered
 
 -- it is still a world, with the place's answer, or as it was
-pub record IsAny (w : WorldFields) (i : ℕ) (p : Option MemberFields) (e : WorldEvent) (r : Result Reply WorldFault) : Type 0 where
+pub record IsAny (w : WorldFields) (i : ℕ) (p : Option MemberFields) (e : WorldEvent) (r : Result WorldReply WorldFault) : Type 0 where
   pub world : IsWorld (with_place w i p)
   pub answers : IfOk r (Answers w (with_place w i p) e)
   pub err : OnErr r (with_place w i p ≡ w)
@@ -346,7 +346,7 @@ kept_any w i o p e fault is here kept =
     }
 
 pub ask_any :
-    EventsByOneMore → StandsByDeed → (w : WorldFields) (i : ℕ) (v : List ℕ) (o p : Option MemberFields) (r : Result Reply WorldFault)
+    EventsByOneMore → StandsByDeed → (w : WorldFields) (i : ℕ) (v : List ℕ) (o p : Option MemberFields) (r : Result WorldReply WorldFault)
     → IsWorld w → HasFewFaulty (setting_in w) → slice_get w.members i ≡ Some o
     → IfOk r (IsReplyFrom o (Ask 0 v)) → IfOk r (λ reply. p ≡ option_map (member_after (Ask 0 v) reply) o) → OnErr r (p ≡ o) → IsAny w i p (Ask i v) r
 ask_any one_more deed w i v o p (Ok reply) is few here said after kept =
@@ -355,7 +355,7 @@ ask_any one_more deed w i v o p (Ok reply) is few here said after kept =
 ask_any one_more deed w i v o p (Err fault) is few here said after kept = kept_any w i o p (Ask i v) fault is here kept
 
 pub bring_any :
-    WhatOpens → ForgedIsTold → StandsByDeed → (w : WorldFields) (i : ℕ) (bytes : List ℕ) (o p : Option MemberFields) (r : Result Reply WorldFault)
+    WhatOpens → ForgedIsTold → StandsByDeed → (w : WorldFields) (i : ℕ) (bytes : List ℕ) (o p : Option MemberFields) (r : Result WorldReply WorldFault)
     → IsWorld w → HasFewFaulty (setting_in w) → slice_get w.members i ≡ Some o → is_forged_at w (Bring i bytes) ≡ false
     → IfOk r (IsReplyFrom o (Bring 0 bytes)) → IfOk r (λ reply. p ≡ option_map (member_after (Bring 0 bytes) reply) o)
     → IfOk r (λ _. IsGrownBy o p bytes) → OnErr r (p ≡ o) → IsAny w i p (Bring i bytes) r

@@ -9,7 +9,7 @@ use Rattle.pay_world.specs.Genuine.{IsGenuine, AreGenuine, AreGenuineByPlace}
 use Rattle.pay_world.specs.Stands.{Stands, Grow}
 use Rattle.pay_world.specs.Below.{Below}
 use Rattle.pay_world.proofs.Lists.{none_some, some_same, by_push}
-use Rattle.pay_world.proofs.Standing.{stands_at_first}
+use Rattle.pay_world.proofs.StandInduction.{stands_at_first}
 use Rattle.pay_world.proofs.Taking.{stands_by_deed}
 
 -- ---- one deed more, and more deeds

@@ -1,7 +1,7 @@
 pub mod LiarLemmas
 pub mod Lists
 pub mod Heard
-pub mod Standing
+pub mod StandInduction
 pub mod Agreeing
 pub mod Converging
 pub mod Happening

@@ -13,8 +13,8 @@ use Rattle.pay_world.specs.declared.event.WorldEvent.{WorldEvent}
 use Rattle.pay_world.specs.declared.event.WorldEvent.TheVariants.{Ask, Bring}
 use Rattle.pay_world.specs.declared.fault.WorldFault.{WorldFault}
 use Rattle.pay_world.specs.declared.fault.WorldFault.TheVariants.{Memory, Forged}
-use Rattle.pay_world.specs.declared.reply.Reply.{Reply}
-use Rattle.pay_world.specs.declared.reply.Reply.TheVariants.{Asked, Refused, Brought, Ignored}
+use Rattle.pay_world.specs.declared.reply.WorldReply.{WorldReply}
+use Rattle.pay_world.specs.declared.reply.WorldReply.TheVariants.{Asked, Refused, Brought, Ignored}
 use Rattle.pay_world.specs.Setting.{Setting}
 use Rattle.pay_world.specs.Deeds.{Deed, adds, history_by}
 use Rattle.pay_world.specs.Genuine.{IsGenuine, AreGenuine, is_forged_in}
@@ -28,18 +28,18 @@ use Rattle.pay_world.proofs.Answering.{ask_keeps_keys, bring_keeps}
 
 -- ---- an event keeps everyone's keys
 
-reply_keeps : (e : WorldEvent) (reply : Reply) (m : MemberFields) → (member_after e reply m).keys ≡ m.keys
+reply_keeps : (e : WorldEvent) (reply : WorldReply) (m : MemberFields) → (member_after e reply m).keys ≡ m.keys
 reply_keeps (Ask i v) reply m = ask_keeps_keys m v reply
 reply_keeps (Bring i bytes) (Asked number) m = refl
 reply_keeps (Bring i bytes) (Refused fault) m = refl
 reply_keeps (Bring i bytes) (Brought outcome) m = (bring_keeps m outcome _).1
 reply_keeps (Bring i bytes) Ignored m = refl
 
-keys_after : (e : WorldEvent) (reply : Reply) (o : Option MemberFields) → option_map (λ (m : MemberFields). m.keys) (option_map (member_after e reply) o) ≡ option_map (λ (m : MemberFields). m.keys) o
+keys_after : (e : WorldEvent) (reply : WorldReply) (o : Option MemberFields) → option_map (λ (m : MemberFields). m.keys) (option_map (member_after e reply) o) ≡ option_map (λ (m : MemberFields). m.keys) o
 keys_after e reply None = refl
 keys_after e reply (Some m) = ap Some (reply_keeps e reply m)
 
-keys_kept : (old new : WorldFields) (e : WorldEvent) (reply : Reply) → Answers old new e reply → (i : ℕ) → keys_in new i ≡ keys_in old i
+keys_kept : (old new : WorldFields) (e : WorldEvent) (reply : WorldReply) → Answers old new e reply → (i : ℕ) → keys_in new i ≡ keys_in old i
 keys_kept old new e reply answers i = go (cases_eq i (receiver e)) where
   go : ((i ≡ receiver e) ⊎ (i ≢ receiver e)) → keys_in new i ≡ keys_in old i
   go (inl same) =
@@ -96,22 +96,22 @@ forged_same k n same = cc
 
 -- an event that is answered isn't forged
 pub answered_unforged :
-    (w : WorldFields) (e : WorldEvent) (reply : Reply)
-    → MatchOption (forgery w e) (IsOkUnless {T = Reply} (Ok reply) Memory) (λ fault. ◌≡◌ {A = Result Reply WorldFault} (Ok reply) (Err fault))
+    (w : WorldFields) (e : WorldEvent) (reply : WorldReply)
+    → MatchOption (forgery w e) (IsOkUnless {T = WorldReply} (Ok reply) Memory) (λ fault. ◌≡◌ {A = Result WorldReply WorldFault} (Ok reply) (Err fault))
     → is_forged_at w e ≡ false
 answered_unforged w e reply refused = go (is_forged_at w e) refused where
-  go : (b : Bool) → MatchOption (cond b (Some (Forged w.answered)) None) (IsOkUnless {T = Reply} (Ok reply) Memory) (λ fault. ◌≡◌ {A = Result Reply WorldFault} (Ok reply) (Err fault)) → b ≡ false
+  go : (b : Bool) → MatchOption (cond b (Some (Forged w.answered)) None) (IsOkUnless {T = WorldReply} (Ok reply) Memory) (λ fault. ◌≡◌ {A = Result WorldReply WorldFault} (Ok reply) (Err fault)) → b ≡ false
   go true is = absurd (ok_err reply (Forged w.answered) is)
   go false is = refl
 
 -- and one that is refused as forged is, under the count
 pub refused_forged :
     (w : WorldFields) (e : WorldEvent) (k : ℕ)
-    → MatchOption (forgery w e) (IsOkUnless {T = Reply} (Err (Forged k)) Memory) (λ fault. ◌≡◌ {A = Result Reply WorldFault} (Err (Forged k)) (Err fault))
+    → MatchOption (forgery w e) (IsOkUnless {T = WorldReply} (Err (Forged k)) Memory) (λ fault. ◌≡◌ {A = Result WorldReply WorldFault} (Err (Forged k)) (Err fault))
     → (is_forged_at w e ≡ true) × (k ≡ w.answered)
 refused_forged w e k refused = go (is_forged_at w e) refused where
-  go : (b : Bool) → MatchOption (cond b (Some (Forged w.answered)) None) (IsOkUnless {T = Reply} (Err (Forged k)) Memory) (λ fault. ◌≡◌ {A = Result Reply WorldFault} (Err (Forged k)) (Err fault)) → (b ≡ true) × (k ≡ w.answered)
-  go true is = (refl, forged_same k w.answered (err_is {A = Reply} (Forged k) (Forged w.answered) is))
+  go : (b : Bool) → MatchOption (cond b (Some (Forged w.answered)) None) (IsOkUnless {T = WorldReply} (Err (Forged k)) Memory) (λ fault. ◌≡◌ {A = Result WorldReply WorldFault} (Err (Forged k)) (Err fault)) → (b ≡ true) × (k ≡ w.answered)
+  go true is = (refl, forged_same k w.answered (err_is {A = WorldReply} (Forged k) (Forged w.answered) is))
   go false is = absurd (forged_no_memory k is)
 
 -- ---- one event more
@@ -153,7 +153,7 @@ module _ (g : GenesisFields) (keys : List KeyFields) (l : LiarFields) (events : 
         last x same = refl
 
   pub after_one_more :
-      HistoryByOneMore → GenuineByOneMore → ForgedIsTold → (new : WorldFields) (e : WorldEvent) (reply : Reply)
+      HistoryByOneMore → GenuineByOneMore → ForgedIsTold → (new : WorldFields) (e : WorldEvent) (reply : WorldReply)
       → Answers old new e reply → is_forged_at old e ≡ false → new.answered ≡ one_more old.answered → IsWorldAfter g keys l (events ++ e ∷ []) new
   after_one_more more genuine_more told new e reply answers unforged counted = record {
     genesis = answers.genesis ∙ is.genesis;

@@ -12,7 +12,7 @@ use Rattle.pay_world.specs.Deeds.{Deed, Asks, Brings, member_of, event_of, is_wa
 use Rattle.pay_world.specs.Genuine.{IsGenuineIn}
 use Rattle.pay_world.specs.Stands.{Stands, IsLonger, IsAllowed}
 use Rattle.pay_world.specs.Below.{Below}
-use Rattle.pay_world.proofs.Standing.{stands_by_one_more}
+use Rattle.pay_world.proofs.StandInduction.{stands_by_one_more}
 
 -- ---- a deed that counts may happen
 

@@ -16,7 +16,7 @@ use Rattle.pay_world.specs.Below.{Below}
 use Rattle.pay_world.proofs.Lists.{prefix_trans}
 use Rattle.pay_world.proofs.Booking.{no_list_forks, list_was_asked, list_stays}
 
--- ---- beginnings
+-- ---- prefixes
 
 take_more : {X : Type 0} (m n : ℕ) (xs : List X) → m ≤ n → IsPrefix (take m xs) (take n xs)
 take_more m n xs h =
@@ -28,7 +28,7 @@ take_more m n xs h =
 take_is_prefix : {X : Type 0} (m : ℕ) (xs : List X) → IsPrefix (take m xs) xs
 take_is_prefix m xs = record { rest = drop m xs; is = sym (take-append-drop m xs) }
 
--- a beginning of a prefix is one of the whole
+-- a prefix of a prefix is one of the whole
 take_of_prefix : {X : Type 0} (m : ℕ) (xs ys : List X) → IsPrefix xs ys → take (min m (length xs)) ys ≡ take m xs
 take_of_prefix m xs ys p =
     ap (take (min m (length xs))) p.is

@@ -16,8 +16,8 @@ use Rattle.pay_world.specs.declared.event.WorldEvent.{WorldEvent}
 use Rattle.pay_world.specs.declared.event.WorldEvent.TheVariants.{Ask, Bring}
 use Rattle.pay_world.specs.declared.fault.WorldFault.{WorldFault}
 use Rattle.pay_world.specs.declared.fault.WorldFault.TheVariants.{Forged}
-use Rattle.pay_world.specs.declared.reply.Reply.{Reply}
-use Rattle.pay_world.specs.declared.reply.Reply.TheVariants.{Asked, Refused, Brought, Ignored}
+use Rattle.pay_world.specs.declared.reply.WorldReply.{WorldReply}
+use Rattle.pay_world.specs.declared.reply.WorldReply.TheVariants.{Asked, Refused, Brought, Ignored}
 use Rattle.pay_world.specs.Deeds.{Deed, Asks, Brings, adds}
 use Rattle.pay_world.specs.Setting.{group_at, is_correct}
 use Rattle.pay_world.specs.Genuine.{is_body, is_forged_in}
@@ -69,18 +69,18 @@ added_in w e i = option_map_or (adds (setting_in w) i (history_in w i)) (deed_of
 -- ---- the answer
 
 -- to a value of a member's own
-abbrev pub answer_to_ask : Option MemberFault → ℕ → Reply
+abbrev pub answer_to_ask : Option MemberFault → ℕ → WorldReply
 answer_to_ask (Some fault) number = Refused fault
 answer_to_ask None number = Asked number
 
 -- to bytes that were brought to it: what comes of them
-abbrev pub IsBrought : MemberFields → List ℕ → Reply → Type 0
+abbrev pub IsBrought : MemberFields → List ℕ → WorldReply → Type 0
 IsBrought m bytes (Brought outcome) = IsOutcome m.genesis m.keys (events m.history) bytes outcome
 IsBrought m bytes (Asked number) = ⊥
 IsBrought m bytes (Refused fault) = ⊥
 IsBrought m bytes Ignored = ⊥
 
-abbrev pub IsReplyOf : MemberFields → WorldEvent → Reply → Type 0
+abbrev pub IsReplyOf : MemberFields → WorldEvent → WorldReply → Type 0
 IsReplyOf m (Ask i v) reply =
     reply
     ≡ answer_to_ask (refusal m.genesis m.keys (events m.history) (entry.Ask v))
@@ -88,10 +88,10 @@ IsReplyOf m (Ask i v) reply =
 IsReplyOf m (Bring i bytes) reply = IsBrought m bytes reply
 
 -- the member's own, if it is there
-abbrev pub IsReplyFrom : Option MemberFields → WorldEvent → Reply → Type 0
+abbrev pub IsReplyFrom : Option MemberFields → WorldEvent → WorldReply → Type 0
 IsReplyFrom member e reply = MatchOption member (reply ≡ Ignored) (λ m. IsReplyOf m e reply)
 
-abbrev pub IsReply : WorldFields → WorldEvent → Reply → Type 0
+abbrev pub IsReply : WorldFields → WorldEvent → WorldReply → Type 0
 IsReply w e reply = IsReplyFrom (member_in w (receiver e)) e reply
 
 -- Whether the member takes the event, if it is there: nothing refuses the value, and the bytes are a
@@ -104,21 +104,21 @@ IsTakenBy (Bring i bytes) member =
 
 -- ---- what becomes of the members
 
-abbrev pub after_ask : MemberFields → List ℕ → Reply → MemberFields
+abbrev pub after_ask : MemberFields → List ℕ → WorldReply → MemberFields
 after_ask m v (Asked number) =
     with_entry m (record { stamp = 0; event = entry.Ask v; reply = entry_reply.Asked number })
 after_ask m v (Refused fault) = m
 after_ask m v (Brought outcome) = m
 after_ask m v Ignored = m
 
-abbrev pub after_bring : MemberFields → List ℕ → Reply → MemberFields
+abbrev pub after_bring : MemberFields → List ℕ → WorldReply → MemberFields
 after_bring m bytes (Brought outcome) = with_brought m 0 outcome (opened_in m.keys bytes)
 after_bring m bytes (Asked number) = m
 after_bring m bytes (Refused fault) = m
 after_bring m bytes Ignored = m
 
 -- the member once it replied
-abbrev pub member_after : WorldEvent → Reply → MemberFields → MemberFields
+abbrev pub member_after : WorldEvent → WorldReply → MemberFields → MemberFields
 member_after (Ask i v) reply m = after_ask m v reply
 member_after (Bring i bytes) reply m = after_bring m bytes reply
 
@@ -132,7 +132,7 @@ IsGrownBy (Some old) (Some new) bytes =
 
 -- The receiver replied, and its history is as much longer as the event adds; the others are as they
 -- were.
-pub record Answers (old new : WorldFields) (e : WorldEvent) (reply : Reply) : Type 0 where
+pub record Answers (old new : WorldFields) (e : WorldEvent) (reply : WorldReply) : Type 0 where
   pub genesis : new.genesis ≡ old.genesis
   pub liars : new.liars ≡ old.liars
   pub said : IsReply old e reply

@@ -8,7 +8,7 @@ use Rattle.pay_member.specs.Legal.{Legal}
 use Rattle.pay_world.specs.declared.event.WorldEvent.{WorldEvent}
 use Rattle.pay_world.specs.declared.fault.WorldFault.{WorldFault}
 use Rattle.pay_world.specs.declared.fault.WorldFault.TheVariants.{Memory, Forged}
-use Rattle.pay_world.specs.declared.reply.Reply.{Reply}
+use Rattle.pay_world.specs.declared.reply.WorldReply.{WorldReply}
 use Rattle.pay_world.specs.Liars.{AreLiarsOf, LiarFields}
 use Rattle.pay_world.specs.World.{WorldFields, AreKeysOf, fresh_world}
 use Rattle.pay_world.specs.Answer.{Answers, forgery, is_forged_at, one_more}
@@ -24,7 +24,7 @@ NoEventsMakeFresh =
 abbrev pub WorldByOneMore : Type 0
 WorldByOneMore =
     (g : GenesisFields) (keys : List KeyFields) (l : LiarFields) (events : List WorldEvent)
-    (old new : WorldFields) (e : WorldEvent) (reply : Reply)
+    (old new : WorldFields) (e : WorldEvent) (reply : WorldReply)
     → IsWorldAfter g keys l events old → Answers old new e reply → is_forged_at old e ≡ false
     → new.answered ≡ one_more old.answered → IsWorldAfter g keys l (events ++ e ∷ []) new
 
@@ -46,14 +46,14 @@ LegalHistoryByEvents =
     → stored.events history ≡ history_of keys l (events_of k.own history) k.own
 
 -- what a world says to an event: that it is forged, or anything else but that
-abbrev pub IsSaidTo : WorldFields → WorldEvent → Result Reply WorldFault → Type 0
+abbrev pub IsSaidTo : WorldFields → WorldEvent → Result WorldReply WorldFault → Type 0
 IsSaidTo w e said =
     MatchOption (forgery w e) (IsOkUnless said Memory) (λ fault. said ≡ Err fault)
 
 -- so an event that is answered isn't forged
 abbrev pub AnsweredIsUnforged : Type 0
 AnsweredIsUnforged =
-    (w : WorldFields) (e : WorldEvent) (reply : Reply) → IsSaidTo w e (Ok reply)
+    (w : WorldFields) (e : WorldEvent) (reply : WorldReply) → IsSaidTo w e (Ok reply)
     → is_forged_at w e ≡ false
 
 -- and one that is said to be forged is, under the count of those answered before

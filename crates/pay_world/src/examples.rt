@@ -13,7 +13,9 @@ ghost use Rattle.pay_world.specs.Genuine.{AreGenuine, is_forged};
 ghost use Rattle.pay_world.specs.Convergence.{AllTaken};
 ghost use Rattle.pay_world.specs.GroupKeys.{group_test_keys};
 ghost use Rattle.pay_world.specs.Run.{events_of, history_of};
-ghost use Rattle.pay_world.specs.Examples.{A, B, of_3, of_0, first_of, four, two_liars, three, with_a_liar, by_two_liars, by_a_forged_frame, of_three, stored_at_1, liar_of_four, in_bytes};
+ghost use Rattle.pay_world.specs.Examples.{A, B, of_3, of_0, first_of, four, two_liars, three};
+ghost use Rattle.pay_world.specs.Examples.{with_a_liar, by_two_liars, by_a_forged_frame};
+ghost use Rattle.pay_world.specs.Examples.{of_three, stored_at_1, liar_of_four, in_bytes};
 
 use crate::event::WorldEvent;
 use crate::laws::forged_is_told;

@@ -2,9 +2,19 @@
 //! the laws that it stands on.
 
 ghost use Rattle.pay_world.specs.Below.{Below, OfBooks};
-ghost use Rattle.pay_world.specs.DeedLaws.{NoHistoryAtFirst, HistoryByOneMore, HistoriesGrow, LegalHistoryByDeeds, NoDeedIsGenuine, GenuineByOneMore, PrefixIsGenuine, GenuineByPlace, CorrectIsTold, ForgedIsTold, NoneForgedIsTold};
-ghost use Rattle.pay_world.specs.StandLaws.{StandsAtFirst, StandsByOneMore, StandsByDeed, GenuineStands, Agreement, ListsCompare, Integrity, ListIsAsked, NothingIsTakenBack, Convergence, ListsConverge, AsksAreDelivered, ListIsAllAsked};
-ghost use Rattle.pay_world.specs.HeadlineLaws.{HeadlineHolds, BooksConverge, NoListForks, ListWasAsked, ListStays, ListsAreEqual, ListIsComplete, SettledValuesMakeBeginning, NoSettledValueForks, SettledValuesStay, SettledValuesWereAsked};
+ghost use Rattle.pay_world.specs.DeedLaws.{NoHistoryAtFirst, HistoryByOneMore, HistoriesGrow};
+ghost use Rattle.pay_world.specs.DeedLaws.{LegalHistoryByDeeds, NoDeedIsGenuine};
+ghost use Rattle.pay_world.specs.DeedLaws.{GenuineByOneMore, PrefixIsGenuine, GenuineByPlace};
+ghost use Rattle.pay_world.specs.DeedLaws.{CorrectIsTold, ForgedIsTold, NoneForgedIsTold};
+ghost use Rattle.pay_world.specs.StandLaws.{StandsAtFirst, StandsByOneMore, StandsByDeed};
+ghost use Rattle.pay_world.specs.StandLaws.{GenuineStands, Agreement, ListsCompare, Integrity};
+ghost use Rattle.pay_world.specs.StandLaws.{ListIsAsked, NothingIsTakenBack, Convergence};
+ghost use Rattle.pay_world.specs.StandLaws.{ListsConverge, AsksAreDelivered, ListIsAllAsked};
+ghost use Rattle.pay_world.specs.HeadlineLaws.{HeadlineHolds, BooksConverge};
+ghost use Rattle.pay_world.specs.HeadlineLaws.{NoListForks, ListWasAsked, ListStays};
+ghost use Rattle.pay_world.specs.HeadlineLaws.{ListsAreEqual, ListIsComplete};
+ghost use Rattle.pay_world.specs.HeadlineLaws.{SettledValuesMakeBeginning, NoSettledValueForks};
+ghost use Rattle.pay_world.specs.HeadlineLaws.{SettledValuesStay, SettledValuesWereAsked};
 
 use pay_book::laws::{
     book_keeps_total, equal_lists_equal_books, nobody_owes_once_settled, settled_book_exists,

@@ -1,6 +1,7 @@
 ghost use Rattle.std.specs.Prelude.{◌≡◌, nat_lt, IfOk, IsOkUnless, MatchOption};
 ghost use Rattle.std.specs.List.{list_all};
-ghost use Rattle.pay_world.specs.Liars.{AreLiars, AreLiarsOf, has_twice, is_listed, liar_fault, liars_in};
+ghost use Rattle.pay_world.specs.Liars.{AreLiars, AreLiarsOf, has_twice};
+ghost use Rattle.pay_world.specs.Liars.{is_listed, liar_fault, liars_in};
 
 use crate::liar_fault::LiarFault;
 use pay_link::Genesis;

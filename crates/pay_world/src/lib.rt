@@ -23,7 +23,7 @@ pub use group_keys::group_test_keys;
 pub use liar_fault::LiarFault;
 pub use liar_laws::liar_causes;
 pub use liars::Liars;
-pub use reply::Reply;
+pub use reply::WorldReply;
 pub use run::run_world;
 pub use run_laws::{what_is_forged, world_by_events};
 pub use world::World;

@@ -2,7 +2,7 @@ use pay_member::{MemberFault, Outcome};
 
 /// What a world answers to an event.
 #[derive(Clone, Copy, Debug, PartialEq, Eq)]
-pub enum Reply {
+pub enum WorldReply {
     /// The member broadcasts the value under this number.
     Asked(u32),
     /// The member refused the value.

@@ -1,7 +1,8 @@
 //! What holds of worlds that take events one by one. The function's contract is the law; its body
 //! only names the laws that it stands on.
 
-ghost use Rattle.pay_world.specs.RunLaws.{AnsweredIsUnforged, HistoryIsLegal, LegalHistoryByEvents, NoEventsMakeFresh, SaidIsForged, WorldByOneMore};
+ghost use Rattle.pay_world.specs.RunLaws.{AnsweredIsUnforged, HistoryIsLegal, LegalHistoryByEvents};
+ghost use Rattle.pay_world.specs.RunLaws.{NoEventsMakeFresh, SaidIsForged, WorldByOneMore};
 
 use crate::laws::{forged_is_told, genuine_deeds, histories_by_deeds, legal_history_by_deeds};
 use pay_member::laws::{events_in_order, legal_histories, what_is_brought, what_opens};

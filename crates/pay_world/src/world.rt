@@ -1,4 +1,5 @@
-ghost use Rattle.std.specs.Prelude.{◌≡◌, ◌↔◌, ℕ, slice_get, Some, false, IfOk, IsOkUnless, IsTrue, MatchOption, OnOk, OnErr};
+ghost use Rattle.std.specs.Prelude.{◌≡◌, ◌↔◌, ℕ, slice_get, Some, false, IfOk};
+ghost use Rattle.std.specs.Prelude.{IsOkUnless, IsTrue, MatchOption, OnOk, OnErr};
 ghost use Rattle.std.specs.Option.{option_copied, option_map};
 ghost use Rattle.pay_frame.specs.Frame.{FrameFields};
 ghost use Rattle.pay_frame.specs.Lent.{fields_of};
@@ -12,15 +13,17 @@ ghost use Rattle.pay_member.specs.Events.{events};
 ghost use Rattle.pay_member.specs.Member.{MemberFields};
 ghost use Rattle.pay_world.specs.Genuine.{is_body};
 ghost use Rattle.pay_world.specs.Liars.{AreLiarsOf};
-ghost use Rattle.pay_world.specs.World.{AreKeysOf, IsWorld, fresh_place, fresh_world, history_in, member_in};
-ghost use Rattle.pay_world.specs.Answer.{Answers, IsGrownBy, IsReplyFrom, IsTakenBy, forgery, is_forged_at, is_unsent, member_after, one_more, receiver};
+ghost use Rattle.pay_world.specs.World.{AreKeysOf, IsWorld, fresh_place};
+ghost use Rattle.pay_world.specs.World.{fresh_world, history_in, member_in};
+ghost use Rattle.pay_world.specs.Answer.{Answers, IsGrownBy, IsReplyFrom, IsTakenBy, forgery};
+ghost use Rattle.pay_world.specs.Answer.{is_forged_at, is_unsent, member_after, one_more, receiver};
 ghost use Rattle.pay_world.specs.Passing.{MayPass, frame_of, passing};
 
 use crate::event::WorldEvent;
 use crate::fault::WorldFault;
 use crate::laws::{correct_members_stand, forged_is_told};
 use crate::liars::Liars;
-use crate::reply::Reply;
+use crate::reply::WorldReply;
 use pay_book::Settle;
 use pay_channel::laws::what_is_sent;
 use pay_echo::Instance;
@@ -103,7 +106,7 @@ impl<I: Instance + Drop, B: Settle + Drop> World<I, B> {
         alloc: Global,
         tagger: &T,
         event: WorldEvent,
-    ) -> Result<Reply, WorldFault>
+    ) -> Result<WorldReply, WorldFault>
         ensures refused { MatchOption (forgery self.old event)
             (IsOkUnless result WorldFault.Memory)
             (λ fault. result ≡ Err fault) }
@@ -125,7 +128,7 @@ impl<I: Instance + Drop, B: Settle + Drop> World<I, B> {
         alloc: Global,
         tagger: &T,
         event: WorldEvent,
-    ) -> Result<Reply, WorldFault>
+    ) -> Result<WorldReply, WorldFault>
         ensures refused { MatchOption (forgery self.old event)
             (IsOkUnless result WorldFault.Memory)
             (λ fault. result ≡ Err fault) }
@@ -144,7 +147,7 @@ impl<I: Instance + Drop, B: Settle + Drop> World<I, B> {
     }
 
     // Asks a member to broadcast a value.
-    fn ask(&mut self, alloc: Global, member: u16, value: Bytes) -> Result<Reply, WorldFault>
+    fn ask(&mut self, alloc: Global, member: u16, value: Bytes) -> Result<WorldReply, WorldFault>
         ensures refused { MatchOption (forgery self.old (WorldEvent.Ask member value))
             (IsOkUnless result WorldFault.Memory)
             (λ fault. result ≡ Err fault) }
@@ -159,7 +162,7 @@ impl<I: Instance + Drop, B: Settle + Drop> World<I, B> {
         correct_members_stand();
         let place = usize::from(member);
         if place >= self.members.len() {
-            return Ok(Reply::Ignored);
+            return Ok(WorldReply::Ignored);
         }
         ask_place(&mut self.members[place], alloc, value)
     }
@@ -171,7 +174,7 @@ impl<I: Instance + Drop, B: Settle + Drop> World<I, B> {
         tagger: &T,
         member: u16,
         bytes: &[u8],
-    ) -> Result<Reply, WorldFault>
+    ) -> Result<WorldReply, WorldFault>
         ensures refused { MatchOption (forgery self.old (WorldEvent.Bring member bytes.now))
             (IsOkUnless result WorldFault.Memory)
             (λ fault. result ≡ Err fault) }
@@ -191,7 +194,7 @@ impl<I: Instance + Drop, B: Settle + Drop> World<I, B> {
         }
         let place = usize::from(member);
         if place >= self.members.len() {
-            return Ok(Reply::Ignored);
+            return Ok(WorldReply::Ignored);
         }
         bring_place(&mut self.members[place], alloc, tagger, bytes)
     }
@@ -243,7 +246,7 @@ impl<I: Instance + Drop, B: Settle + Drop> World<I, B> {
 
     /// Passes on what a correct member sent another that has the same key for it: the frame at a
     /// place of its list, sealed for the other. What it does is what bringing the frame's bytes to
-    /// the other would, but they aren't spelled, and its tag is computed once.
+    /// the other would, but they aren't encoded, and its tag is computed once.
     ///
     /// A frame that was sent is never refused.
     pub fn pass<T: Tagger>(
@@ -253,7 +256,7 @@ impl<I: Instance + Drop, B: Settle + Drop> World<I, B> {
         from: u16,
         to: u16,
         number: u64,
-    ) -> Result<Reply, WorldFault>
+    ) -> Result<WorldReply, WorldFault>
         requires { MayPass self.old from to number }
         ensures refused { MatchOption (forgery self.old (passing self.old from to number))
             (IsOkUnless result WorldFault.Memory)
@@ -279,7 +282,7 @@ impl<I: Instance + Drop, B: Settle + Drop> World<I, B> {
         from: u16,
         to: u16,
         number: u64,
-    ) -> Result<Reply, WorldFault>
+    ) -> Result<WorldReply, WorldFault>
         requires { MayPass self.old from to number }
         ensures unforged { is_forged_at self.old (passing self.old from to number) ≡ false }
         ensures passed { IsOkUnless result WorldFault.Memory }
@@ -360,7 +363,7 @@ fn ask_place<I: Instance + Drop, B: Settle + Drop>(
     place: &mut Option<Member<I, B>>,
     alloc: Global,
     value: Bytes,
-) -> Result<Reply, WorldFault>
+) -> Result<WorldReply, WorldFault>
     ensures reply { IfOk result (IsReplyFrom place.old (WorldEvent.Ask 0 value)) }
     ensures after { IfOk result (λ reply. place.new
         ≡ option_map (member_after (WorldEvent.Ask 0 value) reply) place.old) }
@@ -369,12 +372,12 @@ fn ask_place<I: Instance + Drop, B: Settle + Drop>(
     ensures err { OnErr result (place.new ≡ place.old) }
 {
     let Some(member) = place else {
-        return Ok(Reply::Ignored);
+        return Ok(WorldReply::Ignored);
     };
     match member.ask(alloc, 0, value) {
-        Ok(number) => Ok(Reply::Asked(number)),
+        Ok(number) => Ok(WorldReply::Asked(number)),
         Err(MemberFault::Memory) => Err(WorldFault::Memory),
-        Err(fault) => Ok(Reply::Refused(fault)),
+        Err(fault) => Ok(WorldReply::Refused(fault)),
     }
 }
 
@@ -384,7 +387,7 @@ fn bring_place<I: Instance + Drop, B: Settle + Drop, T: Tagger>(
     alloc: Global,
     tagger: &T,
     bytes: &[u8],
-) -> Result<Reply, WorldFault>
+) -> Result<WorldReply, WorldFault>
     ensures reply { IfOk result (IsReplyFrom place.old (WorldEvent.Bring 0 bytes.now)) }
     ensures after { IfOk result (λ reply. place.new
         ≡ option_map (member_after (WorldEvent.Bring 0 bytes.now) reply) place.old) }
@@ -394,10 +397,10 @@ fn bring_place<I: Instance + Drop, B: Settle + Drop, T: Tagger>(
     ensures err { OnErr result (place.new ≡ place.old) }
 {
     let Some(member) = place else {
-        return Ok(Reply::Ignored);
+        return Ok(WorldReply::Ignored);
     };
     let outcome = member.bring_unanswered(alloc, 0, tagger, bytes)?;
-    Ok(Reply::Brought(outcome))
+    Ok(WorldReply::Brought(outcome))
 }
 
 // Brings a frame that is for it to the member at a place, if there is one.
@@ -405,7 +408,7 @@ fn pass_place<I: Instance + Drop, B: Settle + Drop>(
     place: &mut Option<Member<I, B>>,
     alloc: Global,
     checked: Checked,
-) -> Result<Reply, WorldFault>
+) -> Result<WorldReply, WorldFault>
     requires { MatchOption place.old (Unit {0}) (λ m. IsFor m.keys checked) }
     ensures reply { IfOk result (IsReplyFrom place.old (WorldEvent.Bring 0 (bytes_of checked))) }
     ensures after { IfOk result (λ reply. place.new
@@ -415,10 +418,10 @@ fn pass_place<I: Instance + Drop, B: Settle + Drop>(
     ensures err { OnErr result (place.new ≡ place.old) }
 {
     let Some(member) = place else {
-        return Ok(Reply::Ignored);
+        return Ok(WorldReply::Ignored);
     };
     let outcome = member.bring_owned(alloc, 0, checked)?;
-    Ok(Reply::Brought(outcome))
+    Ok(WorldReply::Brought(outcome))
 }
 
 // Whether the member sent this body under this number.

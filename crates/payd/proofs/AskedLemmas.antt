@@ -30,7 +30,7 @@ pub text_or : (lent : Option (Bor Text)) (other : Bor Text)
 text_or None other = refl
 text_or (Some s) other = refl
 
-pub asked-none : (met : Option (Text × List Row)) → None ≡ option_map (λ p. p.1) met → check None None ≡ asked_in met
+pub asked-none : (met : Option (Text × List Row)) → None ≡ option_map (λ p. p.1) met → check None None None ≡ asked_in met
 asked-none None h = refl
 asked-none (Some p) h = absurd cc
 

@@ -2,7 +2,9 @@
 use Rattle.std.proofs.Common.{◌≡◌, ◌+◌, ◌<◌, ℕ, Bor, List, [], ◌∷◌, ◌++◌, drop, get_or, length, map, refl, sym, ap, subst, append_assoc, append-nil, arith}
 use Rattle.std.proofs.lemmas.List.{drop_more}
 use Rattle.std.specs.List.{AllZip}
+use Rattle.pay_audit.specs.Auditor.{HasTaken}
 use Rattle.pay_audit.specs.Export.{ExportFields}
+use Rattle.pay_audit.specs.declared.auditor.Auditor.{Auditor}
 use Rattle.payd.specs.Files.{IsExportOf, IsExportStop, IsExportsStop}
 use Rattle.payd.specs.declared.stop.Stop.{Stop}
 
@@ -70,3 +72,10 @@ pub at_end : (holds : List ℕ → List ℕ → Type 0) (names left : List (Bor 
     → IsReading holds (texts names) (texts left) exports → AllZip (IsExportOf holds) (texts names) exports
 at_end holds names left exports none r =
     all_read holds (texts names) exports (subst (λ ns. IsReading holds (texts names) (texts ns) exports) none r)
+
+-- an auditor has taken the exports that were read, one for each of the first names
+pub record IsAuditing (holds : List ℕ → List ℕ → Type 0) (names left : List (List ℕ)) (count : ℕ) (auditor : Auditor) : Type 0 where
+  pub exports : List ExportFields
+  pub reading : IsReading holds names left exports
+  pub taken : HasTaken exports auditor
+  pub each : length exports ≡ count

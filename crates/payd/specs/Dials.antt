@@ -1,8 +1,8 @@
 -- How often a node dials its peers, as a word says it.
 use Rattle.std.specs.Prelude.{◌≡◌, ℕ, ◌==◌, List, Option, Some, None, codes, option_and_then, if◌then◌else◌}
 use Rattle.std.specs.Str.{bytes_eq}
-use Rattle.pay_node.specs.declared.patience.Dials.{Dials}
-use Rattle.pay_node.specs.declared.patience.Dials.TheVariants.{Usual, Counted, Always}
+use Rattle.pay_peers.specs.declared.patience.Dials.{Dials}
+use Rattle.pay_peers.specs.declared.patience.Dials.TheVariants.{Usual, Counted, Always}
 use Rattle.pay_text.specs.Numbers.{number_of}
 use Rattle.payd.specs.declared.stop.Stop.{Stop}
 use Rattle.payd.specs.declared.stop.Stop.TheVariants as stop
@@ -31,7 +31,11 @@ Names word (stop.Ports fault) = ⊥
 Names word (stop.Export fault) = ⊥
 Names word (stop.Close fault) = ⊥
 Names word (stop.Port port) = ⊥
+Names word (stop.Ahead named) = ⊥
+Names word (stop.Jobs named) = ⊥
 Names word (stop.Account account) = ⊥
+Names word (stop.Date named) = ⊥
+Names word stop.Clock = ⊥
 
 -- the program stops because a word asks for nothing
 abbrev pub IsDialsStop : Option (List ℕ) → Stop → Type 0

@@ -2,7 +2,9 @@
 use Rattle.std.specs.Prelude.{◌≡◌, ℕ, ◌⊎◌, nat_lt, List, [], ◌∷◌, ◌++◌, Option, Some, None, Result, Ok, Err, if◌then◌else◌}
 use Rattle.std.specs.List.{AllZip}
 use Rattle.pay_audit.specs.Export.{ExportFields, export_in}
+use Rattle.pay_audit.specs.Verdict.{verdict_of}
 use Rattle.pay_audit.specs.declared.export_fault.ExportFault.TheVariants as export
+use Rattle.pay_audit.specs.declared.verdict.Verdict.{Verdict}
 use Rattle.pay_frame.specs.declared.engine_fault.EngineFault.TheVariants as engine
 use Rattle.pay_link.specs.Files.{genesis_in, keys_in}
 use Rattle.pay_link.specs.Genesis.{GenesisFields}
@@ -13,7 +15,7 @@ use Rattle.pay_link.specs.declared.keys_fault.KeysFault.TheVariants as keys
 use Rattle.pay_net.specs.Ports.{HasPorts, IsPortsFault}
 use Rattle.pay_net.specs.declared.ports_fault.PortsFault.{PortsFault}
 use Rattle.payd.specs.declared.stop.Stop.{Stop}
-use Rattle.payd.specs.declared.stop.Stop.TheVariants.{Engine, Genesis, Keys, Ports, Export, Close, Port, File, Dials, Account}
+use Rattle.payd.specs.declared.stop.Stop.TheVariants.{Engine, Genesis, Keys, Ports, Export, Close, Port, File, Dials, Ahead, Jobs, Account, Date, Clock}
 
 -- bytes that the file may hold are judged so
 abbrev pub IsJudged : {X : Type 0} → (List ℕ → List ℕ → Type 0) → List ℕ → (List ℕ → X) → X → Type 0
@@ -30,7 +32,11 @@ IsUnread name (Export fault) = ⊥
 IsUnread name (Close fault) = ⊥
 IsUnread name (Port port) = ⊥
 IsUnread name (Dials word) = ⊥
+IsUnread name (Ahead word) = ⊥
+IsUnread name (Jobs word) = ⊥
 IsUnread name (Account word) = ⊥
+IsUnread name (Date word) = ⊥
+IsUnread name Clock = ⊥
 
 -- why a file isn't what it should be: its bytes can't be had, memory was refused, or they have this fault
 abbrev pub IsStop : {X E : Type 0} → (List ℕ → List ℕ → Type 0) → List ℕ → (List ℕ → Result X E) → (E → Stop) → E → Stop → Type 0
@@ -92,3 +98,9 @@ pub record IsExportsStop (holds : List ℕ → List ℕ → Type 0) (names : Lis
   pub exports : List ExportFields
   pub read : AllZip (IsExportOf holds) first exports
   pub stopped : IsExportStop holds name stop
+
+-- Each file is read as an export, and this is the verdict on these.
+pub record IsVerdictOn (holds : List ℕ → List ℕ → Type 0) (names : List (List ℕ)) (verdict : Verdict) : Type 0 where
+  pub exports : List ExportFields
+  pub read : AllZip (IsExportOf holds) names exports
+  pub is : verdict ≡ verdict_of exports

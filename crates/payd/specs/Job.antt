@@ -8,7 +8,7 @@ use Rattle.clap.specs.declared.builder.action.ArgAction.TheVariants.{Append}
 use Rattle.clap.specs.declared.builder.Command.{Command}
 use Rattle.clap.specs.declared.builder.command.Command.TheViews.{out-Command}
 use Rattle.payd.specs.declared.words.Job.{Job}
-use Rattle.payd.specs.declared.words.Job.TheVariants.{Check, Desk, Node, Audit, Statement, Sim}
+use Rattle.payd.specs.declared.words.Job.TheVariants.{Check, Desk, Node, Audit, Statement, Journal, Sim}
 
 -- an option that takes a word
 abbrev pub option_rule : Text → Rule
@@ -18,22 +18,27 @@ option_rule name = record (new_rule name) { long = Some name; value_names = 1 }
 abbrev pub required_rule : Text → Rule
 required_rule name = record (option_rule name) { required = true }
 
--- `check`, which takes a genesis and keys
+-- `check`, which takes a genesis, keys and a count of threads
 abbrev pub check_app : App
-check_app = with_rule (with_rule (new_app (codes "check")) (option_rule (codes "genesis"))) (option_rule (codes "keys"))
+check_app =
+    with_rule
+    (with_rule (with_rule (new_app (codes "check")) (option_rule (codes "genesis"))) (option_rule (codes "keys")))
+    (option_rule (codes "jobs"))
 
 -- `desk`, which needs both
 abbrev pub desk_app : App
 desk_app = with_rule (with_rule (new_app (codes "desk")) (required_rule (codes "genesis"))) (required_rule (codes "keys"))
 
--- `node`, which needs both, and ports, and takes dials
+-- `node`, which needs both, and ports, and takes dials and how many frames are asked for ahead
 abbrev pub node_app : App
 node_app =
     with_rule
     (with_rule
+    (with_rule
     (with_rule (with_rule (new_app (codes "node")) (required_rule (codes "genesis"))) (required_rule (codes "keys")))
     (required_rule (codes "ports")))
-    (option_rule (codes "dials"))
+    (option_rule (codes "dials")))
+    (option_rule (codes "ahead"))
 
 -- the names of one or more files
 abbrev pub files_rule : Rule
@@ -55,6 +60,10 @@ account_rule = record (new_rule (codes "account")) { value_names = 1 }
 abbrev pub statement_app : App
 statement_app = with_rule (with_rule (new_app (codes "statement")) export_rule) account_rule
 
+-- `journal`, which takes an export, and may take a date
+abbrev pub journal_app : App
+journal_app = with_rule (with_rule (new_app (codes "journal")) export_rule) (option_rule (codes "date"))
+
 -- `sim`, which takes nothing
 abbrev pub sim_app : App
 sim_app = new_app (codes "sim")
@@ -71,9 +80,11 @@ payd_app =
     with_subcommand
     (with_subcommand
     (with_subcommand
+    (with_subcommand
     (with_subcommand (with_subcommand (with_subcommand payd_alone check_app.top) desk_app.top) node_app.top)
     audit_app.top)
     statement_app.top)
+    journal_app.top)
     sim_app.top
 
 -- a command as these definitions have it, without an option for all commands
@@ -86,27 +97,34 @@ pub record IsArgument (o : Arg) (r : Rule) : Type 0 where
   pub rule : rule_of o ≡ r
   pub global : o.global ≡ false
 
--- a command, and what it is given: the names of files, an account, and of a node also the word that says its dials
+-- a command, and what it is given: the names of files, an account, a date, and the words that say the threads of a
+-- check, and of a node its dials and how many frames it asks for ahead
 pub data Asked : Type 0 where
-  check : Option Text → Option Text → Asked
+  check : Option Text → Option Text → Option Text → Asked
   desk : Text → Text → Asked
-  node : Text → Text → Text → Option Text → Asked
+  node : Text → Text → Text → Option Text → Option Text → Asked
   audit : List Text → Asked
   statement : Text → Option Text → Asked
+  journal : Text → Option Text → Asked
   sim : Asked
 
 -- what a job is, by the texts that it lends
 abbrev pub asked : Job → Asked
-asked (Check genesis keys) = check (option_map (λ name. name.now) genesis) (option_map (λ name. name.now) keys)
+asked (Check genesis keys jobs) =
+    check (option_map (λ name. name.now) genesis) (option_map (λ name. name.now) keys)
+    (option_map (λ word. word.now) jobs)
 asked (Desk genesis keys) = desk genesis.now keys.now
-asked (Node genesis keys ports dials) = node genesis.now keys.now ports.now (option_map (λ word. word.now) dials)
+asked (Node genesis keys ports dials ahead) =
+    node genesis.now keys.now ports.now (option_map (λ word. word.now) dials) (option_map (λ word. word.now) ahead)
 asked (Audit files) = audit (map (λ name. name.now) files.items)
 asked (Statement export account) = statement export.now (option_map (λ word. word.now) account)
+asked (Journal export date) = journal export.now (option_map (λ word. word.now) date)
 asked Sim = sim
 
 -- what the words of a command ask for
 abbrev pub check_asked : List Row → Asked
-check_asked rows = check (first_of (codes "genesis") rows) (first_of (codes "keys") rows)
+check_asked rows =
+    check (first_of (codes "genesis") rows) (first_of (codes "keys") rows) (first_of (codes "jobs") rows)
 
 -- the value of an option that has to be there: the words aren't read without it
 abbrev pub named : Text → List Row → Text
@@ -118,7 +136,7 @@ desk_asked rows = desk (named (codes "genesis") rows) (named (codes "keys") rows
 abbrev pub node_asked : List Row → Asked
 node_asked rows =
     node (named (codes "genesis") rows) (named (codes "keys") rows) (named (codes "ports") rows)
-    (first_of (codes "dials") rows)
+    (first_of (codes "dials") rows) (first_of (codes "ahead") rows)
 
 abbrev pub files_of : List Row → List Text
 files_of rows = unwrap_or (all_of (codes "files") rows) []
@@ -129,18 +147,22 @@ audit_asked rows = audit (files_of rows)
 abbrev pub statement_asked : List Row → Asked
 statement_asked rows = statement (named (codes "export") rows) (first_of (codes "account") rows)
 
+abbrev pub journal_asked : List Row → Asked
+journal_asked rows = journal (named (codes "export") rows) (first_of (codes "date") rows)
+
 abbrev pub asked_of : Text → List Row → Asked
 asked_of name rows =
     if bytes_eq name (codes "desk") then desk_asked rows
     else if bytes_eq name (codes "node") then node_asked rows
     else if bytes_eq name (codes "audit") then audit_asked rows
     else if bytes_eq name (codes "statement") then statement_asked rows
+    else if bytes_eq name (codes "journal") then journal_asked rows
     else if bytes_eq name (codes "sim") then sim
     else check_asked rows
 
 -- what the command that was met asks for; without one it is `check`
 abbrev pub asked_in : Option (Text × List Row) → Asked
-asked_in command = option_map_or (λ met. asked_of met.0 met.1) command (check None None)
+asked_in command = option_map_or (λ met. asked_of met.0 met.1) command (check None None None)
 
 -- what these words ask for, the program's name the first of them
 abbrev pub asked_by : List Text → Asked

@@ -4,7 +4,7 @@ use Rattle.pay_audit.specs.Export.{ExportFields}
 use Rattle.pay_frame.specs.declared.engine_fault.EngineFault.TheVariants as engine
 use Rattle.pay_journal.specs.Statements.{account_named, statement_in, statements_in}
 use Rattle.payd.specs.declared.stop.Stop.{Stop}
-use Rattle.payd.specs.declared.stop.Stop.TheVariants.{Engine, Genesis, Keys, Ports, Export, Close, Port, File, Dials, Account}
+use Rattle.payd.specs.declared.stop.Stop.TheVariants.{Engine, Genesis, Keys, Ports, Export, Close, Port, File, Dials, Ahead, Jobs, Account, Date, Clock}
 
 -- the statement of the account that a word names, if it names one, or without a word those of all
 abbrev pub statement_said : ExportFields → Option (List ℕ) → Option (List ℕ)
@@ -23,3 +23,7 @@ IsStatementStop e account (Close fault) = ⊥
 IsStatementStop e account (Port port) = ⊥
 IsStatementStop e account (File name) = ⊥
 IsStatementStop e account (Dials word) = ⊥
+IsStatementStop e account (Ahead word) = ⊥
+IsStatementStop e account (Jobs word) = ⊥
+IsStatementStop e account (Date word) = ⊥
+IsStatementStop e account Clock = ⊥

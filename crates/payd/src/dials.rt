@@ -5,7 +5,7 @@ ghost use Rattle.std.specs.Option.{option_map};
 ghost use Rattle.payd.specs.Dials.{IsDialsStop, dials_by, dials_in};
 
 use crate::stop::Stop;
-use pay_node::Dials;
+use pay_peers::Dials;
 use pay_text::number;
 
 /// The word for dials without end.

@@ -1,13 +1,12 @@
 //! The files that words name, each judged before the next is read.
 
 ghost use Rattle.std.specs.Prelude.{◌≡◌, ◌+◌, ◌≤◌, ℕ, List, IfErr, IfOk, IfSome, map, take};
-ghost use Rattle.std.specs.List.{AllZip};
 ghost use Rattle.std.specs.Option.{option_map};
 ghost use Rattle.pay_link.specs.Keys.{IsKeysOf};
-ghost use Rattle.payd.specs.Files.{AreKeysIn, IsExportOf, IsExportStop, IsExportsStop, IsGenesisOf, IsGenesisStop, IsKeysStop, IsUnread};
+ghost use Rattle.payd.specs.Files.{AreKeysIn, IsExportOf, IsExportStop, IsExportsStop, IsGenesisOf, IsGenesisStop, IsKeysStop, IsUnread, IsVerdictOn};
 
 use crate::stop::Stop;
-use pay_audit::{Export, read_export};
+use pay_audit::{Auditor, Export, Verdict, read_export};
 use pay_frame::EngineFault;
 use pay_link::{Genesis, Keys, test_keys};
 use std::alloc::Global;
@@ -107,23 +106,23 @@ pub(crate) fn keys_of<'a, F: NamedFiles>(
     }
 }
 
-/// The exports in the files of these names.
-pub(crate) fn exports_of<'a, F: NamedFiles>(
+/// What is wrong with the exports in the files of these names, if anything is. Each is let go before the next is read.
+pub(crate) fn verdict_on<'a, F: NamedFiles>(
     alloc: Global,
     files: &F,
     names: &[&'a str],
-) -> Result<Vec<Export>, Stop<'a>>
-    ensures value { IfOk result (λ exports. AllZip (IsExportOf (F.holds files.now))
-        (map (λ name. name.now) names.now) exports.items) }
+) -> Result<Verdict, Stop<'a>>
+    ensures verdict { IfOk result (IsVerdictOn (F.holds files.now)
+        (map (λ name. name.now) names.now)) }
     ensures stop { IfErr result (IsExportsStop (F.holds files.now)
         (map (λ name. name.now) names.now)) }
 {
-    let mut exports = Vec::new(alloc);
+    let mut auditor = Auditor::new(alloc);
     for name in names {
         let export = export_of(alloc, files, name)?;
-        exports.push(export).map_err(|_| EngineFault::Memory)?;
+        auditor = auditor.take(alloc, export)?;
     }
-    Ok(exports)
+    Ok(auditor.verdict())
 }
 
 /// The export in the file of this name.

@@ -4,29 +4,39 @@
 ghost use Rattle.std.specs.Prelude.{◌≡◌, length};
 ghost use Rattle.pay_link.specs.Keys.{IsKeysOf};
 
+mod ahead;
+mod dates;
 mod dials;
 mod files;
+mod jobs;
 mod ports;
+mod saying;
 mod stop;
 mod texts;
 mod words;
 
+use ahead::ahead_of;
 use clap::error::ErrorKind;
+use dates::date_of;
 use dials::dials_of;
-use files::{export_of, exports_of, genesis_of, keys_of};
+use files::{export_of, genesis_of, keys_of, verdict_on};
+use jobs::jobs_of;
 use pay_audit::{Verdict, export_text};
 use pay_cli::run_check;
 use pay_desk::{Desk, OneMember, run_desk};
 use pay_echo::MaskInstance;
 use pay_frame::{EngineFault, Reader, Writer, write_all};
 use pay_hmac::PreparedHmac;
+use pay_journal::journal_text;
 use pay_link::{Genesis, Keys};
 use pay_member::Member;
 use pay_net::{NodeFault, Ports, Receipts, run_node};
-use pay_node::{CloseFault, Dials};
+use pay_node::CloseFault;
+use pay_peers::{Ahead, Dials};
 use pay_pending::WaitingBook;
 use pay_sim::{SimEnd, run_sim};
 use ports::ports_of;
+use saying::Saying;
 use std::alloc::{AllocError, Global};
 use std::net::{Net, TcpListener, TcpStream};
 use std::process::ExitCode;
@@ -54,9 +64,13 @@ fn main(rt: HostRuntime) -> ExitCode {
         }
     }
     match job_of(rt.alloc(), given.as_slice()) {
-        Ok(Job::Check { genesis, keys }) => {
-            status_of(&rt, check(rt.alloc(), &rt, genesis, keys))
-        }
+        Ok(
+            Job::Check {
+                genesis,
+                keys,
+                jobs,
+            },
+        ) => status_of(&rt, check(rt.alloc(), &rt, genesis, keys, jobs)),
         Ok(Job::Desk { genesis, keys }) => {
             status_of(&rt, serve_desk(rt.alloc(), &rt, genesis, keys))
         }
@@ -66,14 +80,18 @@ fn main(rt: HostRuntime) -> ExitCode {
                 keys,
                 ports,
                 dials,
+                ahead,
             },
         ) => status_of(
             &rt,
-            serve_node(rt.alloc(), &rt, genesis, keys, ports, dials),
+            serve_node(rt.alloc(), &rt, genesis, keys, ports, dials, ahead),
         ),
         Ok(Job::Audit { files }) => status_of_audit(&rt, audit(rt.alloc(), &rt, files.as_slice())),
         Ok(Job::Statement { export, account }) => {
             status_of(&rt, statement(rt.alloc(), &rt, export, account))
+        }
+        Ok(Job::Journal { export, date }) => {
+            status_of(&rt, journal(rt.alloc(), &rt, export, date))
         }
         Ok(Job::Sim) => status_of_sim(&rt, sim(rt.alloc(), &rt)),
         Err(answer) => status_of_answer(&rt, &answer),
@@ -83,16 +101,27 @@ fn main(rt: HostRuntime) -> ExitCode {
 /// Judges the frames on standard input, once the files are read.
 fn check<'a>(
     alloc: Global,
-    rt: &(impl Files + Input + Print),
+    rt: &(impl Files + Input + Print + Threads + Sync),
     genesis: Option<&'a str>,
     keys: Option<&'a str>,
+    jobs: Option<&'a str>,
 ) -> Result<(), Stop<'a>> {
+    let jobs = jobs_of(rt, jobs)?;
     let genesis = genesis_of(alloc, rt, genesis)?;
     let keys = keys_of(alloc, rt, &genesis, keys)?;
     let tagger = tagger_of(alloc, &keys)?;
     let mut reader = Reader::new(rt.reader());
     let mut writer = Writer::new(io::writer(rt));
-    Ok(run_check(alloc, &tagger, &genesis, &keys, &mut reader, &mut writer)?)
+    Ok(run_check(
+        rt,
+        jobs,
+        alloc,
+        &tagger,
+        &genesis,
+        &keys,
+        &mut reader,
+        &mut writer,
+    )?)
 }
 
 /// Answers the lines on standard input, once the files are read. The member meets no peer.
@@ -113,7 +142,7 @@ fn serve_desk<'a>(
     Ok(run_desk(alloc, &mut desk, &mut reader, &mut writer)?)
 }
 
-/// Answers the lines on standard input, once the word and the files are read, while the member meets its peers; then
+/// Answers the lines on standard input, once the words and the files are read, while the member meets its peers; then
 /// writes its export, also where memory was refused for a look at what the node had answered.
 fn serve_node<'a, R>(
     alloc: Global,
@@ -122,16 +151,18 @@ fn serve_node<'a, R>(
     keys: &'a str,
     ports: &'a str,
     dials: Option<&'a str>,
+    ahead: Option<&'a str>,
 ) -> Result<(), Stop<'a>>
 where
-    R: Files + Input + Print + Threads + Wait + Clock + Sync,
+    R: Files + Input + Print + Eprint + Threads + Wait + Clock + Sync,
     R: Net<Listener = TcpListener, Stream = TcpStream>,
 {
     let dials = dials_of(dials)?;
+    let ahead = ahead_of(ahead)?;
     let genesis = genesis_of(alloc, rt, Some(genesis))?;
     let keys = keys_of(alloc, rt, &genesis, Some(keys))?;
     let ports = ports_of(alloc, rt, &genesis, ports)?;
-    let (member, receipts) = meet_peers(alloc, rt, genesis, keys, &ports, dials)?;
+    let (member, receipts) = meet_peers(alloc, rt, genesis, keys, &ports, dials, ahead)?;
     print_export(alloc, rt, &member)?;
     match receipts {
         Receipts::BorneOut => Ok(()),
@@ -147,9 +178,10 @@ fn meet_peers<R>(
     keys: Keys,
     ports: &Ports,
     dials: Dials,
+    ahead: Ahead,
 ) -> Result<(OwnMember, Receipts), NodeFault>
 where
-    R: Input + Print + Threads + Wait + Clock + Sync,
+    R: Input + Print + Eprint + Threads + Wait + Clock + Sync,
     R: Net<Listener = TcpListener, Stream = TcpStream>,
     requires keys { IsKeysOf genesis keys }
     requires ports { length ports.now ≡ genesis.members }
@@ -165,6 +197,8 @@ where
         &tagger,
         ports,
         dials,
+        ahead,
+        &Saying { rt },
         &mut reader,
         &mut writer,
     )
@@ -183,8 +217,7 @@ fn audit<'a>(
     rt: &(impl Files + Print),
     files: &[&'a str],
 ) -> Result<Verdict, Stop<'a>> {
-    let exports = exports_of(alloc, rt, files)?;
-    let verdict = pay_audit::audit(alloc, exports.as_slice())?;
+    let verdict = verdict_on(alloc, rt, files)?;
     println!(rt; "{verdict}").map_err(|_| EngineFault::Write)?;
     Ok(verdict)
 }
@@ -198,6 +231,19 @@ fn statement<'a>(
 ) -> Result<(), Stop<'a>> {
     let export = export_of(alloc, rt, export)?;
     let text = statement_said(alloc, &export, account)?;
+    Ok(print_text(rt, text.as_slice())?)
+}
+
+/// Writes the journal of the export in this file, on this date or on today's.
+fn journal<'a>(
+    alloc: Global,
+    rt: &(impl Files + Print + Clock),
+    export: &'a str,
+    date: Option<&'a str>,
+) -> Result<(), Stop<'a>> {
+    let date = date_of(alloc, rt, date)?;
+    let export = export_of(alloc, rt, export)?;
+    let text = journal_text(alloc, &export, date)?;
     Ok(print_text(rt, text.as_slice())?)
 }
 

@@ -35,9 +35,21 @@ pub(crate) enum Stop<'a> {
     /// This word says no count of dials.
     #[error("dials {0}: neither a count from 1 on nor always")]
     Dials(&'a str),
+    /// This word says no number of frames that may be asked for ahead.
+    #[error("ahead {0}: no number from 1 to 64")]
+    Ahead(&'a str),
+    /// This word says no count of threads.
+    #[error("jobs {0}: no count from 1 to 8")]
+    Jobs(&'a str),
     /// This word names no account of the export.
     #[error("account {0}")]
     Account(&'a str),
+    /// This word is no date of a journal.
+    #[error("date {0}: not YYYY-MM-DD from the year 1400 on")]
+    Date(&'a str),
+    /// The clock doesn't say which day it is.
+    #[error("clock")]
+    Clock,
 }
 
 impl<'a> From<EngineFault> for Stop<'a> {
@@ -111,14 +123,18 @@ impl Stop<'_> {
             | Stop::Ports(PortsFault::Memory)
             | Stop::Export(ExportFault::Memory)
             | Stop::Close(CloseFault::Memory)
-            | Stop::Port(_) => 3,
+            | Stop::Port(_)
+            | Stop::Clock => 3,
             Stop::Genesis(_)
             | Stop::Keys(_)
             | Stop::Ports(_)
             | Stop::Export(_)
             | Stop::File(_)
             | Stop::Dials(_)
-            | Stop::Account(_) => 2,
+            | Stop::Ahead(_)
+            | Stop::Jobs(_)
+            | Stop::Account(_)
+            | Stop::Date(_) => 2,
         }
     }
 }

@@ -1,6 +1,6 @@
 ghost use Rattle.std.specs.Prelude.{◌≡◌, IfOk, map, option_map, string_bytes};
 ghost use Rattle.clap.specs.Words.{FailsBy, fault_of, first_of, found_of, new_app, rows_of, subcommand_of, subcommand_rows_of};
-ghost use Rattle.payd.specs.Job.{IsArgument, IsCommand, asked, asked_by, asked_in, asked_of, audit_app, audit_asked, check_app, check_asked, desk_app, desk_asked, export_rule, files_of, files_rule, named, node_app, node_asked, option_rule, payd_alone, payd_app, required_rule, statement_app, statement_asked};
+ghost use Rattle.payd.specs.Job.{IsArgument, IsCommand, asked, asked_by, asked_in, asked_of, audit_app, audit_asked, check_app, check_asked, desk_app, desk_asked, export_rule, files_of, files_rule, journal_app, journal_asked, named, node_app, node_asked, option_rule, payd_alone, payd_app, required_rule, statement_app, statement_asked};
 
 use clap::{Arg, ArgAction, ArgMatches, Command, Error};
 use std::alloc::{AllocError, Global};
@@ -9,10 +9,11 @@ use std::alloc::{AllocError, Global};
 #[derive(Debug, Drop)]
 pub(crate) enum Job<'a> {
     /// Judge the frames on standard input, as a member of this genesis with these keys, each read from
-    /// the file of this name.
+    /// the file of this name, by as many threads as this word says.
     Check {
         genesis: Option<&'a str>,
         keys: Option<&'a str>,
+        jobs: Option<&'a str>,
     },
     /// Answer the lines on standard input, as the desk of the member with these keys, each read from
     /// the file of this name.
@@ -21,12 +22,13 @@ pub(crate) enum Job<'a> {
         keys: &'a str,
     },
     /// Answer these lines over a node of that member among its peers, each on the port that the file of
-    /// this name says, and dialed as often as this word says.
+    /// this name says, and dialed as often, and asked for as many frames ahead, as these words say.
     Node {
         genesis: &'a str,
         keys: &'a str,
         ports: &'a str,
         dials: Option<&'a str>,
+        ahead: Option<&'a str>,
     },
     /// Say what is wrong with the exports in the files of these names, if anything is.
     Audit {
@@ -36,6 +38,11 @@ pub(crate) enum Job<'a> {
     Statement {
         export: &'a str,
         account: Option<&'a str>,
+    },
+    /// Write the journal of the export in the file of this name, on this date or on today's.
+    Journal {
+        export: &'a str,
+        date: Option<&'a str>,
     },
     /// Play the script on standard input.
     Sim,
@@ -56,6 +63,9 @@ const CHECK_HELP: &str = "\
 Input: frames, one after the other, as members send them. Without --genesis there are four members, of
 whom one may lie. Without --keys they are judged by member 1, or by member 0 of one alone, with the
 test keys, which anyone can name: 30 zero bytes, then the lesser and the greater of the pair.
+
+--jobs says how many threads judge, 1 to 8; without it as many as there are processors, 8 at most. The
+text is the same. They share what one read gives, 1 MiB at most; with 1 no thread is started.
 
 Output: a line for each frame, numbered from 1.
   K ok KIND from P number M owner A seq S value L   taken: the next frame from P
@@ -91,7 +101,7 @@ Output: the answer to each line.
   front F0 F1 ..
   refused C NAME                  1 BadLine, 2 NoAccount, 3 ZeroOrSelf, 4 IdUsed, 5 Spent, 0 Memory
 
-The member meets no peer, so no payment settles.
+The member meets no peer: a payment settles only where it is the only one of its group.
 
 Status: 0 at the input's end, 2 for words or a file that can't be read, 3 where memory, a read or a
 write fails, or after 1,000,000 reads.
@@ -116,8 +126,12 @@ The member listens on its own port of 127.0.0.1 and dials those of all others, a
 started within a few seconds, or with --dials:
   --dials COUNT    a peer is given up behind so many dials in a row that brought no frame
   --dials always   no peer is given up
-The pauses then grow from 10 milliseconds to a second, each twice the one before. Ports below those that
+The pauses then grow from 10 milliseconds to a second, each twice the one before. Standard error has a
+line when a peer is met, is lost and is given up: payd: peer 2 met. Ports below those that
 the system gives out by itself, mostly 32768 and more, are best.
+
+Of each peer as many as 64 frames are asked for before the first of them is there, or with --ahead:
+  --ahead COUNT    so many, from 1 to 64; with 1 each frame takes the way to the peer and back
 
 Status: 0 at the input's end, 1 where what was told isn't borne out by the member's history, 2 for words
 or a file that can't be read, 3 where memory, a read, a write or the own port fails, or after 1,000,000
@@ -159,6 +173,27 @@ Status: 0 where it is written, 2 for words or a file that can't be read, or an a
 3 where memory or the write fails.
 
 Example: payd statement examples/export-0.json 3";
+
+const JOURNAL_ABOUT: &str =
+    "Reads an export of a member and writes what settled as plain-text accounting";
+
+const JOURNAL_HELP: &str = "\
+Input: a file of JSON with an export. Each export of a group tells of all its accounts, so one is enough.
+
+Output: a journal that hledger and ledger read. The first transaction has what each account opened with,
+against equity:opening; then each settled payment is one, account by account and in the order of the
+payer's statement. Its code is the payer's account and the entry's number there. A settled entry that
+moves nothing is a comment. Amounts have no unit, as those of the payments have none.
+
+  --date YYYY-MM-DD   the date of all transactions, from the year 1400 on: an export has no dates, and
+                      without the option it is today's in UTC
+
+It follows from what the accounts began with and from their lists alone, as payd statement does.
+
+Status: 0 where it is written, 2 for words or a file that can't be read, or a word that is no date, 3
+where memory, the clock or the write fails.
+
+Example: payd journal examples/export-0.json --date 2026-01-31";
 
 const SIM_ABOUT: &str =
     "Plays the script of a group's day on standard input, and writes what each command prints";
@@ -216,6 +251,7 @@ fn job_in<'a>(alloc: Global, matches: &ArgMatches<'a>) -> Result<Job<'a>, AllocE
         None => Ok(Job::Check {
             genesis: None,
             keys: None,
+            jobs: None,
         }),
     }
 }
@@ -236,6 +272,8 @@ fn command_job<'a>(
         audit_job(alloc, command)
     } else if name == "statement" {
         Ok(statement_job(command))
+    } else if name == "journal" {
+        Ok(journal_job(command))
     } else if name == "sim" {
         Ok(Job::Sim)
     } else {
@@ -250,6 +288,7 @@ fn check_job<'a>(check: &ArgMatches<'a>) -> Job<'a>
     Job::Check {
         genesis: given(check, "genesis"),
         keys: given(check, "keys"),
+        jobs: given(check, "jobs"),
     }
 }
 
@@ -272,6 +311,7 @@ fn node_job<'a>(node: &ArgMatches<'a>) -> Job<'a>
         keys: named(node, "keys"),
         ports: named(node, "ports"),
         dials: given(node, "dials"),
+        ahead: given(node, "ahead"),
     }
 }
 
@@ -305,6 +345,16 @@ fn statement_job<'a>(statement: &ArgMatches<'a>) -> Job<'a>
     }
 }
 
+/// The job of `journal` with this export and date.
+fn journal_job<'a>(journal: &ArgMatches<'a>) -> Job<'a>
+    ensures { asked result ≡ journal_asked (rows_of (found_of journal.now)) }
+{
+    Job::Journal {
+        export: named(journal, "export"),
+        date: given(journal, "date"),
+    }
+}
+
 /// What an option says, if it was given.
 fn given<'a>(matches: &ArgMatches<'a>, option: &str) -> Option<&'a str>
     ensures { option_map (λ word. word.now) result
@@ -330,6 +380,7 @@ fn payd<'a>(alloc: Global) -> Result<Command<'a>, AllocError>
         .subcommand(node(alloc)?)?
         .subcommand(audit(alloc)?)?
         .subcommand(statement(alloc)?)?
+        .subcommand(journal(alloc)?)?
         .subcommand(titled(alloc, "sim", SIM_ABOUT, SIM_HELP))
 }
 
@@ -349,7 +400,8 @@ fn check<'a>(alloc: Global) -> Result<Command<'a>, AllocError>
     let command = titled(alloc, "check", CHECK_ABOUT, CHECK_HELP);
     let genesis = file_option(alloc, "genesis", "A file of JSON with the genesis");
     let keys = file_option(alloc, "keys", "A file of JSON with the keys of one member");
-    command.arg(genesis)?.arg(keys)
+    let jobs = option(alloc, "jobs", "COUNT", "How many threads judge the frames");
+    command.arg(genesis)?.arg(keys)?.arg(jobs)
 }
 
 /// The command `desk` and its options.
@@ -380,7 +432,18 @@ fn node<'a>(alloc: Global) -> Result<Command<'a>, AllocError>
         "COUNT|always",
         "How often a peer is dialed in vain",
     );
-    command.arg(genesis)?.arg(keys)?.arg(ports)?.arg(dials)
+    let ahead = option(
+        alloc,
+        "ahead",
+        "COUNT",
+        "How many frames are asked for ahead, from 1 to 64",
+    );
+    command
+        .arg(genesis)?
+        .arg(keys)?
+        .arg(ports)?
+        .arg(dials)?
+        .arg(ahead)
 }
 
 /// The command `audit` and its files.
@@ -399,6 +462,15 @@ fn statement<'a>(alloc: Global) -> Result<Command<'a>, AllocError>
         .value_name("ACCOUNT")
         .help("An account's number");
     command.arg(export(alloc))?.arg(account)
+}
+
+/// The command `journal`, its export and its date.
+fn journal<'a>(alloc: Global) -> Result<Command<'a>, AllocError>
+    ensures { IfOk result (λ command. IsCommand command journal_app) }
+{
+    let command = titled(alloc, "journal", JOURNAL_ABOUT, JOURNAL_HELP);
+    let date = option(alloc, "date", "YYYY-MM-DD", "The date of all transactions");
+    command.arg(export(alloc))?.arg(date)
 }
 
 /// A command without options, and what its help says.

@@ -1,8 +1,8 @@
 use Rattle.std.proofs.Common.{◌≡◌, ◌+◌, ◌≤◌, length, take, ⊎_elim, below_more, subst, arith}
 use Rattle.std.proofs.lemmas.Bool.{cases_lt}
 use Rattle.std.proofs.lemmas.List.{length-take-le}
-use Rattle.pay_audit.specs.Beginnings.{HaveOneList, HaveOneListEach}
-use Rattle.pay_audit.proofs.Beginnings.{first_of_all, first_of_first, of_fewer, of_no_lists}
+use Rattle.pay_audit.specs.OneList.{HaveOneList, HaveOneListEach}
+use Rattle.pay_audit.proofs.OneList.{first_of_all, first_of_first, of_fewer, of_no_lists}
 use Rattle.pay_audit.proofs.auditing.agreeing.Goals as goal
 
 pub loop-account-preserved : goal.loop-account-preserved

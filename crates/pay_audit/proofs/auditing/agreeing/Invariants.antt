@@ -1,5 +1,5 @@
 use Rattle.std.proofs.Common.{ℕ, ◌+◌, ◌<◌, ◌≤◌, length, take}
-use Rattle.pay_audit.specs.Beginnings.{HaveOneList, HaveOneListEach}
+use Rattle.pay_audit.specs.OneList.{HaveOneList, HaveOneListEach}
 use Rattle.pay_audit.proofs.auditing.agreeing.Given as goal
 
 -- as many as agree on each account so far

@@ -1,7 +1,7 @@
 use Rattle.std.proofs.Common.{◌≡◌, ◌+◌, length, Some, slice_get, refl, ap, sym, subst, rules, arith}
 use Rattle.std.proofs.lemmas.Option.{slice_get_read}
 use Rattle.pay_audit.specs.Laws.{Agreeing}
-use Rattle.pay_audit.proofs.Beginnings.{IsLongest, have_none, have_one, longer, no_longer}
+use Rattle.pay_audit.proofs.OneList.{IsLongest, have_none, have_one, longer, no_longer}
 use Rattle.pay_audit.proofs.auditing.agreeing_on.Goals as goal
 use Rattle.pay_audit.proofs.auditing.agreeing_on.Goals.{then-longest-list, else-longest-list}
 

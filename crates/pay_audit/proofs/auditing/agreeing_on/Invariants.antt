@@ -1,4 +1,4 @@
-use Rattle.pay_audit.proofs.Beginnings.{IsLongest}
+use Rattle.pay_audit.proofs.OneList.{IsLongest}
 use Rattle.pay_audit.proofs.auditing.agreeing_on.Given as goal
 
 -- all lists so far agree, and this is the longest

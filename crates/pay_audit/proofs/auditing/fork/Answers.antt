@@ -2,7 +2,7 @@ use Rattle.std.proofs.Common.{◌≡◌, drop, length, Some, slice_get, refl, sy
 use Rattle.std.proofs.lemmas.Option.{slice_get_read}
 use Rattle.std.proofs.lemmas.List.{take_rest}
 use Rattle.pay_audit.specs.Verdict.{first_from, fork_between}
-use Rattle.pay_audit.proofs.Beginnings.{fork_is_later, fork_is_next}
+use Rattle.pay_audit.proofs.OneList.{fork_is_later, fork_is_next}
 use Rattle.pay_audit.proofs.auditing.fork.Goals as goal
 
 pub loop-place-preserved : goal.loop-place-preserved

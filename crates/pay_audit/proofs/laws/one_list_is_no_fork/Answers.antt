@@ -1,4 +1,4 @@
-use Rattle.pay_audit.proofs.Beginnings.{one_list_is_no_fork}
+use Rattle.pay_audit.proofs.OneList.{one_list_is_no_fork}
 use Rattle.pay_audit.proofs.laws.one_list_is_no_fork.Goals as goal
 
 pub returns : goal.returns

@@ -20,7 +20,7 @@ pub handle_stream-requires : goal.handle_stream-requires
 handle_stream-requires g c =
     let k = c.args.keys.now in
     let start : c.in_ok-progress.progress ≡ at_start k = c.in_ok-progress.ensures.start ∙ ap (λ (n : ℕ). let p : Progress = record { fronts = replicate n 0; line = 1 } in p) (c.members.ensures.value ∙ sym c.requires.keys) in
-    record { room = λ n few. subst (λ (p : Progress). HasRoom k p n) (sym start) (room_at_start k n few) }
+    record { room = λ n few. (subst (λ (p : Progress). HasRoom k p n) (sym start) (room_at_start k n few), λ frames whole. (search rules, λ r post. search rules)) }
 
 pub returns-clause-text : goal.returns-clause-text
 returns-clause-text g c =

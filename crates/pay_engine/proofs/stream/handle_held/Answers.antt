@@ -1,36 +1,40 @@
-use Rattle.std.proofs.Common.{◌≡◌, ◌∙◌, ◌++◌, ◌∷◌, [], ap, append_assoc, arith, true, false, Ok, Err, List, ℕ, inr, sym, subst, rules}
+use Rattle.std.proofs.Common.{drop, take, ◌≡◌, ◌∙◌, ◌++◌, ◌∷◌, [], ap, append_assoc, arith, true, false, Ok, Err, ℕ, inr, sym, subst, rules}
 use Rattle.std.specs.Io.KnownBytes.{Appends}
 use Rattle.std.proofs.KnownBytes.{Consumes-nil}
 use Rattle.pay_frame.specs.declared.engine_fault.EngineFault.{EngineFault}
 use Rattle.pay_frame.specs.declared.engine_fault.EngineFault.TheVariants.{Memory, Write}
-use Rattle.pay_frame.specs.Cutting.{HandsOut}
 use Rattle.pay_frame.specs.Device.{WroteBeginning}
+use Rattle.pay_frame.specs.Reading.{IsFault}
 use Rattle.pay_frame.specs.Stream.{IsFramesThen}
 use Rattle.pay_engine.specs.Handling.{StopsAmong, HandlesBatch, InProgress, StepsPrefix}
 use Rattle.pay_engine.proofs.Handlings.{Batch, batch_of, behind, given_at_fault, handles_more, none_written, room_after, some_written, stops, stream_at_fault}
+use Rattle.pay_engine.specs.Held.{IsFront}
+use Rattle.pay_engine.proofs.Fronts.{cut_of}
 use Rattle.pay_engine.proofs.stream.handle_held.Goals as goal
 
-pub returns-then-passed-eq0-clause-begins : goal.returns-then-passed-eq0-clause-begins
-returns-then-passed-eq0-clause-begins g c = λ _. c.in-Ok.ensures.passes.none c.if-passed-eq0.true
+pub returns-then-size-eq0-clause-begins : goal.returns-then-size-eq0-clause-begins
+returns-then-size-eq0-clause-begins g c = λ _. rw c.held.ensures at (c.in-Ok.ensures.front.none c.if-size-eq0.true)
 
 pub returns-in_err-goes_on-in-Ok-clause-handles : goal.returns-in_err-goes_on-in-Ok-clause-handles
 returns-in_err-goes_on-in-Ok-clause-handles g c =
     let h = g.H.FrameHandler.handling c.args.handler.now in
-    let passed = c.in-Ok.ensures.passes in
-    let given : IsFramesThen c.given.result.now passed.frames [] = rw c.given.ensures passed.given in
+    let passed : IsFront c.batches.read c.in-Ok.size = rw c.held.ensures at c.in-Ok.ensures.front in
+    let cut : IsFramesThen c.batches.read passed.frames (drop c.in-Ok.size c.batches.read) = cut_of c.stream_grows.ensures.piece c.batches.read c.in-Ok.size passed in
+    let given : IsFramesThen (take c.in-Ok.size c.held-in-Ok.result.now) passed.frames [] = rw c.held-in-Ok.ensures passed.cut in
     let some : StepsPrefix h c.batches.state c.handle_batch.new.state passed.frames = c.in_err-goes_on-in-Ok.ensures.handles passed.frames given in
     let memory : c.from_residual.result ≡ Err Memory = search rules in
     rw memory (λ start left reads going.
     let was = c.batches.invariant.handles start left reads going in
-    some_written h start c.batches.state c.handle_batch.new.state left _ _ c.batches.cutter.bytes _ some.first reads was
-    (behind h start c.batches.state left _ c.batches.cutter.bytes c.pass_frames.new.self.bytes passed.frames some.first some.others reads c.stream_grows.ensures.frames was passed.cut some.parts) some.text some.handled (none_written _ some.text))
+    some_written h start c.batches.state c.handle_batch.new.state left _ _ c.batches.read _ some.first reads was
+    (behind h start c.batches.state left _ c.batches.read (drop c.in-Ok.size c.batches.read) passed.frames some.first some.others reads c.stream_grows.ensures.frames was cut some.parts) some.text some.handled (none_written _ some.text))
 
 pub returns-in_err-write_out-in-Ok-clause-handles : goal.returns-in_err-write_out-in-Ok-clause-handles
 returns-in_err-write_out-in-Ok-clause-handles g c =
     let h = g.H.FrameHandler.handling c.args.handler.now in
     let contents = g.Out.Output.contents in
-    let passed = c.in-Ok.ensures.passes in
-    let given : IsFramesThen c.given.result.now passed.frames [] = rw c.given.ensures passed.given in
+    let passed : IsFront c.batches.read c.in-Ok.size = rw c.held.ensures at c.in-Ok.ensures.front in
+    let cut : IsFramesThen c.batches.read passed.frames (drop c.in-Ok.size c.batches.read) = cut_of c.stream_grows.ensures.piece c.batches.read c.in-Ok.size passed in
+    let given : IsFramesThen (take c.in-Ok.size c.held-in-Ok.result.now) passed.frames [] = rw c.held-in-Ok.ensures passed.cut in
     let some : Batch h c.batches.state c.handle_batch.new.state passed.frames [] c.handle_batch.new.out.items = batch_of h _ _ passed.frames [] _ c.in_ok-goes_on-in-Ok.goes_on (subst (λ xs. HandlesBatch h c.batches.state c.handle_batch.new.state passed.frames xs c.handle_batch.new.out.items (Ok c.in_ok-goes_on-in-Ok.goes_on)) c.clear.ensures.items (c.in_ok-goes_on-in-Ok.ensures.handles passed.frames given)) in
     let e : EngineFault = c.in_err-write_out-in-Ok.field-0.0 in
     let is : e ≡ Write = c.in_err-write_out-in-Ok.ensures.write in
@@ -40,15 +44,16 @@ returns-in_err-write_out-in-Ok-clause-handles g c =
     let wrote : WroteBeginning (contents c.batches.writer) (contents c.write_out.new.writer) some.text = subst (WroteBeginning (contents c.batches.writer) (contents c.write_out.new.writer)) some.longer told in
     rw write (λ start left reads going.
     let was = c.batches.invariant.handles start left reads going in
-    some_written h start c.batches.state c.handle_batch.new.state left _ _ c.batches.cutter.bytes _ some.first reads was
-    (behind h start c.batches.state left _ c.batches.cutter.bytes c.pass_frames.new.self.bytes passed.frames some.first some.others reads c.stream_grows.ensures.frames was passed.cut some.parts) some.text some.handled wrote)
+    some_written h start c.batches.state c.handle_batch.new.state left _ _ c.batches.read _ some.first reads was
+    (behind h start c.batches.state left _ c.batches.read (drop c.in-Ok.size c.batches.read) passed.frames some.first some.others reads c.stream_grows.ensures.frames was cut some.parts) some.text some.handled wrote)
 
 pub returns-then-not-goes_on-clause-handles : goal.returns-then-not-goes_on-clause-handles
 returns-then-not-goes_on-clause-handles g c =
     let h = g.H.FrameHandler.handling c.args.handler.now in
     let contents = g.Out.Output.contents in
-    let passed = c.in-Ok.ensures.passes in
-    let given : IsFramesThen c.given.result.now passed.frames [] = rw c.given.ensures passed.given in
+    let passed : IsFront c.batches.read c.in-Ok.size = rw c.held.ensures at c.in-Ok.ensures.front in
+    let cut : IsFramesThen c.batches.read passed.frames (drop c.in-Ok.size c.batches.read) = cut_of c.stream_grows.ensures.piece c.batches.read c.in-Ok.size passed in
+    let given : IsFramesThen (take c.in-Ok.size c.held-in-Ok.result.now) passed.frames [] = rw c.held-in-Ok.ensures passed.cut in
     let off : c.in_ok-goes_on-in-Ok.goes_on ≡ false = search rules in
     let some : StopsAmong h c.batches.state c.handle_batch.new.state passed.frames [] c.handle_batch.new.out.items = rw (off, c.clear.ensures.items) at (c.in_ok-goes_on-in-Ok.ensures.handles passed.frames given) in
     let told : Appends (contents c.batches.writer) (contents c.write_out.new.writer) c.handle_batch.new.out.items = rw c.deref.ensures.value at c.in_ok-write_out-in-Ok.ensures.ok in
@@ -56,39 +61,37 @@ returns-then-not-goes_on-clause-handles g c =
     let parts : passed.frames ≡ (some.first ++ some.last ∷ []) ++ some.others = some.parts ∙ sym (append_assoc some.first (some.last ∷ []) some.others) in
     λ start left reads going.
     let was = c.batches.invariant.handles start left reads going in
-    inr (stops h start c.batches.state c.handle_batch.new.state left _ _ c.batches.cutter.bytes _ some.first some.last reads was
-    (behind h start c.batches.state left _ c.batches.cutter.bytes c.pass_frames.new.self.bytes passed.frames (some.first ++ some.last ∷ []) some.others reads c.stream_grows.ensures.frames was passed.cut parts) some.text some.handled some.stopped written)
+    inr (stops h start c.batches.state c.handle_batch.new.state left _ _ c.batches.read _ some.first some.last reads was
+    (behind h start c.batches.state left _ c.batches.read (drop c.in-Ok.size c.batches.read) passed.frames (some.first ++ some.last ∷ []) some.others reads c.stream_grows.ensures.frames was cut parts) some.text some.handled some.stopped written)
 
 pub batches-preserved : goal.batches-preserved
 batches-preserved g c =
     let h = g.H.FrameHandler.handling c.args.handler.now in
     let contents = g.Out.Output.contents in
-    let passed = c.in-Ok.ensures.passes in
-    let given : IsFramesThen c.given.result.now passed.frames [] = rw c.given.ensures passed.given in
+    let passed : IsFront c.batches.read c.in-Ok.size = rw c.held.ensures at c.in-Ok.ensures.front in
+    let cut : IsFramesThen c.batches.read passed.frames c.pass.new.self = rw c.pass.ensures (cut_of c.stream_grows.ensures.piece c.batches.read c.in-Ok.size passed) in
+    let given : IsFramesThen (take c.in-Ok.size c.held-in-Ok.result.now) passed.frames [] = rw c.held-in-Ok.ensures passed.cut in
     let on : c.in_ok-goes_on-in-Ok.goes_on ≡ true = search rules in
     let all : HandlesBatch h c.batches.state c.handle_batch.new.state passed.frames [] c.handle_batch.new.out.items (Ok true) = rw (on, c.clear.ensures.items) at (c.in_ok-goes_on-in-Ok.ensures.handles passed.frames given) in
     let told : Appends (contents c.batches.writer) (contents c.write_out.new.writer) c.handle_batch.new.out.items = rw c.deref.ensures.value at c.in_ok-write_out-in-Ok.ensures.ok in
     let written : Appends (contents c.batches.writer) (contents c.write_out.new.writer) all.0 = subst (Appends (contents c.batches.writer) (contents c.write_out.new.writer)) all.2 told in
-    let count = c.frame_sizes.ensures.count c.batches.cutter.bytes c.pass_frames.new.self.bytes passed.frames passed.cut in
+    let count = c.frame_sizes.ensures.count c.batches.read c.pass.new.self passed.frames cut in
     let Room : g.row.S.Denot → ℕ → Type 0 = λ s m. g.H.FrameHandler.has_room c.args.handler.now s m in
     record {
       handles = λ start left reads going.
           let was = c.batches.invariant.handles start left reads going in
-          handles_more h start c.batches.state c.handle_batch.new.state left _ _ c.batches.cutter.bytes c.pass_frames.new.self.bytes passed.frames reads was
-          (c.stream_grows.ensures.frames was.read c.batches.cutter.bytes c.pass_frames.new.self.bytes was.frames passed.frames was.cut passed.cut) all.0 all.1 written;
+          handles_more h start c.batches.state c.handle_batch.new.state left _ _ c.batches.read c.pass.new.self passed.frames reads was
+          (c.stream_grows.ensures.frames was.read c.batches.read c.pass.new.self was.frames passed.frames was.cut cut) all.0 all.1 written;
       room = λ n le. room_after h Room (λ s t f text m. g.met.H.FrameHandler.keeps_room c.args.handler.now s t f text m) c.batches.state c.handle_batch.new.state passed.frames all.0 n all.1 (c.batches.invariant.room _ (omega arith));
-      met = passed.met;
       writes = c.in_ok-write_out-in-Ok.ensures.all_written ∙ c.batches.invariant.writes;
     }
 
 pub returns-in-Err-clause-handles : goal.returns-in-Err-clause-handles
 returns-in-Err-clause-handles g c =
     let h = g.H.FrameHandler.handling c.args.handler.now in
-    let contents = g.Out.Output.contents in
-    let after = c.pass_frames.new.self in
-    let given : HandsOut c.batches.cutter (Err c.in-Err.fault) after = c.in-Err.ensures.fault in
-    let wrong = c.cutter_follows_stream.ensures.fault c.batches.cutter after c.in-Err.fault c.batches.invariant.met given in
+    let held = c.batches.read in
+    let wrong : IsFault held c.in-Err.fault = rw c.held.ensures at c.in-Err.ensures.fault in
     λ start left reads going.
-    let was : InProgress h start c.batches.state left (contents c.batches.writer) after.bytes reads = subst (λ (xs : List ℕ). InProgress h start c.batches.state left (contents c.batches.writer) xs reads) (sym given.1) (c.batches.invariant.handles start left reads going) in
-    c.end_at.ensures.handles start left left after.bytes reads reads was (Consumes-nil left) (given_at_fault was.read after.bytes was.frames c.in-Err.fault c.fault_is_for_good.ensures.stream was.cut wrong)
-    (stream_at_fault start.input left was.read after.bytes was.frames c.in-Err.fault c.fault_is_for_good.ensures.stream was.consumed was.cut wrong)
+    let was : InProgress h start c.batches.state left (g.Out.Output.contents c.batches.writer) held reads = c.batches.invariant.handles start left reads going in
+    c.end_at.ensures.handles start left left held reads reads was (Consumes-nil left) (given_at_fault was.read held was.frames c.in-Err.fault c.fault_is_for_good.ensures.stream was.cut wrong)
+    (stream_at_fault start.input left was.read held was.frames c.in-Err.fault c.fault_is_for_good.ensures.stream was.consumed was.cut wrong)

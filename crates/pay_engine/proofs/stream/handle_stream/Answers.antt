@@ -2,13 +2,12 @@ use Rattle.std.proofs.Common.{◌≡◌, ◌∙◌, ℕ, [], Err, true, false, a
 use Rattle.pay_frame.specs.declared.engine_fault.EngineFault.{EngineFault}
 use Rattle.pay_frame.specs.declared.engine_fault.EngineFault.TheVariants.{Memory, Write}
 use Rattle.pay_frame.specs.declared.limits.TheConstants.{MOST_READS}
-use Rattle.pay_frame.specs.Cutting.{Held}
 use Rattle.pay_engine.specs.Handling.{Start}
 use Rattle.pay_engine.proofs.Handlings.{first_failed, at_start, none_written, room_after, gave}
 use Rattle.pay_engine.proofs.stream.handle_stream.Goals as goal
 
-pub returns-in_err-cutter-clause-handled : goal.returns-in_err-cutter-clause-handled
-returns-in_err-cutter-clause-handled g c =
+pub returns-in_err-read-clause-handled : goal.returns-in_err-read-clause-handled
+returns-in_err-read-clause-handled g c =
     let memory : c.from_residual.result ≡ Err Memory = search rules in
     rw memory (first_failed (g.H.FrameHandler.handling c.args.handler.now) _ _ (c.stream_grows.ensures.nothing []) (none_written _ c.args.first.now))
 
@@ -24,11 +23,10 @@ pub loop-init : goal.loop-init
 loop-init g c =
     let contents = g.Out.Output.contents in
     let start : Start g.row.S.Denot = record { first = c.args.first.now; state = c.args.state.now; input = g.In.Input.remaining c.args.reader.now; before = contents c.args.writer.now } in
-    let empty = c.in_ok-cutter.ensures.empty in
+    let empty = c.in_ok-read.ensures.empty in
     record {
-      handling = at_start (g.H.FrameHandler.handling c.args.handler.now) start (contents c.write_out.new.writer) c.in_ok-cutter.cutter.bytes (c.stream_grows.ensures.nothing []) (ap (λ (held : Held). held.bytes) empty) c.in_ok-write_out.ensures.ok;
+      handling = at_start (g.H.FrameHandler.handling c.args.handler.now) start (contents c.write_out.new.writer) c.in_ok-read.read (c.stream_grows.ensures.nothing []) empty c.in_ok-write_out.ensures.ok;
       begins = rw empty c.nothing_is_a_beginning.ensures.law;
-      met = ap (λ (held : Held). held.met) empty;
       calls = search rules;
       most = search rules;
       reads = search rules;
@@ -41,7 +39,7 @@ read_once-requires-clause-room g c = λ n le.
     let going = c.loop.invariant.handling in
     let few = going.few in
     let Room : g.row.S.Denot → ℕ → Type 0 = λ s m. g.H.FrameHandler.has_room c.args.handler.now s m in
-    let count = c.frame_sizes.ensures.count going.read c.loop.work.cutter.bytes going.frames going.cut in
+    let count = c.frame_sizes.ensures.count going.read c.loop.work.read going.frames going.cut in
     room_after h Room (λ s t f text m. g.met.H.FrameHandler.keeps_room c.args.handler.now s t f text m) c.args.state.now c.loop.state going.frames going.text n going.handled (c.requires.room _ (omega arith))
 
 pub returns-in_err-read_once-clause-handled : goal.returns-in_err-read_once-clause-handled
@@ -61,7 +59,6 @@ loop-preserved g c =
     record {
       handling = rw on at (c.in_ok-read_once.ensures.handles _ _ c.loop.invariant.handling);
       begins = c.in_ok-read_once.ensures.begins on;
-      met = c.in_ok-read_once.ensures.met on;
       calls = search rules;
       most = search rules;
       reads = search rules;

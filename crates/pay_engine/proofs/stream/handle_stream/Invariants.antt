@@ -1,4 +1,4 @@
-use Rattle.std.proofs.Common.{◌≡◌, ◌+◌, ◌≤◌, None}
+use Rattle.std.proofs.Common.{◌≡◌, ◌+◌, ◌≤◌}
 use Rattle.pay_frame.specs.Device.{RoseBy}
 use Rattle.pay_frame.specs.Reading.{IsProperBeginning}
 use Rattle.pay_engine.specs.Handling.{InProgress}
@@ -12,9 +12,8 @@ invariant-loop g l =
     record {
       handling : InProgress (g.H.FrameHandler.handling l.handler)
           (record { first = l.first; state = l.fn.state; input = remaining l.fn.reader; before = contents l.fn.writer })
-          l.state (remaining l.reader) (contents l.writer) l.work.cutter.bytes l.counter;
-      begins : IsProperBeginning l.work.cutter.bytes;
-      met : l.work.cutter.met ≡ None;
+          l.state (remaining l.reader) (contents l.writer) l.work.read l.counter;
+      begins : IsProperBeginning l.work.read;
       calls : RoseBy l.counter (g.In.Input.call_count l.fn.reader) (g.In.Input.call_count l.reader);
       most : g.In.Input.call_count l.reader ≤ g.In.Input.call_count l.fn.reader + l.counter;
       reads : g.In.Input.failure_count l.reader ≡ g.In.Input.failure_count l.fn.reader;

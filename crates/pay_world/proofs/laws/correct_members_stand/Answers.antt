@@ -1,4 +1,4 @@
-use Rattle.pay_world.proofs.Standing.{stands_at_first, stands_by_one_more}
+use Rattle.pay_world.proofs.StandInduction.{stands_at_first, stands_by_one_more}
 use Rattle.pay_world.proofs.Taking.{stands_by_deed}
 use Rattle.pay_world.proofs.Happening.{genuine_stands}
 use Rattle.pay_world.proofs.laws.correct_members_stand.Goals as goal

@@ -4,7 +4,7 @@ use Rattle.std.specs.Vec.Iter.{into_iter_items}
 use Rattle.pay_world.specs.declared.event.WorldEvent.{WorldEvent}
 use Rattle.pay_world.specs.declared.fault.WorldFault.{WorldFault}
 use Rattle.pay_world.specs.declared.fault.WorldFault.TheVariants.{Memory, Forged}
-use Rattle.pay_world.specs.declared.reply.Reply.{Reply}
+use Rattle.pay_world.specs.declared.reply.WorldReply.{WorldReply}
 use Rattle.pay_world.specs.Headline.{Headline}
 use Rattle.pay_world.specs.Liars.{setting_of}
 use Rattle.pay_world.specs.World.{IsWorld, fresh_world}
@@ -71,7 +71,7 @@ returns-in_err-apply-clause-forged g c =
     let gone = c.in-Some.ensures.steps.1 in
     λ k same.
     let was : c.apply.result ≡ Err (Forged k) = first_of (cc, search rules, grind (arith, common_steps)) in
-    let Told : Result Reply WorldFault → Type 0 = λ r. MatchOption (forgery at.world e) (IsOkUnless r Memory) (λ fault. r ≡ Err fault) in
+    let Told : Result WorldReply WorldFault → Type 0 = λ r. MatchOption (forgery at.world e) (IsOkUnless r Memory) (λ fault. r ≡ Err fault) in
     let told = refused_forged at.world e k (subst Told was c.apply.ensures.refused) in
     let here : k ≡ length at.yielded = (let n = told.1 in let m = at.invariant.after.count in let few = at.invariant.few in omega arith) in
     let items : at.yielded ++ e ∷ into_iter_items c.next.new.self ≡ c.args.events.items = rw (← steps) at.invariant.items in

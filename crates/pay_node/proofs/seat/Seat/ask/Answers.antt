@@ -10,7 +10,7 @@ use Rattle.pay_node.proofs.seat.Seat.ask.Goals as goal
 
 pub returns-clause-own : goal.returns-clause-own
 returns-clause-own g c =
-    let after : SeatFields = record { stamp = c.self.inside.stamp; receipts = c.keep.new.receipts.items } in
+    let after : SeatFields = record { stamp = c.self.inside.stamp; receipts = c.keep.new.receipts.items; marks = c.self.inside.marks } in
     let answer : IsAnswer c.args.member.now (Ask c.args.value) (asked c.ask-answer.result) = search rules in
     let entry : IfOk (asked c.ask-answer.result) (λ reply. c.ask-answer.new.self ≡ with_entry c.args.member.now (record { stamp = c.args.self.now.stamp; event = Ask c.args.value; reply = reply })) = search rules in
     let same : OnErr (asked c.ask-answer.result) (c.ask-answer.new.self ≡ c.args.member.now) = search rules in

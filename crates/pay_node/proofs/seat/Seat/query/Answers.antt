@@ -10,7 +10,7 @@ use Rattle.pay_node.proofs.seat.Seat.query.Goals as goal
 
 pub returns-clause-own : goal.returns-clause-own
 returns-clause-own g c =
-    let after : SeatFields = record { stamp = c.self.inside.stamp; receipts = c.keep.new.receipts.items } in
+    let after : SeatFields = record { stamp = c.self.inside.stamp; receipts = c.keep.new.receipts.items; marks = c.self.inside.marks } in
     let answer : IsAnswer c.args.member.now (Query c.args.account) (told c.query-answer.result) = search rules in
     let entry : IfOk (told c.query-answer.result) (λ reply. c.query-answer.new.self ≡ with_entry c.args.member.now (record { stamp = c.args.self.now.stamp; event = Query c.args.account; reply = reply })) = search rules in
     let same : OnErr (told c.query-answer.result) (c.query-answer.new.self ≡ c.args.member.now) = search rules in

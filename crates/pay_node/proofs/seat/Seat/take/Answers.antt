@@ -10,7 +10,7 @@ use Rattle.pay_node.proofs.seat.Seat.take.Goals as goal
 
 pub returns-clause-own : goal.returns-clause-own
 returns-clause-own g c =
-    let after : SeatFields = record { stamp = c.self.inside.stamp; receipts = c.keep.new.receipts.items } in
+    let after : SeatFields = record { stamp = c.self.inside.stamp; receipts = c.keep.new.receipts.items; marks = c.self.inside.marks } in
     let answer : IsAnswer c.args.member.now (Taken c.args.checked) (taken c.take-answer.result) = search rules in
     let entry : IfOk (taken c.take-answer.result) (λ reply. c.take-answer.new.self ≡ with_entry c.args.member.now (record { stamp = c.args.self.now.stamp; event = Taken c.args.checked; reply = reply })) = search rules in
     let same : OnErr (taken c.take-answer.result) (c.take-answer.new.self ≡ c.args.member.now) = search rules in

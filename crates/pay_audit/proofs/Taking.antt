@@ -1,0 +1,80 @@
+-- What is wrong with exports, by what is wrong with all but the last and with that one.
+use Rattle.std.proofs.Common.{◌≡◌, ℕ, ◌+◌, List, [], ◌∷◌, ◌++◌, length, Option, Some, None, unwrap_or, if◌then◌else◌, refl, ap, ap₂, sym, ◌∙◌, arith}
+use Rattle.std.specs.Option.{option_or}
+use Rattle.pay_link.specs.Genesis.{GenesisFields}
+use Rattle.pay_audit.specs.Auditor.{HasFound, IsNothing, first_genesis, other_genesis_than}
+use Rattle.pay_audit.specs.Export.{ExportFields}
+use Rattle.pay_audit.specs.Verdict.{first_from, fork_from, other_genesis, other_genesis_at, verdict_of, wrong_balance_at, wrong_front_at}
+use Rattle.pay_audit.specs.declared.verdict.Verdict.{Verdict}
+use Rattle.pay_audit.specs.declared.verdict.Verdict.TheVariants.{Clean, OtherGenesis}
+use Rattle.pay_audit.specs.declared.wrong.Wrong.{Wrong}
+use Rattle.pay_audit.proofs.Firsts.{none_first}
+use Rattle.pay_audit.proofs.Comparing.{first_of_both, or_none}
+use Rattle.pay_audit.proofs.Saying.{same_itself}
+
+pub first_with : {A B : Type 0} (ask : ℕ → A → Option B) (xs : List A) (x : A) → option_or (first_from ask 0 xs) (ask (length xs) x) ≡ first_from ask 0 (xs ++ x ∷ [])
+first_with ask xs x =
+    sym (first_of_both ask 0 xs (x ∷ [])
+    ∙ ap (option_or (first_from ask 0 xs)) (or_none (ask (0 + length xs) x) ∙ ap (λ n. ask n x) (let e : 0 + length xs ≡ length xs = omega arith in e)))
+
+pub other_with : (exports : List ExportFields) (e : ExportFields)
+    → option_or (other_genesis exports) (other_genesis_than (first_genesis exports) (length exports) e) ≡ other_genesis (exports ++ e ∷ [])
+other_with [] e = sym (or_none (other_genesis_at e.genesis 0 e) ∙ ap (λ b. if b then None else Some (OtherGenesis 0)) (same_itself e.genesis))
+other_with (d ∷ exports) e = first_with (other_genesis_at d.genesis) (d ∷ exports) e
+
+pub first_with_genesis : (exports : List ExportFields) (e : ExportFields) → Some (unwrap_or (first_genesis exports) e.genesis) ≡ first_genesis (exports ++ e ∷ [])
+first_with_genesis [] e = refl
+first_with_genesis (d ∷ exports) e = refl
+
+-- ---- what is wrong, with one more
+
+module _ (exports : List ExportFields) (e : ExportFields) (first : Option GenesisFields) (n : ℕ) (w now : Wrong) (found : HasFound exports w)
+    (is_first : first ≡ first_genesis exports) (count : n ≡ length exports)
+    (genesis : now.genesis ≡ option_or w.genesis (other_genesis_than first n e))
+    (front : now.genesis ≡ None → now.front ≡ option_or w.front (wrong_front_at n e))
+    (balance : now.genesis ≡ None → now.front ≡ None → now.balance ≡ option_or w.balance (wrong_balance_at n e)) where
+  genesis_before : now.genesis ≡ None → w.genesis ≡ None
+  genesis_before h = none_first w.genesis (other_genesis_than first n e) (sym genesis ∙ h)
+
+  front_before : now.genesis ≡ None → now.front ≡ None → w.front ≡ None
+  front_before h f = none_first w.front (wrong_front_at n e) (sym (front h) ∙ f)
+
+  pub found_with : HasFound (exports ++ e ∷ []) now
+  found_with = record {
+    genesis = genesis ∙ ap₂ option_or found.genesis (ap₂ (λ g k. other_genesis_than g k e) is_first count) ∙ other_with exports e;
+    front = λ h. front h ∙ ap₂ option_or (found.front (genesis_before h)) (ap (λ k. wrong_front_at k e) count) ∙ first_with wrong_front_at exports e;
+    balance = λ h f. balance h f ∙ ap₂ option_or (found.balance (genesis_before h) (front_before h f)) (ap (λ k. wrong_balance_at k e) count)
+        ∙ first_with wrong_balance_at exports e;
+  }
+
+  pub nothing_before : IsNothing now → IsNothing w
+  nothing_before h = record {
+    genesis = genesis_before h.genesis;
+    front = front_before h.genesis h.front;
+    balance = none_first w.balance (wrong_balance_at n e) (sym (balance h.genesis h.front) ∙ h.balance);
+  }
+
+-- ---- the verdict
+
+module _ (exports : List ExportFields) where
+  pub of_genesis : (v : Verdict) → other_genesis exports ≡ Some v → v ≡ verdict_of exports
+  unfolding verdict_of
+  of_genesis v h = sym (ap (λ o. unwrap_or (option_or o (option_or (option_or (first_from wrong_front_at 0 exports) (first_from wrong_balance_at 0 exports)) (fork_from 0 exports))) Clean) h)
+
+  pub of_front : (v : Verdict) → other_genesis exports ≡ None → first_from wrong_front_at 0 exports ≡ Some v → v ≡ verdict_of exports
+  unfolding verdict_of
+  of_front v h f = sym (ap₂ (λ o w. unwrap_or (option_or o (option_or (option_or w (first_from wrong_balance_at 0 exports)) (fork_from 0 exports))) Clean) h f)
+
+  pub of_balance : (v : Verdict) → other_genesis exports ≡ None → first_from wrong_front_at 0 exports ≡ None → first_from wrong_balance_at 0 exports ≡ Some v
+      → v ≡ verdict_of exports
+  unfolding verdict_of
+  of_balance v h f b =
+      sym (ap₂ (λ o w. unwrap_or (option_or o (option_or (option_or w (first_from wrong_balance_at 0 exports)) (fork_from 0 exports))) Clean) h f
+      ∙ ap (λ w. unwrap_or (option_or w (fork_from 0 exports)) Clean) b)
+
+  pub of_fork : other_genesis exports ≡ None → first_from wrong_front_at 0 exports ≡ None → first_from wrong_balance_at 0 exports ≡ None
+      → unwrap_or (fork_from 0 exports) Clean ≡ verdict_of exports
+  unfolding verdict_of
+  of_fork h f b =
+      sym (ap₂ (λ o w. unwrap_or (option_or o (option_or (option_or w (first_from wrong_balance_at 0 exports)) (fork_from 0 exports))) Clean) h f
+      ∙ ap (λ w. unwrap_or (option_or w (fork_from 0 exports)) Clean) b)

@@ -1,0 +1,86 @@
+//! Exports audited one by one: each is let go as soon as it is taken.
+
+ghost use Rattle.std.specs.Prelude.{◌≡◌, ◌+◌, ◌<◌, ◌∷◌, ◌++◌, List, [], IfOk};
+ghost use Rattle.pay_audit.specs.Auditor.{HasTaken, taken_by};
+ghost use Rattle.pay_audit.specs.Export.{ExportFields};
+ghost use Rattle.pay_audit.specs.Verdict.{verdict_of};
+
+use crate::comparison::Comparison;
+use crate::exported::Export;
+use crate::verdict::Verdict;
+use crate::wrong::Wrong;
+use pay_link::Genesis;
+use std::alloc::{AllocError, Global};
+
+/// What is known of the exports taken so far: how many they are, the genesis of the first, what is wrong with one of
+/// them, and how their lists compare.
+#[derive(Debug, Drop)]
+pub struct Auditor {
+    taken: usize,
+    genesis: Option<Genesis>,
+    wrong: Wrong,
+    comparison: Comparison,
+}
+
+impl Auditor {
+    pub fn new(alloc: Global) -> Auditor
+        ensures taken { HasTaken [] result }
+        ensures count { taken_by result ≡ 0 }
+    {
+        Auditor {
+            taken: 0,
+            genesis: None,
+            wrong: Wrong::NOTHING,
+            comparison: Comparison::new(alloc),
+        }
+    }
+
+    /// Takes one more export: judges and settles it, compares its lists with the longest so far, and keeps of it what
+    /// is new in these.
+    pub fn take(self, alloc: Global, export: Export) -> Result<Auditor, AllocError>
+        requires { taken_by self < usize.MAX }
+        ensures taken { IfOk result (λ auditor. (exports : List ExportFields)
+            → HasTaken exports self → HasTaken (exports ++ export ∷ []) auditor) }
+        ensures count { IfOk result (λ auditor. taken_by auditor ≡ taken_by self + 1) }
+    {
+        let Auditor {
+            taken,
+            genesis,
+            wrong,
+            mut comparison,
+        } = self;
+        let wrong = wrong.with(alloc, &genesis, taken, &export)?;
+        let Export {
+            genesis: own,
+            lists,
+            ..
+        } = export;
+        if wrong.is_nothing() {
+            comparison = comparison.add(alloc, lists)?;
+        }
+        Ok(Auditor {
+            taken: taken + 1,
+            genesis: Some(genesis.unwrap_or(own)),
+            wrong,
+            comparison,
+        })
+    }
+
+    /// What is wrong with the exports taken, if anything is. None of them is needed any more.
+    #[tactic(auto, unfolding(crate::specs::Verdict::verdict_of))]
+    pub fn verdict(&self) -> Verdict
+        ensures { (exports : List ExportFields)
+            → HasTaken exports self.now → result ≡ verdict_of exports }
+    {
+        if let Some(verdict) = self.wrong.genesis {
+            return verdict;
+        }
+        if let Some(verdict) = self.wrong.front {
+            return verdict;
+        }
+        if let Some(verdict) = self.wrong.balance {
+            return verdict;
+        }
+        self.comparison.fork().unwrap_or(Verdict::Clean)
+    }
+}

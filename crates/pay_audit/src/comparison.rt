@@ -1,0 +1,173 @@
+//! Exports' lists, each compared once: with the longest of its account among the exports before it.
+
+ghost use Rattle.std.specs.Prelude.{◌≡◌, ◌+◌, ◌^◌, ◌<◌, ◌≤◌, ◌∷◌, ◌++◌, ℕ, List, [], length, IfOk};
+ghost use Rattle.pay_frame.specs.declared.limits.TheConstants.{MOST_MEMBERS};
+ghost use Rattle.pay_audit.specs.Auditor.{HasComparedBy};
+ghost use Rattle.pay_audit.specs.Compared.{fork_among, fork_by, fork_with, lengths_of, longer, within};
+ghost use Rattle.pay_audit.specs.Export.{ExportFields, list_in};
+ghost use Rattle.pay_audit.specs.Verdict.{fork_from};
+
+use crate::differences::Differences;
+use crate::lengths::Lengths;
+use crate::owner_list::OwnerList;
+use crate::verdict::Verdict;
+use std::alloc::{AllocError, Global};
+use std::mem;
+
+/// What is kept of exports' lists. As long as they agree that is the longest list of each account, and how long each
+/// export's are; of the first that differs and of those behind it, where they differ from the longest.
+#[derive(Debug, Drop)]
+pub(crate) struct Comparison {
+    longest: Vec<OwnerList>,
+    lengths: Vec<Lengths>,
+    differences: Vec<Differences>,
+}
+
+impl Comparison {
+    pub(crate) fn new(alloc: Global) -> Comparison
+        ensures { HasComparedBy [] result }
+    {
+        Comparison {
+            longest: Vec::new(alloc),
+            lengths: Vec::new(alloc),
+            differences: Vec::new(alloc),
+        }
+    }
+
+    /// Compares the lists of one more export.
+    pub(crate) fn add(
+        mut self,
+        alloc: Global,
+        lists: Vec<OwnerList>,
+    ) -> Result<Comparison, AllocError>
+        requires { length lists.items ≤ MOST_MEMBERS }
+        ensures { IfOk result (λ comparison. (exports : List ExportFields) (e : ExportFields)
+            → HasComparedBy exports self → e.lists ≡ lists.items
+            → HasComparedBy (exports ++ e ∷ []) comparison) }
+    {
+        let differences = Differences::of(alloc, self.longest.as_slice(), lists.as_slice())?;
+        if self.differences.is_empty() && !differences.is_any() {
+            return self.join(alloc, lists);
+        }
+        self.differences.push(differences)?;
+        Ok(self)
+    }
+
+    /// Keeps what is new in lists that agree with the longest.
+    fn join(mut self, alloc: Global, mut lists: Vec<OwnerList>) -> Result<Comparison, AllocError>
+        requires { length lists.items ≤ MOST_MEMBERS }
+        ensures longest { IfOk result (λ comparison. (account : ℕ)
+            → list_in comparison.longest.items account
+            ≡ longer (list_in self.longest.items account) (list_in lists.items account)) }
+        ensures accounts { IfOk result (λ comparison.
+            (length lists.items ≤ length comparison.longest.items)
+            × (length self.longest.items ≤ length comparison.longest.items)) }
+        ensures lengths { IfOk result (λ comparison. comparison.lengths.items
+            ≡ self.lengths.items ++ lengths_of lists.items ∷ []) }
+        ensures differences { IfOk result (λ comparison.
+            comparison.differences.items ≡ self.differences.items) }
+    {
+        let lengths = Lengths::of(alloc, lists.as_slice())?;
+        pad(alloc, &mut self.longest, lists.len())?;
+        keep_longer(self.longest.as_mut_slice(), lists.as_mut_slice());
+        self.lengths.push(lengths)?;
+        Ok(self)
+    }
+
+    /// The first fork between the exports compared.
+    pub(crate) fn fork(&self) -> Option<Verdict>
+        ensures { (exports : List ExportFields)
+            → HasComparedBy exports self.now → result ≡ fork_from 0 exports }
+    {
+        fork_among(self.lengths.as_slice(), self.differences.as_slice())
+    }
+}
+
+// Lists for so many accounts: those that are there, and none of the others.
+fn pad(alloc: Global, lists: &mut Vec<OwnerList>, accounts: usize) -> Result<(), AllocError>
+    ensures same { (account : ℕ) → list_in lists.new.items account ≡ list_in lists.old.items account }
+    ensures more { length lists.old.items ≤ length lists.new.items }
+    ensures enough { IfOk result (λ _. accounts ≤ length lists.new.items) }
+{
+    for _account in lists.len()..accounts {
+        lists.push(OwnerList::new(Vec::new(alloc)))?;
+    }
+    Ok(())
+}
+
+// Takes each list that is longer than the one that is kept.
+fn keep_longer(kept: &mut [OwnerList], lists: &mut [OwnerList])
+    requires { length lists.old ≤ length kept.old }
+    ensures { (account : ℕ) → list_in kept.new account
+        ≡ longer (list_in kept.old account) (list_in lists.old account) }
+{
+    for account in 0..lists.len() {
+        if kept[account].len() < lists[account].len() {
+            mem::swap(&mut kept[account], &mut lists[account]);
+        }
+    }
+}
+
+// The first fork between an export whose lists are so long and one that differs: each with each, in the verdict's order.
+fn fork_among(lengths: &[Lengths], differences: &[Differences]) -> Option<Verdict>
+    ensures { result ≡ fork_among lengths.now differences.now }
+{
+    for (one, own) in lengths.iter().enumerate() {
+        let fork = fork_with(lengths.len(), differences, one, own);
+        if fork.is_some() {
+            return fork;
+        }
+    }
+    None
+}
+
+// The first fork of export `one` with those that differ, of which the first is at `first`.
+fn fork_with(
+    first: usize,
+    differences: &[Differences],
+    one: usize,
+    lengths: &Lengths,
+) -> Option<Verdict>
+    requires { first + length differences.now < 2 ^ 64 }
+    ensures { result ≡ fork_with first differences.now one lengths.now }
+{
+    for (k, other) in differences.iter().enumerate() {
+        let fork = fork_by(one, lengths.as_slice(), first + k, other.as_slice());
+        if fork.is_some() {
+            return fork;
+        }
+    }
+    None
+}
+
+// The first fork of export `one`, whose lists are so long, with one whose lists first differ at these places.
+#[tactic(auto, unfolding(crate::specs::Compared::fork_by))]
+fn fork_by(
+    one: usize,
+    lengths: &[u32],
+    other: usize,
+    differences: &[Option<u32>],
+) -> Option<Verdict>
+    requires { length lengths.now ≤ MOST_MEMBERS }
+    ensures { result ≡ fork_by one lengths.now other differences.now }
+{
+    for (owner, length) in lengths.iter().enumerate() {
+        let difference = differences.get(owner)?;
+        if let Some(seq) = within(*length, *difference) {
+            return Some(Verdict::Fork {
+                one,
+                other,
+                owner: owner as u16,
+                seq,
+            });
+        }
+    }
+    None
+}
+
+// This place, where a list of so many values has it.
+fn within(count: u32, place: Option<u32>) -> Option<u32>
+    ensures { result ≡ within count place }
+{
+    place.filter(|place| *place < count)
+}

@@ -1,0 +1,106 @@
+ghost use Rattle.std.specs.Prelude.{◌≡◌, ◌↔◌, None, IfOk, IsTrue};
+ghost use Rattle.std.specs.Option.{option_or};
+ghost use Rattle.pay_audit.specs.Auditor.{IsNothing, other_genesis_than};
+ghost use Rattle.pay_audit.specs.Verdict.{wrong_balance_at, wrong_front_at};
+
+use crate::auditing::{is_same_genesis, wrong_balance_of, wrong_front_of};
+use crate::exported::Export;
+use crate::settling::settled;
+use crate::verdict::Verdict;
+use pay_link::Genesis;
+use pay_pending::WaitingBook;
+use std::alloc::{AllocError, Global};
+
+/// The first export with another genesis, the first wrong front and the first wrong balance. Behind one of these those
+/// that follow it here aren't looked for any more.
+#[derive(Clone, Copy, Debug)]
+pub(crate) struct Wrong {
+    pub(crate) genesis: Option<Verdict>,
+    pub(crate) front: Option<Verdict>,
+    pub(crate) balance: Option<Verdict>,
+}
+
+impl Wrong {
+    pub(crate) const NOTHING: Wrong = Wrong {
+        genesis: None,
+        front: None,
+        balance: None,
+    };
+
+    pub(crate) fn is_nothing(self) -> bool
+        ensures { IsTrue result ↔ IsNothing self }
+    {
+        self.genesis.is_none() && self.front.is_none() && self.balance.is_none()
+    }
+
+    /// The same, and what is wrong with the export at this place. `genesis` is that of the first export, if this isn't
+    /// the first itself.
+    pub(crate) fn with(
+        self,
+        alloc: Global,
+        genesis: &Option<Genesis>,
+        place: usize,
+        export: &Export,
+    ) -> Result<Wrong, AllocError>
+        ensures genesis { IfOk result (λ wrong. wrong.genesis
+            ≡ option_or self.genesis (other_genesis_than genesis.now place export.now)) }
+        ensures front { IfOk result (λ wrong. wrong.genesis ≡ None
+            → wrong.front ≡ option_or self.front (wrong_front_at place export.now)) }
+        ensures balance { IfOk result (λ wrong. wrong.genesis ≡ None → wrong.front ≡ None
+            → wrong.balance ≡ option_or self.balance (wrong_balance_at place export.now)) }
+    {
+        if self.genesis.is_some() {
+            return Ok(self);
+        }
+        let other = other_genesis_than(genesis, place, export);
+        if other.is_some() {
+            return Ok(Wrong {
+                genesis: other,
+                front: self.front,
+                balance: self.balance,
+            });
+        }
+        if self.front.is_some() {
+            return Ok(self);
+        }
+        self.with_book(alloc, place, export)
+    }
+
+    // The same, where no genesis and no front is wrong so far.
+    fn with_book(self, alloc: Global, place: usize, export: &Export) -> Result<Wrong, AllocError>
+        ensures genesis { IfOk result (λ wrong. wrong.genesis ≡ None) }
+        ensures front { IfOk result (λ wrong. wrong.front ≡ wrong_front_at place export.now) }
+        ensures balance { IfOk result (λ wrong.
+            wrong.balance ≡ option_or self.balance (wrong_balance_at place export.now)) }
+    {
+        let book: WaitingBook = settled(alloc, export)?;
+        let front = wrong_front_of(export, &book).map(|account| Verdict::WrongFront {
+            export: place,
+            account,
+        });
+        let mut balance = self.balance;
+        if balance.is_none() {
+            balance = wrong_balance_of(export, &book).map(|account| Verdict::WrongBalance {
+                export: place,
+                account,
+            });
+        }
+        Ok(Wrong {
+            genesis: None,
+            front,
+            balance,
+        })
+    }
+}
+
+// This export, if it doesn't begin with the genesis of the first one.
+fn other_genesis_than(genesis: &Option<Genesis>, place: usize, export: &Export) -> Option<Verdict>
+    ensures { result ≡ other_genesis_than genesis.now place export.now }
+{
+    match genesis {
+        Some(genesis) if !is_same_genesis(genesis, &export.genesis) => {
+            Some(Verdict::OtherGenesis { export: place })
+        }
+        _ => None,
+    }
+}

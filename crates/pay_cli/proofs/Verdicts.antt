@@ -1,0 +1,250 @@
+-- The lines that follow from verdicts are those of the frames.
+use Rattle.std.proofs.Common.{◌≡◌, ◌⊎◌, inl, inr, ℕ, suc, ◌+◌, ◌<◌, ◌≤◌, ◌^◌, List, [], ◌∷◌, ◌++◌, length, take, drop, refl, sym, ◌∙◌, ap, ap₂, subst, arith, append_assoc, Result, Ok, Err}
+use Rattle.std.specs.Prelude.{◌↔◌, Bool, true, false, codes, decimal, map, slice_index, IfSome, ⊤}
+use Rattle.std.specs.List.{flat_map}
+use Rattle.std.specs.declared.alloc.AllocError.{AllocError}
+use Rattle.std.proofs.lemmas.List.{append-nil, length-append, take_all, take-append-le}
+use Rattle.std.proofs.Math.Seq.{drop-append_seam}
+use Rattle.pay_frame.specs.declared.kind.Kind.{Kind}
+use Rattle.pay_frame.specs.declared.kind.Kind.TheVariants.{Send, Echo, Ready, Want}
+use Rattle.pay_frame.specs.Frame.{FrameFields}
+use Rattle.pay_engine.specs.Handling.{HandlesBatch, Steps, StepsPrefix}
+use Rattle.pay_engine.specs.Exact.{exactly, state_after, texts_from}
+use Rattle.pay_link.specs.declared.link_fault.LinkFault.{LinkFault}
+use Rattle.pay_link.specs.Fronts.{turn}
+use Rattle.pay_link.specs.Keys.{KeyFields}
+use Rattle.pay_link.specs.Opening.{OpenedFields, Opens, judgement, opened_fields}
+use Rattle.pay_cli.specs.declared.progress.Progress.{Progress}
+use Rattle.pay_cli.specs.declared.verdict.Verdict.{Verdict}
+use Rattle.pay_cli.specs.CheckText.{checking}
+use Rattle.pay_cli.specs.Engine.{HasRoom}
+use Rattle.pay_cli.specs.Lines.{fronts_after, judged_outcome, line_of, moved, ok_words, opened_outcome, outcome_words, turned}
+use Rattle.pay_cli.specs.Verdicts.{Pushes, fronts_in_turn, judged_turn, judged_words, judging, line_in_turn, moved_in_turn, opened_turn, opened_words, turned_fronts, turned_words, turn_of, verdict_of, words_in_turn, words_of}
+
+-- ---- one line
+
+turned_is : (f : FrameFields) (r : Result ⊤ LinkFault) → turned_words (ok_words f) r ≡ outcome_words f (turned r)
+turned_is f (Ok _) = refl
+turned_is f (Err fault) = refl
+
+opened_is : (fronts : List ℕ) (f : FrameFields) (kind : Kind) (next : ℕ) → next ≡ slice_index fronts f.from → words_in_turn fronts (opened_turn f kind) (opened_words f kind) ≡ outcome_words f (opened_outcome next f kind)
+opened_is fronts f Want next is = refl
+opened_is fronts f Send next is = rw is (turned_is f (turn (slice_index fronts f.from) f.number))
+opened_is fronts f Echo next is = rw is (turned_is f (turn (slice_index fronts f.from) f.number))
+opened_is fronts f Ready next is = rw is (turned_is f (turn (slice_index fronts f.from) f.number))
+
+judged_is : (fronts : List ℕ) (f : FrameFields) (j : Result OpenedFields LinkFault) → words_in_turn fronts (judged_turn f j) (judged_words f j) ≡ outcome_words f (judged_outcome (slice_index fronts f.from) f j)
+judged_is fronts f (Ok opened) = opened_is fronts f f.body.kind _ refl
+judged_is fronts f (Err fault) = refl
+
+turned_moves : (fronts : List ℕ) (f : FrameFields) (r : Result ⊤ LinkFault) → turned_fronts fronts f.from r ≡ fronts_after fronts f (turned r)
+turned_moves fronts f (Ok _) = refl
+turned_moves fronts f (Err fault) = refl
+
+opened_moves : (fronts : List ℕ) (f : FrameFields) (kind : Kind) (next : ℕ) → next ≡ slice_index fronts f.from → fronts_in_turn fronts (opened_turn f kind) ≡ fronts_after fronts f (opened_outcome next f kind)
+opened_moves fronts f Want next is = refl
+opened_moves fronts f Send next is = rw is (turned_moves fronts f (turn (slice_index fronts f.from) f.number))
+opened_moves fronts f Echo next is = rw is (turned_moves fronts f (turn (slice_index fronts f.from) f.number))
+opened_moves fronts f Ready next is = rw is (turned_moves fronts f (turn (slice_index fronts f.from) f.number))
+
+judged_moves : (fronts : List ℕ) (f : FrameFields) (j : Result OpenedFields LinkFault) → fronts_in_turn fronts (judged_turn f j) ≡ fronts_after fronts f (judged_outcome (slice_index fronts f.from) f j)
+judged_moves fronts f (Ok opened) = opened_moves fronts f f.body.kind _ refl
+judged_moves fronts f (Err fault) = refl
+
+pub line_is : (k : KeyFields) (p : Progress) (f : FrameFields) → line_in_turn p (turn_of k f) (words_of k f) ≡ line_of k p f
+unfolding line_of
+line_is k p f = ap (λ words. decimal p.line ++ words ++ codes "\n") (judged_is p.fronts f (judgement k f))
+
+pub moved_is : (k : KeyFields) (p : Progress) (f : FrameFields) → moved_in_turn p (turn_of k f) ≡ moved k p f
+unfolding moved
+moved_is k p f = ap (λ (fronts : List ℕ). let q : Progress = record { fronts = fronts; line = p.line + 1 } in q) (judged_moves p.fronts f (judgement k f))
+
+-- ---- verdicts
+
+-- all verdicts and words of some frames
+pub judged_all : (k : KeyFields) (s t : List Verdict) (fs : List FrameFields) (text : List ℕ) → Steps (exactly (judging k)) s t fs text → (t ≡ s ++ map (verdict_of k) fs) × (text ≡ flat_map (words_of k) fs)
+judged_all k s t [] text are = (are.0 ∙ sym (append-nil s), are.1)
+judged_all k s t (f ∷ fs) text are =
+    let rest = judged_all k are.0 t fs are.2 are.4 in (
+      rest.0 ∙ ap (λ vs. vs ++ map (verdict_of k) fs) are.3.0 ∙ append_assoc s (verdict_of k f ∷ []) (map (verdict_of k) fs),
+      are.5 ∙ ap₂ (λ xs ys. xs ++ ys) are.3.1 rest.1,
+    )
+
+pub judged_of : (k : KeyFields) (fs : List FrameFields) (t : List Verdict) (words : List ℕ) (on : Bool) → HandlesBatch (exactly (judging k)) [] t fs [] words (Ok on) → (t ≡ map (verdict_of k) fs) × (words ≡ flat_map (words_of k) fs)
+judged_of k fs t words true all =
+    let are = judged_all k [] t fs all.0 all.1 in
+    (are.0, all.2 ∙ are.1)
+judged_of k fs t words false some = absurd some.stopped
+
+-- the verdict in front
+pub record NextJudged (k : KeyFields) (fs : List FrameFields) (v : Verdict) (vs : List Verdict) (words : List ℕ) : Type 0 where
+  pub frame : FrameFields
+  pub more : List FrameFields
+  pub is : fs ≡ frame ∷ more
+  pub turn : v.turn ≡ turn_of k frame
+  pub fits : v.size ≤ length words
+  pub own : take v.size words ≡ words_of k frame
+  pub verdicts : vs ≡ map (verdict_of k) more
+  pub rest : drop v.size words ≡ flat_map (words_of k) more
+
+first_verdict : Verdict → List Verdict → Verdict
+first_verdict d [] = d
+first_verdict d (v ∷ vs) = v
+
+other_verdicts : List Verdict → List Verdict
+other_verdicts [] = []
+other_verdicts (v ∷ vs) = vs
+
+pub next_judged : (k : KeyFields) (fs : List FrameFields) (all : List Verdict) (v : Verdict) (vs : List Verdict) (words : List ℕ) → all ≡ v ∷ vs → all ≡ map (verdict_of k) fs → words ≡ flat_map (words_of k) fs → NextJudged k fs v vs words
+unfolding first_verdict other_verdicts
+next_judged k [] all v vs words are is same = let none : v ∷ vs ≡ [] = sym are ∙ is in absurd (omega (arith, ap length none))
+next_judged k (f ∷ fs) all v vs words are is same =
+    let both : v ∷ vs ≡ verdict_of k f ∷ map (verdict_of k) fs = sym are ∙ is in
+    let head : v ≡ verdict_of k f = ap (first_verdict v) both in
+    let size : v.size ≡ length (words_of k f) = ap (λ (w : Verdict). w.size) head in
+    let behind : List ℕ = flat_map (words_of k) fs in
+    record {
+      frame = f;
+      more = fs;
+      is = refl;
+      turn = ap (λ (w : Verdict). w.turn) head;
+      fits = omega (arith, size, ap length same, length-append (words_of k f) behind);
+      own = ap (λ n. take n words) size ∙ ap (take (length (words_of k f))) same ∙ take-append-le (length (words_of k f)) (words_of k f) behind (omega arith) ∙ take_all (length (words_of k f)) (words_of k f) (omega arith);
+      verdicts = ap other_verdicts both;
+      rest = ap (λ n. drop n words) size ∙ ap (drop (length (words_of k f))) same ∙ drop-append_seam (words_of k f) behind;
+    }
+
+-- a frame that needs a turn is from a member
+abbrev pub OpenedLaw : Type 0
+OpenedLaw = (k : KeyFields) (f : FrameFields) (o : OpenedFields) → (judgement k f ≡ Ok o) ↔ (Opens k f × (o ≡ opened_fields k f))
+
+kind_known : (f : FrameFields) (kind : Kind) (n : ℕ) → f.from < n → IfSome (opened_turn f kind) (λ t. t.from < n)
+kind_known f Want n lt = tt
+kind_known f Send n lt = lt
+kind_known f Echo n lt = lt
+kind_known f Ready n lt = lt
+
+pub turn_known : OpenedLaw → (k : KeyFields) (f : FrameFields) (fronts : List ℕ) → length fronts ≡ length k.keys → IfSome (turn_of k f) (λ t. t.from < length fronts)
+turn_known law k f fronts each = by (judgement k f) refl where
+  by : (j : Result OpenedFields LinkFault) → judgement k f ≡ j → IfSome (judged_turn f j) (λ t. t.from < length fronts)
+  by (Err fault) is = tt
+  by (Ok o) is = kind_known f f.body.kind (length fronts) (rw each ((law k f o).0 is).0.sender.0)
+
+-- ---- lines one behind the other
+
+pub state_more : (k : KeyFields) (p : Progress) (fs : List FrameFields) (f : FrameFields) → state_after (checking k) p (fs ++ f ∷ []) ≡ moved k (state_after (checking k) p fs) f
+state_more k p [] f = refl
+state_more k p (g ∷ gs) f = state_more k (moved k p g) gs f
+
+pub texts_more : (k : KeyFields) (p : Progress) (fs : List FrameFields) (f : FrameFields) → texts_from (checking k) p (fs ++ f ∷ []) ≡ texts_from (checking k) p fs ++ line_of k (state_after (checking k) p fs) f
+texts_more k p [] f = append-nil (line_of k p f)
+texts_more k p (g ∷ gs) f = ap (λ xs. line_of k p g ++ xs) (texts_more k (moved k p g) gs f) ∙ sym (append_assoc (line_of k p g) (texts_from (checking k) (moved k p g) gs) (line_of k (state_after (checking k) (moved k p g) gs) f))
+
+-- the first lines are written, and of these frames they aren't yet
+pub record AmongLines (k : KeyFields) (fs : List FrameFields) (before now : Progress) (old new : List ℕ) (vs : List Verdict) (ws : List ℕ) : Type 0 where
+  pub first : List FrameFields
+  pub others : List FrameFields
+  pub parts : fs ≡ first ++ others
+  pub verdicts : vs ≡ map (verdict_of k) others
+  pub words : ws ≡ flat_map (words_of k) others
+  pub state : now ≡ state_after (checking k) before first
+  pub text : new ≡ old ++ texts_from (checking k) before first
+
+pub one_line_more : (k : KeyFields) (fs : List FrameFields) (before now later : Progress) (old new newer : List ℕ) (all : List Verdict) (v : Verdict) (vs : List Verdict) (words own rest : List ℕ)
+    → AmongLines k fs before now old new all words → all ≡ v ∷ vs → own ≡ take v.size words → rest ≡ drop v.size words → later ≡ moved_in_turn now v.turn → newer ≡ new ++ line_in_turn now v.turn own → AmongLines k fs before later old newer vs rest
+one_line_more k fs before now later old new newer all v vs words own rest a are own_is rest_is moves writes =
+    let next = next_judged k a.others all v vs words are a.verdicts a.words in
+    let f = next.frame in
+    let line : line_in_turn now v.turn own ≡ line_of k (state_after (checking k) before a.first) f =
+    ap₂ (λ t xs. line_in_turn now t xs) next.turn (own_is ∙ next.own) ∙ line_is k now f ∙ ap (λ q. line_of k q f) a.state
+    in
+    record {
+      first = a.first ++ f ∷ [];
+      others = next.more;
+      parts = a.parts ∙ ap (λ gs. a.first ++ gs) next.is ∙ sym (append_assoc a.first (f ∷ []) next.more);
+      verdicts = next.verdicts;
+      words = rest_is ∙ next.rest;
+      state = moves ∙ ap (λ t. moved_in_turn now t) next.turn ∙ moved_is k now f ∙ ap (λ q. moved k q f) a.state ∙ sym (state_more k before a.first f);
+      text = writes ∙ ap₂ (λ xs ys. xs ++ ys) a.text line ∙ append_assoc old (texts_from (checking k) before a.first) (line_of k (state_after (checking k) before a.first) f)
+          ∙ ap (λ xs. old ++ xs) (sym (texts_more k before a.first f));
+    }
+
+pub all_lines : (k : KeyFields) (fs : List FrameFields) (before now : Progress) (old new : List ℕ) (vs : List Verdict) (words : List ℕ) → AmongLines k fs before now old new vs words → length vs ≡ 0 → Pushes k before now fs old new (Ok tt)
+all_lines k fs before now old new vs words a none = by a.others a.verdicts a.parts where
+  by : (others : List FrameFields) → vs ≡ map (verdict_of k) others → fs ≡ a.first ++ others → Pushes k before now fs old new (Ok tt)
+  by [] is parts =
+      let same : fs ≡ a.first = parts ∙ append-nil a.first in
+      (a.state ∙ ap (state_after (checking k) before) (sym same), a.text ∙ ap (λ gs. old ++ texts_from (checking k) before gs) (sym same))
+  by (f ∷ others) is parts = absurd (omega (arith, none, ap length is))
+
+-- memory was refused for a line: its frame was counted, or not
+pub some_lines : (k : KeyFields) (fs : List FrameFields) (before now later : Progress) (old new : List ℕ) (all : List Verdict) (v : Verdict) (vs : List Verdict) (words : List ℕ) (e : AllocError) (newer : List ℕ)
+    → AmongLines k fs before now old new all words → all ≡ v ∷ vs → (later ≡ now) ⊎ (later ≡ moved_in_turn now v.turn) → Pushes k before later fs old newer (Err e)
+some_lines k fs before now later old new all v vs words e newer a are (inl same) = (a.first, a.others, a.parts, same ∙ a.state)
+some_lines k fs before now later old new all v vs words e newer a are (inr moves) =
+    let more = one_line_more k fs before now later old new (new ++ line_in_turn now v.turn (take v.size words)) all v vs words (take v.size words) (drop v.size words) a are refl refl moves refl in
+    (more.first, more.others, more.parts, more.state)
+
+-- there is room for the lines that are left
+pub record RoomLeft (now : Progress) (vs : List Verdict) (ws : List ℕ) : Type 0 where
+  pub keys : KeyFields
+  pub frames : List FrameFields
+  pub verdicts : vs ≡ map (verdict_of keys) frames
+  pub words : ws ≡ flat_map (words_of keys) frames
+  pub room : HasRoom keys now (length frames)
+
+-- what the line in front needs
+pub record LineFits (now : Progress) (v : Verdict) (words : List ℕ) : Type 0 where
+  pub known : IfSome v.turn (λ t. t.from < length now.fronts)
+  pub below : (member : ℕ) → slice_index now.fronts member + 1 < 2 ^ 64
+  pub line : now.line + 1 < 2 ^ 64
+  pub fits : v.size ≤ length words
+
+room_of_first : (k : KeyFields) (p : Progress) (fs : List FrameFields) (f : FrameFields) (more : List FrameFields) → fs ≡ f ∷ more → HasRoom k p (length fs) → HasRoom k p (suc (length more))
+room_of_first k p fs f more is room = subst (λ gs. HasRoom k p (length gs)) is room
+
+pub line_fits : OpenedLaw → (now : Progress) (all : List Verdict) (v : Verdict) (vs : List Verdict) (words : List ℕ) → RoomLeft now all words → all ≡ v ∷ vs → LineFits now v words
+line_fits law now all v vs words r are =
+    let next = next_judged r.keys r.frames all v vs words are r.verdicts r.words in
+    let in_line = (room_of_first r.keys now r.frames next.frame next.more next.is r.room).0 in
+    let below = in_line.below in
+    let more = in_line.more in
+    record {
+      known = subst (λ t. IfSome t (λ t. t.from < length now.fronts)) (sym next.turn) (turn_known law r.keys next.frame now.fronts in_line.each);
+      below = λ member. let lt = below member in omega arith;
+      line = more;
+      fits = next.fits;
+    }
+
+pub room_more : (now later : Progress) (all : List Verdict) (v : Verdict) (vs : List Verdict) (words rest : List ℕ) → RoomLeft now all words → all ≡ v ∷ vs → rest ≡ drop v.size words → later ≡ moved_in_turn now v.turn → RoomLeft later vs rest
+room_more now later all v vs words rest r are rest_is moves =
+    let next = next_judged r.keys r.frames all v vs words are r.verdicts r.words in
+    let after = (room_of_first r.keys now r.frames next.frame next.more next.is r.room).1 next.frame in
+    record {
+      keys = r.keys;
+      frames = next.more;
+      verdicts = next.verdicts;
+      words = rest_is ∙ next.rest;
+      room = subst (λ q. HasRoom r.keys q (length next.more)) (sym (moves ∙ ap (λ t. moved_in_turn now t) next.turn ∙ moved_is r.keys now next.frame)) after;
+    }
+
+-- ---- a batch
+
+steps_all : (k : KeyFields) (p : Progress) (fs : List FrameFields) → Steps (exactly (checking k)) p (state_after (checking k) p fs) fs (texts_from (checking k) p fs)
+steps_all k p [] = (refl, refl)
+steps_all k p (f ∷ fs) = (moved k p f, line_of k p f, texts_from (checking k) (moved k p f) fs, (refl, refl), steps_all k (moved k p f) fs, refl)
+
+pub batch_pushed : (k : KeyFields) (before after : Progress) (fs : List FrameFields) (old new : List ℕ) → Pushes k before after fs old new (Ok tt) → HandlesBatch (exactly (checking k)) before after fs old new (Ok true)
+batch_pushed k before after fs old new all = (texts_from (checking k) before fs, subst (λ q. Steps (exactly (checking k)) before q fs (texts_from (checking k) before fs)) (sym all.0) (steps_all k before fs), all.1)
+
+pub batch_failed : (k : KeyFields) (before after : Progress) (fs : List FrameFields) (old new : List ℕ) (e : AllocError) → Pushes k before after fs old new (Err e) → StepsPrefix (exactly (checking k)) before after fs
+batch_failed k before after fs old new e some = record {
+  first = some.0;
+  others = some.1;
+  parts = some.2;
+  text = texts_from (checking k) before some.0;
+  handled = subst (λ q. Steps (exactly (checking k)) before q some.0 (texts_from (checking k) before some.0)) (sym some.3) (steps_all k before some.0);
+}
+
+pub none_handled : (k : KeyFields) (p : Progress) (fs : List FrameFields) → StepsPrefix (exactly (checking k)) p p fs
+none_handled k p fs = record { first = []; others = fs; parts = refl; text = []; handled = (refl, refl) }

@@ -1,0 +1,125 @@
+-- What becomes of a frame as far as no line before its own says, and the line that follows from it.
+use Rattle.std.specs.Prelude.{◌≡◌, ℕ, ◌+◌, List, [], ◌∷◌, ◌++◌, length, map, slice_index, slice_set, decimal, codes, Option, Some, None, Result, Ok, Err, ⊤, IfOk}
+use Rattle.std.specs.List.{flat_map}
+use Rattle.std.specs.declared.alloc.AllocError.{AllocError}
+use Rattle.pay_frame.specs.declared.kind.Kind.{Kind}
+use Rattle.pay_frame.specs.declared.kind.Kind.TheVariants.{Send, Echo, Ready, Want}
+use Rattle.pay_frame.specs.Frame.{FrameFields, frame_bytes}
+use Rattle.pay_frame.specs.Stream.{IsFramesThen}
+use Rattle.pay_engine.specs.Exact.{Function, state_after, texts_from}
+use Rattle.pay_link.specs.declared.link_fault.LinkFault.{LinkFault}
+use Rattle.pay_link.specs.Fronts.{turn}
+use Rattle.pay_link.specs.Keys.{KeyFields}
+use Rattle.pay_link.specs.Opening.{OpenedFields, judgement}
+use Rattle.pay_cli.specs.declared.judging.Judged.{Judged}
+use Rattle.pay_cli.specs.declared.progress.Progress.{Progress}
+use Rattle.pay_cli.specs.declared.verdict.Turn.{Turn}
+use Rattle.pay_cli.specs.declared.verdict.Verdict.{Verdict}
+use Rattle.pay_cli.specs.CheckText.{checking}
+use Rattle.pay_cli.specs.Lines.{ok_words, want_words, refused_words}
+
+-- the words of a frame that opened, where it is its sender's turn
+abbrev pub opened_words : FrameFields → Kind → List ℕ
+opened_words f Want = want_words f
+opened_words f Send = ok_words f
+opened_words f Echo = ok_words f
+opened_words f Ready = ok_words f
+
+-- the turn that it has to be for them: a WANT needs none
+abbrev pub opened_turn : FrameFields → Kind → Option Turn
+opened_turn f Want = None
+opened_turn f Send = Some (record { from = f.from; number = f.number })
+opened_turn f Echo = Some (record { from = f.from; number = f.number })
+opened_turn f Ready = Some (record { from = f.from; number = f.number })
+
+abbrev pub judged_words : FrameFields → Result OpenedFields LinkFault → List ℕ
+judged_words f (Ok opened) = opened_words f f.body.kind
+judged_words f (Err fault) = refused_words fault
+
+abbrev pub judged_turn : FrameFields → Result OpenedFields LinkFault → Option Turn
+judged_turn f (Ok opened) = opened_turn f f.body.kind
+judged_turn f (Err fault) = None
+
+-- the words of a frame, and the turn that it has to be for them
+abbrev pub words_of : KeyFields → FrameFields → List ℕ
+words_of k f = judged_words f (judgement k f)
+
+abbrev pub turn_of : KeyFields → FrameFields → Option Turn
+turn_of k f = judged_turn f (judgement k f)
+
+abbrev pub verdict_of : KeyFields → FrameFields → Verdict
+verdict_of k f = record { size = length (words_of k f); turn = turn_of k f }
+
+-- a verdict for each frame, and its words
+abbrev pub judging : KeyFields → Function (List Verdict)
+judging k = record {
+  after = λ verdicts f. verdicts ++ verdict_of k f ∷ [];
+  text = λ verdicts f. words_of k f;
+  fault_text = λ verdicts fault. [];
+}
+
+-- all verdicts and all words of some frames
+pub record IsJudged (k : KeyFields) (fs : List FrameFields) (judged : Judged) : Type 0 where
+  pub verdicts : judged.verdicts ≡ map (verdict_of k) fs
+  pub words : judged.words.items ≡ flat_map (words_of k) fs
+
+-- of the frames that the bytes are
+abbrev pub JudgesAll : KeyFields → List ℕ → Result Judged AllocError → Type 0
+JudgesAll k bytes result =
+    (fs : List FrameFields) → IsFramesThen bytes fs [] → IfOk result (IsJudged k fs)
+
+-- some of the frames end there
+pub record IsCut (fs : List FrameFields) (at : ℕ) : Type 0 where
+  pub first : List FrameFields
+  pub others : List FrameFields
+  pub parts : fs ≡ first ++ others
+  pub sized : at ≡ length (flat_map frame_bytes first)
+
+-- these bytes are the first of the frames, and those the others
+pub record AreHalves (fs : List FrameFields) (front back : List ℕ) : Type 0 where
+  pub first : List FrameFields
+  pub others : List FrameFields
+  pub parts : fs ≡ first ++ others
+  pub in_front : IsFramesThen front first []
+  pub behind : IsFramesThen back others []
+
+-- ---- the lines
+
+abbrev pub turned_words : List ℕ → Result ⊤ LinkFault → List ℕ
+turned_words words (Ok _) = words
+turned_words words (Err fault) = refused_words fault
+
+-- these words, where it is the turn
+abbrev pub words_in_turn : List ℕ → Option Turn → List ℕ → List ℕ
+words_in_turn fronts None words = words
+words_in_turn fronts (Some t) words =
+    turned_words words (turn (slice_index fronts t.from) t.number)
+
+abbrev pub turned_fronts : List ℕ → ℕ → Result ⊤ LinkFault → List ℕ
+turned_fronts fronts from (Ok _) = slice_set fronts from (slice_index fronts from + 1)
+turned_fronts fronts from (Err fault) = fronts
+
+-- its sender's next number moves by one, where it is the turn
+abbrev pub fronts_in_turn : List ℕ → Option Turn → List ℕ
+fronts_in_turn fronts None = fronts
+fronts_in_turn fronts (Some t) =
+    turned_fronts fronts t.from (turn (slice_index fronts t.from) t.number)
+
+abbrev pub line_in_turn : Progress → Option Turn → List ℕ → List ℕ
+line_in_turn p turn words =
+    decimal p.line ++ words_in_turn p.fronts turn words ++ codes "\n"
+
+abbrev pub moved_in_turn : Progress → Option Turn → Progress
+moved_in_turn p turn = record { fronts = fronts_in_turn p.fronts turn; line = p.line + 1 }
+
+-- The lines of some frames are written, all of them; where memory is refused, the first of them
+-- were counted.
+abbrev pub Pushes :
+    KeyFields → Progress → Progress → List FrameFields → List ℕ → List ℕ → Result ⊤ AllocError
+    → Type 0
+Pushes k before after fs old new (Ok _) =
+    (after ≡ state_after (checking k) before fs)
+    × (new ≡ old ++ texts_from (checking k) before fs)
+Pushes k before after fs old new (Err _) =
+    (first : List FrameFields) × (others : List FrameFields) × (fs ≡ first ++ others)
+    × (after ≡ state_after (checking k) before first)

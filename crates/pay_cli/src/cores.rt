@@ -1,0 +1,99 @@
+ghost use Rattle.std.specs.Prelude.{List, []};
+ghost use Rattle.pay_frame.specs.Frame.{FrameFields};
+ghost use Rattle.pay_frame.specs.Stream.{IsFramesThen};
+ghost use Rattle.pay_engine.specs.Exact.{exactly};
+ghost use Rattle.pay_cli.specs.CheckText.{checking};
+ghost use Rattle.pay_cli.specs.Engine.{HasRoom};
+ghost use Rattle.pay_cli.specs.Verdicts.{JudgesAll};
+ghost use Rattle.std.proofs.Common.{subst, sym};
+ghost use Rattle.std.proofs.Math.Numerals.{add-one};
+
+use crate::checking::Checking;
+use crate::judging::Judged;
+use crate::progress::Progress;
+use crate::turns::push_judged;
+use pay_engine::{FrameHandler, GREATEST_READ};
+use pay_frame::{CUTTER_ROOM, FrameFault, FrameRef, frame_sizes};
+use pay_hmac::Tagger;
+use std::alloc::{AllocError, Global};
+
+/// How many bytes a thread judges at least. Fewer take no longer than to start it.
+pub(crate) const LEAST_PART: usize = 1 << 14;
+
+/// Writes what `Checking` does, and has a large batch judged by several threads, which `judge`
+/// starts.
+#[derive(Drop)]
+pub(crate) struct OverCores<'a, T, F> {
+    pub(crate) jobs: usize,
+    pub(crate) judge: &'a F,
+    pub(crate) checking: Checking<'a, T>,
+}
+
+impl<T, F> FrameHandler<Progress> for OverCores<'_, T, F>
+where
+    T: Tagger,
+    F: Fn(&[u8]) -> Result<Judged, AllocError>,
+{
+    ghost handling = { λ c. exactly (checking c.checking.keys.now) };
+
+    // There is room for so many lines, and whole frames can be judged.
+    ghost has_room = { λ c p n. HasRoom c.checking.keys.now p n
+        × ((frames : _) → ((fs : List FrameFields) × IsFramesThen frames.now fs [])
+        → F.pre c.judge.now frames
+        × ((r : _) → F.post c.judge.now frames r → JudgesAll c.checking.keys.now frames.now r)) };
+
+    ghost keeps_room = { λ c p q f text n step room. (
+      subst (λ s. HasRoom c.checking.keys.now s n) (sym step.0)
+          ((subst (HasRoom c.checking.keys.now p) (add-one n) room.0).1 f),
+      room.1,
+    ) };
+
+    fn at_once(&self, _held: &[u8]) -> usize {
+        usize::MAX
+    }
+
+    // One thread reads no more than it always did; several need more to share.
+    fn buffer_size(&self) -> usize {
+        if self.jobs > 1 {
+            GREATEST_READ
+        } else {
+            CUTTER_ROOM
+        }
+    }
+
+    fn handle(
+        &self,
+        alloc: Global,
+        progress: &mut Progress,
+        frame: FrameRef<'_>,
+        out: &mut Vec<u8>,
+    ) -> Result<bool, AllocError> {
+        self.checking.handle(alloc, progress, frame, out)
+    }
+
+    fn handle_batch(
+        &self,
+        alloc: Global,
+        progress: &mut Progress,
+        frames: &[u8],
+        out: &mut Vec<u8>,
+    ) -> Result<bool, AllocError> {
+        // a law that the proof stands on: the call does nothing
+        frame_sizes();
+        if self.jobs < 2 || frames.len() < 2 * LEAST_PART {
+            return self.checking.handle_batch(alloc, progress, frames, out);
+        }
+        let judged = (self.judge)(frames)?;
+        push_judged(out, progress, &judged)?;
+        Ok(true)
+    }
+
+    fn end(
+        &self,
+        progress: &Progress,
+        fault: FrameFault,
+        out: &mut Vec<u8>,
+    ) -> Result<(), AllocError> {
+        self.checking.end(progress, fault, out)
+    }
+}

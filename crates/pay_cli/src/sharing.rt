@@ -1,0 +1,91 @@
+//! Judging frames by several threads.
+
+ghost use Rattle.std.specs.Prelude.{◌≡◌, ◌++◌, ◌≤◌, List, [], length, IfOk};
+ghost use denote.Param.Send.{IsSync};
+ghost use Rattle.pay_frame.specs.Frame.{FrameFields};
+ghost use Rattle.pay_frame.specs.Stream.{IsFramesThen};
+ghost use Rattle.pay_cli.specs.Verdicts.{AreHalves, IsCut, JudgesAll};
+
+use crate::judging::{Judged, judge};
+use pay_frame::{frame_sizes, read, read_again};
+use pay_hmac::Tagger;
+use pay_link::Keys;
+use std::alloc::{AllocError, Global};
+use std::thread::{Threads, join};
+
+/// Judges the frames that the bytes are, in so many parts, each in a thread of its own where one
+/// can be made.
+pub fn judge_parts<R: Threads + Sync, T: Tagger + Sync>(
+    rt: &R,
+    alloc: Global,
+    t: &T,
+    keys: &Keys,
+    frames: &[u8],
+    parts: usize,
+) -> Result<Judged, AllocError>
+    requires whole { (fs : List FrameFields) × IsFramesThen frames.now fs [] }
+    ensures judged { JudgesAll keys.now frames.now result }
+{
+    if parts < 2 {
+        return judge(alloc, t, keys, frames);
+    }
+    let low = parts / 2;
+    let high = parts - low;
+    let (front, back) = halved(frames, frames.len() / parts * low);
+    let (first, rest) = join(
+        rt,
+        || -> Result<Judged, AllocError>
+            requires { IsSync R.row × IsSync T.row
+                × ((fs : List FrameFields) × IsFramesThen front.now fs []) }
+            ensures { JudgesAll keys.entry.now front.entry.now result }
+        { judge_parts(rt, alloc, t, keys, front, low) },
+        || -> Result<Judged, AllocError>
+            requires { IsSync R.row × IsSync T.row
+                × ((fs : List FrameFields) × IsFramesThen back.now fs []) }
+            ensures { JudgesAll keys.entry.now back.entry.now result }
+        { judge_parts(rt, alloc, t, keys, back, high) },
+    );
+    joined(first?, rest?)
+}
+
+/// The verdicts of some frames and of those that follow.
+fn joined(mut first: Judged, mut rest: Judged) -> Result<Judged, AllocError>
+    ensures verdicts { IfOk result (λ all. all.verdicts ≡ first.verdicts ++ rest.verdicts) }
+    ensures words { IfOk result (λ all. all.words.items ≡ first.words.items ++ rest.words.items) }
+{
+    first.verdicts.append(rest.verdicts)?;
+    first.words.append(&mut rest.words)?;
+    Ok(first)
+}
+
+/// The frames that end up to about a place, and the others.
+fn halved(frames: &[u8], place: usize) -> (&[u8], &[u8])
+    requires whole { (fs : List FrameFields) × IsFramesThen frames.now fs [] }
+    ensures front { (fs : List FrameFields) × IsFramesThen result.0.now fs [] }
+    ensures back { (fs : List FrameFields) × IsFramesThen result.1.now fs [] }
+    ensures parts { (fs : List FrameFields) → IsFramesThen frames.now fs []
+        → AreHalves fs result.0.now result.1.now }
+{
+    frames.split_at(cut_behind(frames, place))
+}
+
+/// Where the first frame ends that ends at a place or behind it, and where the last one does if
+/// none does.
+fn cut_behind(frames: &[u8], place: usize) -> usize
+    ensures cut { (fs : List FrameFields) → IsFramesThen frames.now fs []
+        → IsCut fs result }
+    ensures within { result ≤ length frames.now }
+{
+    // laws that the proof stands on: the calls do nothing
+    frame_sizes();
+    read_again();
+    let mut at = 0;
+    while at < place {
+        match read(&frames[at..]) {
+            Ok(Some((_, size))) => at += size,
+            Ok(None) => return at,
+            Err(_) => return at,
+        }
+    }
+    at
+}

@@ -1,0 +1,89 @@
+//! The lines of frames that were judged, in order.
+
+ghost use Rattle.std.specs.Prelude.{◌≡◌, ◌⊎◌, ℕ, List, ◌+◌, ◌++◌, ◌<◌, ◌^◌, IfSome, OnErr, OnOk, length, slice_index};
+ghost use Rattle.pay_frame.specs.Frame.{FrameFields};
+ghost use Rattle.pay_link.specs.Keys.{KeyFields};
+ghost use Rattle.pay_cli.specs.Engine.{HasRoom};
+ghost use Rattle.pay_cli.specs.Verdicts.{IsJudged, Pushes, fronts_in_turn, line_in_turn, moved_in_turn, words_in_turn};
+
+use crate::judging::Judged;
+use crate::lines::push_refused;
+use crate::progress::Progress;
+use crate::verdict::Turn;
+use pay_link::{Fronts, laws};
+use pay_text::{push_number, push_word};
+use std::alloc::AllocError;
+
+/// Writes the lines of frames that were judged.
+pub fn push_judged(
+    out: &mut Vec<u8>,
+    progress: &mut Progress,
+    judged: &Judged,
+) -> Result<(), AllocError>
+    requires room { (k : KeyFields) × (fs : List FrameFields) × IsJudged k fs judged.now
+        × HasRoom k progress.old (length fs) }
+    ensures pushes { (k : KeyFields) (fs : List FrameFields) → IsJudged k fs judged.now
+        → Pushes k progress.old progress.new fs out.old.items out.new.items result }
+{
+    // a law that the proof stands on: the call does nothing
+    laws::opened();
+    let mut verdicts = judged.verdicts.as_slice();
+    let mut words = judged.words.as_slice();
+    while let Some((verdict, others)) = verdicts.split_first() {
+        let (own, rest) = words.split_at(verdict.size);
+        push_line(out, progress, verdict.turn, own)?;
+        verdicts = others;
+        words = rest;
+    }
+    Ok(())
+}
+
+/// Writes the line of a frame. Where memory is refused the frame was counted, or nothing changed.
+fn push_line(
+    out: &mut Vec<u8>,
+    progress: &mut Progress,
+    turn: Option<Turn>,
+    words: &[u8],
+) -> Result<(), AllocError>
+    requires known { IfSome turn (λ t. t.from < length progress.old.fronts) }
+    requires room { (member : ℕ) → slice_index progress.old.fronts member + 1 < 2 ^ 64 }
+    requires line { progress.old.line + 1 < 2 ^ 64 }
+    ensures text { OnOk result (out.new.items
+        ≡ out.old.items ++ line_in_turn progress.old turn words.now) }
+    ensures moved { OnOk result (progress.new ≡ moved_in_turn progress.old turn) }
+    ensures err { OnErr result ((progress.new ≡ progress.old)
+        ⊎ (progress.new ≡ moved_in_turn progress.old turn)) }
+{
+    push_number(out, progress.line)?;
+    push_in_turn(out, &mut progress.fronts, turn, words)?;
+    progress.line += 1;
+    push_word(out, "\n")
+}
+
+/// Writes the words, or that it isn't the turn.
+fn push_in_turn(
+    out: &mut Vec<u8>,
+    fronts: &mut Fronts,
+    turn: Option<Turn>,
+    words: &[u8],
+) -> Result<(), AllocError>
+    requires known { IfSome turn (λ t. t.from < length fronts.old) }
+    requires room { (member : ℕ) → slice_index fronts.old member + 1 < 2 ^ 64 }
+    ensures words { OnOk result (out.new.items
+        ≡ out.old.items ++ words_in_turn fronts.old turn words.now) }
+    ensures fronts { OnOk result (fronts.new ≡ fronts_in_turn fronts.old turn) }
+    ensures err { OnErr result (fronts.new ≡ fronts.old) }
+{
+    let Some(turn) = turn else {
+        out.extend_from_slice(words)?;
+        return Ok(());
+    };
+    match fronts.judge(turn.from, turn.number) {
+        Ok(()) => {
+            out.extend_from_slice(words)?;
+            fronts.advance(turn.from);
+            Ok(())
+        }
+        Err(fault) => push_refused(out, fault),
+    }
+}

@@ -1,0 +1,62 @@
+//! Member 1 of four is fed from the stream of member 0, over memory.
+
+use pay_book::PlainBook;
+use pay_echo::PlainInstance;
+use pay_frame::{EngineFault, FrameFault, Reader, Writer};
+use pay_hmac::HmacSha256;
+use pay_link::{Genesis, Keys};
+use pay_member::{Member, serve};
+use std::alloc::Global;
+use std::test::Fail;
+
+/// The length of a frame with no value, and so of a WANT.
+const FRAME: usize = 56;
+
+/// A frame of member 0, as another program makes it with its test key, twice.
+const TWICE: &str =
+    "0036010100000001000000000000000000000000000000005f12d89ce8c7abea683f0a05ef33cbece12e0cde1d4330bb9b635f1c06e23b620036010100000001000000000000000000000000000000005f12d89ce8c7abea683f0a05ef33cbece12e0cde1d4330bb9b635f1c06e23b62";
+
+/// What member 1 asks of member 0, as another program tags it: its frame 0, and then twice its frame 1.
+const WANTS: &str =
+    "003601040001000000000000000000000000000000000000244be1e1d2b6c34b2e0eded224b9e9bc03045e0dd6060b250f2a7f38257e8908003601040001000000000000000000010000000000000000abc08308999c120482dbcf8386bff193850732924e3bacd9ac0a94968a840db3003601040001000000000000000000010000000000000000abc08308999c120482dbcf8386bff193850732924e3bacd9ac0a94968a840db3";
+
+/// The key of members 0 and 1, which no other frame here is tagged under.
+const KEY: [u8; 32] = [
+    0, 0, 0, 0, 0, 0, 0, 0, 0, 0, 0, 0, 0, 0, 0, 0, 0, 0, 0, 0, 0, 0, 0, 0, 0, 0, 0, 0, 0, 0, 0, 1,
+];
+
+/// What goes out for the bytes, and how it ends.
+fn served(alloc: Global, bytes: &[u8]) -> Result<(Vec<u8>, Result<(), EngineFault>), Fail> {
+    let genesis = Genesis::new(alloc, 4, 1, &[100, 0, 0, 50])?;
+    let keys = Keys::new(alloc, &genesis, 1, &[KEY; 4])?;
+    let mut member: Member<PlainInstance, PlainBook> = Member::new(alloc, genesis, keys)?;
+    let mut reader = Reader::new(bytes);
+    let mut writer = Writer::new(Vec::new(alloc));
+    let ended = serve(
+        alloc,
+        &mut member,
+        0,
+        &HmacSha256,
+        0,
+        &mut reader,
+        &mut writer,
+    );
+    Ok((writer.into_inner(), ended))
+}
+
+#[test]
+fn repeated_frame_cut_anywhere(rt: HostRuntime) -> Result<(), Fail> {
+    let stream = hex::decode(rt.alloc(), TWICE)?;
+    let wants = hex::decode(rt.alloc(), WANTS)?;
+    for cut in 0..=2 * FRAME {
+        let (text, ended) = served(rt.alloc(), stream.get(..cut).ok_or("a short stream")?)?;
+        let wanted = wants.get(..FRAME + cut / FRAME * FRAME);
+        let end = if cut % FRAME == 0 {
+            Ok(())
+        } else {
+            Err(EngineFault::Frame(FrameFault::Truncated))
+        };
+        assert!(rt; wanted == Some(text.as_slice()) && ended == end, "at {cut}");
+    }
+    Ok(())
+}

@@ -1,0 +1,66 @@
+use std::alloc::{AllocError, Global};
+use std::net::{Shutdown, TcpStream};
+use std::sync::atomic::{AtomicBool, Ordering};
+use std::sync::{Mutex, Wait};
+
+/// Clones of the connections that stand, so that they can be shut while others read from them or write to them.
+///
+/// There is a place for each connection that may stand at once. A clone holds its connection open, so whoever is done
+/// with one gives its place back.
+#[derive(Drop)]
+pub(crate) struct Connections {
+    places: Mutex<Vec<Option<TcpStream>>>,
+}
+
+impl Connections {
+    /// Room for so many connections.
+    pub(crate) fn new(alloc: Global, most: u16) -> Result<Connections, AllocError> {
+        let mut places = Vec::new(alloc);
+        for _ in 0..most {
+            places.push(None)?;
+        }
+        Ok(Connections {
+            places: Mutex::new(places),
+        })
+    }
+
+    /// Keeps a clone of a connection. Answers its place, or none where all are taken, where all connections are or
+    /// will be shut, or where it can't be cloned.
+    ///
+    /// The flag is set before all are shut: so what is kept after it was looked at here is shut with them.
+    pub(crate) fn keep<R: Wait>(
+        &self,
+        rt: &R,
+        stop: &AtomicBool,
+        stream: &TcpStream,
+    ) -> Option<usize> {
+        let clone = stream.try_clone().ok()?;
+        let mut places = self.places.lock(rt);
+        if stop.load(Ordering::SeqCst) {
+            return None;
+        }
+        let free = places.iter().position(|place| place.is_none())?;
+        if let Some(place) = places.get_mut(free) {
+            *place = Some(clone);
+        }
+        Some(free)
+    }
+
+    /// Shuts the connection at a place, and gives the place back.
+    pub(crate) fn shut<R: Wait>(&self, rt: &R, place: usize) {
+        let mut places = self.places.lock(rt);
+        if let Some(kept) = places.get_mut(place) {
+            if let Some(stream) = kept.take() {
+                let _ = stream.shutdown(Shutdown::Both);
+            }
+        }
+    }
+
+    /// Shuts all that stand. They keep their places.
+    pub(crate) fn shut_all<R: Wait>(&self, rt: &R) {
+        let places = self.places.lock(rt);
+        for stream in places.iter().flatten() {
+            let _ = stream.shutdown(Shutdown::Both);
+        }
+    }
+}

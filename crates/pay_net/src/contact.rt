@@ -1,0 +1,76 @@
+ghost use Rattle.std.specs.Prelude.{◌≡◌, ◌+◌, min, None, Some, if◌then◌else◌};
+ghost use Rattle.std.specs.Option.{option_or};
+ghost use Rattle.pay_net.specs.Contacts.{is_lost, news_when_heard};
+ghost use Rattle.pay_net.specs.declared.news.News.TheVariants.{GivenUp, Lost};
+
+use crate::news::News;
+
+/// How many dials in a row bring nothing of a peer that is lost.
+pub(crate) const LOST_DIALS: u64 = 2;
+
+/// For how many milliseconds nothing of it came: so it is lost and met again once a second at most.
+pub(crate) const LOST_MILLIS: u64 = 1_000;
+
+/// What was told of a peer last, and how many dials brought nothing since it was heard.
+#[derive(Drop)]
+pub(crate) struct Contact {
+    last: Option<News>,
+    missed: u64,
+}
+
+impl Contact {
+    pub(crate) fn new() -> Contact
+        ensures { result ≡ record { last = None; missed = 0 } }
+    {
+        Contact {
+            last: None,
+            missed: 0,
+        }
+    }
+
+    /// The peer was heard. Answers what is to be told of it, if anything is.
+    pub(crate) fn hear(&mut self) -> Option<News>
+        ensures news { result ≡ news_when_heard self.old.last }
+        ensures last { self.new.last ≡ option_or result self.old.last }
+        ensures missed { self.new.missed ≡ 0 }
+    {
+        self.missed = 0;
+        match self.last {
+            Some(News::Met) | Some(News::GivenUp) => None,
+            None | Some(News::Lost) => self.tell(News::Met),
+        }
+    }
+
+    /// A dial brought nothing of the peer, of which nothing came for so many milliseconds.
+    pub(crate) fn miss(&mut self, silence: u64) -> Option<News>
+        ensures missed { self.new.missed ≡ min (self.old.missed + 1) u64.MAX }
+        ensures news { result
+            ≡ (if is_lost self.old.last self.new.missed silence then Some Lost else None) }
+        ensures last { self.new.last ≡ option_or result self.old.last }
+    {
+        self.missed = self.missed.saturating_add(1);
+        if self.missed < LOST_DIALS || silence < LOST_MILLIS {
+            return None;
+        }
+        match self.last {
+            Some(News::Met) => self.tell(News::Lost),
+            None | Some(News::Lost) | Some(News::GivenUp) => None,
+        }
+    }
+
+    /// The peer was dialed for the last time.
+    pub(crate) fn give_up(&mut self) -> Option<News>
+        ensures news { result ≡ Some GivenUp }
+        ensures last { self.new.last ≡ result }
+    {
+        self.tell(News::GivenUp)
+    }
+
+    fn tell(&mut self, news: News) -> Option<News>
+        ensures news { result ≡ Some news }
+        ensures same { self.new ≡ record self.old { last = Some news } }
+    {
+        self.last = Some(news);
+        self.last
+    }
+}

@@ -1,0 +1,99 @@
+-- A number's body is shown on one receipt, which is kept.
+use Rattle.std.proofs.Common.{◌≡◌, ◌≢◌, ℕ, ◌+◌, zero, suc, max, inl, inr, List, [], ◌∷◌, ◌++◌, length, take, drop, slice_get, Some, None, refl, sym, ap, ◌∙◌, subst, arith}
+use Rattle.std.proofs.lemmas.Option.{slice_get_within}
+use Rattle.pay_frame.specs.Frame.{BodyFields}
+use Rattle.pay_member.specs.Member.{MemberFields}
+use Rattle.pay_member.specs.Reading.{fetched}
+use Rattle.pay_node.specs.declared.question.Question.TheVariants as question
+use Rattle.pay_node.specs.declared.receipt.Call.TheVariants.{Read}
+use Rattle.pay_node.specs.declared.receipt.Receipt.{Receipt}
+use Rattle.pay_node.specs.declared.shown.Shown.TheVariants as shown
+use Rattle.pay_node.specs.Keeping.{IsKeptFor, IsKeptOnce, mark_of}
+use Rattle.pay_node.specs.Receipts.{reading_receipt, shown_of}
+use Rattle.pay_node.specs.Seats.{Right, SeatFields, with_receipts}
+use Rattle.pay_node.specs.Sending.{sent_by}
+use Rattle.pay_node.proofs.Rights.{reading_stays, slice_get-last, slice_get-longer}
+
+-- ---- one body of all
+
+some_same : (y x : BodyFields) → Some y ≡ Some x → y ≡ x
+some_same y x is = cc
+
+one_at : (xs : List BodyFields) (n : ℕ) (x : BodyFields) → slice_get xs n ≡ Some x → take 1 (drop n xs) ≡ x ∷ []
+one_at [] zero x is = cc
+one_at [] (suc n) x is = cc
+one_at (y ∷ ys) zero x is = ap (λ (z : BodyFields). z ∷ []) (some_same y x is)
+one_at (y ∷ ys) (suc n) x is = one_at ys n x is
+
+none_at : (xs : List BodyFields) (n : ℕ) → slice_get xs n ≡ None → take 1 (drop n xs) ≡ []
+none_at [] zero is = refl
+none_at [] (suc n) is = refl
+none_at (y ∷ ys) zero is = cc
+none_at (y ∷ ys) (suc n) is = none_at ys n is
+
+pub one_shown : (m : MemberFields) (n : ℕ) (x : BodyFields) → slice_get (sent_by m) n ≡ Some x → shown.Sent (x ∷ []) ≡ shown_of m (question.Sent n 1)
+unfolding fetched
+one_shown m n x is = ap shown.Sent (sym (one_at (sent_by m) n x is))
+
+pub none_shown : (m : MemberFields) (n : ℕ) → slice_get (sent_by m) n ≡ None → shown.Sent [] ≡ shown_of m (question.Sent n 1)
+unfolding fetched
+none_shown m n is = ap shown.Sent (sym (none_at (sent_by m) n is))
+
+-- ---- marks
+
+-- marks are no matter of a history
+right_marked : (m : MemberFields) (was seat : SeatFields) → seat.stamp ≡ was.stamp → seat.receipts ≡ was.receipts → Right m was → Right m seat
+right_marked m was seat stamp receipts right =
+    subst (λ (s : ℕ). Right m (record { stamp = s; receipts = seat.receipts; marks = seat.marks })) (sym stamp)
+    (subst (λ (rs : List Receipt). Right m (record { stamp = was.stamp; receipts = rs; marks = seat.marks })) (sym receipts)
+    (record { counted = right.counted; each = right.each; ordered = right.ordered }))
+
+pub kept_stays :
+    (m : MemberFields) (before after : SeatFields) (number : ℕ) (body : BodyFields) → slice_get (sent_by m) number ≡ Some body
+    → after.stamp ≡ before.stamp → after.receipts ≡ before.receipts ++ reading_receipt (length m.history) (question.Sent number 1) (shown.Sent (body ∷ []))
+    → Right m before → Right m after
+kept_stays m before after number body sent stamp receipt right =
+    let more : List Receipt = reading_receipt (length m.history) (question.Sent number 1) (shown.Sent (body ∷ [])) in
+    right_marked m (with_receipts before more) after stamp receipt
+    (reading_stays m before (with_receipts before more) (question.Sent number 1) (shown.Sent (body ∷ [])) (one_shown m number body sent) refl right)
+
+pub kept_before : (m : MemberFields) (seat : SeatFields) (number : ℕ) (body : BodyFields) → slice_get (sent_by m) number ≡ Some body → IsKeptFor seat number body → IsKeptOnce m seat seat number body
+kept_before m seat number body sent kept = record {
+  sent = sent;
+  kept = kept;
+  once = λ _. refl;
+  stamp = refl;
+  receipts = inl refl;
+  others = λ k other differs is. is;
+  few = omega arith;
+}
+
+pub kept_now :
+    (m : MemberFields) (before after : SeatFields) (number : ℕ) (body : BodyFields) → slice_get (sent_by m) number ≡ Some body → ¬ (IsKeptFor before number body)
+    → after.stamp ≡ before.stamp → after.receipts ≡ before.receipts ++ reading_receipt (length m.history) (question.Sent number 1) (shown.Sent (body ∷ []))
+    → mark_of after.marks number ≡ Some (length before.receipts) → ((k : ℕ) → k ≢ number → mark_of after.marks k ≡ mark_of before.marks k)
+    → length after.marks ≡ max (length before.marks) (number + 1) → IsKeptOnce m before after number body
+kept_now m before after number body sent unkept stamp receipt mark others room =
+    let r : Receipt = record { seen = length m.history; call = Read (question.Sent number 1) (shown.Sent (body ∷ [])) } in
+    let within = slice_get_within (sent_by m) number body sent in
+    record {
+      sent = sent;
+      kept = record {
+        place = length before.receipts;
+        receipt = r;
+        marked = mark;
+        there = subst (λ (rs : List Receipt). slice_get rs (length before.receipts) ≡ Some r) (sym receipt) (slice_get-last before.receipts r);
+        shows = refl;
+      };
+      once = λ kept. absurd (unkept kept);
+      stamp = stamp;
+      receipts = inr receipt;
+      others = λ k other differs kept. record {
+        place = kept.place;
+        receipt = kept.receipt;
+        marked = others k differs ∙ kept.marked;
+        there = subst (λ (rs : List Receipt). slice_get rs kept.place ≡ Some kept.receipt) (sym receipt) (slice_get-longer before.receipts (r ∷ []) kept.place kept.receipt kept.there);
+        shows = kept.shows;
+      };
+      few = omega (arith, room, within);
+    }

@@ -1,0 +1,44 @@
+use Rattle.std.proofs.Common.{rules, ◌≡◌, ◌∙◌, ◌++◌, [], ◌∷◌, Some, None, ap, sym, subst, length, slice_get, List}
+use Rattle.pay_frame.specs.Frame.{BodyFields}
+use Rattle.pay_node.specs.declared.question.Question.TheVariants as question
+use Rattle.pay_node.specs.declared.shown.Shown.TheVariants as shown
+use Rattle.pay_node.specs.Keeping.{IsKeptFor, IsKeptOnce}
+use Rattle.pay_node.specs.Receipts.{reading_receipt}
+use Rattle.pay_node.specs.Seats.{with_receipts}
+use Rattle.pay_node.specs.Sending.{sent_by}
+use Rattle.pay_node.proofs.Kept.{kept_now, kept_stays, none_shown}
+use Rattle.pay_node.proofs.seat.Seat.note_once.Goals as goal
+
+pub note-requires : goal.note-requires
+note-requires g c =
+    let none : slice_get (sent_by c.args.member.now) c.args.number ≡ None = search rules in
+    let empty : c.new-in-None.result ≡ [] = search rules in
+    record { shown = ap shown.Sent empty ∙ none_shown c.args.member.now c.args.number none }
+
+pub returns-in_ok-note-in-None-clause-noted : goal.returns-in_ok-note-in-None-clause-noted
+returns-in_ok-note-in-None-clause-noted g c =
+    let none : slice_get (sent_by c.args.member.now) c.args.number ≡ None = search rules in
+    let empty : c.new-in-None.result ≡ [] = search rules in (
+      none_shown c.args.member.now c.args.number none,
+      c.in_ok-note-in-None.ensures.receipt
+          ∙ ap (λ (xs : List BodyFields). with_receipts c.args.self.now (reading_receipt (length c.args.member.now.history) (question.Sent c.args.number 1) (shown.Sent xs))) empty,
+    )
+
+pub returns-in_ok-keep_body-in-Some-clause-noted : goal.returns-in_ok-keep_body-in-Some-clause-noted
+returns-in_ok-keep_body-in-Some-clause-noted g c =
+    let m = c.args.member.now in
+    let body = c.in-Some.body.now in
+    let sent : slice_get (sent_by m) c.args.number ≡ Some body = search rules in
+    let unkept : ¬ (IsKeptFor c.args.self.now c.args.number body) = search rules in
+    let does = c.in_ok-keep_body-in-Some.ensures in
+    let receipt : c.keep_body.new.self.receipts ≡ c.args.self.now.receipts ++ reading_receipt (length m.history) (question.Sent c.args.number 1) (shown.Sent (body ∷ [])) = search rules in
+    subst (λ (x : BodyFields). IsKeptOnce m c.args.self.now c.keep_body.new.self c.args.number x) (sym c.in_ok-found-in-Some.ensures.value)
+    (kept_now m c.args.self.now c.keep_body.new.self c.args.number body sent unkept does.stamp receipt does.mark does.others does.room)
+
+pub returns-in_ok-keep_body-in-Some-clause-own : goal.returns-in_ok-keep_body-in-Some-clause-own
+returns-in_ok-keep_body-in-Some-clause-own g c =
+    let m = c.args.member.now in
+    let body = c.in-Some.body.now in
+    let sent : slice_get (sent_by m) c.args.number ≡ Some body = search rules in
+    let receipt : c.keep_body.new.self.receipts ≡ c.args.self.now.receipts ++ reading_receipt (length m.history) (question.Sent c.args.number 1) (shown.Sent (body ∷ [])) = search rules in
+    kept_stays m c.args.self.now c.keep_body.new.self c.args.number body sent c.in_ok-keep_body-in-Some.ensures.stamp receipt

@@ -1,0 +1,57 @@
+-- Bodies whose receipts are kept, so that each is fetched from a seat as often as is liked and shown on one receipt.
+use Rattle.std.specs.Prelude.{◌≡◌, ◌≢◌, ◌⊎◌, ℕ, ◌≤◌, max, List, [], ◌∷◌, ◌++◌, length, slice_get, slice_index_or, Option, Some, None}
+use Rattle.pay_frame.specs.Frame.{BodyFields}
+use Rattle.pay_member.specs.Legal.{Legal}
+use Rattle.pay_member.specs.Member.{MemberFields}
+use Rattle.pay_node.specs.declared.question.Question.TheVariants as question
+use Rattle.pay_node.specs.declared.receipt.Receipt.{Receipt}
+use Rattle.pay_node.specs.declared.shown.Shown.TheVariants as shown
+use Rattle.pay_node.specs.Nodes.{IsOwn, IsShown, NodeFields}
+use Rattle.pay_node.specs.Receipts.{ShowsAlone, reading_receipt, shown_of}
+use Rattle.pay_node.specs.Seats.{SeatFields, with_receipts}
+use Rattle.pay_node.specs.Sending.{sent_by}
+
+-- the place that is marked for a number, if there is one
+abbrev pub mark_of : List (Option ℕ) → ℕ → Option ℕ
+mark_of marks number = slice_index_or marks number None
+
+-- the receipt that is marked for the number shows this body
+pub record IsKeptFor (seat : SeatFields) (number : ℕ) (body : BodyFields) : Type 0 where
+  pub place : ℕ
+  pub receipt : Receipt
+  pub marked : mark_of seat.marks number ≡ Some place
+  pub there : slice_get seat.receipts place ≡ Some receipt
+  pub shows : ShowsAlone receipt number body
+
+-- The member sent this body at the number, and the seat keeps a receipt that shows it. If it did so before, nothing
+-- changes; else it has a receipt more, if any. What is kept of other numbers stays. There are no more marks than bodies
+-- that were sent, if there weren't before.
+pub record IsKeptOnce (m : MemberFields) (before after : SeatFields) (number : ℕ) (body : BodyFields) : Type 0 where
+  pub sent : slice_get (sent_by m) number ≡ Some body
+  pub kept : IsKeptFor after number body
+  pub once : IsKeptFor before number body → after ≡ before
+  pub stamp : after.stamp ≡ before.stamp
+  pub receipts :
+      (after.receipts ≡ before.receipts)
+      ⊎ (after.receipts ≡ before.receipts ++ reading_receipt (length m.history) (question.Sent number 1) (shown.Sent (body ∷ [])))
+  pub others : (k : ℕ) (other : BodyFields) → k ≢ number → IsKeptFor before k other → IsKeptFor after k other
+  pub few : length after.marks ≤ max (length before.marks) (length (sent_by m))
+
+-- The same, or the member sent no such body, and a receipt says so.
+abbrev pub IsNoted : MemberFields → SeatFields → SeatFields → ℕ → Option BodyFields → Type 0
+IsNoted m before after number (Some body) = IsKeptOnce m before after number body
+IsNoted m before after number None =
+    (shown.Sent [] ≡ shown_of m (question.Sent number 1))
+    × (after ≡ with_receipts before (reading_receipt (length m.history) (question.Sent number 1) (shown.Sent [])))
+
+-- The node's member, with some legal history, sent this body at the number, and the seat keeps its receipt.
+pub record IsShownOnce (n : NodeFields) (before after : SeatFields) (number : ℕ) (body : BodyFields) : Type 0 where
+  pub member : MemberFields
+  pub own : IsOwn n member
+  pub legal : Legal member.genesis member.keys member.history
+  pub is : IsKeptOnce member before after number body
+
+-- what is fetched of a number
+abbrev pub IsFetched : NodeFields → SeatFields → SeatFields → ℕ → Option BodyFields → Type 0
+IsFetched n before after number (Some body) = IsShownOnce n before after number body
+IsFetched n before after number None = IsShown n before after (question.Sent number 1) (shown.Sent [])

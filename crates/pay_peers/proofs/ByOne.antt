@@ -1,0 +1,161 @@
+-- Asking ahead by one frame.
+use Rattle.std.proofs.Common.{◌≡◌, ℕ, ◌+◌, ◌-◌, ◌^◌, ◌<◌, ◌≤◌, cond, ltb, Bool, true, false, if◌then◌else◌, List, [], ◌∷◌, ◌++◌, Option, Some, None, Result, Ok, Err, refl, sym, ap, ◌∙◌, subst, arith, append-nil, length}
+use Rattle.std.proofs.lemmas.Bool.{lt-ltb}
+use Rattle.std.specs.Str.{bytes_eq}
+use Rattle.std.specs.Prelude.{◌==◌, nat_lt}
+use Rattle.pay_frame.specs.Frame.{FrameFields, frame_bytes}
+use Rattle.pay_link.specs.Keys.{KeyFields, is_peer, key_for}
+use Rattle.pay_link.specs.Opening.{OpenedFields, judgement, opened_fields, right_tag}
+use Rattle.pay_link.specs.Sealing.{wanted}
+use Rattle.pay_link.specs.declared.link_fault.LinkFault.{LinkFault}
+use Rattle.pay_link.specs.declared.link_fault.LinkFault.TheVariants.{NotForMe, UnknownSender, UnknownOwner, BadTag, Repeat, Gap}
+use Rattle.pay_member.specs.declared.brought.Brought.{Brought}
+use Rattle.pay_member.specs.declared.fault.MemberFault.{MemberFault}
+use Rattle.pay_member.specs.declared.fault.MemberFault.TheVariants as fault
+use Rattle.pay_member.specs.declared.outcome.Outcome.{Outcome}
+use Rattle.pay_member.specs.declared.outcome.Outcome.TheVariants.{Took, Wanted, Frame, Link, WrongKey}
+use Rattle.pay_member.specs.declared.took.Took.{Took as Reply}
+use Rattle.pay_member.specs.Bringing.{is_want, judged}
+use Rattle.pay_member.specs.Serving.{bytes_of}
+use Rattle.pay_node.specs.Nodes.{IsAnsweredAs, NodeFields, outcome_of, want_of}
+use Rattle.pay_node.specs.Seats.{SeatFields}
+use Rattle.pay_peers.specs.declared.asking.Asking.{Asking}
+use Rattle.pay_peers.specs.declared.window.Window.{Window}
+use Rattle.pay_peers.specs.Ahead.{IsFedAhead, next_told, wants}
+use Rattle.pay_peers.specs.AheadLaws.{AheadByOne, IsInOrder}
+use Rattle.pay_peers.specs.Window.{asked_behind, window_behind}
+use Rattle.pay_peers.proofs.Behind.{one_behind}
+use Rattle.pay_peers.proofs.Wants.{OpenedIs}
+
+-- ---- what is answered before the history is looked at tells no next number
+
+NoNext : Result OpenedFields Outcome → Type 0
+NoNext (Ok o) = Unit {0}
+NoNext (Err o) = (number : ℕ) → next_told o number ≡ None
+
+early : Result OpenedFields LinkFault → Type 0
+early j = NoNext (judged j)
+
+pick : (b : Bool) (x y : Result OpenedFields LinkFault) → early x → early y → early (if b then x else y)
+pick true x y one other = one
+pick false x y one other = other
+
+not_for_me : early (Err NotForMe)
+unfolding NoNext early
+not_for_me number = refl
+
+unknown_sender : early (Err UnknownSender)
+unfolding NoNext early
+unknown_sender number = refl
+
+unknown_owner : early (Err UnknownOwner)
+unfolding NoNext early
+unknown_owner number = refl
+
+bad_tag : early (Err BadTag)
+unfolding NoNext early
+bad_tag number = refl
+
+want_or : (b : Bool) (o : OpenedFields) → NoNext (if b then Err (Wanted o.frame.from o.frame.number) else Ok o)
+unfolding NoNext
+want_or true o = λ number. refl
+want_or false o = tt
+
+opened_early : (o : OpenedFields) → early (Ok o)
+unfolding early
+opened_early o = want_or (is_want o.frame.body.kind) o
+
+tells_none : (k : KeyFields) (f : FrameFields) → early (judgement k f)
+unfolding judgement
+tells_none k f =
+    pick (f.to == k.own) _ _
+    (pick (is_peer k f.from) _ _
+    (pick (nat_lt f.body.owner (length k.keys)) _ _
+    (pick (bytes_eq f.tag (right_tag (key_for k f.from) f)) _ _ (opened_early (opened_fields k f)) bad_tag)
+    unknown_owner)
+    unknown_sender)
+    not_for_me
+
+-- ---- what is answered of a frame that opened
+
+-- the WANT of a number, and no more
+alone : (k : KeyFields) (peer number : ℕ) (numbers : List ℕ) → numbers ≡ number ∷ [] → wants k peer numbers ≡ frame_bytes (wanted k peer number)
+alone k peer number numbers is = ap (wants k peer) is ∙ append-nil (frame_bytes (wanted k peer number))
+
+-- both ways the same WANT, and one frame is under way
+record IsSame (k : KeyFields) (peer : ℕ) (w : Window) (next : Option ℕ) (want : Option (List ℕ)) : Type 0 where
+  text : wants k peer (asked_behind 1 w next) ≡ bytes_of want
+  one : (window_behind 1 w next).asked ≡ (window_behind 1 w next).due + 1
+
+same_none : (k : KeyFields) (peer : ℕ) (w : Window) (next : Option ℕ) (want : Option (List ℕ)) → w.asked ≡ w.due + 1 → next ≡ None → want ≡ None → IsSame k peer w next want
+same_none k peer w next want one no_next no_want =
+    subst (λ x. IsSame k peer w x want) (sym no_next) (subst (λ x. IsSame k peer w None x) (sym no_want) (record { text = refl; one = one }))
+
+same_some : (k : KeyFields) (peer : ℕ) (w : Window) (number : ℕ) (next : Option ℕ) (want : Option (List ℕ)) → w.asked ≡ w.due + 1 → w.asked ≤ number → number < 2 ^ 64 - 1
+    → next ≡ Some number → want ≡ Some (frame_bytes (wanted k peer number)) → IsSame k peer w next want
+same_some k peer w number next want one above numbers told is =
+    let behind = one_behind w number one above numbers in
+    subst (λ x. IsSame k peer w x want) (sym told) (record {
+      text = alone k peer number (asked_behind 1 w (Some number)) behind.0 ∙ sym (ap bytes_of is);
+      one = behind.1;
+    })
+
+-- the number behind, where there is one
+next_is : (number : ℕ) → number < 2 ^ 64 - 1 → (if ltb number (2 ^ 64 - 1) then Some (number + 1) else None) ≡ Some (number + 1)
+next_is number below = ap (λ b. cond b (Some (number + 1)) None) (lt-ltb number (2 ^ 64 - 1) below)
+
+-- of a frame that was handed in
+of_answer :
+    (k : KeyFields) (peer : ℕ) (w : Window) (f : FrameFields) (answer : Result Reply MemberFault) → w.asked ≡ w.due + 1 → f.from ≡ peer → f.number ≡ w.due
+    → IsInOrder w (outcome_of answer) → IsSame k peer w (next_told (outcome_of answer) f.number) (want_of k f answer)
+of_answer k peer w f (Ok took) one sender due order =
+    same_some k peer w (f.number + 1) _ _ one (omega arith) (omega arith) (next_is f.number (omega arith)) (ap (λ p. Some (frame_bytes (wanted k p (f.number + 1)))) sender)
+of_answer k peer w f (Err (fault.Repeat next)) one sender due order =
+    same_some k peer w next _ _ one order.0 order.1 refl (ap (λ p. Some (frame_bytes (wanted k p next))) sender)
+of_answer k peer w f (Err (fault.Gap next)) one sender due order = absurd order
+of_answer k peer w f (Err fault.WrongKey) one sender due order = same_none k peer w None None one refl refl
+of_answer k peer w f (Err fault.Memory) one sender due order = same_none k peer w None None one refl refl
+of_answer k peer w f (Err fault.Spent) one sender due order = same_none k peer w None None one refl refl
+of_answer k peer w f (Err fault.TooLong) one sender due order = same_none k peer w None None one refl refl
+of_answer k peer w f (Err fault.NoAccount) one sender due order = same_none k peer w None None one refl refl
+
+-- ---- both ways
+
+opened_frame : OpenedIs → (k : KeyFields) (f : FrameFields) (o : OpenedFields) → judgement k f ≡ Ok o → o.frame ≡ f
+opened_frame law k f o is = ap (λ (x : OpenedFields). x.frame) ((law k f o).0 is).1
+
+-- what a judged frame came from
+record IsFrom (j : Result OpenedFields LinkFault) (o : OpenedFields) : Type 0 where
+  is : j ≡ Ok o
+
+ok_same : (x o : OpenedFields) → ◌≡◌ {A = Result OpenedFields Outcome} (Ok x) (Ok o) → x ≡ o
+ok_same x o is = cc
+
+judged_from : (j : Result OpenedFields LinkFault) (o : OpenedFields) → judged j ≡ Ok o → IsFrom j o
+judged_from (Ok x) o is = go (is_want x.frame.body.kind) is where
+  go : (b : Bool) → (if b then Err (Wanted x.frame.from x.frame.number) else Ok x) ≡ Ok o → IsFrom (Ok x) o
+  go true same = absurd cc
+  go false same = record { is = ap Ok (ok_same x o same) }
+judged_from (Err fault) o is = absurd cc
+
+same_ways :
+    OpenedIs → (n : NodeFields) (peer : ℕ) (before : SeatFields) (after : SeatFields) (w : Window) (f : FrameFields) (b : Brought) (r : Result OpenedFields Outcome)
+    → judged (judgement n.keys f) ≡ r → NoNext r → IsAnsweredAs n before after r b → w.asked ≡ w.due + 1 → f.from ≡ peer → f.number ≡ w.due
+    → IsInOrder w b.outcome → IsSame n.keys peer w (next_told b.outcome f.number) b.want
+unfolding NoNext
+same_ways law n peer before after w f b (Ok o) at none is one sender due order =
+    let frame : o.frame ≡ f = opened_frame law n.keys f o (judged_from (judgement n.keys f) o at).is in
+    let in_order : IsInOrder w (outcome_of is.answer) = subst (IsInOrder w) is.outcome order in
+    let same = of_answer n.keys peer w f is.answer one sender due in_order in
+    let want : b.want ≡ want_of n.keys f is.answer = is.want ∙ ap (λ x. want_of n.keys x is.answer) frame in
+    subst (λ o. IsSame n.keys peer w (next_told o f.number) b.want) (sym is.outcome) (subst (λ x. IsSame n.keys peer w (next_told (outcome_of is.answer) f.number) x) (sym want) same)
+same_ways law n peer before after w f b (Err o) at none is one sender due order =
+    same_none n.keys peer w (next_told b.outcome f.number) b.want one (ap (λ x. next_told x f.number) is.0 ∙ none f.number) is.1
+
+pub by_one : OpenedIs → AheadByOne
+unfolding early
+by_one law n peer before after f text one fed order =
+    let same = same_ways law n peer before.seat after.seat before.window f fed.brought (judged (judgement n.keys f)) refl (tells_none n.keys f) fed.is one fed.due.sender fed.due.number order in (
+      record { brought = fed.brought; is = fed.is; want = fed.asks ∙ same.text },
+      subst (λ (w : Window). w.asked ≡ w.due + 1) (sym fed.window) same.one,
+    )

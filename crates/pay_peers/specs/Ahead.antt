@@ -1,0 +1,62 @@
+-- How a node is fed from a peer's stream, frames of which are asked for ahead.
+use Rattle.std.specs.Prelude.{◌≡◌, ℕ, ◌+◌, ◌-◌, ◌^◌, nat_lt, if◌then◌else◌, List, [], Option, Some, None, Result, ⊤}
+use Rattle.std.specs.List.{flat_map}
+use Rattle.pay_frame.specs.declared.engine_fault.EngineFault.{EngineFault}
+use Rattle.pay_frame.specs.Frame.{FrameFields, frame_bytes}
+use Rattle.pay_link.specs.Keys.{KeyFields}
+use Rattle.pay_link.specs.Opening.{judgement}
+use Rattle.pay_link.specs.Sealing.{wanted}
+use Rattle.pay_link.specs.declared.link_fault.LinkFault.TheVariants.{NotForMe, UnknownSender, UnknownOwner, BadTag, Repeat, Gap}
+use Rattle.pay_member.specs.declared.brought.Brought.{Brought}
+use Rattle.pay_member.specs.declared.outcome.Outcome.{Outcome}
+use Rattle.pay_member.specs.declared.outcome.Outcome.TheVariants.{Took, Wanted, Frame, Link, WrongKey}
+use Rattle.pay_member.specs.Bringing.{judged}
+use Rattle.pay_engine.specs.Handling.{Handling, HasHandled, Start}
+use Rattle.pay_node.specs.Nodes.{IsAnsweredAs, NodeFields}
+use Rattle.pay_peers.specs.declared.asking.Asking.{Asking}
+use Rattle.pay_peers.specs.Window.{asked_behind, window_behind}
+
+-- the WANTs of these numbers to a peer
+abbrev pub wants : KeyFields → ℕ → List ℕ → List ℕ
+wants k peer numbers = flat_map (λ number. frame_bytes (wanted k peer number)) numbers
+
+-- the number that is next behind a frame of this number, by what came of it, if there is one
+abbrev pub next_told : Outcome → ℕ → Option ℕ
+next_told (Took took) number = if nat_lt number (2 ^ 64 - 1) then Some (number + 1) else None
+next_told (Link (Repeat next)) number = Some next
+next_told (Link (Gap next)) number = None
+next_told (Link NotForMe) number = None
+next_told (Link UnknownSender) number = None
+next_told (Link UnknownOwner) number = None
+next_told (Link BadTag) number = None
+next_told (Wanted from m) number = None
+next_told (Frame fault) number = None
+next_told WrongKey number = None
+
+-- the frame is the peer's, and of the number that is due
+pub record IsDue (peer : ℕ) (s : Asking) (f : FrameFields) : Type 0 where
+  pub sender : f.from ≡ peer
+  pub number : f.number ≡ s.window.due
+
+-- The frame that was due was brought from the seat, and the WANTs of the numbers that are asked for behind the answer
+-- are these.
+pub record IsFedAhead (n : NodeFields) (peer ahead : ℕ) (before after : Asking) (f : FrameFields) (text : List ℕ)
+    : Type 0 where
+  pub due : IsDue peer before f
+  pub brought : Brought
+  pub is : IsAnsweredAs n before.seat after.seat (judged (judgement n.keys f)) brought
+  pub window : after.window ≡ window_behind ahead before.window (next_told brought.outcome f.number)
+  pub asks : text ≡ wants n.keys peer (asked_behind ahead before.window (next_told brought.outcome f.number))
+
+-- Each frame that is due is brought, and more are asked for; the stream is left behind any other frame.
+abbrev pub feeding_ahead : NodeFields → ℕ → ℕ → Handling Asking
+feeding_ahead n peer ahead = record {
+  step = IsFedAhead n peer ahead;
+  may_stop = λ s f. ¬ (IsDue peer s f);
+  fault_text = λ s fault. [];
+}
+
+abbrev pub HasFedAhead :
+    NodeFields → ℕ → ℕ → Start Asking → Asking → Option (List ℕ) → Option (List ℕ)
+    → Result ⊤ EngineFault → Type 0
+HasFedAhead n peer ahead = HasHandled (feeding_ahead n peer ahead)

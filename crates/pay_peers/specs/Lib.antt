@@ -1,0 +1,10 @@
+pub mod Feeding
+pub mod Window
+pub mod Ahead
+pub mod AheadLaws
+pub mod Growing
+pub mod Dialing
+pub mod Telling
+pub mod SeatAsks
+pub mod Answering
+pub mod Batches

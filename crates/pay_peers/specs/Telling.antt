@@ -1,0 +1,85 @@
+-- A node as a desk's teller: what a seat is told of a desk's calls.
+use Rattle.std.specs.Prelude.{◌≡◌, ℕ, List, Option, Some, None, Ok, Err}
+use Rattle.std.specs.List.{filter_map}
+use Rattle.pay_desk.specs.declared.teller_fault.TellerFault.TheVariants as teller
+use Rattle.pay_desk.specs.Calls as desk
+use Rattle.pay_member.specs.declared.event.Event.TheVariants as event
+use Rattle.pay_member.specs.declared.fault.MemberFault.TheVariants as fault
+use Rattle.pay_member.specs.declared.reply.Reply.TheVariants as reply
+use Rattle.pay_node.specs.declared.question.Question.TheVariants as question
+use Rattle.pay_node.specs.declared.receipt.Call.{Call}
+use Rattle.pay_node.specs.declared.receipt.Call.TheVariants.{Handed, Read}
+use Rattle.pay_node.specs.declared.receipt.Receipt.{Receipt}
+use Rattle.pay_node.specs.declared.shown.Shown.TheVariants as shown
+use Rattle.pay_node.specs.Nodes.{IsAnswered, IsShown, NodeFields}
+use Rattle.pay_node.specs.Seats.{SeatFields}
+
+-- What a seat is told of a desk's call: the node's member, with some legal history, answers so, and the seat has the
+-- receipt.
+abbrev pub SeatSays : NodeFields → SeatFields → desk.Call → desk.TellerReply → SeatFields → Type 0
+SeatSays n old (desk.Ask value) (desk.Asked seq) new = IsAnswered n old new (event.Ask value) (Ok (reply.Asked seq))
+SeatSays n old (desk.Ask value) (desk.Refused teller.Spent) new = IsAnswered n old new (event.Ask value) (Err fault.Spent)
+SeatSays n old (desk.Ask value) (desk.Refused teller.Memory) new = ⊥
+SeatSays n old (desk.Ask value) (desk.Refused teller.NoAccount) new = ⊥
+SeatSays n old (desk.Ask value) (desk.Queried told) new = ⊥
+SeatSays n old (desk.Ask value) (desk.Stood state) new = ⊥
+SeatSays n old (desk.Ask value) (desk.Stated lines balance) new = ⊥
+SeatSays n old (desk.Ask value) (desk.Settled fronts) new = ⊥
+SeatSays n old (desk.Query account) (desk.Queried told) new = IsAnswered n old new (event.Query account) (Ok (reply.Told told))
+SeatSays n old (desk.Query account) (desk.Refused teller.NoAccount) new =
+    IsAnswered n old new (event.Query account) (Err fault.NoAccount)
+SeatSays n old (desk.Query account) (desk.Refused teller.Memory) new = ⊥
+SeatSays n old (desk.Query account) (desk.Refused teller.Spent) new = ⊥
+SeatSays n old (desk.Query account) (desk.Asked seq) new = ⊥
+SeatSays n old (desk.Query account) (desk.Stood state) new = ⊥
+SeatSays n old (desk.Query account) (desk.Stated lines balance) new = ⊥
+SeatSays n old (desk.Query account) (desk.Settled fronts) new = ⊥
+SeatSays n old (desk.State owner seq) (desk.Stood state) new =
+    IsShown n old new (question.State owner seq) (shown.State (Ok state))
+SeatSays n old (desk.State owner seq) (desk.Refused teller.NoAccount) new =
+    IsShown n old new (question.State owner seq) (shown.State (Err fault.NoAccount))
+SeatSays n old (desk.State owner seq) (desk.Refused teller.Memory) new = ⊥
+SeatSays n old (desk.State owner seq) (desk.Refused teller.Spent) new = ⊥
+SeatSays n old (desk.State owner seq) (desk.Asked number) new = ⊥
+SeatSays n old (desk.State owner seq) (desk.Queried told) new = ⊥
+SeatSays n old (desk.State owner seq) (desk.Stated lines balance) new = ⊥
+SeatSays n old (desk.State owner seq) (desk.Settled fronts) new = ⊥
+SeatSays n old (desk.Statement account) (desk.Stated lines balance) new =
+    IsShown n old new (question.Statement account)
+    (shown.Statement (Ok (record { lines = lines; balance = balance })))
+SeatSays n old (desk.Statement account) (desk.Refused teller.NoAccount) new =
+    IsShown n old new (question.Statement account) (shown.Statement (Err fault.NoAccount))
+SeatSays n old (desk.Statement account) (desk.Refused teller.Memory) new = ⊥
+SeatSays n old (desk.Statement account) (desk.Refused teller.Spent) new = ⊥
+SeatSays n old (desk.Statement account) (desk.Asked seq) new = ⊥
+SeatSays n old (desk.Statement account) (desk.Queried told) new = ⊥
+SeatSays n old (desk.Statement account) (desk.Stood state) new = ⊥
+SeatSays n old (desk.Statement account) (desk.Settled fronts) new = ⊥
+SeatSays n old desk.Fronts (desk.Settled fronts) new = IsShown n old new question.Fronts (shown.Fronts fronts)
+SeatSays n old desk.Fronts (desk.Refused fault) new = ⊥
+SeatSays n old desk.Fronts (desk.Asked seq) new = ⊥
+SeatSays n old desk.Fronts (desk.Queried told) new = ⊥
+SeatSays n old desk.Fronts (desk.Stood state) new = ⊥
+SeatSays n old desk.Fronts (desk.Stated lines balance) new = ⊥
+
+-- A node as a teller, and the seat that it is called from.
+pub record TellerFields : Type 0 where
+  pub node : NodeFields
+  pub seat : SeatFields
+
+-- what becomes of such a teller by a desk's call
+pub record TellerSays (old : TellerFields) (called : desk.Call) (reply : desk.TellerReply) (new : TellerFields) : Type 0 where
+  pub same : new.node ≡ old.node
+  pub told : SeatSays old.node old.seat called reply new.seat
+
+-- the value that a call broadcast, if it did
+abbrev pub value_told : Call → Option (List ℕ)
+value_told (Handed (event.Ask value) (Ok reply)) = Some value
+value_told (Handed (event.Ask value) (Err fault)) = None
+value_told (Handed (event.Taken checked) answer) = None
+value_told (Handed (event.Query account) answer) = None
+value_told (Read question shown) = None
+
+-- the values that were broadcast from a seat, oldest first
+unfoldable pub values_told : List Receipt → List (List ℕ)
+values_told receipts = filter_map (λ r. value_told r.call) receipts

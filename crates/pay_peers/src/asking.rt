@@ -1,0 +1,30 @@
+ghost use Rattle.std.specs.Prelude.{◌≡◌};
+ghost use Rattle.pay_peers.specs.Window.{first_window};
+
+use crate::window::Window;
+use pay_node::Seat;
+
+/// The seat from which a peer's frames are brought, and which of them are asked for on its connection.
+#[derive(Drop)]
+pub struct Asking {
+    pub seat: Seat,
+    pub window: Window,
+}
+
+impl Asking {
+    pub fn new(seat: Seat) -> Asking
+        ensures { result ≡ record { seat = seat; window = first_window } }
+    {
+        Asking {
+            seat,
+            window: Window::new(),
+        }
+    }
+
+    /// Begins a connection: the first frame alone is asked for.
+    pub(crate) fn begin(&mut self)
+        ensures { self.new ≡ record { seat = self.old.seat; window = first_window } }
+    {
+        self.window = Window::new();
+    }
+}

@@ -1,0 +1,122 @@
+//! How a node is fed from a peer's stream.
+
+ghost use Rattle.std.specs.Prelude.{◌≡◌, ◌+◌, ◌≤◌, IsErrOf};
+ghost use Rattle.pay_frame.specs.Device.{Gave, RoseBy};
+ghost use Rattle.pay_link.specs.Keys.{IsPeer};
+ghost use Rattle.pay_peers.specs.Feeding.{HasFed, feeding, want_for_all};
+
+use crate::batches::MOST_AT_ONCE;
+use pay_book::Settle;
+use pay_echo::Instance;
+use pay_engine::{FrameHandler, handle_stream};
+use pay_frame::{EngineFault, FrameFault, FrameRef, Input, MOST_READS, Output};
+use pay_hmac::Tagger;
+use pay_link::want;
+use pay_node::{Gate, Node, Seat};
+use std::alloc::{AllocError, Global};
+use std::sync::Wait;
+
+/// Brings each frame to a node from a seat, and writes the WANT of the answer.
+#[derive(Drop)]
+struct FromPeer<'a, R, I: Instance + Drop, B: Settle + Drop, T, G> {
+    rt: &'a R,
+    node: &'a Node<I, B>,
+    tagger: &'a T,
+    gate: &'a G,
+}
+
+impl<R, I, B, T, G> FrameHandler<Seat> for FromPeer<'_, R, I, B, T, G>
+where
+    R: Wait,
+    I: Instance + Drop,
+    B: Settle + Drop,
+    T: Tagger,
+    G: Gate,
+{
+    ghost handling = { λ f. feeding f.node.now };
+
+    ghost has_room = { λ _ _ _. Unit {0} };
+
+    ghost keeps_room = { λ _ _ _ _ _ _ _ _. tt };
+
+    fn at_once(&self, _held: &[u8]) -> usize {
+        MOST_AT_ONCE
+    }
+
+    fn handle(
+        &self,
+        alloc: Global,
+        seat: &mut Seat,
+        frame: FrameRef<'_>,
+        out: &mut Vec<u8>,
+    ) -> Result<bool, AllocError> {
+        let brought = self
+            .node
+            .bring_frame(self.rt, alloc, seat, self.tagger, self.gate, frame)?;
+        match brought.want {
+            None => Ok(true),
+            Some(want) => {
+                out.extend_from_slice(&want)?;
+                Ok(true)
+            }
+        }
+    }
+
+    fn end(&self, _seat: &Seat, _fault: FrameFault, _out: &mut Vec<u8>) -> Result<(), AllocError> {
+        Ok(())
+    }
+}
+
+/// Feeds a node from a peer's stream: writes the WANT for all that the peer sent, then brings each
+/// frame that is read, and writes the WANT of the answer, if any.
+///
+/// A fault in the frames ends it, and is returned. Where a read failed or no more may be made, all
+/// frames that were read were brought. After another fault a prefix of them was, and a prefix of
+/// their WANTs is written.
+pub fn read_peer<I, B, R, T, G, In, Out>(
+    rt: &R,
+    alloc: Global,
+    node: &Node<I, B>,
+    seat: &mut Seat,
+    tagger: &T,
+    gate: &G,
+    peer: u16,
+    reader: &mut In,
+    writer: &mut Out,
+) -> Result<(), EngineFault>
+where
+    I: Instance + Drop,
+    B: Settle + Drop,
+    R: Wait,
+    T: Tagger,
+    G: Gate,
+    In: Input,
+    Out: Output,
+    requires { IsPeer node.now.keys peer }
+    ensures fed { HasFed node.now
+        (record {
+          first = want_for_all node.now.keys peer;
+          state = seat.old;
+          input = In.remaining reader.old;
+          before = Out.contents writer.old;
+        })
+        seat.new (In.remaining reader.new) (Out.contents writer.new) result }
+    ensures read { IsErrOf result EngineFault.Read
+        → RoseBy 1 (In.failure_count reader.old) (In.failure_count reader.new) }
+    ensures write { IsErrOf result EngineFault.Write
+        → RoseBy 1 (Out.failure_count writer.old) (Out.failure_count writer.new) }
+    ensures most { In.call_count reader.new ≤ In.call_count reader.old + MOST_READS }
+    ensures bound { IsErrOf result EngineFault.Bound
+        → RoseBy MOST_READS (In.call_count reader.old) (In.call_count reader.new) }
+    ensures gave { IsErrOf result EngineFault.Bound
+        → Gave MOST_READS (In.remaining reader.old) (In.remaining reader.new) }
+{
+    let from_peer = FromPeer {
+        rt,
+        node,
+        tagger,
+        gate,
+    };
+    let first = want(tagger, node.keys(), peer, 0);
+    handle_stream(alloc, &from_peer, seat, &first, reader, writer)
+}

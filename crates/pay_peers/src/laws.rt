@@ -1,0 +1,15 @@
+//! Laws of asking ahead. Each body does nothing but name the laws that it stands on: the contract is the law.
+
+ghost use Rattle.pay_peers.specs.AheadLaws.{AheadByOne, AskedOnce};
+
+/// No number is asked for twice on one connection, and none is left out that is due.
+pub fn asked_once()
+    ensures { AskedOnce }
+{}
+
+/// Asking ahead by one frame is not asking ahead.
+pub fn ahead_by_one()
+    ensures { AheadByOne }
+{
+    pay_link::laws::opened();
+}

@@ -1,0 +1,31 @@
+//! The streams of a node's peers: what is read from them and brought to it, what they are answered, how long they are
+//! dialed; and the node as a desk's teller.
+//!
+//! It stands on the calls of a [`Node`](pay_node::Node) alone: each is made from a seat, which keeps its receipt.
+#![tactic(auto)]
+
+mod answering;
+mod asking;
+mod batches;
+mod claim;
+mod feeding;
+pub mod laws;
+mod lookout;
+mod patience;
+mod readers;
+mod reading_ahead;
+mod teller;
+mod wanted;
+mod window;
+mod writing;
+
+pub use asking::Asking;
+pub use claim::Claim;
+pub use feeding::read_peer;
+pub use lookout::Lookout;
+pub use patience::{Dials, MOST_IDLE};
+pub use readers::{Dial, Dialed, run_readers};
+pub use reading_ahead::read_ahead;
+pub use teller::NodeTeller;
+pub use window::{Ahead, MOST_AHEAD, Window};
+pub use writing::write_peer;

@@ -1,0 +1,187 @@
+//! How a node is fed from a peer's stream, frames of which are asked for ahead.
+
+ghost use Rattle.std.specs.Prelude.{◌≡◌, ◌+◌, ◌<◌, ◌≤◌, ◌++◌, ◌^◌, IsErrOf, OnOk};
+ghost use Rattle.pay_frame.specs.Device.{Gave, RoseBy};
+ghost use Rattle.pay_link.specs.Keys.{IsPeer};
+ghost use Rattle.pay_peers.specs.Ahead.{HasFedAhead, feeding_ahead, next_told, wants};
+ghost use Rattle.pay_peers.specs.Feeding.{want_for_all};
+ghost use Rattle.pay_peers.specs.Window.{first_window, row_of};
+
+use crate::asking::Asking;
+use crate::batches::MOST_AT_ONCE;
+use crate::window::{Ahead, Asks};
+use pay_book::Settle;
+use pay_echo::Instance;
+use pay_engine::{FrameHandler, handle_stream};
+use pay_frame::{EngineFault, FrameFault, FrameRef, Input, MOST_READS, Output};
+use pay_hmac::Tagger;
+use pay_link::{Keys, LinkFault, want};
+use pay_member::Outcome;
+use pay_node::{Gate, Node};
+use std::alloc::{AllocError, Global};
+use std::sync::Wait;
+
+/// Brings the frames of a peer that are due, and asks for more.
+#[derive(Drop)]
+struct FromPeerAhead<'a, R, I: Instance + Drop, B: Settle + Drop, T, G> {
+    rt: &'a R,
+    node: &'a Node<I, B>,
+    tagger: &'a T,
+    gate: &'a G,
+    peer: u16,
+    ahead: Ahead,
+    ghost is_peer: { IsPeer node.now.keys peer },
+}
+
+impl<R, I, B, T, G> FrameHandler<Asking> for FromPeerAhead<'_, R, I, B, T, G>
+where
+    R: Wait,
+    I: Instance + Drop,
+    B: Settle + Drop,
+    T: Tagger,
+    G: Gate,
+{
+    ghost handling = { λ a. feeding_ahead a.node.now a.peer a.ahead.count };
+
+    ghost has_room = { λ _ _ _. Unit {0} };
+
+    ghost keeps_room = { λ _ _ _ _ _ _ _ _. tt };
+
+    fn at_once(&self, _held: &[u8]) -> usize {
+        MOST_AT_ONCE
+    }
+
+    // The connection ends with a frame that isn't due, which isn't brought.
+    fn handle(
+        &self,
+        alloc: Global,
+        asking: &mut Asking,
+        frame: FrameRef<'_>,
+        out: &mut Vec<u8>,
+    ) -> Result<bool, AllocError> {
+        let number = frame.number();
+        if frame.from() != self.peer || number != asking.window.due {
+            return Ok(false);
+        }
+        let brought = self.node.bring_frame(
+            self.rt,
+            alloc,
+            &mut asking.seat,
+            self.tagger,
+            self.gate,
+            frame,
+        )?;
+        match next_told(&brought.outcome, number) {
+            None => Ok(true),
+            Some(next) => {
+                let asks = asking.window.move_to(next, self.ahead);
+                ask_for(self.tagger, self.node.keys(), self.peer, asks, out)?;
+                Ok(true)
+            }
+        }
+    }
+
+    fn end(
+        &self,
+        _asking: &Asking,
+        _fault: FrameFault,
+        _out: &mut Vec<u8>,
+    ) -> Result<(), AllocError> {
+        Ok(())
+    }
+}
+
+// The number that is next behind a frame, by what came of it, if there is one.
+fn next_told(outcome: &Outcome, number: u64) -> Option<u64>
+    ensures { result ≡ next_told outcome.now number }
+{
+    match outcome {
+        Outcome::Took(_) => {
+            if number < u64::MAX {
+                Some(number + 1)
+            } else {
+                None
+            }
+        }
+        Outcome::Link(LinkFault::Repeat(next)) => Some(*next),
+        Outcome::Link(_) | Outcome::Wanted { .. } | Outcome::Frame(_) | Outcome::WrongKey => None,
+    }
+}
+
+// Writes the WANTs of some numbers in a row behind what stands there.
+fn ask_for<T: Tagger>(
+    tagger: &T,
+    keys: &Keys,
+    peer: u16,
+    asks: Asks,
+    out: &mut Vec<u8>,
+) -> Result<(), AllocError>
+    requires peer { IsPeer keys.now peer }
+    requires fits { asks.from + asks.count < 2 ^ 64 }
+    ensures { OnOk result (out.new.items
+        ≡ out.old.items ++ wants keys.now peer (row_of asks.from asks.count)) }
+{
+    for place in 0..asks.count {
+        out.extend_from_slice(&want(tagger, keys, peer, asks.from + place))?;
+    }
+    Ok(())
+}
+
+/// Feeds a node from a peer's stream: asks for the first frame, brings each frame that is due, and
+/// asks for more, so that as many as `ahead` are asked for and under way.
+///
+/// A frame that isn't due ends it: one out of the order in which frames were asked for, or in the
+/// name of another member. A fault in the frames ends it, and is returned. Where a read failed or
+/// no more may be made, all frames that were read were brought. After another fault a prefix of
+/// them was, and a prefix of their WANTs is written.
+pub fn read_ahead<I, B, R, T, G, In, Out>(
+    rt: &R,
+    alloc: Global,
+    node: &Node<I, B>,
+    asking: &mut Asking,
+    tagger: &T,
+    gate: &G,
+    peer: u16,
+    ahead: Ahead,
+    reader: &mut In,
+    writer: &mut Out,
+) -> Result<(), EngineFault>
+where
+    I: Instance + Drop,
+    B: Settle + Drop,
+    R: Wait,
+    T: Tagger,
+    G: Gate,
+    In: Input,
+    Out: Output,
+    requires { IsPeer node.now.keys peer }
+    ensures fed { HasFedAhead node.now peer ahead.count
+        (record {
+          first = want_for_all node.now.keys peer;
+          state = record { seat = asking.old.seat; window = first_window };
+          input = In.remaining reader.old;
+          before = Out.contents writer.old;
+        })
+        asking.new (In.remaining reader.new) (Out.contents writer.new) result }
+    ensures read { IsErrOf result EngineFault.Read
+        → RoseBy 1 (In.failure_count reader.old) (In.failure_count reader.new) }
+    ensures write { IsErrOf result EngineFault.Write
+        → RoseBy 1 (Out.failure_count writer.old) (Out.failure_count writer.new) }
+    ensures most { In.call_count reader.new ≤ In.call_count reader.old + MOST_READS }
+    ensures bound { IsErrOf result EngineFault.Bound
+        → RoseBy MOST_READS (In.call_count reader.old) (In.call_count reader.new) }
+    ensures gave { IsErrOf result EngineFault.Bound
+        → Gave MOST_READS (In.remaining reader.old) (In.remaining reader.new) }
+{
+    let from_peer = FromPeerAhead {
+        rt,
+        node,
+        tagger,
+        gate,
+        peer,
+        ahead,
+    };
+    asking.begin();
+    let first = want(tagger, node.keys(), peer, 0);
+    handle_stream(alloc, &from_peer, asking, &first, reader, writer)
+}

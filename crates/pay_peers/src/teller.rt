@@ -1,0 +1,88 @@
+ghost use Rattle.std.specs.Prelude.{◌≡◌};
+ghost use Rattle.pay_peers.specs.Telling.{TellerSays, values_told};
+
+use pay_book::{Line, Settle};
+use pay_desk::{Teller, TellerFault};
+use pay_echo::Instance;
+use pay_frame::Bytes;
+use pay_member::{MemberFault, PaymentState, Told};
+use pay_node::{Node, Seat};
+use std::alloc::Global;
+use std::marker::Model;
+use std::sync::Wait;
+
+/// A node as a desk's teller, which calls it from a seat of its own.
+#[derive(Drop)]
+pub struct NodeTeller<'a, R, I: Instance + Drop, B: Settle + Drop> {
+    rt: &'a R,
+    node: &'a Node<I, B>,
+    seat: Seat,
+}
+
+impl<'a, R, I: Instance + Drop, B: Settle + Drop> Model for NodeTeller<'a, R, I, B> {
+    ghost use Rattle.pay_peers.specs.Telling.{TellerFields};
+
+    ghost Value = { TellerFields };
+
+    ghost view = { λ t. record { node = t.node.now; seat = t.seat } };
+}
+
+impl<'a, R, I: Instance + Drop, B: Settle + Drop> NodeTeller<'a, R, I, B> {
+    pub fn new(rt: &'a R, node: &'a Node<I, B>, seat: Seat) -> NodeTeller<'a, R, I, B>
+        ensures { result ≡ record { node = node.now; seat = seat } }
+    {
+        NodeTeller { rt, node, seat }
+    }
+
+    pub fn into_seat(self) -> Seat
+        ensures { result ≡ self.entry.seat }
+    {
+        self.seat
+    }
+}
+
+impl<R: Wait, I: Instance + Drop, B: Settle + Drop> Teller for NodeTeller<'_, R, I, B> {
+    ghost says = { TellerSays };
+
+    ghost asked = { λ t. values_told t.seat.receipts };
+
+    fn ask(&mut self, alloc: Global, value: Bytes) -> Result<u32, TellerFault> {
+        match self.node.ask(self.rt, alloc, &mut self.seat, value) {
+            Ok(seq) => Ok(seq),
+            Err(MemberFault::Spent) => Err(TellerFault::Spent),
+            Err(_) => Err(TellerFault::Memory),
+        }
+    }
+
+    fn query(&mut self, alloc: Global, account: u16) -> Result<Told, TellerFault> {
+        match self.node.query(self.rt, alloc, &mut self.seat, account) {
+            Ok(told) => Ok(told),
+            Err(MemberFault::NoAccount) => Err(TellerFault::NoAccount),
+            Err(_) => Err(TellerFault::Memory),
+        }
+    }
+
+    fn state(&mut self, alloc: Global, owner: u16, seq: u32) -> Result<PaymentState, TellerFault> {
+        match self.node.state(self.rt, alloc, &mut self.seat, owner, seq) {
+            Ok(state) => Ok(state),
+            Err(MemberFault::NoAccount) => Err(TellerFault::NoAccount),
+            Err(_) => Err(TellerFault::Memory),
+        }
+    }
+
+    fn statement(&mut self, alloc: Global, account: u16) -> Result<(Vec<Line>, u64), TellerFault> {
+        match self.node.statement(self.rt, alloc, &mut self.seat, account) {
+            Ok(statement) => Ok(statement.into_parts()),
+            Err(MemberFault::NoAccount) => Err(TellerFault::NoAccount),
+            Err(_) => Err(TellerFault::Memory),
+        }
+    }
+
+    fn fronts(&mut self, alloc: Global) -> Result<Vec<u32>, TellerFault> {
+        Ok(self.node.fronts(self.rt, alloc, &mut self.seat)?)
+    }
+
+    ghost use Rattle.pay_peers.specs.SeatAsks.{seat_asks};
+
+    ghost only_asks = { λ old new called reply said. seat_asks old.node old.seat new.seat called reply said.told };
+}

@@ -1,0 +1,60 @@
+//! What a peer's WANT asks for.
+
+ghost use Rattle.std.specs.Prelude.{◌≡◌, ◌≢◌, ℕ, IfNone, IfSome};
+ghost use Rattle.std.specs.List.{All, Any};
+ghost use Rattle.pay_frame.specs.Lent.{fields_of};
+ghost use Rattle.pay_link.specs.Keys.{IsPeer};
+ghost use Rattle.pay_peers.specs.Answering.{IsWant};
+
+use pay_frame::FrameRef;
+use pay_hmac::Tagger;
+use pay_link::{Keys, laws};
+use pay_member::{Outcome, open_frame};
+use pay_node::Seat;
+use std::sync::Mutex;
+
+/// A WANT that opens: who sent it, its seat, and which frame it asks for.
+#[derive(Drop)]
+pub(crate) struct Wanted<'a> {
+    pub(crate) seat: &'a Mutex<Seat>,
+    pub(crate) from: u16,
+    pub(crate) number: u64,
+}
+
+/// Opens a WANT whose sender has a seat among those lent.
+pub(crate) fn open_want<'a, T: Tagger>(
+    tagger: &T,
+    keys: &Keys,
+    seats: &'a [(u16, Mutex<Seat>)],
+    frame: FrameRef<'_>,
+) -> Option<Wanted<'a>>
+    ensures some { IfSome result (λ w.
+        IsWant keys.now seats.now (fields_of frame.entry) w.from w.number) }
+    ensures peer { IfSome result (λ w. IsPeer keys.now w.from) }
+    ensures none { IfNone result ((from number : ℕ)
+        → ¬ (IsWant keys.now seats.now (fields_of frame.entry) from number)) }
+{
+    laws::opened();
+    let (from, number) = match open_frame(tagger, keys, frame) {
+        Err(Outcome::Wanted { from, number }) => (from, number),
+        Err(Outcome::Took(_) | Outcome::Frame(_) | Outcome::Link(_) | Outcome::WrongKey) | Ok(_) =>
+            return None,
+    };
+    match seat_of(seats, from) {
+        Some(seat) => Some(Wanted { seat, from, number }),
+        None => None,
+    }
+}
+
+// The seat of a peer.
+fn seat_of(seats: &[(u16, Mutex<Seat>)], peer: u16) -> Option<&Mutex<Seat>>
+    ensures some { IfSome result (λ _. Any (λ s. s.0 ≡ peer) seats.now) }
+    ensures none { IfNone result (All (λ s. s.0 ≢ peer) seats.now) }
+{
+    for (of, seat) in seats {
+        if *of == peer {
+            return Some(seat);
+        }
+    }
+    None
+}

@@ -1,0 +1,87 @@
+ghost use Rattle.std.specs.Prelude.{◌≡◌, ◌+◌, ◌<◌, ◌≤◌, ◌^◌, IfNone, IfSome};
+ghost use Rattle.pay_peers.specs.Window.{CanAskAhead, count_behind, first_window, from_behind, moved};
+
+/// How many frames may be asked for and not come yet, at most.
+pub const MOST_AHEAD: u64 = 64;
+
+/// How many WANTs an answer brings at most, so that a window opens by one a frame.
+const MOST_WANTS: u64 = 2;
+
+/// How many frames of a peer may be asked for and not come yet: from 1 to [`MOST_AHEAD`].
+#[derive(Clone, Copy, Debug, PartialEq, Eq)]
+pub struct Ahead {
+    pub count: u64,
+    ghost some: { 0 < count },
+}
+
+impl Ahead {
+    /// So many, if that many may be.
+    pub fn new(count: u64) -> Option<Ahead>
+        ensures some { IfSome result (λ ahead. (ahead.count ≡ count) × CanAskAhead count) }
+        ensures none { IfNone result (¬ (CanAskAhead count)) }
+    {
+        if count > 0 && count <= MOST_AHEAD {
+            Some(Ahead { count })
+        } else {
+            None
+        }
+    }
+
+    /// As many as may be.
+    pub fn most() -> Ahead
+        ensures { result.count ≡ MOST_AHEAD }
+    {
+        Ahead { count: MOST_AHEAD }
+    }
+}
+
+/// Which frames of a peer are asked for on a connection and didn't come yet: those from the one that is due on, before
+/// the next one to ask for.
+#[derive(Clone, Copy, Debug, PartialEq, Eq)]
+pub struct Window {
+    pub due: u64,
+    pub asked: u64,
+}
+
+/// The numbers that are asked for behind an answer: so many, from one on.
+#[derive(Clone, Copy, Debug, PartialEq, Eq)]
+pub(crate) struct Asks {
+    pub(crate) from: u64,
+    pub(crate) count: u64,
+}
+
+impl Window {
+    /// The first frame alone was asked for.
+    pub fn new() -> Window
+        ensures { result ≡ first_window }
+    {
+        Window { due: 0, asked: 1 }
+    }
+
+    /// Moves behind the frame that was due, where the one that is next is told. Returns what is to be asked for then.
+    pub(crate) fn move_to(&mut self, next: u64, ahead: Ahead) -> Asks
+        ensures moved { self.new ≡ moved ahead.count self.old next }
+        ensures from { result.from ≡ from_behind self.old next }
+        ensures count { result.count ≡ count_behind ahead.count self.old next }
+        ensures fits { result.from + result.count < 2 ^ 64 }
+    {
+        let due = if self.asked.saturating_sub(self.due) > 1 {
+            self.due + 1
+        } else {
+            self.asked.max(next)
+        };
+        let from = self.asked.max(due);
+        let count = if next <= from {
+            ahead
+                .count
+                .saturating_sub(from - due)
+                .min(MOST_WANTS)
+                .min(u64::MAX - from)
+        } else {
+            0
+        };
+        self.due = due;
+        self.asked = from + count;
+        Asks { from, count }
+    }
+}

@@ -1,0 +1,173 @@
+//! Two workers at one node: while one is held at the gate, the other one's frame is taken.
+
+use crate::rows::{FOUR, SEND, SEND_OF_2};
+use crate::told::Told;
+use crate::trial::{Tried, node_of};
+use pay_frame::{Reader, Writer};
+use pay_hmac::HmacSha256;
+use pay_member::{MemberFault, Outcome};
+use pay_node::{Call, Gate, OpenGate, Seat};
+use pay_peers::{Ahead, Asking, Dial, Dialed, Dials, run_readers};
+use std::alloc::Global;
+use std::sync::Wait;
+use std::sync::atomic::{AtomicBool, Ordering};
+use std::test::Fail;
+use std::thread;
+use std::thread::Threads;
+use std::time::{Clock, Duration};
+
+/// How often a held worker looks whether the other one was answered, a millisecond apart.
+const TURNS: u32 = 60_000;
+
+/// Holds the calls of one stamp until those of another were answered.
+#[derive(Drop)]
+struct Held<'a, C> {
+    clock: &'a C,
+    stamp: u16,
+    other_answered: AtomicBool,
+    gave_up: AtomicBool,
+}
+
+impl<C: Clock> Gate for Held<'_, C> {
+    fn pass(&self, stamp: u16) {
+        if stamp != self.stamp {
+            return;
+        }
+        for _ in 0..TURNS {
+            if self.other_answered.load(Ordering::SeqCst) {
+                return;
+            }
+            thread::sleep(self.clock, Duration::from_millis(1));
+        }
+        self.gave_up.store(true, Ordering::SeqCst);
+    }
+
+    fn answered(&self, stamp: u16) {
+        if stamp != self.stamp {
+            self.other_answered.store(true, Ordering::SeqCst);
+        }
+    }
+}
+
+/// Gives each peer's stream once, and then tells its worker to stop.
+#[derive(Drop)]
+struct Once {
+    alloc: Global,
+    first_given: AtomicBool,
+    second_given: AtomicBool,
+}
+
+impl Dial<Reader<&'static [u8]>, Writer<Vec<u8>>> for Once {
+    fn dial(&self, peer: u16) -> Dialed<Reader<&'static [u8]>, Writer<Vec<u8>>> {
+        let given = if peer == 0 {
+            &self.first_given
+        } else {
+            &self.second_given
+        };
+        if given.swap(true, Ordering::SeqCst) {
+            return Dialed::Stop;
+        }
+        Dialed::Streams(
+            Reader::new(frame_of(peer)),
+            Writer::new(Vec::new(self.alloc)),
+        )
+    }
+}
+
+// The one frame of peer 0 or 2.
+fn frame_of(peer: u16) -> &'static [u8] {
+    if peer == 0 { &SEND } else { &SEND_OF_2 }
+}
+
+// Brings a frame from a seat, and says whether it was taken.
+fn takes<R: Wait>(rt: &R, alloc: Global, node: &Tried, seat: &mut Seat, frame: &[u8]) -> bool {
+    match node.bring(rt, alloc, seat, &HmacSha256, &OpenGate, frame) {
+        Ok(brought) => matches!(brought.outcome, Outcome::Took(_)),
+        Err(_) => false,
+    }
+}
+
+// Whether each seat was told of one frame that was taken, and the held one's of a repeat too if it is to be.
+fn are_told(seats: &[Seat], held: u16, repeats: bool) -> bool {
+    seats.iter().all(|seat| {
+        let receipts = seat.receipts();
+        if !repeats || seat.stamp() != held {
+            return receipts.len() == 1;
+        }
+        let is_repeat = match receipts.last() {
+            Some(receipt) => matches!(
+                receipt.call,
+                Call::Handed {
+                    answer: Err(MemberFault::Repeat(1)),
+                    ..
+                }
+            ),
+            None => false,
+        };
+        receipts.len() == 2 && is_repeat
+    })
+}
+
+// Two workers, of which one is held, with a frame that is a repeat or isn't: whether it was let go in time, and both
+// frames were answered.
+fn overlaps<R: Threads + Wait + Clock + Sync>(
+    rt: &R,
+    alloc: Global,
+    held: u16,
+    repeats: bool,
+) -> Result<bool, Fail> {
+    let (node, seats) = node_of(alloc, FOUR).ok_or("no such node")?;
+    let mut pairs = Vec::new(alloc);
+    for seat in seats {
+        let mut seat = seat;
+        let peer = if seat.stamp() == 0 { 0 } else { 2 };
+        if repeats && seat.stamp() == held && !takes(rt, alloc, &node, &mut seat, frame_of(peer)) {
+            return Ok(false);
+        }
+        pairs.push((peer, Asking::new(seat)))?;
+    }
+    let gate = Held {
+        clock: rt,
+        stamp: held,
+        other_answered: AtomicBool::new(false),
+        gave_up: AtomicBool::new(false),
+    };
+    let dial = Once {
+        alloc,
+        first_given: AtomicBool::new(false),
+        second_given: AtomicBool::new(false),
+    };
+    let told = Told::new();
+    run_readers(
+        rt,
+        alloc,
+        &node,
+        &HmacSha256,
+        &gate,
+        &dial,
+        &told,
+        Dials::Usual,
+        Ahead::most(),
+        pairs.as_mut_slice(),
+    );
+    let mut seats: Vec<Seat> = Vec::new(alloc);
+    for (_, asking) in pairs {
+        let Asking { seat, window: _ } = asking;
+        seats.push(seat)?;
+    }
+    let answered = are_told(seats.as_slice(), held, repeats);
+    let closed = node.close(alloc, seats.as_slice()).is_ok();
+    let in_time = !gate.gave_up.load(Ordering::SeqCst);
+    Ok(in_time && answered && closed && told.counts() == (2, 0, 0))
+}
+
+#[test]
+fn one_worker_waits_for_no_other(rt: HostRuntime) -> Result<(), Fail> {
+    for (held, repeats) in [(0, false), (1, false), (0, true), (1, true)] {
+        assert!(rt;
+            overlaps(&rt, rt.alloc(), held, repeats)?,
+            "worker {held} held, its frame a repeat: {repeats}"
+        );
+    }
+    Ok(())
+}

@@ -1,0 +1,45 @@
+//! What workers tell of their peers.
+
+use pay_peers::Lookout;
+use std::sync::atomic::{AtomicU64, Ordering};
+
+/// Counts what workers tell of their peers.
+#[derive(Drop)]
+pub(crate) struct Told {
+    heard: AtomicU64,
+    missed: AtomicU64,
+    gave_up: AtomicU64,
+}
+
+impl Told {
+    pub(crate) fn new() -> Told {
+        Told {
+            heard: AtomicU64::new(0),
+            missed: AtomicU64::new(0),
+            gave_up: AtomicU64::new(0),
+        }
+    }
+
+    /// How often a peer was heard, missed and given up.
+    pub(crate) fn counts(&self) -> (u64, u64, u64) {
+        (
+            self.heard.load(Ordering::SeqCst),
+            self.missed.load(Ordering::SeqCst),
+            self.gave_up.load(Ordering::SeqCst),
+        )
+    }
+}
+
+impl Lookout for Told {
+    fn heard(&self, _peer: u16) {
+        self.heard.fetch_add(1, Ordering::SeqCst);
+    }
+
+    fn missed(&self, _peer: u16) {
+        self.missed.fetch_add(1, Ordering::SeqCst);
+    }
+
+    fn gave_up(&self, _peer: u16) {
+        self.gave_up.fetch_add(1, Ordering::SeqCst);
+    }
+}
