@@ -202,7 +202,9 @@ def refusal(crate, place: Place, report: Report) -> tuple[str, str]:
 
 
 def is_proved(crate, place: Place, report: Report) -> bool:
-    return report.has_judged and all(line_of(crate, it, report) == "proved" for it in place.functions())
+    """Whether the prover says so of each function of a body, also where it says of one that it may wait."""
+    said = [line_of(crate, it, report) for it in place.functions()]
+    return report.has_judged and all(it in ("proved", "proved, may wait") for it in said)
 
 
 def verdict_of(crate, place: Place, report: Report, is_last: bool) -> Outcome | None:

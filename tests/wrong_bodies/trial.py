@@ -18,6 +18,8 @@ SOURCE = """\
 
 ghost use Rattle.std.specs.Prelude.{◌≡◌, ◌+◌, ◌<◌};
 
+use std::sync::Wait;
+
 pub fn same(k: u32) -> u32
     ensures { result ≡ k }
 {
@@ -51,6 +53,13 @@ pub fn passed_on(k: u32) -> u32
     ensures { result ≡ k }
 {
     same(k)
+}
+
+pub fn patient<R: Wait>(_rt: &R, k: u32) -> u32
+    ensures { result ≡ k }
+{
+    let given = k;
+    given
 }
 """
 
@@ -90,6 +99,7 @@ CONTROLS = {
     "in_brackets": ("passed_on", "    same(k)", "    (same(k))", PROVED),
     "asked_twice": ("passed_on", "    same(k)", "    same(same(k))", NOT_PROVED),
     "in_its_own_place": ("next", "    x + 1", "    1 + x", PROVED),
+    "that_may_wait": ("patient", "given = k;", "given = (k);", PROVED),
     "no_control": ("next", "    x + 1", "    x + 3", NOT_PROVED),
 }
 
