@@ -1,10 +1,12 @@
 // Comes between the program and the C library, and refuses what the environment says: one growth of memory, one read
-// of standard input or one write of standard output, counted from 1, or all but so many bytes of each; or interrupts
-// the first reads. Where it refused something it makes the file that HOSTILE_MARK names.
+// of standard input or one write of standard output, counted from 1, or all but so many bytes of each; one growth in a
+// further thread, one thread or all; or interrupts the first reads. Where it refused something it makes the file that
+// HOSTILE_MARK names.
 #define _GNU_SOURCE
 #include <dlfcn.h>
 #include <errno.h>
 #include <fcntl.h>
+#include <pthread.h>
 #include <stdatomic.h>
 #include <stdlib.h>
 #include <string.h>
@@ -36,12 +38,19 @@ static int refused(atomic_long *count, const char *name) {
     return 1;
 }
 
+// Whether this growth is refused, counted among all or among those in other threads than the first.
+static int growth_refused(void) {
+    static atomic_long further;
+    return refused(&growths, "HOSTILE_GROWTH") ||
+           (syscall(SYS_gettid) != getpid() && refused(&further, "HOSTILE_FURTHER_GROWTH"));
+}
+
 void *malloc(size_t size) {
     static void *(*real)(size_t);
     if (real == NULL) {
         real = (void *(*)(size_t))dlsym(RTLD_NEXT, "malloc");
     }
-    if (refused(&growths, "HOSTILE_GROWTH")) {
+    if (growth_refused()) {
         errno = ENOMEM;
         return NULL;
     }
@@ -53,7 +62,7 @@ void *realloc(void *old, size_t size) {
     if (real == NULL) {
         real = (void *(*)(void *, size_t))dlsym(RTLD_NEXT, "realloc");
     }
-    if (refused(&growths, "HOSTILE_GROWTH")) {
+    if (growth_refused()) {
         errno = ENOMEM;
         return NULL;
     }
@@ -101,4 +110,19 @@ ssize_t write(int file, const void *buffer, size_t size) {
 
 ssize_t __write(int file, const void *buffer, size_t size) {
     return write_some(file, buffer, size);
+}
+
+typedef int starts_thread(pthread_t *, const pthread_attr_t *, void *(*)(void *), void *);
+
+int pthread_create(pthread_t *made, const pthread_attr_t *how, void *(*run)(void *), void *with) {
+    static atomic_long threads;
+    static starts_thread *real;
+    if (real == NULL) {
+        real = (starts_thread *)dlsym(RTLD_NEXT, "pthread_create");
+    }
+    if (wanted("HOSTILE_NO_THREADS")) {
+        mark();
+        return EAGAIN;
+    }
+    return refused(&threads, "HOSTILE_THREAD") ? EAGAIN : real(made, how, run, with);
 }

@@ -7,6 +7,7 @@ import tempfile
 
 from damage import check
 from frames import ECHO, READY, SEND, WANT, frame
+from hostile_tests import hostile
 from memory_tests import PIECE, is_refused, run_within
 from runs import PAYD, SECONDS, TOP, run, same, shows, test
 
@@ -102,3 +103,38 @@ def refused_memory_ends_in_a_beginning():
         elif refused[-1]:
             same(wanted[1].startswith(text), True, f"within {memory}: a prefix")
     same((True in refused, refused[-1]), (True, False), "refused with little, and not with the most")
+
+
+@hostile
+def thread_that_cannot_be_started_is_done_without(library):
+    """Each thread is refused in its turn, and then all are."""
+    stream = drawn(5, 600)
+    wanted = check(stream)
+    for jobs in (2, 3, 8):
+        words = ["check", "--jobs", str(jobs)]
+        for place, was in library.each(words, stream, "thread"):
+            same(was == wanted, True, f"{jobs} jobs, without thread {place}")
+        was, was_refused = library.run(words, stream, no_threads=1)
+        same((was == wanted, was_refused), (True, True), f"{jobs} jobs, without any thread")
+
+
+@hostile
+def one_job_starts_no_thread(library):
+    stream = drawn(6, 6000)
+    was, was_refused = library.run(["check", "--jobs", "1"], stream, no_threads=1)
+    same((was == check(stream), was_refused), (True, False), "one job")
+
+
+@hostile
+def each_growth_of_a_further_thread_refused(library):
+    """The text is whole, or a prefix of it and Memory."""
+    stream = drawn(7, 300)
+    wanted, refusals = check(stream), 0
+    for place, was in library.each(["check", "--jobs", "3"], stream, "further_growth"):
+        if was == wanted:
+            continue
+        refusals += 1
+        status, text, errors = was
+        same((status, errors), (3, "payd: engine 0 Memory\n"), f"growth {place}")
+        same(wanted[1].startswith(text), True, f"growth {place}: a prefix")
+    same(refusals > 10, True, f"{refusals} growths of further threads were refused")

@@ -1,9 +1,9 @@
 -- Frames that the bytes are, and where some of them end.
 use Rattle.std.proofs.Common.{◌≡◌, ℕ, ◌+◌, ◌-◌, ◌<◌, List, [], ◌∷◌, ◌++◌, length, take, drop, refl, sym, ◌∙◌, ap, subst, arith, append_assoc, Option, Some, None, Result, Ok, Err, length-drop}
-use Rattle.std.specs.Prelude.{IfOk, map}
+use Rattle.std.specs.Prelude.{IfOk}
 use Rattle.std.specs.List.{All, flat_map}
 use Rattle.std.proofs.lemmas.Grind.{flat_map-append}
-use Rattle.std.proofs.lemmas.List.{append-nil, length-append, map-append, take_all, take-append-le}
+use Rattle.std.proofs.lemmas.List.{append-nil, length-append, take_all, take-append-le}
 use Rattle.std.proofs.lemmas.List.Elements.{All-nil, All-cons, All-head, All-tail}
 use Rattle.std.proofs.Math.Seq.{drop-append_seam}
 use Rattle.pay_frame.specs.declared.fault.FrameFault.{FrameFault}
@@ -13,8 +13,7 @@ use Rattle.pay_frame.specs.Stream.{IsFramesThen}
 use Rattle.pay_link.specs.Keys.{KeyFields}
 use Rattle.std.specs.declared.alloc.AllocError.{AllocError}
 use Rattle.pay_cli.specs.declared.judging.Judged.{Judged}
-use Rattle.pay_cli.specs.declared.verdict.Verdict.{Verdict}
-use Rattle.pay_cli.specs.Verdicts.{AreHalves, IsCut, IsJudged, verdict_of, words_of}
+use Rattle.pay_cli.specs.Verdicts.{AreHalves, AreJudged, IsCut, IsJudged}
 
 abbrev pub ReadAgain : Type 0
 ReadAgain = (f : FrameFields) (rest : List ℕ) (answer : Result (Option (FrameFields × ℕ)) FrameFault) → IsFrame f → IsReading (frame_bytes f ++ rest) answer → answer ≡ Ok (Some (f, length (frame_bytes f)))
@@ -95,23 +94,20 @@ cut_more again bytes fs at size f cut some reading is = by is.others is.parts wh
 pub reading_behind : (bytes : List ℕ) (size : ℕ) (answer : Result (Option (FrameFields × ℕ)) FrameFault) → IsReading (take (length bytes - size) (drop size bytes)) answer → IsReading (drop size bytes) answer
 reading_behind bytes size answer = subst (λ xs. IsReading xs answer) (take_all (length bytes - size) (drop size bytes) (omega (arith, length-drop size bytes)))
 
--- the verdicts and words of both halves are those of all
-pub both_verdicts : (k : KeyFields) (fs first others : List FrameFields) (a b all : List Verdict) → fs ≡ first ++ others → a ≡ map (verdict_of k) first → b ≡ map (verdict_of k) others → all ≡ a ++ b → all ≡ map (verdict_of k) fs
-both_verdicts k fs first others a b all parts one two are =
-    are ∙ ap (λ xs. xs ++ b) one ∙ ap (λ xs. map (verdict_of k) first ++ xs) two ∙ sym (map-append (verdict_of k) first others) ∙ ap (map (verdict_of k)) (sym parts)
+-- parts that are judged, and those behind them
+pub both_judged : (k : KeyFields) (fs first others : List FrameFields) (a b : List Judged) → fs ≡ first ++ others → AreJudged k first a → AreJudged k others b → AreJudged k fs (a ++ b)
+both_judged k fs first others [] b parts none behind = subst (λ gs. AreJudged k gs b) (sym (parts ∙ ap (λ gs. gs ++ others) none)) behind
+both_judged k fs first others (judged ∷ a) b parts front behind = (
+  front.0,
+  front.1 ++ others,
+  parts ∙ ap (λ gs. gs ++ others) front.2 ∙ append_assoc front.0 front.1 others,
+  front.3,
+  both_judged k (front.1 ++ others) front.1 others a b refl front.4 behind,
+)
 
-pub both_words : (k : KeyFields) (fs first others : List FrameFields) (a b all : List ℕ) → fs ≡ first ++ others → a ≡ flat_map (words_of k) first → b ≡ flat_map (words_of k) others → all ≡ a ++ b → all ≡ flat_map (words_of k) fs
-both_words k fs first others a b all parts one two are =
-    are ∙ ap (λ xs. xs ++ b) one ∙ ap (λ xs. flat_map (words_of k) first ++ xs) two ∙ sym (flat_map-append (words_of k) first others) ∙ ap (flat_map (words_of k)) (sym parts)
-
-pub joined_is : (k : KeyFields) (fs : List FrameFields) (front back : List ℕ) (a b : Judged) (r : Result Judged AllocError) (half : AreHalves fs front back)
-    → IsJudged k half.first a → IsJudged k half.others b → IfOk r (λ all. all.verdicts ≡ a.verdicts ++ b.verdicts) → IfOk r (λ all. all.words.items ≡ a.words.items ++ b.words.items) → IfOk r (IsJudged k fs)
-joined_is k fs front back a b (Ok all) half one two verdicts words = record {
-  verdicts = both_verdicts k fs half.first half.others a.verdicts b.verdicts all.verdicts half.parts one.verdicts two.verdicts verdicts;
-  words = both_words k fs half.first half.others a.words.items b.words.items all.words.items half.parts one.words two.words words;
-}
-joined_is k fs front back a b (Err e) half one two verdicts words = tt
+pub one_judged : (k : KeyFields) (fs : List FrameFields) (judged : Judged) → IsJudged k fs judged → AreJudged k fs (judged ∷ [])
+one_judged k fs judged is = (fs, [], sym (append-nil fs), is, refl)
 
 -- a result that was there
-pub judged_there : (k : KeyFields) (fs : List FrameFields) (r : Result Judged AllocError) (a : Judged) → r ≡ Ok a → IfOk r (IsJudged k fs) → IsJudged k fs a
-judged_there k fs r a is told = rw is at told
+pub told_of : {A : Type 0} (P : A → Type 0) (r : Result A AllocError) (a : A) → r ≡ Ok a → IfOk r P → P a
+told_of P r a is told = rw is at told

@@ -3,3 +3,4 @@ pub mod Counting
 pub mod Starting
 pub mod Verdicts
 pub mod Cuts
+pub mod Parts

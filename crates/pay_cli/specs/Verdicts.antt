@@ -1,5 +1,6 @@
 -- What becomes of a frame as far as no line before its own says, and the line that follows from it.
-use Rattle.std.specs.Prelude.{◌≡◌, ℕ, ◌+◌, List, [], ◌∷◌, ◌++◌, length, map, slice_index, slice_set, decimal, codes, Option, Some, None, Result, Ok, Err, ⊤, IfOk}
+use Rattle.std.specs.Prelude.{◌≡◌, ℕ, ◌+◌, List, [], ◌∷◌, ◌++◌, length, map, slice_index, slice_set, decimal, codes, Option, Some, None, Result, Ok, Err, ⊤, IfOk, Vec}
+use Rattle.std.specs.Global.{Global}
 use Rattle.std.specs.List.{flat_map}
 use Rattle.std.specs.declared.alloc.AllocError.{AllocError}
 use Rattle.pay_frame.specs.declared.kind.Kind.{Kind}
@@ -63,10 +64,19 @@ pub record IsJudged (k : KeyFields) (fs : List FrameFields) (judged : Judged) : 
   pub verdicts : judged.verdicts ≡ map (verdict_of k) fs
   pub words : judged.words.items ≡ flat_map (words_of k) fs
 
+-- so in parts, one behind the other
+abbrev pub AreJudged : KeyFields → List FrameFields → List Judged → Type 0
+AreJudged k fs [] = fs ≡ []
+AreJudged k fs (judged ∷ behind) =
+    (first : List FrameFields) × (others : List FrameFields) × (fs ≡ first ++ others)
+    × IsJudged k first judged × AreJudged k others behind
+
 -- of the frames that the bytes are
-abbrev pub JudgesAll : KeyFields → List ℕ → Result Judged AllocError → Type 0
+abbrev pub JudgesAll :
+    KeyFields → List ℕ → Result (Vec Judged Global) AllocError → Type 0
 JudgesAll k bytes result =
-    (fs : List FrameFields) → IsFramesThen bytes fs [] → IfOk result (IsJudged k fs)
+    (fs : List FrameFields) → IsFramesThen bytes fs []
+    → IfOk result (λ parts. AreJudged k fs parts.items)
 
 -- some of the frames end there
 pub record IsCut (fs : List FrameFields) (at : ℕ) : Type 0 where

@@ -7,7 +7,7 @@ ghost use Rattle.pay_cli.specs.Engine.{Writes};
 ghost use Rattle.pay_cli.specs.Verdicts.{JudgesAll};
 
 use crate::checking::Checking;
-use crate::cores::{LEAST_PART, OverCores};
+use crate::cores::{LEAST_PART, OverCores, Shared};
 use crate::judging::Judged;
 use crate::laws::every_text;
 use crate::progress::Progress;
@@ -53,8 +53,9 @@ pub fn run_check<H: Threads + Sync, R: Input, W: Output, T: Tagger + Sync>(
     // laws that the proof stands on: the calls do nothing
     every_text();
     exact_text::<Progress>();
-    let mut progress = Progress::new(alloc, genesis.members())?;
-    let judge = |frames: &[u8]| -> Result<Judged, AllocError>
+    let progress = Progress::new(alloc, genesis.members())?;
+    let mut shared = Shared::new(alloc, progress);
+    let judge = |frames: &[u8], before: Vec<Judged>| -> Result<Vec<Judged>, AllocError>
         requires { (fs : List FrameFields) × IsFramesThen frames.now fs [] }
         ensures { JudgesAll keys.entry.now frames.now result }
     {
@@ -65,6 +66,7 @@ pub fn run_check<H: Threads + Sync, R: Input, W: Output, T: Tagger + Sync>(
             keys,
             frames,
             jobs.min(frames.len() / LEAST_PART),
+            before,
         )
     };
     let checking = Checking { tagger: t, keys };
@@ -73,5 +75,5 @@ pub fn run_check<H: Threads + Sync, R: Input, W: Output, T: Tagger + Sync>(
         judge: &judge,
         checking,
     };
-    handle_stream(alloc, &over, &mut progress, &[], reader, writer)
+    handle_stream(alloc, &over, &mut shared, &[], reader, writer)
 }

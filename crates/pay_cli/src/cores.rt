@@ -1,4 +1,4 @@
-ghost use Rattle.std.specs.Prelude.{List, []};
+ghost use Rattle.std.specs.Prelude.{◌≡◌, List, []};
 ghost use Rattle.pay_frame.specs.Frame.{FrameFields};
 ghost use Rattle.pay_frame.specs.Stream.{IsFramesThen};
 ghost use Rattle.pay_engine.specs.Exact.{exactly};
@@ -11,14 +11,43 @@ ghost use Rattle.std.proofs.Math.Numerals.{add-one};
 use crate::checking::Checking;
 use crate::judging::Judged;
 use crate::progress::Progress;
-use crate::turns::push_judged;
+use crate::turns::push_parts;
 use pay_engine::{FrameHandler, GREATEST_READ};
 use pay_frame::{CUTTER_ROOM, FrameFault, FrameRef, frame_sizes};
 use pay_hmac::Tagger;
 use std::alloc::{AllocError, Global};
+use std::marker::Model;
+use std::mem;
 
 /// How many bytes a thread judges at least. Fewer take no longer than to start it.
 pub(crate) const LEAST_PART: usize = 1 << 14;
+
+/// What `check` knows between two lines, and the memory that threads write to.
+#[derive(Drop)]
+pub(crate) struct Shared {
+    progress: Progress,
+    /// What was judged last. It says nothing any more.
+    judged: Vec<Judged>,
+}
+
+impl Model for Shared {
+    ghost use Rattle.pay_cli.specs.declared.progress.Progress.{Progress as Known};
+
+    ghost Value = { Known };
+
+    ghost view = { λ s. s.progress };
+}
+
+impl Shared {
+    pub(crate) fn new(alloc: Global, progress: Progress) -> Shared
+        ensures { result ≡ progress }
+    {
+        Shared {
+            progress,
+            judged: Vec::new(alloc),
+        }
+    }
+}
 
 /// Writes what `Checking` does, and has a large batch judged by several threads, which `judge`
 /// starts.
@@ -29,18 +58,19 @@ pub(crate) struct OverCores<'a, T, F> {
     pub(crate) checking: Checking<'a, T>,
 }
 
-impl<T, F> FrameHandler<Progress> for OverCores<'_, T, F>
+impl<T, F> FrameHandler<Shared> for OverCores<'_, T, F>
 where
     T: Tagger,
-    F: Fn(&[u8]) -> Result<Judged, AllocError>,
+    F: Fn(&[u8], Vec<Judged>) -> Result<Vec<Judged>, AllocError>,
 {
     ghost handling = { λ c. exactly (checking c.checking.keys.now) };
 
     // There is room for so many lines, and whole frames can be judged.
     ghost has_room = { λ c p n. HasRoom c.checking.keys.now p n
         × ((frames : _) → ((fs : List FrameFields) × IsFramesThen frames.now fs [])
-        → F.pre c.judge.now frames
-        × ((r : _) → F.post c.judge.now frames r → JudgesAll c.checking.keys.now frames.now r)) };
+        → (before : _) → F.pre c.judge.now frames before
+        × ((r : _) → F.post c.judge.now frames before r
+        → JudgesAll c.checking.keys.now frames.now r)) };
 
     ghost keeps_room = { λ c p q f text n step room. (
       subst (λ s. HasRoom c.checking.keys.now s n) (sym step.0)
@@ -64,36 +94,36 @@ where
     fn handle(
         &self,
         alloc: Global,
-        progress: &mut Progress,
+        shared: &mut Shared,
         frame: FrameRef<'_>,
         out: &mut Vec<u8>,
     ) -> Result<bool, AllocError> {
-        self.checking.handle(alloc, progress, frame, out)
+        self.checking
+            .handle(alloc, &mut shared.progress, frame, out)
     }
 
     fn handle_batch(
         &self,
         alloc: Global,
-        progress: &mut Progress,
+        shared: &mut Shared,
         frames: &[u8],
         out: &mut Vec<u8>,
     ) -> Result<bool, AllocError> {
         // a law that the proof stands on: the call does nothing
         frame_sizes();
         if self.jobs < 2 || frames.len() < 2 * LEAST_PART {
-            return self.checking.handle_batch(alloc, progress, frames, out);
+            return self
+                .checking
+                .handle_batch(alloc, &mut shared.progress, frames, out);
         }
-        let judged = (self.judge)(frames)?;
-        push_judged(out, progress, &judged)?;
+        let before = mem::replace(&mut shared.judged, Vec::new(alloc));
+        let judged = (self.judge)(frames, before)?;
+        push_parts(out, &mut shared.progress, judged.as_slice())?;
+        shared.judged = judged;
         Ok(true)
     }
 
-    fn end(
-        &self,
-        progress: &Progress,
-        fault: FrameFault,
-        out: &mut Vec<u8>,
-    ) -> Result<(), AllocError> {
-        self.checking.end(progress, fault, out)
+    fn end(&self, shared: &Shared, fault: FrameFault, out: &mut Vec<u8>) -> Result<(), AllocError> {
+        self.checking.end(&shared.progress, fault, out)
     }
 }

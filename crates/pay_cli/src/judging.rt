@@ -64,19 +64,34 @@ impl<T: Tagger> FrameHandler<Verdicts> for Judging<'_, T> {
     }
 }
 
-/// Judges the frames that the bytes are.
+impl Judged {
+    /// Those of no frames.
+    pub fn new(alloc: Global) -> Judged {
+        Judged {
+            verdicts: Verdicts::new(alloc),
+            words: Vec::new(alloc),
+        }
+    }
+}
+
+/// Judges the frames that the bytes are. What was judged before is forgotten, and its memory taken.
 pub fn judge<T: Tagger>(
     alloc: Global,
     t: &T,
     keys: &Keys,
     frames: &[u8],
+    before: Judged,
 ) -> Result<Judged, AllocError>
     requires whole { (fs : List FrameFields) × IsFramesThen frames.now fs [] }
     ensures judged { (fs : List FrameFields) → IsFramesThen frames.now fs []
         → IfOk result (IsJudged keys.now fs) }
 {
-    let mut verdicts = Verdicts::new(alloc);
-    let mut words = Vec::new(alloc);
+    let Judged {
+        mut verdicts,
+        mut words,
+    } = before;
+    verdicts.clear();
+    words.clear();
     let judging = Judging { tagger: t, keys };
     judging.handle_batch(alloc, &mut verdicts, frames, &mut words)?;
     Ok(Judged { verdicts, words })

@@ -1,6 +1,6 @@
 //! Judging frames by several threads.
 
-ghost use Rattle.std.specs.Prelude.{◌≡◌, ◌++◌, ◌≤◌, List, [], length, IfOk};
+ghost use Rattle.std.specs.Prelude.{◌≤◌, List, [], length};
 ghost use denote.Param.Send.{IsSync};
 ghost use Rattle.pay_frame.specs.Frame.{FrameFields};
 ghost use Rattle.pay_frame.specs.Stream.{IsFramesThen};
@@ -14,7 +14,7 @@ use std::alloc::{AllocError, Global};
 use std::thread::{Threads, join};
 
 /// Judges the frames that the bytes are, in so many parts, each in a thread of its own where one
-/// can be made.
+/// can be made. The memory of what was judged before is used again.
 pub fn judge_parts<R: Threads + Sync, T: Tagger + Sync>(
     rt: &R,
     alloc: Global,
@@ -22,42 +22,57 @@ pub fn judge_parts<R: Threads + Sync, T: Tagger + Sync>(
     keys: &Keys,
     frames: &[u8],
     parts: usize,
-) -> Result<Judged, AllocError>
+    mut before: Vec<Judged>,
+) -> Result<Vec<Judged>, AllocError>
     requires whole { (fs : List FrameFields) × IsFramesThen frames.now fs [] }
     ensures judged { JudgesAll keys.now frames.now result }
 {
     if parts < 2 {
-        return judge(alloc, t, keys, frames);
+        return judge_one(alloc, t, keys, frames, before);
     }
     let low = parts / 2;
     let high = parts - low;
+    let behind = before.split_off(before.len() / 2)?;
     let (front, back) = halved(frames, frames.len() / parts * low);
     let (first, rest) = join(
         rt,
-        || -> Result<Judged, AllocError>
+        move || -> Result<Vec<Judged>, AllocError>
             requires { IsSync R.row × IsSync T.row
                 × ((fs : List FrameFields) × IsFramesThen front.now fs []) }
             ensures { JudgesAll keys.entry.now front.entry.now result }
-        { judge_parts(rt, alloc, t, keys, front, low) },
-        || -> Result<Judged, AllocError>
+        { judge_parts(rt, alloc, t, keys, front, low, before) },
+        move || -> Result<Vec<Judged>, AllocError>
             requires { IsSync R.row × IsSync T.row
                 × ((fs : List FrameFields) × IsFramesThen back.now fs []) }
             ensures { JudgesAll keys.entry.now back.entry.now result }
-        { judge_parts(rt, alloc, t, keys, back, high) },
+        { judge_parts(rt, alloc, t, keys, back, high, behind) },
     );
-    joined(first?, rest?)
+    let mut judged = first?;
+    let mut others = rest?;
+    judged.append(&mut others)?;
+    Ok(judged)
 }
 
-/// The verdicts of some frames and of those that follow.
-fn joined(mut first: Judged, mut rest: Judged) -> Result<Judged, AllocError>
-    ensures verdicts { IfOk result (λ all. all.verdicts ≡ first.verdicts ++ rest.verdicts) }
-    ensures words { IfOk result (λ all. all.words.items ≡ first.words.items ++ rest.words.items) }
+/// Judges the frames that the bytes are, as one part.
+fn judge_one<T: Tagger>(
+    alloc: Global,
+    t: &T,
+    keys: &Keys,
+    frames: &[u8],
+    mut before: Vec<Judged>,
+) -> Result<Vec<Judged>, AllocError>
+    requires whole { (fs : List FrameFields) × IsFramesThen frames.now fs [] }
+    ensures judged { JudgesAll keys.now frames.now result }
 {
-    first.verdicts.append(rest.verdicts)?;
-    first.words.append(&mut rest.words)?;
-    Ok(first)
+    let used = match before.pop() {
+        Some(used) => used,
+        None => Judged::new(alloc),
+    };
+    let judged = judge(alloc, t, keys, frames, used)?;
+    before.clear();
+    before.push(judged)?;
+    Ok(before)
 }
-
 /// The frames that end up to about a place, and the others.
 fn halved(frames: &[u8], place: usize) -> (&[u8], &[u8])
     requires whole { (fs : List FrameFields) × IsFramesThen frames.now fs [] }

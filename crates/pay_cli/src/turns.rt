@@ -4,7 +4,7 @@ ghost use Rattle.std.specs.Prelude.{◌≡◌, ◌⊎◌, ℕ, List, ◌+◌, �
 ghost use Rattle.pay_frame.specs.Frame.{FrameFields};
 ghost use Rattle.pay_link.specs.Keys.{KeyFields};
 ghost use Rattle.pay_cli.specs.Engine.{HasRoom};
-ghost use Rattle.pay_cli.specs.Verdicts.{IsJudged, Pushes, fronts_in_turn, line_in_turn, moved_in_turn, words_in_turn};
+ghost use Rattle.pay_cli.specs.Verdicts.{AreJudged, IsJudged, Pushes, fronts_in_turn, line_in_turn, moved_in_turn, words_in_turn};
 
 use crate::judging::Judged;
 use crate::lines::push_refused;
@@ -14,8 +14,27 @@ use pay_link::{Fronts, laws};
 use pay_text::{push_number, push_word};
 use std::alloc::AllocError;
 
+/// Writes the lines of frames that were judged in parts.
+pub fn push_parts(
+    out: &mut Vec<u8>,
+    progress: &mut Progress,
+    parts: &[Judged],
+) -> Result<(), AllocError>
+    requires room { (k : KeyFields) × (fs : List FrameFields) × AreJudged k fs parts.now
+        × HasRoom k progress.old (length fs) }
+    ensures pushes { (k : KeyFields) (fs : List FrameFields) → AreJudged k fs parts.now
+        → Pushes k progress.old progress.new fs out.old.items out.new.items result }
+{
+    let mut rest = parts;
+    while let Some((judged, others)) = rest.split_first() {
+        push_judged(out, progress, judged)?;
+        rest = others;
+    }
+    Ok(())
+}
+
 /// Writes the lines of frames that were judged.
-pub fn push_judged(
+fn push_judged(
     out: &mut Vec<u8>,
     progress: &mut Progress,
     judged: &Judged,

@@ -1,6 +1,6 @@
 //! What becomes of a frame as far as no line before its own says.
 
-ghost use Rattle.std.specs.Prelude.{◌≡◌, ◌++◌, ◌∷◌, [], IfOk, OnErr, OnOk};
+ghost use Rattle.std.specs.Prelude.{◌≡◌, ◌++◌, ◌∷◌, [], OnErr, OnOk};
 
 use std::alloc::{AllocError, Global};
 use std::marker::Model;
@@ -58,10 +58,10 @@ impl Verdicts {
         Ok(())
     }
 
-    /// Takes over the verdicts of frames that follow.
-    pub fn append(&mut self, mut more: Verdicts) -> Result<(), AllocError>
-        ensures { OnOk result (self.new ≡ self.old ++ more) }
+    /// Forgets all of them, and keeps their memory.
+    pub fn clear(&mut self)
+        ensures { self.new ≡ [] }
     {
-        self.verdicts.append(&mut more.verdicts)
+        self.verdicts.clear();
     }
 }

@@ -19,8 +19,8 @@ returns-in_err-progress-clause-text g c =
 pub handle_stream-requires : goal.handle_stream-requires
 handle_stream-requires g c =
     let k = c.args.keys.now in
-    let start : c.in_ok-progress.progress ≡ at_start k = c.in_ok-progress.ensures.start ∙ ap (λ (n : ℕ). let p : Progress = record { fronts = replicate n 0; line = 1 } in p) (c.members.ensures.value ∙ sym c.requires.keys) in
-    record { room = λ n few. (subst (λ (p : Progress). HasRoom k p n) (sym start) (room_at_start k n few), λ frames whole. (search rules, λ r post. search rules)) }
+    let start : c.new-shared.result ≡ at_start k = c.new-shared.ensures ∙ c.in_ok-progress.ensures.start ∙ ap (λ (n : ℕ). let p : Progress = record { fronts = replicate n 0; line = 1 } in p) (c.members.ensures.value ∙ sym c.requires.keys) in
+    record { room = λ n few. (subst (λ (p : Progress). HasRoom k p n) (sym start) (room_at_start k n few), λ frames whole before. (search rules, λ r post. search rules)) }
 
 pub returns-clause-text : goal.returns-clause-text
 returns-clause-text g c =
@@ -28,6 +28,6 @@ returns-clause-text g c =
     let remaining = g.R.Input.remaining in
     let contents = g.W.Output.contents in
     let from : Progress → Start Progress = λ p. record { first = []; state = p; input = remaining c.args.reader.now; before = contents c.args.writer.now } in
-    let start : c.in_ok-progress.progress ≡ at_start k = c.in_ok-progress.ensures.start ∙ ap (λ (n : ℕ). let p : Progress = record { fronts = replicate n 0; line = 1 } in p) (c.members.ensures.value ∙ sym c.requires.keys) in
+    let start : c.new-shared.result ≡ at_start k = c.new-shared.ensures ∙ c.in_ok-progress.ensures.start ∙ ap (λ (n : ℕ). let p : Progress = record { fronts = replicate n 0; line = 1 } in p) (c.members.ensures.value ∙ sym c.requires.keys) in
     let text = c.exact_text.ensures.text (checking k) _ _ _ _ _ c.handle_stream.ensures.handled in
     (c.handle_stream.new.state, subst (λ (p : Progress). EngineWrites (checking k) (from p) c.handle_stream.new.state (remaining c.handle_stream.new.reader) (contents c.handle_stream.new.writer) c.handle_stream.result) start text)

@@ -11,12 +11,12 @@ returns g c =
     let state = c.handle_batch.new.state in
     let out = c.handle_batch.new.out.items in
     let on = c.in_ok-handle_batch.field-0 in
-    let none : c.new-words.result.items ≡ [] = c.new-words.ensures.items in
-    let first : c.new-verdicts.result ≡ [] = c.new-verdicts.ensures in
+    let none : c.clear-2.new.self.items ≡ [] = c.clear-2.ensures.items in
+    let first : c.clear.new.self ≡ [] = c.clear.ensures in
     record {
       judged = λ fs cut.
-          let handled : HandlesBatch h c.new-verdicts.result state fs c.new-words.result.items out (Ok on) = c.in_ok-handle_batch.ensures.handles fs cut in
-          let all : HandlesBatch h [] state fs [] out (Ok on) = subst (λ vs. HandlesBatch h vs state fs [] out (Ok on)) first (subst (λ xs. HandlesBatch h c.new-verdicts.result state fs xs out (Ok on)) none handled) in
+          let handled : HandlesBatch h c.clear.new.self state fs c.clear-2.new.self.items out (Ok on) = c.in_ok-handle_batch.ensures.handles fs cut in
+          let all : HandlesBatch h [] state fs [] out (Ok on) = subst (λ vs. HandlesBatch h vs state fs [] out (Ok on)) first (subst (λ xs. HandlesBatch h c.clear.new.self state fs xs out (Ok on)) none handled) in
           let are = judged_of c.args.keys.now fs state out on all in
           record { verdicts = are.0; words = are.1 };
     }
