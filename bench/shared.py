@@ -3,6 +3,7 @@
 import argparse
 import functools
 import os
+import re
 import shutil
 import subprocess
 import sys
@@ -60,6 +61,15 @@ def used_by(words, source=os.devnull):
 def processor_seconds(words, source=os.devnull):
     used = used_by(words, source)
     return used.ru_utime + used.ru_stime
+
+
+def instructions(words, source=os.devnull, **given):
+    """How many instructions a run takes with these in its environment, by callgrind."""
+    watched = ["valgrind", "--tool=callgrind", "--callgrind-out-file=/dev/null", *words]
+    how = {"stdout": subprocess.DEVNULL, "stderr": subprocess.PIPE, "check": True, "env": {**os.environ, **given}}
+    with open(source, "rb") as stream:
+        ran = subprocess.run(watched, stdin=stream, **how)
+    return int(re.search(rb"Collected : (\d+)", ran.stderr)[1])
 
 
 def used_by_node(node):

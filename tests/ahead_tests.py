@@ -81,22 +81,23 @@ def nodes_of_different_numbers_ahead():
 
 @test
 def a_peer_that_is_killed_and_started_anew():
-    """Member 3 asks for nothing itself: it is killed twice while the others' payments are under way, and catches up."""
-    with Group([3000, 3000, 3000, 0], running=[]) as group:
+    """Member 3 asks for nothing itself: it is killed twice among 10,008 payments, and catches up."""
+    each = 1112
+    with Group([5000, 5000, 5000, 0], running=[]) as group:
         for own in range(4):
             group.start(own, options=["--dials", "always"])
         for turn in range(3):
-            for seq in range(turn * 300, turn * 300 + 300):
-                for own in range(3):
-                    group.nodes[own].write(f"PAY {seq} {(own + 1) % 3} 1\n")
+            seqs = range(turn * each, turn * each + each)
+            for own in range(3):
+                group.nodes[own].write("".join(f"PAY {seq} {(own + 1) % 3} 1\n" for seq in seqs))
             if turn < 2:
                 time.sleep(random.Random(turn).random() / 10)
                 group.kill(3)
                 group.start(3, options=["--dials", "always"])
-            for seq in range(turn * 300, turn * 300 + 300):
-                for own in range(3):
+            for own in range(3):
+                for seq in seqs:
                     same(group.nodes[own].line(), f"asked {seq} seq {seq}", f"payment {seq} by {own}")
-        group.settle([900, 900, 900, 0], [3000, 3000, 3000, 0])
+        group.settle([3 * each, 3 * each, 3 * each, 0], [5000, 5000, 5000, 0])
         group.stop()
 
 

@@ -1,4 +1,4 @@
-//! Tests of `pay_echo`: the worked rows and the thresholds, over the plain form.
+//! Tests of `pay_echo`: the worked rows and the thresholds, over both forms of an instance.
 #![tactic(auto)]
 
 #[cfg(test)]

@@ -1,7 +1,7 @@
 ghost use Rattle.std.specs.Prelude.{◌≤◌, ◌<◌};
 
 use crate::telling::{is_foreign, tell};
-use pay_echo::{Group, Instance, Moves, PlainInstance, VoteRef};
+use pay_echo::{Group, Instance, MaskInstance, Moves, PlainInstance, VoteRef};
 use pay_frame::MOST_MEMBERS;
 use std::alloc::{AllocError, Global};
 use std::test::Fail;
@@ -117,7 +117,14 @@ fn is_met<I: Instance + Drop>(alloc: Global, row: &Row) -> Result<bool, AllocErr
 #[test]
 fn worked_rows(rt: HostRuntime) -> Result<(), Fail> {
     for (place, row) in ROWS.iter().enumerate() {
-        assert!(rt; is_met::<PlainInstance>(rt.alloc(), row)?, "row {place}");
+        assert!(rt;
+            is_met::<PlainInstance>(rt.alloc(), row)?,
+            "row {place}, by lists"
+        );
+        assert!(rt;
+            is_met::<MaskInstance>(rt.alloc(), row)?,
+            "row {place}, by masks"
+        );
     }
     Ok(())
 }

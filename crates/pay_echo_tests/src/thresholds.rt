@@ -1,7 +1,7 @@
 ghost use Rattle.std.specs.Prelude.{◌≡◌, ◌≤◌, ◌<◌};
 
 use crate::telling::tell;
-use pay_echo::{Group, Instance, PlainInstance, VoteRef};
+use pay_echo::{Group, Instance, MaskInstance, PlainInstance, VoteRef};
 use pay_frame::MOST_MEMBERS;
 use std::alloc::{AllocError, Global};
 use std::test::Fail;
@@ -91,7 +91,11 @@ fn thresholds_of_every_group(rt: HostRuntime) -> Result<(), Fail> {
         for faults in 0..members.div_ceil(3) {
             assert!(rt;
                 is_group_right::<PlainInstance>(rt.alloc(), members, faults)?,
-                "{members} members, {faults} faults"
+                "{members} members, {faults} faults, by lists"
+            );
+            assert!(rt;
+                is_group_right::<MaskInstance>(rt.alloc(), members, faults)?,
+                "{members} members, {faults} faults, by masks"
             );
         }
     }

@@ -1,6 +1,6 @@
 -- Whole frames in front of some bytes, and the window of a buffer.
 use Rattle.std.proofs.Common.{◌≡◌, ℕ, ◌+◌, ◌-◌, ◌<◌, ◌≤◌, List, [], ◌∷◌, ◌++◌, length, take, drop, sym, ◌∙◌, ap, subst, arith, Option, Some, Result, Ok, length-drop}
-use Rattle.std.proofs.lemmas.List.{take-append-drop, take-append-le, take_all, length-append, length-take, append-nil, drop-drop, drop-take}
+use Rattle.std.proofs.lemmas.List.{take-append-drop, take-append-le, take_all, length-append, length-take, append-nil, drop-append-le, drop-drop, drop-take}
 use Rattle.std.proofs.Math.Seq.{take-append-add}
 use borrow.Rule.Slice.PartMut.{post_of, put_mid}
 use Rattle.pay_frame.specs.declared.fault.FrameFault.{FrameFault}
@@ -43,8 +43,8 @@ one_more grows frame bytes size next frames f some within cut reading =
     }
 
 -- the frames in front, and the bytes behind them
-pub cut_of : Grows → (bytes : List ℕ) (size : ℕ) (front : IsFront bytes size) → IsFramesThen bytes front.frames (drop size bytes)
-cut_of grows bytes size front = subst (λ xs. IsFramesThen xs front.frames (drop size bytes)) (take-append-drop size bytes) (grows (take size bytes) [] (drop size bytes) front.frames front.cut)
+pub cut_of : Grows → (bytes : List ℕ) (most size : ℕ) (front : IsFront bytes most size) → IsFramesThen bytes front.frames (drop size bytes)
+cut_of grows bytes most size front = subst (λ xs. IsFramesThen xs front.frames (drop size bytes)) (take-append-drop size bytes) (grows (take size bytes) [] (drop size bytes) front.frames front.cut)
 
 -- ---- a window
 
@@ -54,18 +54,26 @@ passed items start end size fits =
     let parts : end - start ≡ size + left = omega arith in
     sym (ap (λ n. drop size (take n (drop start items))) parts ∙ drop-take size left (drop start items) ∙ ap (take left) (drop-drop size start items))
 
--- what is read stands behind what was held
-pub filled : (front piece behind held : List ℕ) (count held_size : ℕ) → held_size ≤ length front → take held_size front ≡ held → count ≤ length piece → take (held_size + count - 0) (take held_size front ++ (piece ++ behind)) ≡ held ++ take count piece
-filled front piece behind held count held_size fits same within =
-    let kept : List ℕ = take held_size front in
-    let sized : length kept ≡ held_size = length-take held_size front ∙ omega arith in
-    let all : held_size + count - 0 ≡ length kept + count = omega (arith, sized) in
-    ap (λ n. take n (kept ++ (piece ++ behind))) all ∙ take-append-add kept (piece ++ behind) count
-    ∙ ap (λ xs. kept ++ xs) (take-append-le count piece behind within) ∙ ap (λ xs. xs ++ take count piece) same
+-- what is read stands behind what was held, which begins at a place
+filled : (front piece behind : List ℕ) (count start held_size : ℕ) → start + held_size ≤ length front → count ≤ length piece → take (start + held_size + count - start) (drop start (take (start + held_size) front ++ (piece ++ behind))) ≡ take held_size (drop start front) ++ take count piece
+filled front piece behind count start held_size fits within =
+    let kept : List ℕ = take held_size (drop start front) in
+    let rest : List ℕ = piece ++ behind in
+    let sized : length kept ≡ held_size = length-take held_size (drop start front) ∙ omega (arith, length-drop start front) in
+    let all : start + held_size + count - start ≡ length kept + count = omega (arith, sized) in
+    ap (λ n. take n (drop start (take (start + held_size) front ++ rest))) all
+    ∙ ap (take (length kept + count)) (drop-append-le start (take (start + held_size) front) rest (omega (arith, length-take (start + held_size) front)) ∙ ap (λ xs. xs ++ rest) (drop-take start held_size front))
+    ∙ take-append-add kept rest count ∙ ap (λ xs. kept ++ xs) (take-append-le count piece behind within)
 
-pub put_filled : (front piece held : List ℕ) (count held_size left : ℕ) → held_size ≤ length front → left ≡ length front - held_size → take held_size front ≡ held → count ≤ length piece
-    → take (held_size + count - 0) (drop 0 (put_mid held_size left front piece)) ≡ held ++ take count piece
-put_filled front piece held count held_size left inside is same within = filled front piece (post_of held_size left front) held count held_size inside same within
+pub put_filled : (front piece held : List ℕ) (count start held_size left : ℕ) → start + held_size ≤ length front → take held_size (drop start front) ≡ held → count ≤ length piece
+    → take (start + held_size + count - start) (drop start (put_mid (start + held_size) left front piece)) ≡ held ++ take count piece
+put_filled front piece held count start held_size left inside same within = filled front piece (post_of (start + held_size) left front) count start held_size inside within ∙ ap (λ xs. xs ++ take count piece) same
+
+-- what was held stands as it did
+pub put_kept : (front piece held : List ℕ) (start held_size left : ℕ) → start + held_size ≤ length front → take held_size (drop start front) ≡ held → take (start + held_size - start) (drop start (put_mid (start + held_size) left front piece)) ≡ held
+put_kept front piece held start held_size left inside same =
+    let nothing : start + held_size - start ≡ start + held_size + 0 - start = omega arith in
+    ap (λ n. take n (drop start (put_mid (start + held_size) left front piece))) nothing ∙ put_filled front piece held 0 start held_size left inside same (omega arith) ∙ append-nil held
 
 pub put_length : (front piece : List ℕ) (held_size : ℕ) → held_size ≤ length front → length piece ≡ length front - held_size → length (put_mid held_size (length front - held_size) front piece) ≡ length front
 put_length front piece held_size inside sized =

@@ -15,9 +15,10 @@ pub record ReadsMore (old new : List ℕ) (left rest : Option (List ℕ)) (count
   pub behind : new ≡ old ++ piece
   pub end : count ≡ 0 → IsAtEnd rest
 
--- So many bytes in front are whole frames: none only where less than one is there.
-pub record IsFront (bytes : List ℕ) (size : ℕ) : Type 0 where
+-- So many bytes in front are whole frames, at most so many: none only where less than one is there.
+pub record IsFront (bytes : List ℕ) (most size : ℕ) : Type 0 where
   pub frames : List FrameFields
+  pub few : length frames ≤ most
   pub fits : size ≤ length bytes
   pub cut : IsFramesThen (take size bytes) frames []
   pub none : size ≡ 0 → IsProperBeginning bytes

@@ -1,4 +1,4 @@
-ghost use Rattle.std.specs.Prelude.{◌≡◌, ◌-◌, ◌≤◌, ◌<◌, [], drop, length, take, vec_len, IfErr, IfOk, OnErr};
+ghost use Rattle.std.specs.Prelude.{◌≡◌, ◌+◌, ◌-◌, ◌≤◌, ◌<◌, [], drop, length, take, vec_len, IfErr, IfOk, OnErr};
 ghost use Rattle.std.specs.Io.KnownBytes.{Keeps};
 ghost use Rattle.pay_frame.specs.Device.{counted, failures_after};
 ghost use Rattle.pay_frame.specs.Reading.{IsFault};
@@ -14,7 +14,8 @@ use std::marker::Model;
 pub const GREATEST_READ: usize = 1 << 20;
 
 /// The bytes that were read and not handled yet, as a window of a buffer that reads fill behind it.
-/// `new` allocates the buffer, and no later call allocates.
+/// It slides to the buffer's end, and back where little is free behind it. `new` allocates the
+/// buffer, and no later call allocates.
 #[derive(Drop)]
 pub(crate) struct ReadBuffer {
     buffer: Vec<u8>,
@@ -61,9 +62,9 @@ impl ReadBuffer {
         ensures failed { In.failure_count reader.new
             ≡ failures_after (In.failure_count reader.old) result }
     {
-        move_to_front(&mut self.buffer, self.start, self.end);
-        self.end -= self.start;
-        self.start = 0;
+        let held = self.end - self.start;
+        self.start = make_room(&mut self.buffer, self.start, self.end);
+        self.end = self.start + held;
         let count = reader.read(&mut self.buffer[self.end..])?;
         self.end += count;
         Ok(count)
@@ -85,22 +86,29 @@ impl ReadBuffer {
     }
 }
 
-/// Moves the bytes between two places to the front.
-fn move_to_front(buffer: &mut Vec<u8>, start: usize, end: usize)
+/// Moves the bytes between two places to the front where less is free behind them than behind the
+/// longest beginning of a frame there. Returns where they begin.
+fn make_room(buffer: &mut Vec<u8>, start: usize, end: usize) -> usize
     requires begins { start ≤ end }
     requires ends { end ≤ vec_len buffer.old }
-    ensures front { take (end - start) buffer.new.items
+    requires short { end - start < GREATEST_FRAME }
+    ensures kept { take (end - start) (drop result buffer.new.items)
         ≡ take (end - start) (drop start buffer.old.items) }
+    ensures room { result + (end - start) ≤ GREATEST_FRAME }
     ensures len { vec_len buffer.new ≡ vec_len buffer.old }
 {
+    if end <= GREATEST_FRAME {
+        return start;
+    }
     buffer.copy_within(start..end, 0);
+    0
 }
 
 /// The size of the complete frames in front, at most so many: a fault only where it is in front of
 /// all.
 pub(crate) fn frames_in_front(bytes: &[u8], most: usize) -> Result<usize, FrameFault>
     requires most { 0 < most }
-    ensures front { IfOk result (IsFront bytes.now) }
+    ensures front { IfOk result (IsFront bytes.now most) }
     ensures fault { IfErr result (IsFault bytes.now) }
 {
     // laws that the proof stands on: the calls do nothing

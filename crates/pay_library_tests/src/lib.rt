@@ -11,6 +11,8 @@ mod replays;
 #[cfg(test)]
 mod runs;
 #[cfg(test)]
+mod scripts;
+#[cfg(test)]
 mod streams;
 #[cfg(test)]
 mod tags;

@@ -18,8 +18,8 @@ returns-then-size-eq0-clause-begins g c = λ _. rw c.held.ensures at (c.in-Ok.en
 pub returns-in_err-goes_on-in-Ok-clause-handles : goal.returns-in_err-goes_on-in-Ok-clause-handles
 returns-in_err-goes_on-in-Ok-clause-handles g c =
     let h = g.H.FrameHandler.handling c.args.handler.now in
-    let passed : IsFront c.batches.read c.in-Ok.size = rw c.held.ensures at c.in-Ok.ensures.front in
-    let cut : IsFramesThen c.batches.read passed.frames (drop c.in-Ok.size c.batches.read) = cut_of c.stream_grows.ensures.piece c.batches.read c.in-Ok.size passed in
+    let passed : IsFront c.batches.read c.at_once.result c.in-Ok.size = rw c.held.ensures at c.in-Ok.ensures.front in
+    let cut : IsFramesThen c.batches.read passed.frames (drop c.in-Ok.size c.batches.read) = cut_of c.stream_grows.ensures.piece c.batches.read c.at_once.result c.in-Ok.size passed in
     let given : IsFramesThen (take c.in-Ok.size c.held-in-Ok.result.now) passed.frames [] = rw c.held-in-Ok.ensures passed.cut in
     let some : StepsPrefix h c.batches.state c.handle_batch.new.state passed.frames = c.in_err-goes_on-in-Ok.ensures.handles passed.frames given in
     let memory : c.from_residual.result ≡ Err Memory = search rules in
@@ -32,8 +32,8 @@ pub returns-in_err-write_out-in-Ok-clause-handles : goal.returns-in_err-write_ou
 returns-in_err-write_out-in-Ok-clause-handles g c =
     let h = g.H.FrameHandler.handling c.args.handler.now in
     let contents = g.Out.Output.contents in
-    let passed : IsFront c.batches.read c.in-Ok.size = rw c.held.ensures at c.in-Ok.ensures.front in
-    let cut : IsFramesThen c.batches.read passed.frames (drop c.in-Ok.size c.batches.read) = cut_of c.stream_grows.ensures.piece c.batches.read c.in-Ok.size passed in
+    let passed : IsFront c.batches.read c.at_once.result c.in-Ok.size = rw c.held.ensures at c.in-Ok.ensures.front in
+    let cut : IsFramesThen c.batches.read passed.frames (drop c.in-Ok.size c.batches.read) = cut_of c.stream_grows.ensures.piece c.batches.read c.at_once.result c.in-Ok.size passed in
     let given : IsFramesThen (take c.in-Ok.size c.held-in-Ok.result.now) passed.frames [] = rw c.held-in-Ok.ensures passed.cut in
     let some : Batch h c.batches.state c.handle_batch.new.state passed.frames [] c.handle_batch.new.out.items = batch_of h _ _ passed.frames [] _ c.in_ok-goes_on-in-Ok.goes_on (subst (λ xs. HandlesBatch h c.batches.state c.handle_batch.new.state passed.frames xs c.handle_batch.new.out.items (Ok c.in_ok-goes_on-in-Ok.goes_on)) c.clear.ensures.items (c.in_ok-goes_on-in-Ok.ensures.handles passed.frames given)) in
     let e : EngineFault = c.in_err-write_out-in-Ok.field-0.0 in
@@ -51,8 +51,8 @@ pub returns-then-not-goes_on-clause-handles : goal.returns-then-not-goes_on-clau
 returns-then-not-goes_on-clause-handles g c =
     let h = g.H.FrameHandler.handling c.args.handler.now in
     let contents = g.Out.Output.contents in
-    let passed : IsFront c.batches.read c.in-Ok.size = rw c.held.ensures at c.in-Ok.ensures.front in
-    let cut : IsFramesThen c.batches.read passed.frames (drop c.in-Ok.size c.batches.read) = cut_of c.stream_grows.ensures.piece c.batches.read c.in-Ok.size passed in
+    let passed : IsFront c.batches.read c.at_once.result c.in-Ok.size = rw c.held.ensures at c.in-Ok.ensures.front in
+    let cut : IsFramesThen c.batches.read passed.frames (drop c.in-Ok.size c.batches.read) = cut_of c.stream_grows.ensures.piece c.batches.read c.at_once.result c.in-Ok.size passed in
     let given : IsFramesThen (take c.in-Ok.size c.held-in-Ok.result.now) passed.frames [] = rw c.held-in-Ok.ensures passed.cut in
     let off : c.in_ok-goes_on-in-Ok.goes_on ≡ false = search rules in
     let some : StopsAmong h c.batches.state c.handle_batch.new.state passed.frames [] c.handle_batch.new.out.items = rw (off, c.clear.ensures.items) at (c.in_ok-goes_on-in-Ok.ensures.handles passed.frames given) in
@@ -68,8 +68,8 @@ pub batches-preserved : goal.batches-preserved
 batches-preserved g c =
     let h = g.H.FrameHandler.handling c.args.handler.now in
     let contents = g.Out.Output.contents in
-    let passed : IsFront c.batches.read c.in-Ok.size = rw c.held.ensures at c.in-Ok.ensures.front in
-    let cut : IsFramesThen c.batches.read passed.frames c.pass.new.self = rw c.pass.ensures (cut_of c.stream_grows.ensures.piece c.batches.read c.in-Ok.size passed) in
+    let passed : IsFront c.batches.read c.at_once.result c.in-Ok.size = rw c.held.ensures at c.in-Ok.ensures.front in
+    let cut : IsFramesThen c.batches.read passed.frames c.pass.new.self = rw c.pass.ensures (cut_of c.stream_grows.ensures.piece c.batches.read c.at_once.result c.in-Ok.size passed) in
     let given : IsFramesThen (take c.in-Ok.size c.held-in-Ok.result.now) passed.frames [] = rw c.held-in-Ok.ensures passed.cut in
     let on : c.in_ok-goes_on-in-Ok.goes_on ≡ true = search rules in
     let all : HandlesBatch h c.batches.state c.handle_batch.new.state passed.frames [] c.handle_batch.new.out.items (Ok true) = rw (on, c.clear.ensures.items) at (c.in_ok-goes_on-in-Ok.ensures.handles passed.frames given) in
