@@ -44,17 +44,24 @@ class Hostile:
     def __exit__(self, *_):
         self.place.cleanup()
 
-    def run(self, words, stream, **wanted):
-        """Status, output and errors of a run from which this is withheld, and whether it was."""
-        mark = os.path.join(self.place.name, "mark")
+    def given(self, **wanted):
+        """The environment of a run from which this is withheld."""
         given = {f"HOSTILE_{name.upper()}": f"{value}" for name, value in wanted.items()}
-        given |= {"LD_PRELOAD": self.library, "HOSTILE_MARK": mark}
-        how = {"input": stream, "capture_output": True, "timeout": SECONDS, "cwd": self.place.name}
-        done = subprocess.run([program(), *words], env={**os.environ, **given}, **how)
+        return given | {"LD_PRELOAD": self.library, "HOSTILE_MARK": os.path.join(self.place.name, "mark")}
+
+    def was_refused(self):
+        """Whether it was, in the last run."""
+        mark = os.path.join(self.place.name, "mark")
         was_refused = os.path.exists(mark)
         if was_refused:
             os.unlink(mark)
-        return (done.returncode, done.stdout.decode("ascii"), done.stderr.decode()), was_refused
+        return was_refused
+
+    def run(self, words, stream, **wanted):
+        """Status, output and errors of a run from which this is withheld, and whether it was."""
+        how = {"input": stream, "capture_output": True, "timeout": SECONDS, "cwd": self.place.name}
+        done = subprocess.run([program(), *words], env={**os.environ, **self.given(**wanted)}, **how)
+        return (done.returncode, done.stdout.decode("ascii"), done.stderr.decode()), self.was_refused()
 
     def each(self, words, stream, name, **more):
         """A run for each call of this kind that a run has, each with one refused."""
