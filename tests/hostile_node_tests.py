@@ -154,7 +154,7 @@ def each_growth_of_a_node_among_peers_refused(library):
     same(counts["threads"] <= MOST_STARVED, True, f"{counts}")
     same(min(counts[it] for it in ("first", "desk", "peers", "close")) > 0, True, f"{counts}")
     audit_all(runs)
-    print(f"growths refused in turn: {len(runs)}: {counts}")
+    print(f"growths refused: {', '.join(f'{count} {kind}' for kind, count in counts.items())}")
 
 
 def ends_one_connection(library, name, **more):
@@ -173,7 +173,7 @@ def ends_one_connection(library, name, **more):
 def each_read_of_a_socket_fails(library):
     calls, cuts = ends_one_connection(library, "receive")
     same(cuts > 10, True, f"of {calls} reads that failed {cuts} ended a connection")
-    print(f"reads from sockets failed in turn: {calls}, connections that ended: {cuts}")
+    print(f"reads that failed: {calls}, connections that ended: {cuts}")
 
 
 @hostile
@@ -183,4 +183,4 @@ def each_write_to_a_socket_fails_or_takes_little(library):
         calls, cuts = ends_one_connection(library, "send", **more)
         is_right = cuts == 0 if more == {"send_size": 1} else cuts > 10
         same((calls > 10, is_right), (True, True), f"{more}: of {calls} writes {cuts} ended a connection")
-        print(f"writes to sockets {more or 'failed'} in turn: {calls}, connections that ended: {cuts}")
+        print(f"writes that failed, but for {more}: {calls}, connections that ended: {cuts}")

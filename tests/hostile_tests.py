@@ -9,6 +9,7 @@ import re
 import shutil
 import subprocess
 import tempfile
+from collections import Counter
 
 import audits
 import desks
@@ -29,9 +30,10 @@ MOST_TRIES = 1_000
 
 
 class Hostile:
-    """The library, in a folder of its own."""
+    """The library, in a folder of its own, and of each command how many calls of each kind it refused in turn."""
 
     def __enter__(self):
+        self.refused = Counter()
         self.place = tempfile.TemporaryDirectory()
         self.library = os.path.join(self.place.name, "hostile.so")
         source = os.path.join(HERE, "hostile.c")
@@ -70,6 +72,7 @@ class Hostile:
             if not was_refused:
                 same(place > 1, True, f"{words}: nothing was refused")
                 return
+            self.refused[f"{words[0]} {name}"] += 1
             yield place, was
         raise AssertionError(f"{words}: no end of calls to refuse")
 
@@ -83,6 +86,8 @@ def hostile(function):
             return
         with Hostile() as library:
             function(library)
+            for kind, count in library.refused.items():
+                print(f"{kind}: {count} refused in turn")
 
     tried.__name__, tried.__module__ = function.__name__, function.__module__
     return test(tried)
@@ -103,18 +108,15 @@ def streams():
 @hostile
 def each_growth_refused(library):
     """Memory is the answer, or that with ample memory; what was written is a prefix of it."""
-    tried = 0
     for words, stream in streams():
         if words[0] == "desk":
             continue
         ample = run(words, stream)
         for place, was in library.each(words, stream, "growth"):
-            tried += 1
             if was != ample:
                 status, text, errors = was
                 same((status, MEMORY.fullmatch(errors) is not None), (3, True), f"{words}, growth {place}: {was}")
                 same(ample[1].startswith(text), True, f"{words}, growth {place}: a prefix")
-    print(f"growths refused in turn: {tried}")
 
 
 @hostile
@@ -171,6 +173,7 @@ def each_growth_of_a_node_refused(library):
         if not was_refused:
             same(unjudged > 0, True, "no growth of the close was refused")
             return
+        library.refused["node growth"] += 1
         of = f"growth {place}: {status} {text} {errors}"
         if errors == "payd: close 0 Memory\n":
             # (what was answered isn't judged, and the export is written all the same)
