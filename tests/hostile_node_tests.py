@@ -34,10 +34,10 @@ REFUSED = ["refused 0 Memory"]
 CLOSE_REFUSED = (3, TEXT, "payd: close 0 Memory\n")
 EXPORT_REFUSED = (3, "", "payd: engine 0 Memory\n")
 
-# How long nothing settles before a node is looked at that lacks threads.
-SHORT = 0.5
-# Of how many threads the making takes memory: the workers', the acceptor's, and a reader's for each peer.
-MOST_STARVED = 8
+# How many seconds nothing settles before it counts that a node lacks threads, as one does to which memory was refused
+# while they were made; and of how many runs that may be said, for a slow machine makes them late.
+SHORT = 1
+MOST_STARVED = 16
 # Where more calls than these are refused, no run ever has so few.
 MOST_CALLS = 2_000
 
@@ -179,8 +179,8 @@ def each_read_of_a_socket_fails(library):
 @hostile
 def each_write_to_a_socket_fails_or_takes_little(library):
     """One that takes nothing is one that fails; behind one that takes a byte the others go out."""
-    for more in ({}, {"send_size": 0}, {"send_size": 1}):
+    for way, more in (("failed", {}), ("took nothing", {"send_size": 0}), ("took a byte", {"send_size": 1})):
         calls, cuts = ends_one_connection(library, "send", **more)
-        is_right = cuts == 0 if more == {"send_size": 1} else cuts > 10
-        same((calls > 10, is_right), (True, True), f"{more}: of {calls} writes {cuts} ended a connection")
-        print(f"writes that failed, but for {more}: {calls}, connections that ended: {cuts}")
+        is_right = cuts == 0 if way == "took a byte" else cuts > 10
+        same((calls > 10, is_right), (True, True), f"of {calls} writes that {way} {cuts} ended a connection")
+        print(f"writes that {way}: {calls}, connections that ended: {cuts}")
