@@ -53,6 +53,7 @@ def each_bit_of_each_frame_turned():
                 played.append(f"raw {receiver} {right.hex()}")
         rights = sum(it.startswith("raw ") for it in played) - len(turned)
         same(rights, count, f"the frames of {name}")
+        print(f"{name}: {len(turned)} bits turned, of {rights} frames")
         was, output, errors = run(["sim"], script_of(world, played))
         replies = output.splitlines()
         same((was, errors), (status, ""), name)
@@ -68,6 +69,7 @@ def each_bit_of_each_frame_turned():
 @test
 def each_bit_of_a_repeated_frame_turned():
     right = frame(SEND, 0, OWN, 0)
+    print(f"a repeated frame: {8 * len(right)} bits turned, before it and behind it")
     for place, wrong in enumerate(with_a_bit_turned(right)):
         for stream in (wrong + right, right + wrong):
             status, text, errors = check(stream)

@@ -1,7 +1,7 @@
 // Comes between the program and the C library, and refuses what the environment says: one growth of memory, one read
-// of standard input or one write of standard output, counted from 1, or all but so many bytes of each; one growth in a
-// further thread, one thread or all; or interrupts the first reads. Where it refused something it makes the file that
-// HOSTILE_MARK names.
+// of standard input, one write of standard output, one receipt from a socket or one sending to one, counted from 1; or
+// all but so many bytes of each read or write, or of that sending; one growth in a further thread, one thread or all; or
+// interrupts the first reads. Where it refused something it makes the file that HOSTILE_MARK names.
 #define _GNU_SOURCE
 #include <dlfcn.h>
 #include <errno.h>
@@ -10,10 +10,11 @@
 #include <stdatomic.h>
 #include <stdlib.h>
 #include <string.h>
+#include <sys/socket.h>
 #include <sys/syscall.h>
 #include <unistd.h>
 
-static atomic_long growths, reads, interrupted, writes;
+static atomic_long growths, reads, interrupted, writes, receives, sends;
 
 static long wanted(const char *name) {
     const char *text = getenv(name);
@@ -125,4 +126,27 @@ int pthread_create(pthread_t *made, const pthread_attr_t *how, void *(*run)(void
         return EAGAIN;
     }
     return refused(&threads, "HOSTILE_THREAD") ? EAGAIN : real(made, how, run, with);
+}
+
+ssize_t recv(int file, void *buffer, size_t size, int flags) {
+    if (refused(&receives, "HOSTILE_RECEIVE")) {
+        errno = ECONNRESET;
+        return -1;
+    }
+    return syscall(SYS_recvfrom, file, buffer, size, flags, NULL, NULL);
+}
+
+ssize_t send(int file, const void *buffer, size_t size, int flags) {
+    if (refused(&sends, "HOSTILE_SEND")) {
+        if (getenv("HOSTILE_SEND_SIZE") == NULL) {
+            errno = EPIPE;
+            return -1;
+        }
+        size_t most = wanted("HOSTILE_SEND_SIZE");
+        size = size < most ? size : most;
+        if (size == 0) {
+            return 0;
+        }
+    }
+    return syscall(SYS_sendto, file, buffer, size, flags, NULL, 0);
 }

@@ -9,6 +9,7 @@ import re
 import shutil
 import subprocess
 import tempfile
+from collections import Counter
 
 import audits
 import desks
@@ -29,9 +30,10 @@ MOST_TRIES = 1_000
 
 
 class Hostile:
-    """The library, in a folder of its own."""
+    """The library, in a folder of its own, and of each command how many calls of each kind it refused in turn."""
 
     def __enter__(self):
+        self.refused = Counter()
         self.place = tempfile.TemporaryDirectory()
         self.library = os.path.join(self.place.name, "hostile.so")
         source = os.path.join(HERE, "hostile.c")
@@ -44,17 +46,24 @@ class Hostile:
     def __exit__(self, *_):
         self.place.cleanup()
 
-    def run(self, words, stream, **wanted):
-        """Status, output and errors of a run from which this is withheld, and whether it was."""
-        mark = os.path.join(self.place.name, "mark")
+    def given(self, **wanted):
+        """The environment of a run from which this is withheld."""
         given = {f"HOSTILE_{name.upper()}": f"{value}" for name, value in wanted.items()}
-        given |= {"LD_PRELOAD": self.library, "HOSTILE_MARK": mark}
-        how = {"input": stream, "capture_output": True, "timeout": SECONDS, "cwd": self.place.name}
-        done = subprocess.run([program(), *words], env={**os.environ, **given}, **how)
+        return given | {"LD_PRELOAD": self.library, "HOSTILE_MARK": os.path.join(self.place.name, "mark")}
+
+    def was_refused(self):
+        """Whether it was, in the last run."""
+        mark = os.path.join(self.place.name, "mark")
         was_refused = os.path.exists(mark)
         if was_refused:
             os.unlink(mark)
-        return (done.returncode, done.stdout.decode("ascii"), done.stderr.decode()), was_refused
+        return was_refused
+
+    def run(self, words, stream, **wanted):
+        """Status, output and errors of a run from which this is withheld, and whether it was."""
+        how = {"input": stream, "capture_output": True, "timeout": SECONDS, "cwd": self.place.name}
+        done = subprocess.run([program(), *words], env={**os.environ, **self.given(**wanted)}, **how)
+        return (done.returncode, done.stdout.decode("ascii"), done.stderr.decode()), self.was_refused()
 
     def each(self, words, stream, name, **more):
         """A run for each call of this kind that a run has, each with one refused."""
@@ -63,6 +72,7 @@ class Hostile:
             if not was_refused:
                 same(place > 1, True, f"{words}: nothing was refused")
                 return
+            self.refused[f"{words[0]} {name}"] += 1
             yield place, was
         raise AssertionError(f"{words}: no end of calls to refuse")
 
@@ -76,6 +86,8 @@ def hostile(function):
             return
         with Hostile() as library:
             function(library)
+            for kind, count in library.refused.items():
+                print(f"{kind}: {count} refused in turn")
 
     tried.__name__, tried.__module__ = function.__name__, function.__module__
     return test(tried)
@@ -96,18 +108,15 @@ def streams():
 @hostile
 def each_growth_refused(library):
     """Memory is the answer, or that with ample memory; what was written is a prefix of it."""
-    tried = 0
     for words, stream in streams():
         if words[0] == "desk":
             continue
         ample = run(words, stream)
         for place, was in library.each(words, stream, "growth"):
-            tried += 1
             if was != ample:
                 status, text, errors = was
                 same((status, MEMORY.fullmatch(errors) is not None), (3, True), f"{words}, growth {place}: {was}")
                 same(ample[1].startswith(text), True, f"{words}, growth {place}: a prefix")
-    print(f"growths refused in turn: {tried}")
 
 
 @hostile
@@ -164,6 +173,7 @@ def each_growth_of_a_node_refused(library):
         if not was_refused:
             same(unjudged > 0, True, "no growth of the close was refused")
             return
+        library.refused["node growth"] += 1
         of = f"growth {place}: {status} {text} {errors}"
         if errors == "payd: close 0 Memory\n":
             # (what was answered isn't judged, and the export is written all the same)

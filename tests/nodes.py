@@ -63,13 +63,19 @@ def write_json(folder, name, value):
         json.dump(value, file)
 
 
-class Node:
-    """A running node, and its desk."""
+class Ended(AssertionError):
+    """A node ended that was to answer."""
 
-    def __init__(self, own, folder, ports, options=(), prefix=()):
-        words = [*prefix, PAYD, "node", "--genesis", "genesis", "--keys", f"keys-{own}", "--ports", ports, *options]
+
+class Node:
+    """A running node, and its desk. Another program may run it, and with more in its environment."""
+
+    def __init__(self, own, folder, ports, options=(), prefix=(), program=None, given=()):
+        files = ["--genesis", "genesis", "--keys", f"keys-{own}", "--ports", ports]
+        words = [*prefix, program or PAYD, "node", *files, *options]
         pipe = subprocess.PIPE
-        self.child = subprocess.Popen(words, cwd=folder, stdin=pipe, stdout=pipe, stderr=pipe, bufsize=0)
+        how = {"cwd": folder, "env": {**os.environ, **dict(given)}, "bufsize": 0}
+        self.child = subprocess.Popen(words, stdin=pipe, stdout=pipe, stderr=pipe, **how)
         self.own = own
         self.held = b""
         self.said = b""
@@ -86,7 +92,8 @@ class Node:
                 raise AssertionError(f"node {self.own} didn't answer within {PATIENCE} s, but {self.held!r}")
             piece = os.read(self.child.stdout.fileno(), 65536)
             if piece == b"":
-                raise AssertionError(f"node {self.own} ended with {self.child.stderr.read()!r} behind {self.held!r}")
+                self.said += self.child.stderr.read()
+                raise Ended(f"node {self.own} ended with {self.said!r} behind {self.held!r}")
             self.held += piece
         line, _, self.held = self.held.partition(b"\n")
         return line.decode("ascii")

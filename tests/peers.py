@@ -32,6 +32,13 @@ def received(stream):
     return text
 
 
+def next_want(stream, peer):
+    """The number that a peer wants next, or None where the connection is of no more use."""
+    text = received(stream)
+    found = text and read_frame(text)
+    return found[3] if isinstance(found, tuple) and found[:2] == (WANT, peer) and found[5] else None
+
+
 def poured(stream, text):
     """Sends as much of a text as the other takes while nobody reads its answers."""
     stream.setblocking(False)
@@ -141,13 +148,7 @@ class Liar:
             else:
                 kind, owner, seq, value = stories[turn][number]
                 stream.sendall(frame(kind, self.own, peer, number, owner=owner, seq=seq, value=value))
-            number = self.next_want(stream, peer)
-
-    def next_want(self, stream, peer):
-        """The number that is wanted next, or None where the connection is of no more use."""
-        text = received(stream)
-        found = text and read_frame(text)
-        return found[3] if isinstance(found, tuple) and found[:2] == (WANT, peer) and found[5] else None
+            number = next_want(stream, peer)
 
     def all_taken(self):
         """Whether each of the others took its last story to the end."""

@@ -12,7 +12,8 @@ use std::test::Fail;
 /// A payment to oneself, which moves nothing.
 const VALUE: [u8; 11] = [1, 0, 0, 0, 0, 0, 0, 0, 0, 0, 5];
 
-/// How many values are settled where that one got this number, or why there is no such history.
+/// How many values are settled where that one got this number, or why there is no such history. Where memory is refused
+/// to the replay, it is made once more.
 fn settled(alloc: Global, seq: u32) -> Result<Result<u32, ReplayFault>, Fail> {
     let genesis = Genesis::new(alloc, 1, 0, &[7])?;
     if genesis.members() == 0 {
@@ -25,13 +26,17 @@ fn settled(alloc: Global, seq: u32) -> Result<Result<u32, ReplayFault>, Fail> {
         event: Event::Ask(Bytes::from_slice(alloc, &VALUE)?),
         reply: Reply::Asked(seq),
     })?;
-    let again: Result<Member<PlainInstance, PlainBook>, ReplayFault> = replay(
+    let first: Result<Member<PlainInstance, PlainBook>, ReplayFault> = replay(
         alloc,
         &genesis,
         &keys,
         history.as_slice(),
     );
-    Ok(match again {
+    let last = match first {
+        Err(ReplayFault::Memory) => replay(alloc, &genesis, &keys, history.as_slice()),
+        first => first,
+    };
+    Ok(match last {
         Ok(member) => Ok(member.front(0)),
         Err(fault) => Err(fault),
     })

@@ -114,12 +114,13 @@ fn shown(world: &World<PlainInstance, PlainBook>) -> (u64, bool) {
     (balance, world.may_pass(0, 1, 0))
 }
 
+/// What comes of these. Where memory is refused to the run, it is made once more.
 fn run(alloc: Global, deeds: &[Deed]) -> Result<Result<(u64, bool), WorldFault>, Fail> {
-    let events = events_of(alloc, deeds)?;
+    let (events, again) = (events_of(alloc, deeds)?, events_of(alloc, deeds)?);
     let genesis = Genesis::new(alloc, 4, 1, &[100, 0, 0, 50])?;
     let keys = group_test_keys(alloc, &genesis)?;
     let liars = Liars::new(alloc, &genesis, &[3])?;
-    let world = run_world(
+    let first = run_world(
         alloc,
         &HmacSha256,
         &genesis,
@@ -127,7 +128,18 @@ fn run(alloc: Global, deeds: &[Deed]) -> Result<Result<(u64, bool), WorldFault>,
         &liars,
         events,
     );
-    Ok(match world {
+    let last = match first {
+        Err(WorldFault::Memory) => run_world(
+            alloc,
+            &HmacSha256,
+            &genesis,
+            keys.as_slice(),
+            &liars,
+            again,
+        ),
+        first => first,
+    };
+    Ok(match last {
         Ok(world) => Ok(shown(&world)),
         Err(fault) => Err(fault),
     })

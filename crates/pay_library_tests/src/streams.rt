@@ -44,12 +44,21 @@ fn served(alloc: Global, bytes: &[u8]) -> Result<(Vec<u8>, Result<(), EngineFaul
     Ok((writer.into_inner(), ended))
 }
 
+/// The same, once more where memory is refused: to a call, or to the list that is written to.
+fn served_at_last(alloc: Global, bytes: &[u8]) -> Result<(Vec<u8>, Result<(), EngineFault>), Fail> {
+    match served(alloc, bytes)? {
+        (_, Err(EngineFault::Memory | EngineFault::Write)) => served(alloc, bytes),
+        first => Ok(first),
+    }
+}
+
 #[test]
 fn repeated_frame_cut_anywhere(rt: HostRuntime) -> Result<(), Fail> {
     let stream = hex::decode(rt.alloc(), TWICE)?;
     let wants = hex::decode(rt.alloc(), WANTS)?;
     for cut in 0..=2 * FRAME {
-        let (text, ended) = served(rt.alloc(), stream.get(..cut).ok_or("a short stream")?)?;
+        let part = stream.get(..cut).ok_or("a short stream")?;
+        let (text, ended) = served_at_last(rt.alloc(), part)?;
         let wanted = wants.get(..FRAME + cut / FRAME * FRAME);
         let end = if cut % FRAME == 0 {
             Ok(())
