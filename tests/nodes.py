@@ -57,6 +57,16 @@ def told_apart(errors):
     """What standard error says of peers, and all else that is there."""
     return [(int(peer), word) for peer, word in NEWS.findall(errors)], NEWS.sub("", errors)
 
+# what tools/hold-node says behind a fault that ended a node
+ADVICE = re.compile(r"payd: to do: [^\n]+\n\Z")
+
+
+def advised(was):
+    """Status, output and errors of a node that a fault ended, without the advice, which has to be there."""
+    status, output, errors = was
+    same(ADVICE.search(errors) is not None, True, f"advice behind {errors!r}")
+    return status, output, ADVICE.sub("", errors)
+
 
 def write_json(folder, name, value):
     with open(os.path.join(folder, name), "w", encoding="ascii") as file:
