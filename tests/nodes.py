@@ -76,9 +76,9 @@ def write_json(folder, name, value):
 class Node:
     """A running node, and its desk."""
 
-    def __init__(self, own, folder, ports, options=(), prefix=()):
-        words = [*prefix, PAYD, "node", "--genesis", "genesis", "--keys", f"keys-{own}", "--ports", ports, *options]
-        pipe = subprocess.PIPE
+    def __init__(self, own, folder, ports="ports", options=(), prefix=(), command=None):
+        usual = [PAYD, "node", "--genesis", "genesis", "--keys", f"keys-{own}", "--ports", ports, *options]
+        words, pipe = [*prefix, *(command or usual)], subprocess.PIPE
         self.child = subprocess.Popen(words, cwd=folder, stdin=pipe, stdout=pipe, stderr=pipe, bufsize=0)
         self.own = own
         self.held = b""
