@@ -5,7 +5,7 @@ import socket
 import time
 
 from frames import ECHO, SEND, WANT, frame, payment, read_frame
-from nodes import Group, advised, free_ports
+from nodes import Group, advised, free_ports, told_apart
 from peers import connected, received
 from runs import SECONDS, key_texts, same, shows, test, with_files
 
@@ -27,7 +27,7 @@ def words_that_say_no_number_ahead():
         same((status, output, errors != ""), (2, "", True), f"{more}")
     for word in ("1", "2", "63", "64"):
         status, output, errors = with_files(files, [*words, "--dials", "1", "--ahead", word], b"FRONT\n")
-        same((status, output.split("\n")[0], errors), (0, "front 0 0", ""), f"{word!r}")
+        same((status, output.split("\n")[0], told_apart(errors)[1]), (0, "front 0 0", ""), f"{word!r}")
 
 
 def wanted(ahead, frames):
