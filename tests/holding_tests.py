@@ -127,6 +127,23 @@ def killed_node_has_advice():
 
 
 @test
+def advice_goes_by_the_file_of_the_export():
+    rows = (
+        ('os.write(1, b"{}\\n"); os.kill(os.getpid(), 9)', 137, "the export is whole: keep it\n"),
+        ('os.write(1, b"{}\\n"); os.write(2, b"payd: close 0 Memory\\n"); sys.exit(3)', 3, "the export is whole"),
+        ('os.write(1, b"{}"); os.kill(os.getpid(), 9)', 137, "this member's history is lost"),
+        ('os.write(2, b"payd: close 0 Memory\\n"); sys.exit(3)', 3, "this member's history is lost"),
+        ("", 3, "this member's history is lost"),
+    )
+    for code, status, advice in rows:
+        with tempfile.TemporaryDirectory() as folder:
+            child = held(["--export", os.path.join(folder, "e")], code)
+            output, errors = child.communicate(timeout=SECONDS)
+            told = f"payd: to do: {advice}" in errors.decode()
+            same((child.returncode, output, told), (status, b"", True), f"{code}: {errors!r}")
+
+
+@test
 def export_goes_to_its_file():
     with Group(OPENING, running=range(3)) as group:
         export = os.path.join(group.place.name, "export.json")
