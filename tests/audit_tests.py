@@ -16,9 +16,9 @@ from scripts import RandomScripts
 
 @test
 def each_verdict():
-    for exports, line in audits.ROWS:
-        shows(audit(exports), 0 if line == "clean" else 1, f"{line}\n", of=line)
-        same(audits.verdict(exports), line, f"the model of {line}")
+    for purpose, exports, line in audits.ROWS:
+        shows(audit(exports), 0 if line == "clean" else 1, f"{line}\n", of=purpose)
+        same(audits.verdict(exports), line, f"the model: {purpose}")
 
 
 @test
@@ -32,9 +32,9 @@ def random_exports_as_the_model_has_them():
 
 @test
 def each_fault_of_an_export():
-    for members, fault in audits.FAULTS:
+    for wrong, members, fault in audits.FAULTS:
         files = {"good": audits.PAID, "bad": audits.changed(members)}
-        shows(with_files(files, ["audit", "good", "bad"]), 2, "", f"payd: export {fault}\n", of=f"{members}"[:80])
+        shows(with_files(files, ["audit", "good", "bad"]), 2, "", f"payd: export {fault}\n", of=wrong)
     for text in ("", "{", "nan", b"\xef\xbb\xbf{}", b'"\xff"', json.dumps(audits.PAID) + "x"):
         shows(with_files({"bad": text}, ["audit", "bad"]), 2, "", "payd: export 1 BadJson\n", of=f"{text}")
     for text in ("[]", "7", "{}"):

@@ -232,3 +232,26 @@ def keys_that_are_made_fit():
                 keys.append(json.load(file)["keys"])
         same(all(keys[a][b] == keys[b][a] for a in range(4) for b in range(4)), True, "a pair shares its key")
         same(len({key for row in keys for key in row}), 7, "each pair has its own")
+
+
+@test
+def what_make_keys_refuses():
+    """Each fault is named, and what stands isn't written over."""
+    make = os.path.join(TOP, "examples", "make-keys")
+
+    def refuses(fault, *words):
+        done = subprocess.run([make, *words], capture_output=True, text=True, timeout=SECONDS)
+        same((done.returncode, done.stdout, done.stderr.startswith(fault)), (1, "", True), f"{words}: {done.stderr}")
+
+    with tempfile.TemporaryDirectory() as folder:
+        subprocess.run([make, "128", folder], check=True, timeout=SECONDS)
+        same(sorted(os.listdir(folder)), sorted(f"keys-{own}.json" for own in range(128)), "the files of 128")
+        for words in (["0", folder], ["129", folder], ["four", folder], ["-1", folder], ["4"], [], ["4", folder, "x"]):
+            refuses("Makes files of keys", *words)
+        first, third = (os.path.join(folder, f"keys-{own}.json") for own in (0, 2))
+        for own in (0, 1):
+            os.unlink(os.path.join(folder, f"keys-{own}.json"))
+        refuses(f"examples/make-keys: {third} is there already\n", "4", folder)
+        same(os.path.exists(first), False, "a file beside one that was there")
+        below = os.path.join(third, "keys")
+        refuses(f"examples/make-keys: {below}: Not a directory\n", "4", below)

@@ -3,6 +3,7 @@
 import os
 import re
 import subprocess
+import tempfile
 import xml.etree.ElementTree as xml
 
 from runs import SECONDS, TOP, same, test
@@ -32,6 +33,32 @@ def pictures_of_the_examples():
         same(len(arrows) - KINDS, alone + brought, f"the arrows of {name}")
         members = [it.text for it in picture.iter() if (it.text or "").startswith("member ")]
         same(len(members), 4, f"the columns of {name}")
+
+
+@test
+def picture_of_several_payments():
+    """Those of one value are one event: a text at the payer's column, and the frames that follow begin there."""
+    lines = (
+        '{"members": 4, "faults": 1, "opening": [100, 0, 0, 50], "liars": [2]}',
+        "asks 0 1 30 3 20",
+        "asks 3 0 1 1 2 0 3 1 4 0 5",
+        "ask 1 0 7",
+        "asks 2 0 1",
+        "bring 0 1 0",
+        "bring 3 1 0",
+    )
+    with tempfile.TemporaryDirectory() as folder:
+        script = os.path.join(folder, "script")
+        with open(script, "w", encoding="ascii") as file:
+            file.write("".join(f"{line}\n" for line in lines))
+        picture = drawn(script)
+    told = [it.text for it in picture.iter() if (it.text or "").startswith("pays")]
+    wanted = ["pays 30 to 1, 20 to 3", "pays 1 to 0, 2 to 1, 3 to 0, 2 more", "pays 7 to 0", "pays 1 to 0: ignored"]
+    same(told, wanted, "what members are asked")
+    dots = [(it.get("cx"), it.get("cy")) for it in picture.iter() if it.get("r") == "3"][1:]
+    begun = [(it.get("x1"), it.get("y1")) for it in picture.iter() if it.get("marker-end") == TIP][KINDS:]
+    rounded = [tuple(map(float, it)) for it in (dots[0], dots[1], *begun)]
+    same((len(dots), rounded[2:]), (3, rounded[:2]), "where the two frames begin")
 
 
 @test

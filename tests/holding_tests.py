@@ -19,6 +19,7 @@ PAIR_KEYS = os.path.join(TOP, "tools", "pair-keys")
 
 # Stands in for the program: reads its lines to their end, then does this.
 STAND_IN = "import sys, time, os; sys.stdin.buffer.read(); "
+NEWLINE = b"\n"
 
 
 def paid(group):
@@ -77,6 +78,71 @@ def third_signal_ends_a_node():
     same("account is lost" in errors.decode(), True, f"the second one says what would be lost: {errors!r}")
 
 
+# What a node says last, its status, and words of the advice behind that.
+FAULTS = (
+    ("payd: genesis 3 BadCount", 2, "nothing was started: take the genesis"),
+    ("payd: genesis 0 Memory", 3, "nothing was started: free some memory"),
+    ("payd: keys 0 Memory", 3, "nothing was started: free some memory"),
+    ("payd: ports 0 Memory", 3, "nothing was started: free some memory"),
+    ("payd: keys 3 BadOwn", 2, "nothing was started: mend the file of keys"),
+    ("payd: ports 2 BadShape", 2, "nothing was started: mend the file of ports"),
+    ("payd: file genesis.json", 2, "nothing was started: see that this file is there"),
+    ("payd: dials x: neither a count from 1 on nor always", 2, "nothing was started: payd node --help"),
+    ("error: unexpected argument\n\nFor more information, try '--help'.", 2, "nothing was started: payd node --help"),
+    ("payd: port 11000", 3, "nothing was started: end what has this port"),
+    ("payd: peer 2 met\npayd: close 0 Memory", 3, "the export is whole: keep it"),
+    ("payd: close 1 Mismatch", 1, "keep all files, trust no answer"),
+    ("payd: engine 0 Memory", 3, "this member's history is lost: never start it again"),
+    ("payd: engine 2 Read", 3, "this member's history is lost: never start it again"),
+    ("payd: engine 3 Write", 3, "this member's history is lost: never start it again"),
+    ("payd: peer 1 lost\npayd: engine 4 Bound", 3, "this member's history is lost: never start it again"),
+)
+
+
+@test
+def each_fault_has_advice():
+    for said, status, advice in FAULTS:
+        child = held([], f"os.write(2, {said.encode() + NEWLINE!r}); sys.exit({status})")
+        output, errors = child.communicate(timeout=SECONDS)
+        *lines, last = errors.decode().splitlines()
+        same((child.returncode, output, lines), (status, b"", said.split("\n")), f"behind {said!r}")
+        same(last.startswith(f"payd: to do: {advice}"), True, f"behind {said!r}: {last!r}")
+
+
+@test
+def no_advice_without_a_fault():
+    for said in (b"", b"payd: peer 1 met\n"):
+        child = held([], f"os.write(2, {said!r})")
+        output, errors = child.communicate(timeout=SECONDS)
+        same((child.returncode, output, errors), (0, b"", said), f"behind {said!r}")
+
+
+@test
+def killed_node_has_advice():
+    """By another than the script, as where memory runs out."""
+    child = held([], "os.kill(os.getpid(), 9)")
+    output, errors = child.communicate(timeout=SECONDS)
+    same((child.returncode, output), (128 + signal.SIGKILL, b""), "the end")
+    same(b"payd: to do: this member's history is lost" in errors, True, f"{errors!r}")
+
+
+@test
+def advice_goes_by_the_file_of_the_export():
+    rows = (
+        ('os.write(1, b"{}\\n"); os.kill(os.getpid(), 9)', 137, "the export is whole: keep it\n"),
+        ('os.write(1, b"{}\\n"); os.write(2, b"payd: close 0 Memory\\n"); sys.exit(3)', 3, "the export is whole"),
+        ('os.write(1, b"{}"); os.kill(os.getpid(), 9)', 137, "this member's history is lost"),
+        ('os.write(2, b"payd: close 0 Memory\\n"); sys.exit(3)', 3, "this member's history is lost"),
+        ("", 3, "this member's history is lost"),
+    )
+    for code, status, advice in rows:
+        with tempfile.TemporaryDirectory() as folder:
+            child = held(["--export", os.path.join(folder, "e")], code)
+            output, errors = child.communicate(timeout=SECONDS)
+            told = f"payd: to do: {advice}" in errors.decode()
+            same((child.returncode, output, told), (status, b"", True), f"{code}: {errors!r}")
+
+
 @test
 def export_goes_to_its_file():
     with Group(OPENING, running=range(3)) as group:
@@ -92,7 +158,8 @@ def export_goes_to_its_file():
         same([it for it in os.listdir(group.place.name) if it.endswith(".part")], [], "what is left beside it")
         again = subprocess.run([PAYD, "node", "--export", export], input=b"", capture_output=True, timeout=SECONDS)
         same((again.returncode, again.stdout), (2, b""), "a file that is there")
-        same(b"is there already" in again.stderr, True, f"{again.stderr!r}")
+        told = again.stderr.decode().splitlines()[-2:]
+        same(["is there already" in told[0], told[1][:32]], [True, "payd: to do: nothing was started"], f"{told}")
 
 
 @test

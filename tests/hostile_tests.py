@@ -121,7 +121,7 @@ def each_growth_refused(library):
 
 @hostile
 def each_growth_of_an_audit_refused(library):
-    for place, (exports, line) in enumerate(audits.ROWS[:8]):
+    for place, (_, exports, line) in enumerate(audits.ROWS[:8]):
         names = []
         for number, export in enumerate(exports):
             names.append(f"{place}-{number}.json")

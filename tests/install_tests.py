@@ -1,6 +1,8 @@
 """Black-box tests of tools/install: what stands below the prefix works without the repository."""
 
 import os
+import re
+import shutil
 import subprocess
 import tempfile
 
@@ -47,6 +49,45 @@ def manual_and_completions():
         script = os.path.join(prefix, "share", "bash-completion", "completions", "payd")
         ask = f"source {script}; COMP_WORDS=(payd node --e); COMP_CWORD=2; _payd; echo ${{COMPREPLY[*]}}"
         same(run_in(folder, ["bash", "-c", ask]), (0, "--export\n", ""), "a completion")
+
+
+COMPLETIONS = {
+    "bash": "share/bash-completion/completions/payd",
+    "zsh": "share/zsh/site-functions/_payd",
+    "fish": "share/fish/vendor_completions.d/payd.fish",
+}
+
+
+@test
+def completions_for_each_shell():
+    """Each is there, has all commands and the options of a node, and its shell reads it where that is installed."""
+    with tempfile.TemporaryDirectory() as folder:
+        subprocess.run([INSTALL, folder], check=True, capture_output=True, timeout=SECONDS)
+        for shell, place in COMPLETIONS.items():
+            path = os.path.join(folder, place)
+            with open(path, encoding="ascii") as file:
+                words = set(re.findall(r"[a-z]+", file.read()))
+            wanted = "check sim desk node audit statement journal genesis keys ports dials ahead export lines stay"
+            same(set(wanted.split()) - words, set(), f"words that the completions for {shell} lack")
+            if shutil.which(shell) is None:
+                print(f"completions_for_each_shell is skipped for {shell}: no {shell}")
+                continue
+            same(run_in(folder, [shell, "-n", path]), (0, "", ""), f"{shell} reads its completions")
+            with open(os.path.join(folder, "wrong"), "w", encoding="ascii") as file:
+                file.write("if (\n")
+            same(run_in(folder, [shell, "-n", "wrong"])[0] != 0, True, f"{shell} refuses what is no script")
+
+
+@test
+def fish_completes_a_node():
+    """As bash in the test of the manual; zsh completes in a terminal only."""
+    if shutil.which("fish") is None:
+        print("fish_completes_a_node is skipped: no fish")
+        return
+    with tempfile.TemporaryDirectory() as folder:
+        subprocess.run([INSTALL, folder], check=True, capture_output=True, timeout=SECONDS)
+        ask = f"source {os.path.join(folder, COMPLETIONS['fish'])}; complete -C 'payd node --e'"
+        same(run_in(folder, ["fish", "--no-config", "-c", ask]), (0, "--export\n", ""), "a completion")
 
 
 @test

@@ -115,8 +115,8 @@ def date_of_today():
 
 @test
 def words_and_faults_of_a_journal():
-    for members, fault in audits.FAULTS:
-        shows(journal_of(changed(members)), 2, "", f"payd: export {fault}\n", of=f"{members}"[:80])
+    for wrong, members, fault in audits.FAULTS:
+        shows(journal_of(changed(members)), 2, "", f"payd: export {fault}\n", of=wrong)
     shows(with_files({}, ["journal", "gone"]), 2, "", "payd: file gone\n", of="no file")
     same(with_files({}, ["journal"])[:2], (2, ""), "no word")
     same(with_files({"a": PAID, "b": FRESH}, ["journal", "a", "b"])[:2], (2, ""), "two exports of one group")

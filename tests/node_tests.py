@@ -11,7 +11,7 @@ import tempfile
 import desks
 from frames import ECHO, READY, SEND, WANT, frame, payment
 from model import Member
-from nodes import PATIENCE, Group, audited, compact, export_text, free_ports, until, write_json
+from nodes import PATIENCE, Group, advised, audited, compact, export_text, free_ports, until, write_json
 from peers import Cuts, Hostile, Liar, Strangers, connected, received
 from runs import GENESIS, GENESIS_ROWS, KEYS_ROWS, PAYD, SECONDS, TOP, key_texts, run, same, shows, test, with_files
 
@@ -191,7 +191,8 @@ def devices_of_a_node():
         for text in (b"FRONT\n", b""):
             with open("/dev/full", "wb") as sink:
                 done = subprocess.run(words, input=text, stdout=sink, **given)
-            same((done.returncode, done.stderr), (3, b"payd: engine 3 Write\n"), f"a full disk, {text}")
+            was = advised((done.returncode, "", done.stderr.decode()))
+            same(was, (3, "", "payd: engine 3 Write\n"), f"a full disk, {text}")
         folder = os.open(TOP, os.O_RDONLY)
         done = subprocess.run(words, stdin=folder, stdout=subprocess.PIPE, **given)
         os.close(folder)
@@ -244,7 +245,7 @@ KEYS = {"own": 0, "keys": key_texts(0)}
 def each_fault_of_ports():
     for content, fault in PORTS_ROWS:
         was = with_files({"g": GENESIS, "k": KEYS, "p": content}, NODE, b"FRONT\n")
-        shows(was, 2, "", f"payd: ports {fault}\n", of=f"{content!r}"[:80])
+        shows(advised(was), 2, "", f"payd: ports {fault}\n", of=f"{content!r}"[:80])
 
 
 @test
@@ -281,13 +282,14 @@ def first_fault_of_a_nodes_files():
             ["--genesis", genesis, "--keys", keys, "--ports", ports],
             ["--ports", ports, "--keys", keys, "--genesis", genesis],
         ):
-            shows(with_files(files, ["node", *words], b"FRONT\n"), 2, "", f"payd: {line}\n", of=f"{words}")
+            was = advised(with_files(files, ["node", *words], b"FRONT\n"))
+            shows(was, 2, "", f"payd: {line}\n", of=f"{words}")
     for content, fault in GENESIS_ROWS:
         was = with_files({"g": content, "k": "{", "p": "{"}, NODE, b"FRONT\n")
-        shows(was, 2, "", f"payd: genesis {fault}\n", of=f"{content!r}")
+        shows(advised(was), 2, "", f"payd: genesis {fault}\n", of=f"{content!r}")
     for content, fault in KEYS_ROWS:
         was = with_files({"g": GENESIS, "k": content, "p": "{"}, NODE, b"FRONT\n")
-        shows(was, 2, "", f"payd: keys {fault}\n", of=f"{content!r}")
+        shows(advised(was), 2, "", f"payd: keys {fault}\n", of=f"{content!r}")
 
 
 @test
@@ -297,12 +299,13 @@ def port_that_is_taken():
         for own in range(4):
             was = node_alone(b"FRONT\n", own, ports=ports)
             if own == 2:
-                shows(was, 3, "", f"payd: port {ports[2]}\n", of="the taken port")
+                shows(advised(was), 3, "", f"payd: port {ports[2]}\n", of="the taken port")
             else:
                 same(was[0], 0, f"node {own} has its own")
         # files are judged first
         files = {"g": GENESIS, "k": {"own": 2, "keys": key_texts(2)}, "p": {"ports": [*ports[:3], 0]}}
-        shows(with_files(files, NODE, b"FRONT\n"), 2, "", "payd: ports 2 BadShape\n", of="a fault beside it")
+        was = advised(with_files(files, NODE, b"FRONT\n"))
+        shows(was, 2, "", "payd: ports 2 BadShape\n", of="a fault beside it")
     same(node_alone(b"FRONT\n", 2, ports=ports)[0], 0, "the port, given back")
 
 

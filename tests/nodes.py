@@ -57,6 +57,16 @@ def told_apart(errors):
     """What standard error says of peers, and all else that is there."""
     return [(int(peer), word) for peer, word in NEWS.findall(errors)], NEWS.sub("", errors)
 
+# what tools/hold-node says behind a fault that ended a node
+ADVICE = re.compile(r"payd: to do: [^\n]+\n\Z")
+
+
+def advised(was):
+    """Status, output and errors of a node that a fault ended, without the advice, which has to be there."""
+    status, output, errors = was
+    same(ADVICE.search(errors) is not None, True, f"advice behind {errors!r}")
+    return status, output, ADVICE.sub("", errors)
+
 
 def write_json(folder, name, value):
     with open(os.path.join(folder, name), "w", encoding="ascii") as file:
@@ -68,12 +78,11 @@ class Ended(AssertionError):
 
 
 class Node:
-    """A running node, and its desk. Another program may run it, and with more in its environment."""
+    """A running node, and its desk. Another program or command may run it, and with more in its environment."""
 
-    def __init__(self, own, folder, ports, options=(), prefix=(), program=None, given=()):
+    def __init__(self, own, folder, ports="ports", options=(), prefix=(), program=None, given=(), command=None):
         files = ["--genesis", "genesis", "--keys", f"keys-{own}", "--ports", ports]
-        words = [*prefix, program or PAYD, "node", *files, *options]
-        pipe = subprocess.PIPE
+        words, pipe = [*prefix, *(command or [program or PAYD, "node", *files, *options])], subprocess.PIPE
         how = {"cwd": folder, "env": {**os.environ, **dict(given)}, "bufsize": 0}
         self.child = subprocess.Popen(words, stdin=pipe, stdout=pipe, stderr=pipe, **how)
         self.own = own

@@ -49,8 +49,13 @@ def readme_shows_what_is_printed():
         write_json(folder, "ports", {"ports": free_ports(4)})
         for command, output in commands:
             words = command.replace("examples/four-nodes", f"examples/four-nodes {folder}/ports")
+            # a file that a command writes isn't written into this tree
+            words = re.sub(r"> ([\w.]+)$", rf"> {folder}/\1", words)
             done = subprocess.run(["bash", "-c", words], cwd=TOP, capture_output=True, timeout=SECONDS)
             same((done.stdout.decode(), done.stderr.decode()), (output, ""), command)
+        for name, beginning in (("report.html", "<!DOCTYPE html>"), ("run.svg", "<svg ")):
+            with open(os.path.join(folder, name), encoding="utf-8") as file:
+                same(file.read(len(beginning)), beginning, name)
 
 
 @test

@@ -125,7 +125,7 @@ def pages_as_the_model_has_them():
 @test
 def pages_of_groups():
     """The verdict is that of all, and the book shown is that of the export with the most settled entries."""
-    for exports, line in audits.ROWS:
+    for _, exports, line in audits.ROWS:
         page = Page(exports)
         same(page.said("h1"), [f"Audit: {line}"], f"the verdict of {exports}")
         counts = [sum(audits.largest_front(it)) for it in exports]

@@ -300,19 +300,19 @@ WORKED = [
     ("an empty line", FOUR_ONE_LIAR, ["", "show"], shown(3, "0 0 0 0", "100 0 0 50"), 0),
     ("no script", "", [], ["bad line 1"], 2),
     *(
-        (f"no world: {world}", world, ["show"], ["bad line 1"], 2)
-        for world in (
-            "{",
-            "[]",
-            '{"faults":1,"members":4,"opening":[1,2,3,4]}',
-            '{"faults":1,"liars":[4],"members":4,"opening":[1,2,3,4]}',
-            '{"faults":2,"liars":[1,1],"members":7,"opening":[1,2,3,4,5,6,7]}',
-            '{"faults":1,"liars":[1,2],"members":4,"opening":[1,2,3,4]}',
-            '{"faults":2,"liars":[],"members":6,"opening":[1,2,3,4,5,6]}',
-            '{"faults":1,"liars":[],"members":4,"opening":[1,2,3]}',
-            '{"faults":1,"liars":[],"members":4.0,"opening":[1,2,3,4]}',
-            '{"faults":0,"liars":[],"members":129,"opening":[' + ",".join(["0"] * 129) + "]}",
-            '{"faults":0,"liars":[],"members":2,"opening":[9223372036854775807,1]}',
+        (f"no world: {wrong}", world, ["show"], ["bad line 1"], 2)
+        for wrong, world in (
+            ("it ends inside", "{"),
+            ("a list", "[]"),
+            ("liars are left out", '{"faults":1,"members":4,"opening":[1,2,3,4]}'),
+            ("a liar that is no member", '{"faults":1,"liars":[4],"members":4,"opening":[1,2,3,4]}'),
+            ("a liar twice", '{"faults":2,"liars":[1,1],"members":7,"opening":[1,2,3,4,5,6,7]}'),
+            ("more liars than faults", '{"faults":1,"liars":[1,2],"members":4,"opening":[1,2,3,4]}'),
+            ("six of whom two may lie", '{"faults":2,"liars":[],"members":6,"opening":[1,2,3,4,5,6]}'),
+            ("an opening too few", '{"faults":1,"liars":[],"members":4,"opening":[1,2,3]}'),
+            ("a number with a point", '{"faults":1,"liars":[],"members":4.0,"opening":[1,2,3,4]}'),
+            ("129 members", '{"faults":0,"liars":[],"members":129,"opening":[' + ",".join(["0"] * 129) + "]}"),
+            ("openings of 2^63 together", '{"faults":0,"liars":[],"members":2,"opening":[9223372036854775807,1]}'),
         )
     ),
     *(

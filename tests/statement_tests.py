@@ -68,8 +68,8 @@ def a_nodes_own_statements():
 
 @test
 def faults_of_a_statements_export():
-    for members, fault in audits.FAULTS:
-        shows(statement_of(changed(members), "0"), 2, "", f"payd: export {fault}\n", of=f"{members}"[:80])
+    for wrong, members, fault in audits.FAULTS:
+        shows(statement_of(changed(members), "0"), 2, "", f"payd: export {fault}\n", of=wrong)
     shows(statement_of("{"), 2, "", "payd: export 1 BadJson\n", of="no JSON")
     shows(with_files({}, ["statement", "gone", "x"]), 2, "", "payd: file gone\n", of="no file")
 

@@ -1,0 +1,69 @@
+"""Black-box tests of the example of a service: the service manager takes its file, and its commands run a node."""
+
+import os
+import re
+import shlex
+import shutil
+import subprocess
+import tempfile
+
+from nodes import PATIENCE, export_text, free_ports, until, write_json
+from runs import PAYD, SECONDS, TOP, key_texts, same, test
+
+UNIT = "payd-node.service"
+COMMAND = re.compile("^(ExecStart(?:Pre)?)=(.*)$", re.MULTILINE)
+
+
+def unit():
+    with open(os.path.join(TOP, "examples", UNIT), encoding="ascii") as file:
+        return file.read()
+
+
+def complaints(text):
+    """What the service manager's verifier says of a unit of this text."""
+    with tempfile.TemporaryDirectory() as folder:
+        path = os.path.join(folder, UNIT)
+        with open(path, "w", encoding="ascii") as file:
+            file.write(text)
+        done = subprocess.run(["systemd-analyze", "verify", path], capture_output=True, text=True, timeout=SECONDS)
+    # (it looks at what the unit stands on too, whose faults aren't this one's)
+    return done.returncode, [line for line in done.stderr.splitlines() if UNIT in line]
+
+
+@test
+def service_manager_takes_the_unit():
+    """With a harmless command in the place of each, which may not be installed here."""
+    if shutil.which("systemd-analyze") is None:
+        print("service_manager_takes_the_unit is skipped: no systemd-analyze")
+        return
+    harmless = shutil.which("true")
+    text, count = COMMAND.subn(rf"\1={harmless}", unit())
+    same(count, 2, "commands of the unit")
+    same(complaints(text), (0, []), "the unit")
+    for right, wrong in (("=mixed", "=mixd"), ("Restart=", "Restat="), ("=infinity", "=ever")):
+        same((text.count(right), len(complaints(text.replace(right, wrong))[1])), (1, 1), f"{wrong} is complained of")
+
+
+@test
+def commands_of_the_unit_run_a_node():
+    """In another folder, and with the program that stands here; a line goes in as the unit's own words say."""
+    with tempfile.TemporaryDirectory() as folder:
+        write_json(folder, "genesis.json", {"members": 1, "faults": 0, "opening": [7]})
+        write_json(folder, "keys.json", {"own": 0, "keys": key_texts(0, 1)})
+        write_json(folder, "ports.json", {"ports": free_ports(1)})
+        moved = unit().replace("/usr/local/bin/payd", PAYD).replace("/run/payd/", f"{folder}/")
+        before, command = (shlex.split(words) for _, words in COMMAND.findall(moved))
+        subprocess.run(before, check=True, timeout=SECONDS)
+        with open(os.path.join(folder, "log"), "w+b") as log:
+            child = subprocess.Popen(command, cwd=folder, stdin=subprocess.DEVNULL, stdout=log, stderr=log)
+            try:
+                told = re.search("echo FRONT > (.*)$", moved, re.MULTILINE)[0]
+                subprocess.run(["sh", "-c", told], check=True, timeout=SECONDS)
+                until(lambda: os.pread(log.fileno(), 65536, 0), b"front 0\n", of="what the node says")
+                child.terminate()
+                same(child.wait(timeout=PATIENCE), 0, "its end")
+            finally:
+                child.kill()
+                child.wait()
+        with open(os.path.join(folder, "export.json"), encoding="ascii") as export:
+            same(export.read(), export_text(0, [7], [[]], [0], [7]), "its export")
