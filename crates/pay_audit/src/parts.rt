@@ -135,7 +135,7 @@ fn list_in(alloc: Global, value: &Value) -> Result<Option<OwnerList>, AllocError
     if values.len() > SEQS as usize {
         return Ok(None);
     }
-    Ok(Some(OwnerList::new(values)))
+    Ok(Some(OwnerList::of(alloc, values.as_slice())?))
 }
 
 fn values_in(alloc: Global, value: &Value) -> Result<Option<Vec<Bytes>>, AllocError>
