@@ -1,13 +1,13 @@
 -- Lists that one list begins with, and the longest of an account's lists so far.
-use Rattle.std.proofs.Common.{◌≡◌, ⊎_elim, ℕ, zero, suc, ◌+◌, ◌<◌, ◌≤◌, List, [], ◌∷◌, ◌++◌, length, drop, slice_get, true, false, Option, Some, None, below_more, refl, ap, sym, subst, ◌∙◌, arith}
+use Rattle.std.proofs.Common.{◌≡◌, ⊎_elim, ℕ, zero, suc, ◌+◌, ◌≤◌, List, [], ◌∷◌, ◌++◌, length, drop, slice_get, true, false, Option, Some, None, below_more, refl, ap, sym, subst, ◌∙◌, arith}
 use Rattle.std.specs.Option.{is_some, option_or}
 use Rattle.std.proofs.lemmas.Bool.{cases_lt}
 use Rattle.std.proofs.lemmas.Option.{none-some, same_Some, slice_get_cases, slice_get_within}
 use Rattle.pay_channel.specs.Prefix.{IsPrefix}
-use Rattle.pay_audit.specs.OneList.{HaveOneList, HaveOneListEach, OneListIsNoFork}
-use Rattle.pay_audit.specs.Export.{ExportFields, list_in, lists_of}
+use Rattle.pay_audit.specs.OneList.{HaveOneListEach, OneListIsNoFork}
+use Rattle.pay_audit.specs.Export.{ExportFields, lists_of}
 use Rattle.pay_audit.specs.Laws.{AgreeWith, Agreeing}
-use Rattle.pay_audit.specs.Said.{Each, EachBefore, EachTwo}
+use Rattle.pay_audit.specs.Said.{EachBefore, EachTwo}
 use Rattle.pay_audit.specs.Verdict.{first_from, fork_between, fork_from}
 use Rattle.pay_audit.specs.declared.verdict.Verdict.{Verdict}
 use Rattle.pay_audit.proofs.Firsts.{from_here}

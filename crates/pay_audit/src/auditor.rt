@@ -58,7 +58,7 @@ impl Auditor {
 
     /// Judges and settles one more export, compares its lists with the longest so far, and copies of them what is
     /// longer.
-    pub(crate) fn add(self, alloc: Global, export: &Export) -> Result<Auditor, AllocError>
+    fn add(self, alloc: Global, export: &Export) -> Result<Auditor, AllocError>
         requires { taken_by self < usize.MAX }
         ensures taken { IfOk result (λ auditor. (exports : List ExportFields)
             → HasTaken exports self → HasTaken (exports ++ export.now ∷ []) auditor) }
