@@ -1,6 +1,8 @@
 -- The first answer in a list of which each item is asked with its place.
-use Rattle.std.proofs.Common.{◌≡◌, ℕ, zero, suc, ◌+◌, ◌-◌, ◌<◌, ◌≤◌, List, [], ◌∷◌, drop, slice_get, Option, Some, None, refl, ap, sym, ◌∙◌, arith}
-use Rattle.std.proofs.lemmas.Option.{same_Some}
+use Rattle.std.proofs.Common.{◌≡◌, ◌⊎◌, ⊎_elim, ℕ, zero, suc, ◌+◌, ◌<◌, ◌≤◌, List, [], ◌∷◌, drop, length, slice_get, Option, Some, None, refl, ap, ap₂, sym, ◌∙◌, arith}
+use Rattle.std.proofs.lemmas.List.{drop_all, drop_more}
+use Rattle.std.proofs.lemmas.Option.{get_or_from_slice_get, same_Some, slice_get_within}
+use Rattle.std.specs.List.{zip}
 use Rattle.std.specs.Option.{option_or}
 use Rattle.pay_audit.specs.Verdict.{first_from}
 
@@ -66,10 +68,6 @@ pub no_answer : {B : Type 0} (o rest : Option B) → o ≡ None → rest ≡ Non
 no_answer None rest e h = h
 no_answer (Some b) rest e h = absurd cc
 
-not_the_first : {B : Type 0} (o rest : Option B) → o ≡ None → option_or o rest ≡ rest
-not_the_first None rest e = refl
-not_the_first (Some b) rest e = absurd cc
-
 pub unanswered : {A B : Type 0} (ask : ℕ → A → Option B) (k : ℕ) (xs : List A) → ((p : ℕ) (y : A) → slice_get xs p ≡ Some y → ask (k + p) y ≡ None)
     → first_from ask k xs ≡ None
 unanswered ask k [] none = refl
@@ -77,38 +75,28 @@ unanswered ask k (x ∷ xs) none =
     no_answer (ask k x) (first_from ask (k + 1) xs) (asked_at ask x None k (k + 0) (omega arith) (none 0 x refl))
     (unanswered ask (k + 1) xs (λ p y got. asked_at ask y None (k + 1 + p) (k + suc p) (omega arith) (none (suc p) y got)))
 
-from_at : {A B : Type 0} (ask : ℕ → A → Option B) (xs : List A) (i j : ℕ) → i ≡ j → first_from ask i xs ≡ first_from ask j xs
-from_at ask xs i j e = ap (λ n. first_from ask n xs) e
+-- ---- from a place on
 
-passed : {A B : Type 0} (ask : ℕ → A → Option B) (k n : ℕ) (xs : List A)
-    → ((p : ℕ) (y : A) → p < n → slice_get xs p ≡ Some y → ask (k + p) y ≡ None) → first_from ask k xs ≡ first_from ask (k + n) (drop n xs)
-passed ask k zero xs none = from_at ask xs k (k + 0) (omega arith)
-passed ask k (suc n) [] none = refl
-passed ask k (suc n) (x ∷ xs) none =
-    not_the_first (ask k x) (first_from ask (k + 1) xs) (asked_at ask x None k (k + 0) (omega arith) (none 0 x (omega arith) refl))
-    ∙ passed ask (k + 1) n xs (λ p y below got. asked_at ask y None (k + 1 + p) (k + suc p) (omega arith) (none (suc p) y (omega (arith, below)) got))
-    ∙ from_at ask (drop n xs) (k + 1 + n) (k + suc n) (omega arith)
+pub from_here : {A : Type 0} (n : ℕ) (xs : List A) (x : A) → slice_get xs n ≡ Some x → drop n xs ≡ x ∷ drop (n + 1) xs
+from_here n xs x at = drop_more xs n x (slice_get_within xs n x at) ∙ ap (λ y. y ∷ drop (n + 1) xs) (get_or_from_slice_get xs n x x at)
 
-behind : {A : Type 0} (m : ℕ) (xs : List A) (p : ℕ) (y : A) → slice_get (drop m xs) p ≡ Some y → slice_get xs (m + p) ≡ Some y
-behind zero xs p y got = ap (slice_get xs) (let e : 0 + p ≡ p = omega arith in e) ∙ got
-behind (suc m) [] p y got = absurd cc
-behind (suc m) (x ∷ xs) p y got = ap (slice_get (x ∷ xs)) (let e : suc m + p ≡ suc (m + p) = omega arith in e) ∙ behind m xs p y got
+-- the next pair of two lists
+pub next_pair : {A B C : Type 0} (ask : ℕ → A × B → Option C) (n : ℕ) (xs : List A) (ys : List B) (x : A) (y : B)
+    → slice_get xs n ≡ Some x → slice_get ys n ≡ Some y
+    → first_from ask n (zip (drop n xs) (drop n ys)) ≡ option_or (ask n (x, y)) (first_from ask (n + 1) (zip (drop (n + 1) xs) (drop (n + 1) ys)))
+next_pair ask n xs ys x y hx hy = ap₂ (λ ls ms. first_from ask n (zip ls ms)) (from_here n xs x hx) (from_here n ys y hy)
 
-none_left : {A : Type 0} (n : ℕ) (xs : List A) → xs ≡ [] → drop n xs ≡ []
-none_left n (x ∷ xs) e = absurd cc
-none_left zero [] e = refl
-none_left (suc n) [] e = refl
+no_first : {A B C : Type 0} (ask : ℕ → A × B → Option C) (n : ℕ) (xs : List A) (ys : List B) → xs ≡ [] → first_from ask n (zip xs ys) ≡ None
+no_first ask n [] ys none = refl
+no_first ask n (x ∷ xs) ys none = absurd cc
 
-drop_twice : {A : Type 0} (m n : ℕ) (xs : List A) → drop n (drop m xs) ≡ drop (m + n) xs
-drop_twice zero n xs = ap (λ k. drop k xs) (let e : n ≡ 0 + n = omega arith in e)
-drop_twice (suc m) n [] = none_left n [] refl ∙ sym (none_left (suc m + n) [] refl)
-drop_twice (suc m) n (x ∷ xs) = drop_twice m n xs ∙ ap (λ k. drop k (x ∷ xs)) (let e : suc (m + n) ≡ suc m + n = omega arith in e)
+no_second : {A B C : Type 0} (ask : ℕ → A × B → Option C) (n : ℕ) (xs : List A) (ys : List B) → ys ≡ [] → first_from ask n (zip xs ys) ≡ None
+no_second ask n [] ys none = refl
+no_second ask n (x ∷ xs) [] none = refl
+no_second ask n (x ∷ xs) (y ∷ ys) none = absurd cc
 
--- those from one place to another don't answer, so the first answer is that from the other place on
-pub go_on : {A B : Type 0} (ask : ℕ → A → Option B) (m n : ℕ) (xs : List A) → m ≤ n
-    → ((p : ℕ) (y : A) → m ≤ p → p < n → slice_get xs p ≡ Some y → ask p y ≡ None) → first_from ask m (drop m xs) ≡ first_from ask n (drop n xs)
-go_on ask m n xs order none =
-    let more : m + (n - m) ≡ n = omega (arith, order) in
-    passed ask m (n - m) (drop m xs) (λ p y below got. none (m + p) y (omega arith) (omega (arith, below, order)) (behind m xs p y got))
-    ∙ from_at ask (drop (n - m) (drop m xs)) (m + (n - m)) n more
-    ∙ ap (first_from ask n) (drop_twice m (n - m) xs ∙ ap (λ k. drop k xs) more)
+-- past the end of one of them there is none
+pub no_more_pairs : {A B C : Type 0} (ask : ℕ → A × B → Option C) (n : ℕ) (xs : List A) (ys : List B) → (length xs ≤ n) ⊎ (length ys ≤ n)
+    → first_from ask n (zip (drop n xs) (drop n ys)) ≡ None
+no_more_pairs ask n xs ys short =
+    ⊎_elim (λ first. no_first ask n (drop n xs) (drop n ys) (drop_all n xs first)) (λ second. no_second ask n (drop n xs) (drop n ys) (drop_all n ys second)) short

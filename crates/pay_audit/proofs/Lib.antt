@@ -8,6 +8,7 @@ mod Forks
 mod Judging
 mod Numbers
 mod Pushing
+mod Rows
 mod Saying
 mod Showing
 mod Taking

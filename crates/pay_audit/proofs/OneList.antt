@@ -1,17 +1,16 @@
 -- Lists that one list begins with, and the longest of an account's lists so far.
-use Rattle.std.proofs.Common.{◌≡◌, ⊎_elim, ℕ, zero, suc, ◌+◌, ◌<◌, ◌≤◌, List, [], ◌∷◌, ◌++◌, length, take, drop, max, slice_get, true, false, Option, Some, None, below_more, refl, ap, sym, subst, ◌∙◌, arith}
+use Rattle.std.proofs.Common.{◌≡◌, ⊎_elim, ℕ, zero, suc, ◌+◌, ◌≤◌, List, [], ◌∷◌, ◌++◌, length, drop, slice_get, true, false, Option, Some, None, below_more, refl, ap, sym, subst, ◌∙◌, arith}
 use Rattle.std.specs.Option.{is_some, option_or}
 use Rattle.std.proofs.lemmas.Bool.{cases_lt}
 use Rattle.std.proofs.lemmas.Option.{none-some, same_Some, slice_get_cases, slice_get_within}
 use Rattle.pay_channel.specs.Prefix.{IsPrefix}
-use Rattle.pay_audit.specs.OneList.{HaveOneList, HaveOneListEach, OneListIsNoFork}
-use Rattle.pay_audit.specs.Export.{ExportFields, list_in, lists_of}
+use Rattle.pay_audit.specs.OneList.{HaveOneListEach, OneListIsNoFork}
+use Rattle.pay_audit.specs.Export.{ExportFields, lists_of}
 use Rattle.pay_audit.specs.Laws.{AgreeWith, Agreeing}
-use Rattle.pay_audit.specs.Said.{Each, EachBefore, EachTwo}
+use Rattle.pay_audit.specs.Said.{EachBefore, EachTwo}
 use Rattle.pay_audit.specs.Verdict.{first_from, fork_between, fork_from}
 use Rattle.pay_audit.specs.declared.verdict.Verdict.{Verdict}
-use Rattle.pay_audit.proofs.Firsts.{go_on}
-use Rattle.pay_audit.proofs.Forking.{no_fork}
+use Rattle.pay_audit.proofs.Firsts.{from_here}
 use Rattle.pay_audit.proofs.Forks.{all_agree, none_agrees}
 
 -- ---- two lists
@@ -56,21 +55,7 @@ whole_begins (x ∷ whole) = further x x whole whole refl (whole_begins whole)
 pub agree_swapped : (one other : List (List ℕ)) → Agreeing one other → Agreeing other one
 agree_swapped one other same s v w hv hw = sym (same s w v hw hv)
 
--- ---- the first of a list
-
-pub taken : {X : Type 0} (n : ℕ) (xs : List X) (i : ℕ) (x : X) → slice_get (take n xs) i ≡ Some x → (i < n) × (slice_get xs i ≡ Some x)
-taken zero xs i x h = absurd cc
-taken (suc n) [] i x h = absurd cc
-taken (suc n) (y ∷ xs) zero x h = (omega arith, h)
-taken (suc n) (y ∷ xs) (suc i) x h =
-    let r = taken n xs i x h in
-    (omega (arith, r.0), r.1)
-
-pub still : {X : Type 0} (n : ℕ) (xs : List X) (i : ℕ) (x : X) → i < n → slice_get xs i ≡ Some x → slice_get (take n xs) i ≡ Some x
-still zero xs i x below h = absurd (omega (arith, below))
-still (suc n) [] i x below h = absurd cc
-still (suc n) (y ∷ xs) zero x below h = h
-still (suc n) (y ∷ xs) (suc i) x below h = still n xs i x (omega (arith, below)) h
+-- ---- each of the first ones
 
 each_more : (Is : ExportFields → Type 0) (exports : List ExportFields) (n : ℕ) (e : ExportFields) → slice_get exports n ≡ Some e
     → EachBefore n Is exports → Is e → EachBefore (n + 1) Is exports
@@ -110,56 +95,6 @@ no_longer exports n a list new e l at is same short = record {
   agrees = λ w all. l.agrees w (λ x d below got. all x d (omega (arith, below)) got);
 }
 
-pub have_one : (exports : List ExportFields) (n a : ℕ) (list : List (List ℕ)) → IsLongest exports n a list → HaveOneList (take n exports) a
-have_one exports n a list l = record {
-  list = list;
-  begins = λ x e got. (let t = taken n exports x e got in l.begins x e t.0 t.1);
-}
-
--- not where the next one differs
-pub have_none : (exports : List ExportFields) (n a : ℕ) (list new : List (List ℕ)) (e : ExportFields) → IsLongest exports n a list
-    → slice_get exports n ≡ Some e → new ≡ lists_of e a → (Agreeing list new → ⊥) → HaveOneList (take (n + 1) exports) a → ⊥
-have_none exports n a list new e l at is differ h =
-    differ (l.agrees new
-    (λ x d below got. subst (λ m. Agreeing (lists_of d a) m) (sym is)
-    (prefixes_agree h.list (lists_of d a) (lists_of e a) (h.begins x d (still (n + 1) exports x d (omega (arith, below)) got))
-    (h.begins n e (still (n + 1) exports n e (omega arith) at)))))
-
--- ---- fewer exports
-
--- exports that are all among others
-among : (some all : List ExportFields) (a : ℕ) → ((x : ℕ) (e : ExportFields) → slice_get some x ≡ Some e → slice_get all x ≡ Some e)
-    → HaveOneList all a → HaveOneList some a
-among some all a in_all h = record { list = h.list; begins = λ x e got. h.begins x e (in_all x e got) }
-
-pub of_fewer : (exports : List ExportFields) (n r a : ℕ) → r ≤ n → HaveOneList (take n exports) a → HaveOneList (take r exports) a
-of_fewer exports n r a order =
-    among (take r exports) (take n exports) a
-    (λ x e got. (let t = taken r exports x e got in still n exports x e (omega (arith, t.0, order)) t.1))
-
-pub first_of_all : (exports : List ExportFields) (n r a : ℕ) → r ≤ n → HaveOneList (take r (take n exports)) a → HaveOneList (take r exports) a
-first_of_all exports n r a order =
-    among (take r exports) (take r (take n exports)) a
-    (λ x e got. (let t = taken r exports x e got in
-    still r (take n exports) x e t.0 (still n exports x e (omega (arith, t.0, order)) t.1)))
-
-pub first_of_first : (exports : List ExportFields) (n r a : ℕ) → HaveOneList (take r exports) a → HaveOneList (take r (take n exports)) a
-first_of_first exports n r a =
-    among (take r (take n exports)) (take r exports) a
-    (λ x e got. (let t = taken r (take n exports) x e got in still r exports x e t.0 (taken n exports x e t.1).1))
-
-none_there : (lists : List (List (List ℕ))) (a : ℕ) → length lists ≤ a → list_in lists a ≡ []
-none_there [] a short = refl
-none_there (l ∷ lists) zero short = absurd (omega (arith, short))
-none_there (l ∷ lists) (suc a) short = none_there lists a (omega (arith, short))
-
--- an account of which no export has a list
-pub of_no_lists : (exports : List ExportFields) (n a : ℕ) → Each (λ e. length e.lists ≤ a) exports → HaveOneList (take n exports) a
-of_no_lists exports n a short = record {
-  list = [];
-  begins = λ x e got. subst (λ m. IsPrefix m []) (sym (none_there e.lists a (short x e (taken n exports x e got).1))) (whole_begins []);
-}
-
 -- ---- no fork
 
 agree_by_lists : (exports : List ExportFields) → HaveOneListEach exports → EachTwo AgreeWith exports
@@ -194,7 +129,7 @@ pub one_list_is_no_fork : OneListIsNoFork
 one_list_is_no_fork exports =
     (λ none. lists_by_agreeing exports (all_agree 0 exports none), λ have. none_agrees 0 exports (agree_by_lists exports have))
 
--- ---- the first fork of an export that comes after those that have none
+-- ---- the first fork of an export
 
 option_first : (o rest : Option Verdict) → true ≡ is_some o → option_or o rest ≡ o
 option_first None rest h = absurd cc
@@ -204,39 +139,13 @@ option_rest : (o rest : Option Verdict) → false ≡ is_some o → option_or o 
 option_rest None rest h = refl
 option_rest (Some v) rest h = absurd cc
 
-from_here : (n : ℕ) (exports : List ExportFields) (e : ExportFields) → slice_get exports n ≡ Some e → drop n exports ≡ e ∷ drop (n + 1) exports
-from_here n [] e at = absurd cc
-from_here zero (x ∷ exports) e at = ap (λ y. y ∷ exports) (same_Some x e at)
-from_here (suc n) (x ∷ exports) e at =
-    from_here n exports e at ∙ ap (λ k. e ∷ drop k (x ∷ exports)) (let more : suc (n + 1) ≡ suc n + 1 = omega arith in more)
+module _ (exports : List ExportFields) (n : ℕ) (e : ExportFields) (fork : Option Verdict) (at : slice_get exports n ≡ Some e)
+    (found : fork ≡ first_from (fork_between n e) (n + 1) (drop (n + 1) exports)) where
+  from_next : fork_from n (drop n exports) ≡ option_or fork (fork_from (n + 1) (drop (n + 1) exports))
+  from_next = ap (fork_from n) (from_here n exports e at) ∙ ap (λ o. option_or o (fork_from (n + 1) (drop (n + 1) exports))) (sym found)
 
--- among those that agree none forks with this one
-none_between : (exports : List ExportFields) (agreeing n : ℕ) (e : ExportFields) → HaveOneListEach (take agreeing exports)
-    → slice_get exports n ≡ Some e → (p : ℕ) (d : ExportFields) → n + 1 ≤ p → p < max agreeing (n + 1) → slice_get exports p ≡ Some d
-    → fork_between n e p d ≡ None
-none_between exports agreeing n e have at p d after below got =
-    (no_fork n p e d).1 (agree_by_lists (take agreeing exports) have n p e d (still agreeing exports n e (omega (arith, after, below)) at)
-    (still agreeing exports p d (omega (arith, after, below)) got))
+  pub fork_is_next : true ≡ is_some fork → fork_from n (drop n exports) ≡ fork
+  fork_is_next some = from_next ∙ option_first fork (fork_from (n + 1) (drop (n + 1) exports)) some
 
-next_forks : (exports : List ExportFields) (agreeing n next : ℕ) (e : ExportFields) → HaveOneListEach (take agreeing exports)
-    → slice_get exports n ≡ Some e → next ≡ max agreeing (n + 1)
-    → fork_from n (drop n exports) ≡ option_or (first_from (fork_between n e) next (drop next exports)) (fork_from (n + 1) (drop (n + 1) exports))
-next_forks exports agreeing n next e have at is =
-    ap (fork_from n) (from_here n exports e at)
-    ∙ ap (λ o. option_or o (fork_from (n + 1) (drop (n + 1) exports)))
-    (go_on (fork_between n e) (n + 1) next exports (omega (arith, is))
-    (λ p d after below got. none_between exports agreeing n e have at p d after (omega (arith, below, is)) got))
-
-pub fork_is_next : (exports : List ExportFields) (agreeing n next : ℕ) (e : ExportFields) (fork : Option Verdict) → HaveOneListEach (take agreeing exports)
-    → slice_get exports n ≡ Some e → next ≡ max agreeing (n + 1) → fork ≡ first_from (fork_between n e) next (drop next exports)
-    → true ≡ is_some fork → fork_from n (drop n exports) ≡ fork
-fork_is_next exports agreeing n next e fork have at is found some =
-    next_forks exports agreeing n next e have at is ∙ ap (λ o. option_or o (fork_from (n + 1) (drop (n + 1) exports))) (sym found)
-    ∙ option_first fork (fork_from (n + 1) (drop (n + 1) exports)) some
-
-pub fork_is_later : (exports : List ExportFields) (agreeing n next : ℕ) (e : ExportFields) (fork : Option Verdict) → HaveOneListEach (take agreeing exports)
-    → slice_get exports n ≡ Some e → next ≡ max agreeing (n + 1) → fork ≡ first_from (fork_between n e) next (drop next exports)
-    → false ≡ is_some fork → fork_from n (drop n exports) ≡ fork_from (n + 1) (drop (n + 1) exports)
-fork_is_later exports agreeing n next e fork have at is found none =
-    next_forks exports agreeing n next e have at is ∙ ap (λ o. option_or o (fork_from (n + 1) (drop (n + 1) exports))) (sym found)
-    ∙ option_rest fork (fork_from (n + 1) (drop (n + 1) exports)) none
+  pub fork_is_later : false ≡ is_some fork → fork_from n (drop n exports) ≡ fork_from (n + 1) (drop (n + 1) exports)
+  fork_is_later none = from_next ∙ option_rest fork (fork_from (n + 1) (drop (n + 1) exports)) none

@@ -13,7 +13,7 @@ use Rattle.pay_member.specs.Book.{book_after}
 use Rattle.pay_member.specs.Laws.{BookIsSettled}
 use Rattle.pay_audit.specs.Exporting.{number_data}
 
-take_next : {A : Type 0} (xs : List A) (k : ℕ) (x : A) → slice_get xs k ≡ Some x → take (k + 1) xs ≡ take k xs ++ x ∷ []
+pub take_next : {A : Type 0} (xs : List A) (k : ℕ) (x : A) → slice_get xs k ≡ Some x → take (k + 1) xs ≡ take k xs ++ x ∷ []
 take_next xs k x got =
     take_more xs k x (slice_get_within xs k x got) ∙ ap (λ y. take k xs ++ y ∷ []) (get_or_from_slice_get xs k x x got)
 

@@ -2,14 +2,16 @@
 use Rattle.std.proofs.Common.{◌≡◌, ℕ, ◌+◌, List, [], ◌∷◌, ◌++◌, length, Option, Some, None, unwrap_or, if◌then◌else◌, refl, ap, ap₂, sym, ◌∙◌, arith}
 use Rattle.std.specs.Option.{option_or}
 use Rattle.pay_link.specs.Genesis.{GenesisFields}
-use Rattle.pay_audit.specs.Auditor.{HasFound, IsNothing, first_genesis, other_genesis_than}
+use Rattle.pay_audit.specs.Auditor.{HasFound, HasTaken, IsNothing, VerdictOfTakenIsOne, first_genesis, other_genesis_than}
+use Rattle.pay_audit.specs.Compared.{fork_among}
 use Rattle.pay_audit.specs.Export.{ExportFields}
 use Rattle.pay_audit.specs.Verdict.{first_from, fork_from, other_genesis, other_genesis_at, verdict_of, wrong_balance_at, wrong_front_at}
+use Rattle.pay_audit.specs.declared.auditor.Auditor.{Auditor}
 use Rattle.pay_audit.specs.declared.verdict.Verdict.{Verdict}
 use Rattle.pay_audit.specs.declared.verdict.Verdict.TheVariants.{Clean, OtherGenesis}
 use Rattle.pay_audit.specs.declared.wrong.Wrong.{Wrong}
 use Rattle.pay_audit.proofs.Firsts.{none_first}
-use Rattle.pay_audit.proofs.Comparing.{first_of_both, or_none}
+use Rattle.pay_audit.proofs.Comparing.{first_of_both, forks_are, or_none}
 use Rattle.pay_audit.proofs.Saying.{same_itself}
 
 pub first_with : {A B : Type 0} (ask : ℕ → A → Option B) (xs : List A) (x : A) → option_or (first_from ask 0 xs) (ask (length xs) x) ≡ first_from ask 0 (xs ++ x ∷ [])
@@ -78,3 +80,22 @@ module _ (exports : List ExportFields) where
   of_fork h f b =
       sym (ap₂ (λ o w. unwrap_or (option_or o (option_or (option_or w (first_from wrong_balance_at 0 exports)) (fork_from 0 exports))) Clean) h f
       ∙ ap (λ w. unwrap_or (option_or w (fork_from 0 exports)) Clean) b)
+
+-- ---- the verdict of an auditor
+
+module _ (exports : List ExportFields) (a : Auditor) (h : HasTaken exports a) where
+  verdict_by : (g f b : Option Verdict) → a.wrong.genesis ≡ g → a.wrong.front ≡ f → a.wrong.balance ≡ b
+      → unwrap_or (option_or g (option_or (option_or f b) (fork_among a.comparison.lengths.items a.comparison.differences.items))) Clean ≡ verdict_of exports
+  verdict_by (Some v) f b eg ef eb = of_genesis exports v (sym h.wrong.genesis ∙ eg)
+  verdict_by None (Some v) b eg ef eb = of_front exports v (sym h.wrong.genesis ∙ eg) (sym (h.wrong.front eg) ∙ ef)
+  verdict_by None None (Some v) eg ef eb =
+      of_balance exports v (sym h.wrong.genesis ∙ eg) (sym (h.wrong.front eg) ∙ ef) (sym (h.wrong.balance eg ef) ∙ eb)
+  verdict_by None None None eg ef eb =
+      ap (λ o. unwrap_or o Clean) (forks_are exports a.comparison.longest.items a.comparison.lengths.items a.comparison.differences.items
+      (h.lists (record { genesis = eg; front = ef; balance = eb })))
+      ∙ of_fork exports (sym h.wrong.genesis ∙ eg) (sym (h.wrong.front eg) ∙ ef) (sym (h.wrong.balance eg ef) ∙ eb)
+
+pub verdict_of_taken_is_one : VerdictOfTakenIsOne
+verdict_of_taken_is_one a one other h k =
+    let w = a.wrong in
+    sym (verdict_by one a h w.genesis w.front w.balance refl refl refl) ∙ verdict_by other a k w.genesis w.front w.balance refl refl refl

@@ -3,7 +3,7 @@ use Rattle.std.specs.Prelude.{◌≡◌, ℕ, List, [], ◌∷◌, length, Optio
 use Rattle.pay_link.specs.Genesis.{GenesisFields}
 use Rattle.pay_audit.specs.Compared.{HasCompared}
 use Rattle.pay_audit.specs.Export.{ExportFields}
-use Rattle.pay_audit.specs.Verdict.{first_from, other_genesis, other_genesis_at, wrong_balance_at, wrong_front_at}
+use Rattle.pay_audit.specs.Verdict.{first_from, other_genesis, other_genesis_at, verdict_of, wrong_balance_at, wrong_front_at}
 use Rattle.pay_audit.specs.declared.auditor.Auditor.{Auditor}
 use Rattle.pay_audit.specs.declared.comparison.Comparison.{Comparison}
 use Rattle.pay_audit.specs.declared.verdict.Verdict.{Verdict}
@@ -48,3 +48,9 @@ pub record HasTaken (exports : List ExportFields) (a : Auditor) : Type 0 where
   pub genesis : a.genesis ≡ first_genesis exports
   pub wrong : HasFound exports a.wrong
   pub lists : IsNothing a.wrong → HasComparedBy exports a.comparison
+
+-- no two lists of exports that it can have taken have different verdicts
+abbrev pub VerdictOfTakenIsOne : Type 0
+VerdictOfTakenIsOne =
+    (auditor : Auditor) (one other : List ExportFields) → HasTaken one auditor → HasTaken other auditor
+    → verdict_of one ≡ verdict_of other

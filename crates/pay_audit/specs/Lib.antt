@@ -1,4 +1,5 @@
 pub mod Faults
+pub mod Rows
 pub mod Export
 pub mod Exporting
 pub mod Replay

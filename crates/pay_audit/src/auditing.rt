@@ -1,37 +1,26 @@
-ghost use Rattle.std.specs.Prelude.{◌≡◌, ◌↔◌, ◌+◌, ◌^◌, ◌<◌, ◌≤◌, length, take, IfOk, IsTrue};
+ghost use Rattle.std.specs.Prelude.{◌≡◌, ◌+◌, ◌^◌, ◌<◌, length, IfOk};
 ghost use Rattle.std.specs.Str.{bytes_eq};
 ghost use Rattle.pay_link.specs.Genesis.{IsGenesis};
-ghost use Rattle.pay_audit.specs.OneList.{HaveOneList, HaveOneListEach};
-ghost use Rattle.pay_audit.specs.Export.{lists_of};
-ghost use Rattle.pay_audit.specs.Laws.{Agreeing};
-ghost use Rattle.pay_audit.specs.Said.{Each};
 ghost use Rattle.pay_audit.specs.Verdict.{book_of, first_from, fork_between, fork_from, fork_place};
 ghost use Rattle.pay_audit.specs.Verdict.{other_genesis, other_genesis_at, same_genesis};
 ghost use Rattle.pay_audit.specs.Verdict.{verdict_of, wrong_balance_of, wrong_book, wrong_front_of};
 
+use crate::auditor::Auditor;
 use crate::exported::Export;
 use crate::owner_list::OwnerList;
 use crate::settling::settled;
 use crate::verdict::Verdict;
 use pay_book::Settle;
-use pay_frame::Bytes;
 use pay_link::Genesis;
 use pay_pending::WaitingBook;
 use std::alloc::{AllocError, Global};
 
-/// What is wrong with these exports, if anything is. Each list is compared once, with the longest before it; pairs of
-/// exports are asked only where that found a list which differs.
-#[tactic(auto, unfolding(crate::specs::Verdict::verdict_of))]
+/// What is wrong with these exports, if anything is: what an auditor says that takes one after the other.
 pub fn audit(alloc: Global, exports: &[Export]) -> Result<Verdict, AllocError>
     ensures { IfOk result (λ verdict. verdict ≡ verdict_of exports.now) }
 {
-    if let Some(verdict) = other_genesis(exports) {
-        return Ok(verdict);
-    }
-    if let Some(verdict) = wrong_book(alloc, exports)? {
-        return Ok(verdict);
-    }
-    Ok(fork(agreeing(exports), exports).unwrap_or(Verdict::Clean))
+    let auditor = Auditor::of(alloc, exports)?;
+    Ok(auditor.verdict())
 }
 
 // The first export that begins with another genesis than the first of all.
@@ -126,83 +115,12 @@ pub(crate) fn wrong_balance_of<B: Settle>(export: &Export, book: &B) -> Option<u
     None
 }
 
-// How many exports, from the first on, have no fork among them.
-fn agreeing(exports: &[Export]) -> usize
-    ensures within { result ≤ length exports.now }
-    ensures alike { HaveOneListEach (take result exports.now) }
-    ensures most { result < length exports.now
-        → HaveOneListEach (take (result + 1) exports.now) → ⊥ }
-{
-    let mut agreeing = exports.len();
-    for account in 0..accounts_of(exports) {
-        agreeing = agreeing_on(account, &exports[..agreeing]);
-    }
-    agreeing
-}
-
-// The same of one account. Each of its lists is compared with the longest before it alone.
-fn agreeing_on(account: usize, exports: &[Export]) -> usize
-    ensures within { result ≤ length exports.now }
-    ensures alike { HaveOneList (take result exports.now) account }
-    ensures most { result < length exports.now
-        → HaveOneList (take (result + 1) exports.now) account → ⊥ }
-{
-    let mut longest: &[Bytes] = &[];
-    for (place, export) in exports.iter().enumerate() {
-        let list = list_at(export, account);
-        if !agree(longest, list) {
-            return place;
-        }
-        if longest.len() < list.len() {
-            longest = list;
-        }
-    }
-    exports.len()
-}
-
-// Of how many accounts there are lists at most.
-fn accounts_of(exports: &[Export]) -> usize
-    ensures { Each (λ e. length e.lists ≤ result) exports.now }
-{
-    let mut accounts = 0;
-    for export in exports {
-        accounts = accounts.max(export.lists.len());
-    }
-    accounts
-}
-
-fn list_at(export: &Export, account: usize) -> &[Bytes]
-    ensures { result.now ≡ lists_of export.now account }
-{
-    match export.lists.get(account) {
-        Some(list) => list.values(),
-        None => &[],
-    }
-}
-
-// Whether two lists have the same values at all places that both have.
-fn agree(one: &[Bytes], other: &[Bytes]) -> bool
-    ensures { IsTrue result ↔ Agreeing one.now other.now }
-{
-    for (place, left) in one.iter().enumerate() {
-        let Some(right) = other.get(place) else {
-            return true;
-        };
-        if left.as_slice() != right.as_slice() {
-            return false;
-        }
-    }
-    true
-}
-
-// The first fork between an export and one behind it. There is none among the first of them, as many as `agreeing`.
-pub(crate) fn fork(agreeing: usize, exports: &[Export]) -> Option<Verdict>
-    requires within { agreeing ≤ length exports.now }
-    requires alike { HaveOneListEach (take agreeing exports.now) }
+// The first fork between an export and one behind it.
+pub(crate) fn fork(exports: &[Export]) -> Option<Verdict>
     ensures { result ≡ fork_from 0 exports.now }
 {
     for (place, export) in exports.iter().enumerate() {
-        let next = agreeing.max(place + 1);
+        let next = place + 1;
         let fork = fork_behind(place, export, next, &exports[next..]);
         if fork.is_some() {
             return fork;
@@ -248,10 +166,9 @@ fn fork_between(one: usize, export: &Export, other: usize, against: &Export) -> 
 pub(crate) fn fork_place(one: &OwnerList, other: &OwnerList) -> Option<u32>
     ensures { result ≡ fork_place one.now other.now }
 {
-    for (place, value) in one.values().iter().enumerate() {
-        let against = other.values().get(place)?;
-        if value.as_slice() != against.as_slice() {
-            return Some(place as u32);
+    for place in 0..one.len().min(other.len()) {
+        if one.at(place) != other.at(place) {
+            return Some(place);
         }
     }
     None

@@ -1,6 +1,6 @@
 //! Exports audited one by one: each is let go as soon as it is taken.
 
-ghost use Rattle.std.specs.Prelude.{◌≡◌, ◌+◌, ◌<◌, ◌∷◌, ◌++◌, List, [], IfOk};
+ghost use Rattle.std.specs.Prelude.{◌≡◌, ◌+◌, ◌<◌, ◌∷◌, ◌++◌, List, [], IfOk, unwrap_or};
 ghost use Rattle.pay_audit.specs.Auditor.{HasTaken, taken_by};
 ghost use Rattle.pay_audit.specs.Export.{ExportFields};
 ghost use Rattle.pay_audit.specs.Verdict.{verdict_of};
@@ -35,12 +35,33 @@ impl Auditor {
         }
     }
 
-    /// Takes one more export: judges and settles it, compares its lists with the longest so far, and keeps of it what
-    /// is new in these.
+    /// One that has taken these exports.
+    pub fn of(alloc: Global, exports: &[Export]) -> Result<Auditor, AllocError>
+        ensures { IfOk result (HasTaken exports.now) }
+    {
+        let mut auditor = Auditor::new(alloc);
+        for export in exports {
+            auditor = auditor.add(alloc, export)?;
+        }
+        Ok(auditor)
+    }
+
+    /// Takes one more export, and lets it go.
     pub fn take(self, alloc: Global, export: Export) -> Result<Auditor, AllocError>
         requires { taken_by self < usize.MAX }
         ensures taken { IfOk result (λ auditor. (exports : List ExportFields)
             → HasTaken exports self → HasTaken (exports ++ export ∷ []) auditor) }
+        ensures count { IfOk result (λ auditor. taken_by auditor ≡ taken_by self + 1) }
+    {
+        self.add(alloc, &export)
+    }
+
+    /// Judges and settles one more export, compares its lists with the longest so far, and copies of them what is
+    /// longer.
+    fn add(self, alloc: Global, export: &Export) -> Result<Auditor, AllocError>
+        requires { taken_by self < usize.MAX }
+        ensures taken { IfOk result (λ auditor. (exports : List ExportFields)
+            → HasTaken exports self → HasTaken (exports ++ export.now ∷ []) auditor) }
         ensures count { IfOk result (λ auditor. taken_by auditor ≡ taken_by self + 1) }
     {
         let Auditor {
@@ -49,18 +70,14 @@ impl Auditor {
             wrong,
             mut comparison,
         } = self;
-        let wrong = wrong.with(alloc, &genesis, taken, &export)?;
-        let Export {
-            genesis: own,
-            lists,
-            ..
-        } = export;
+        let wrong = wrong.with(alloc, &genesis, taken, export)?;
         if wrong.is_nothing() {
-            comparison = comparison.add(alloc, lists)?;
+            comparison = comparison.add(alloc, export.lists.as_slice())?;
         }
+        let first = first_or(alloc, genesis, &export.genesis)?;
         Ok(Auditor {
             taken: taken + 1,
-            genesis: Some(genesis.unwrap_or(own)),
+            genesis: Some(first),
             wrong,
             comparison,
         })
@@ -82,5 +99,15 @@ impl Auditor {
             return verdict;
         }
         self.comparison.fork().unwrap_or(Verdict::Clean)
+    }
+}
+
+// The genesis of the first export, which is this one where none was taken before.
+fn first_or(alloc: Global, first: Option<Genesis>, genesis: &Genesis) -> Result<Genesis, AllocError>
+    ensures { IfOk result (λ now. now ≡ unwrap_or first genesis.now) }
+{
+    match first {
+        Some(first) => Ok(first),
+        None => genesis.copy(alloc),
     }
 }

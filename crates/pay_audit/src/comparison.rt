@@ -12,7 +12,6 @@ use crate::lengths::Lengths;
 use crate::owner_list::OwnerList;
 use crate::verdict::Verdict;
 use std::alloc::{AllocError, Global};
-use std::mem;
 
 /// What is kept of exports' lists. As long as they agree that is the longest list of each account, and how long each
 /// export's are; of the first that differs and of those behind it, where they differ from the longest.
@@ -38,14 +37,14 @@ impl Comparison {
     pub(crate) fn add(
         mut self,
         alloc: Global,
-        lists: Vec<OwnerList>,
+        lists: &[OwnerList],
     ) -> Result<Comparison, AllocError>
-        requires { length lists.items ≤ MOST_MEMBERS }
+        requires { length lists.now ≤ MOST_MEMBERS }
         ensures { IfOk result (λ comparison. (exports : List ExportFields) (e : ExportFields)
-            → HasComparedBy exports self → e.lists ≡ lists.items
+            → HasComparedBy exports self → e.lists ≡ lists.now
             → HasComparedBy (exports ++ e ∷ []) comparison) }
     {
-        let differences = Differences::of(alloc, self.longest.as_slice(), lists.as_slice())?;
+        let differences = Differences::of(alloc, self.longest.as_slice(), lists)?;
         if self.differences.is_empty() && !differences.is_any() {
             return self.join(alloc, lists);
         }
@@ -54,22 +53,22 @@ impl Comparison {
     }
 
     /// Keeps what is new in lists that agree with the longest.
-    fn join(mut self, alloc: Global, mut lists: Vec<OwnerList>) -> Result<Comparison, AllocError>
-        requires { length lists.items ≤ MOST_MEMBERS }
+    fn join(mut self, alloc: Global, lists: &[OwnerList]) -> Result<Comparison, AllocError>
+        requires { length lists.now ≤ MOST_MEMBERS }
         ensures longest { IfOk result (λ comparison. (account : ℕ)
             → list_in comparison.longest.items account
-            ≡ longer (list_in self.longest.items account) (list_in lists.items account)) }
+            ≡ longer (list_in self.longest.items account) (list_in lists.now account)) }
         ensures accounts { IfOk result (λ comparison.
-            (length lists.items ≤ length comparison.longest.items)
+            (length lists.now ≤ length comparison.longest.items)
             × (length self.longest.items ≤ length comparison.longest.items)) }
         ensures lengths { IfOk result (λ comparison. comparison.lengths.items
-            ≡ self.lengths.items ++ lengths_of lists.items ∷ []) }
+            ≡ self.lengths.items ++ lengths_of lists.now ∷ []) }
         ensures differences { IfOk result (λ comparison.
             comparison.differences.items ≡ self.differences.items) }
     {
-        let lengths = Lengths::of(alloc, lists.as_slice())?;
+        let lengths = Lengths::of(alloc, lists)?;
         pad(alloc, &mut self.longest, lists.len())?;
-        keep_longer(self.longest.as_mut_slice(), lists.as_mut_slice());
+        keep_longer(alloc, self.longest.as_mut_slice(), lists)?;
         self.lengths.push(lengths)?;
         Ok(self)
     }
@@ -90,22 +89,23 @@ fn pad(alloc: Global, lists: &mut Vec<OwnerList>, accounts: usize) -> Result<(),
     ensures enough { IfOk result (λ _. accounts ≤ length lists.new.items) }
 {
     for _account in lists.len()..accounts {
-        lists.push(OwnerList::new(Vec::new(alloc)))?;
+        lists.push(OwnerList::new(alloc))?;
     }
     Ok(())
 }
 
-// Takes each list that is longer than the one that is kept.
-fn keep_longer(kept: &mut [OwnerList], lists: &mut [OwnerList])
-    requires { length lists.old ≤ length kept.old }
-    ensures { (account : ℕ) → list_in kept.new account
-        ≡ longer (list_in kept.old account) (list_in lists.old account) }
+// Copies each list that is longer than the one that is kept.
+fn keep_longer(alloc: Global, kept: &mut [OwnerList], lists: &[OwnerList]) -> Result<(), AllocError>
+    requires { length lists.now ≤ length kept.old }
+    ensures { IfOk result (λ _. (account : ℕ) → list_in kept.new account
+        ≡ longer (list_in kept.old account) (list_in lists.now account)) }
 {
-    for account in 0..lists.len() {
-        if kept[account].len() < lists[account].len() {
-            mem::swap(&mut kept[account], &mut lists[account]);
+    for (account, list) in lists.iter().enumerate() {
+        if kept[account].len() < list.len() {
+            kept[account] = list.copy(alloc)?;
         }
     }
+    Ok(())
 }
 
 // The first fork between an export whose lists are so long and one that differs: each with each, in the verdict's order.

@@ -1,6 +1,7 @@
 //! Laws of the definitions: what a verdict's parts say of an export. Each function's contract is the law; its body only
 //! names the laws below that it stands on.
 
+ghost use Rattle.pay_audit.specs.Auditor.{VerdictOfTakenIsOne};
 ghost use Rattle.pay_audit.specs.OneList.{OneListIsNoFork};
 ghost use Rattle.pay_audit.specs.FileLaws.{BadGenesisCause, BadJsonCause, BadShapeCause};
 ghost use Rattle.pay_audit.specs.Laws.{BalancesAreJudged, ForkIsJudged, FrontIsJudged};
@@ -56,6 +57,11 @@ pub fn verdict_is_judged()
     largest_is_one();
     settled_book_exists();
 }
+
+/// All exports that an auditor can have taken have one verdict. That there are some is what making one says.
+pub fn verdict_of_taken_is_one()
+    ensures { VerdictOfTakenIsOne }
+{}
 
 /// An export whose values a frame has room for is read back from each text that has the value which is written for it.
 pub fn export_reads_back()

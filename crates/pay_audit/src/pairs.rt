@@ -19,5 +19,5 @@ pub fn audit_by_pairs(alloc: Global, exports: &[Export]) -> Result<Verdict, Allo
     if let Some(verdict) = wrong_book(alloc, exports)? {
         return Ok(verdict);
     }
-    Ok(fork(0, exports).unwrap_or(Verdict::Clean))
+    Ok(fork(exports).unwrap_or(Verdict::Clean))
 }

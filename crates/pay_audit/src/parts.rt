@@ -1,6 +1,7 @@
 //! The parts that an object of JSON has, before they are judged.
 
-ghost use Rattle.std.specs.Prelude.{◌≡◌, IfOk, IfSome, option_and_then, option_map};
+ghost use Rattle.std.specs.Prelude.{◌≡◌, ◌≤◌, length, IfOk, IfSome, option_and_then, option_map};
+ghost use Rattle.pay_frame.specs.declared.limits.TheConstants.{SEQS};
 ghost use Rattle.serde_json.specs.Find.{as_array};
 ghost use Rattle.serde_json.specs.View.{view};
 ghost use Rattle.pay_link.specs.Files.{genesis_said};
@@ -127,7 +128,8 @@ fn lists_in(alloc: Global, value: &Value) -> Result<Option<Vec<OwnerList>>, Allo
 /// The values of an owner.
 #[tactic(auto, unfolding(crate::specs::Export::list_said))]
 fn list_in(alloc: Global, value: &Value) -> Result<Option<OwnerList>, AllocError>
-    ensures { IfOk result (λ list. list ≡ export.list_said (view value.now)) }
+    ensures value { IfOk result (λ list. list ≡ export.list_said (view value.now)) }
+    ensures short { IfOk result (λ list. IfSome list (λ l. length l ≤ SEQS)) }
 {
     let Some(values) = values_in(alloc, value)? else {
         return Ok(None);
@@ -135,7 +137,7 @@ fn list_in(alloc: Global, value: &Value) -> Result<Option<OwnerList>, AllocError
     if values.len() > SEQS as usize {
         return Ok(None);
     }
-    Ok(Some(OwnerList::new(values)))
+    Ok(Some(OwnerList::of(alloc, values.as_slice())?))
 }
 
 fn values_in(alloc: Global, value: &Value) -> Result<Option<Vec<Bytes>>, AllocError>

@@ -14,8 +14,8 @@ returns-then-not-is_any c =
     let self = c.args.self in
     let none : self.differences.items ≡ [] =
     nil_from_length self.differences.items (sym self.differences.ok.0 ∙ eqb-true self.differences.len 0 (sym c.is_empty.ensures ∙ c.if-is_empty.true)) in
-    let own : differences_of self.longest.items c.args.lists.items ≡ c.in_ok-differences.differences =
-    ap₂ differences_of (sym c.as_slice.ensures.value) (sym c.as_slice-2.ensures.value) ∙ sym c.in_ok-differences.ensures in
+    let own : differences_of self.longest.items c.args.lists.now ≡ c.in_ok-differences.differences =
+    ap (λ longest. differences_of longest c.args.lists.now) (sym c.as_slice.ensures.value) ∙ sym c.in_ok-differences.ensures in
     of_all_four _ _ _ _ _ c.join.result c.join.ensures.longest c.join.ensures.accounts c.join.ensures.lengths c.join.ensures.differences
     (λ comparison is accounts lengths differences exports e h same.
     (let all = joined exports self.longest.items comparison.longest.items self.lengths.items self.differences.items e h none
@@ -31,7 +31,7 @@ returns c =
     let self = c.args.self in
     λ exports e h is.
     (let own : differences_of self.longest.items e.lists ≡ c.in_ok-differences.differences =
-    ap₂ differences_of (sym c.as_slice.ensures.value) (is ∙ sym c.as_slice-2.ensures.value) ∙ sym c.in_ok-differences.ensures in
+    ap₂ differences_of (sym c.as_slice.ensures.value) is ∙ sym c.in_ok-differences.ensures in
     subst (λ ds. HasCompared (exports ++ e ∷ []) self.longest.items self.lengths.items ds)
     (ap (λ d. self.differences.items ++ d ∷ []) own ∙ sym c.in_ok-push.ensures.items)
     (behind exports self.longest.items self.lengths.items self.differences.items e h
