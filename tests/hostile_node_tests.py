@@ -48,6 +48,7 @@ class Run:
     def __init__(self, library, threads=None, **wanted):
         self.threads = threads
         self.is_settled = False
+        self.answered = 0
         self.refusals = 0
         ports = free_ports(4)
         write_json(library.place.name, "ports", {"ports": ports})
@@ -87,6 +88,7 @@ class Run:
         while lines[-1].split()[0] in ("out", "in", "void"):
             lines.append(self.node.line())
         if lines != REFUSED or self.refusals:
+            self.answered += 1
             return lines
         self.refusals += 1
         return self.answer(line)
@@ -136,9 +138,9 @@ def each_growth_of_a_node_among_peers_refused(library):
     counts = {name: 0 for name in ("first", "none", "desk", "peers", "close", "export", "threads")}
     for one in runs:
         if not one.has_begun:
-            # before the first line was answered
             kind = "first"
             same((one.ended[:2], MEMORY.fullmatch(one.ended[2]) is not None), ((3, ""), True), one.of)
+            same(one.answered, 0, f"{one.of}: lines answered by a node that ends then")
         elif not one.is_settled:
             kind = "threads"
             same((one.ended[0], one.ended[2]), (0, ""), one.of)
