@@ -1,6 +1,7 @@
 -- Frames that the bytes are, and where some of them end.
 use Rattle.std.proofs.Common.{◌≡◌, ℕ, ◌+◌, ◌-◌, ◌<◌, List, [], ◌∷◌, ◌++◌, length, take, drop, refl, sym, ◌∙◌, ap, subst, arith, append_assoc, Option, Some, None, Result, Ok, Err, length-drop}
-use Rattle.std.specs.Prelude.{IfOk}
+use Rattle.std.specs.Prelude.{IfOk, Vec}
+use Rattle.std.specs.Global.{Global}
 use Rattle.std.specs.List.{All, flat_map}
 use Rattle.std.proofs.lemmas.Grind.{flat_map-append}
 use Rattle.std.proofs.lemmas.List.{append-nil, length-append, take_all, take-append-le}
@@ -107,6 +108,10 @@ both_judged k fs first others (judged ∷ a) b parts front behind = (
 
 pub one_judged : (k : KeyFields) (fs : List FrameFields) (judged : Judged) → IsJudged k fs judged → AreJudged k fs (judged ∷ [])
 one_judged k fs judged is = (fs, [], sym (append-nil fs), is, refl)
+
+pub joined_is : (k : KeyFields) (fs : List FrameFields) (a b : List Judged) (r : Result (Vec Judged Global) AllocError) → IfOk r (λ all. all.items ≡ a ++ b) → AreJudged k fs (a ++ b) → IfOk r (λ all. AreJudged k fs all.items)
+joined_is k fs a b (Ok all) told is = subst (AreJudged k fs) (sym told) is
+joined_is k fs a b (Err e) told is = tt
 
 -- a result that was there
 pub told_of : {A : Type 0} (P : A → Type 0) (r : Result A AllocError) (a : A) → r ≡ Ok a → IfOk r P → P a

@@ -1,6 +1,6 @@
 //! Judging frames by several threads.
 
-ghost use Rattle.std.specs.Prelude.{◌≤◌, List, [], length};
+ghost use Rattle.std.specs.Prelude.{◌≡◌, ◌++◌, ◌≤◌, List, [], length, IfOk};
 ghost use denote.Param.Send.{IsSync};
 ghost use Rattle.pay_frame.specs.Frame.{FrameFields};
 ghost use Rattle.pay_frame.specs.Stream.{IsFramesThen};
@@ -47,10 +47,15 @@ pub fn judge_parts<R: Threads + Sync, T: Tagger + Sync>(
             ensures { JudgesAll keys.entry.now back.entry.now result }
         { judge_parts(rt, alloc, t, keys, back, high, behind) },
     );
-    let mut judged = first?;
-    let mut others = rest?;
-    judged.append(&mut others)?;
-    Ok(judged)
+    joined(first?, rest?)
+}
+
+/// The parts of some frames and of those that follow.
+fn joined(mut first: Vec<Judged>, mut rest: Vec<Judged>) -> Result<Vec<Judged>, AllocError>
+    ensures { IfOk result (λ all. all.items ≡ first.items ++ rest.items) }
+{
+    first.append(&mut rest)?;
+    Ok(first)
 }
 
 /// Judges the frames that the bytes are, as one part.
