@@ -1,7 +1,7 @@
 //! Whose a connection is: told once, when its first WANT opens; and what becomes of the WANTs behind that.
 
-use crate::rows::{FOUR, PAYMENT, SEND, WANT, WANT_OF_0, WANT_OF_2};
-use crate::trial::node_of;
+use crate::rows::{FOUR, PAYMENT, SEND, WANT, WANT_FROM_2, WANT_OF_0, WANT_OF_2};
+use crate::trial::{Group, node_of};
 use pay_frame::{Bytes, Output, Reader, Writer};
 use pay_hmac::HmacSha256;
 use pay_node::Seat;
@@ -45,22 +45,24 @@ impl Claim for Claims {
     }
 }
 
-/// What came of a connection: how many bytes were written in how many calls, and how many receipts are left.
+/// What came of a connection: how many bytes were written in how many calls, and how many receipts are left in the
+/// seats of members 0 and 2.
 #[derive(Clone, Copy, Debug, PartialEq, Eq)]
 struct Written {
     bytes: usize,
     calls: u64,
-    receipts: usize,
+    receipts: (usize, usize),
 }
 
-// What member 1 of four writes to member 0, whose frames these are.
+// What member 1 of four writes where these frames come.
 fn answered<R: Wait>(
     rt: &R,
     alloc: Global,
     claims: &Claims,
     frames: &[u8],
 ) -> Result<Written, Fail> {
-    let (node, mut seats) = node_of(alloc, FOUR).ok_or("no such node")?;
+    let group = Group { seats: 3, ..FOUR };
+    let (node, mut seats) = node_of(alloc, group).ok_or("no such node")?;
     let mut asking = seats.pop().ok_or("no seat")?;
     for _ in 0..2 {
         let value = Bytes::from_slice(alloc, PAYMENT)?;
@@ -69,7 +71,9 @@ fn answered<R: Wait>(
             .ok_or("not asked")?;
     }
     let mut writing: Vec<(u16, Mutex<Seat>)> = Vec::new(alloc);
-    writing.push((0, Mutex::new(seats.pop().ok_or("no seat")?)))?;
+    for peer in [2, 0] {
+        writing.push((peer, Mutex::new(seats.pop().ok_or("no seat")?)))?;
+    }
     let stop = AtomicBool::new(false);
     let mut reader = Reader::new(frames);
     let mut writer: Writer<Vec<u8>> = Writer::new(Vec::new(alloc));
@@ -87,11 +91,15 @@ fn answered<R: Wait>(
     .ok()
     .ok_or("a fault")?;
     let calls = writer.calls();
-    let (_, seat) = writing.pop().ok_or("no seat")?;
+    let (_, of_0) = writing.pop().ok_or("no seat")?;
+    let (_, of_2) = writing.pop().ok_or("no seat")?;
     Ok(Written {
         bytes: writer.into_inner().len(),
         calls,
-        receipts: seat.into_inner().receipts().len(),
+        receipts: (
+            of_0.into_inner().receipts().len(),
+            of_2.into_inner().receipts().len(),
+        ),
     })
 }
 
@@ -144,7 +152,23 @@ fn replies_go_out_together_and_repeats_leave_no_receipt(rt: HostRuntime) -> Resu
     for (frames, calls, receipts) in rows {
         let sent = joined(alloc, frames)?;
         let came = answered(&rt, alloc, &Claims::new(true), sent.as_slice())?;
-        assert_eq!(rt; (came.calls, came.receipts), (calls, receipts));
+        assert_eq!(rt; (came.calls, came.receipts), (calls, (receipts, 0)));
+    }
+    Ok(())
+}
+
+#[test]
+fn each_want_is_answered_from_its_senders_seat(rt: HostRuntime) -> Result<(), Fail> {
+    let alloc = rt.alloc();
+    let rows: [(&[&[u8]], (usize, usize)); 3] = [
+        (&[&WANT_FROM_2], (0, 1)),
+        (&[&WANT, &WANT_OF_0, &WANT_FROM_2], (2, 1)),
+        (&[&WANT_FROM_2, &WANT_OF_0], (1, 1)),
+    ];
+    for (frames, receipts) in rows {
+        let sent = joined(alloc, frames)?;
+        let came = answered(&rt, alloc, &Claims::new(true), sent.as_slice())?;
+        assert_eq!(rt; came.receipts, receipts);
     }
     Ok(())
 }
