@@ -35,12 +35,13 @@ use std::thread::Threads;
 use std::time::Clock;
 
 /// The seats of a node: each peer's reader has one of its own, the writers to each peer share one, and the desk has
-/// one.
+/// one. The list that they came in is kept, empty: so they go back to it without new memory.
 #[derive(Drop)]
 struct Seats {
     readers: Vec<(u16, Asking)>,
     writers: Vec<(u16, Mutex<Seat>)>,
     desk: Seat,
+    left: Vec<Seat>,
 }
 
 /// What the threads of a node share.
@@ -167,7 +168,7 @@ where
     };
     let (seats, ended) = running.run(seats, reader, writer);
     ended?;
-    Ok(gathered(alloc, seats)?)
+    Ok(gathered(seats)?)
 }
 
 // The member of a node that no thread calls any more, if it is the node's own and no receipt was found that it doesn't
@@ -215,6 +216,7 @@ where
             mut readers,
             writers,
             desk,
+            left,
         } = seats;
         let mut desk = self.desk(desk);
         let (_, ended) = thread::join_mut(
@@ -226,6 +228,7 @@ where
             readers,
             writers,
             desk: desk.into_teller().into_seat(),
+            left,
         };
         (seats, ended)
     }
@@ -341,6 +344,7 @@ fn seated(alloc: Global, own: u16, members: u16, seats: Vec<Seat>) -> Result<Sea
         readers,
         writers,
         desk,
+        left,
     })
 }
 
@@ -356,7 +360,7 @@ fn last_of(left: &mut Vec<Seat>) -> Seat
 }
 
 // All seats in one list, the desk's at its end.
-fn gathered(alloc: Global, seats: Seats) -> Result<Vec<Seat>, AllocError>
+fn gathered(seats: Seats) -> Result<Vec<Seat>, AllocError>
     ensures { IfOk result (λ all. (others : List SeatFields)
         × (all.items ≡ others ++ seats.desk ∷ [])) }
 {
@@ -364,8 +368,9 @@ fn gathered(alloc: Global, seats: Seats) -> Result<Vec<Seat>, AllocError>
         readers,
         writers,
         desk,
+        left,
     } = seats;
-    let mut all = Vec::new(alloc);
+    let mut all = left;
     for (_, asking) in readers {
         let Asking { seat, window: _ } = asking;
         all.push(seat)?;
