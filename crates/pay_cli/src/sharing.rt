@@ -78,6 +78,7 @@ fn judge_one<T: Tagger>(
     before.push(judged)?;
     Ok(before)
 }
+
 /// The frames that end up to about a place, and the others.
 fn halved(frames: &[u8], place: usize) -> (&[u8], &[u8])
     requires whole { (fs : List FrameFields) × IsFramesThen frames.now fs [] }
