@@ -38,6 +38,8 @@ EXPORT_REFUSED = (3, "", "payd: engine 0 Memory\n")
 # while they were made; and of how many runs that may be said, for a slow machine makes them late.
 SHORT = 1
 MOST_STARVED = 16
+# How many of the connections that were broken off the peers see at least: what fails as a node ends cuts nothing.
+LEAST_CUTS = 4
 # Where more calls than these are refused, no run ever has so few.
 MOST_CALLS = 2_000
 
@@ -174,7 +176,7 @@ def ends_one_connection(library, name, **more):
 @hostile
 def each_read_of_a_socket_fails(library):
     calls, cuts = ends_one_connection(library, "receive")
-    same(cuts > 10, True, f"of {calls} reads that failed {cuts} ended a connection")
+    same(cuts >= LEAST_CUTS, True, f"of {calls} reads that failed {cuts} ended a connection")
     print(f"reads that failed: {calls}, connections that ended: {cuts}")
 
 
@@ -183,6 +185,6 @@ def each_write_to_a_socket_fails_or_takes_little(library):
     """One that takes nothing is one that fails; behind one that takes a byte the others go out."""
     for way, more in (("failed", {}), ("took nothing", {"send_size": 0}), ("took a byte", {"send_size": 1})):
         calls, cuts = ends_one_connection(library, "send", **more)
-        is_right = cuts == 0 if way == "took a byte" else cuts > 10
+        is_right = cuts == 0 if way == "took a byte" else cuts >= LEAST_CUTS
         same((calls > 10, is_right), (True, True), f"of {calls} writes that {way} {cuts} ended a connection")
         print(f"writes that {way}: {calls}, connections that ended: {cuts}")
