@@ -1,5 +1,6 @@
-ghost use Rattle.std.specs.Prelude.{◌+◌, ◌≤◌, List, [], IsErrOf};
-ghost use Rattle.pay_frame.specs.Device.{Gave, RoseBy};
+ghost use Rattle.std.specs.Prelude.{◌+◌, List, []};
+ghost use Rattle.pay_io.specs.Counts.{KeepsCounts};
+ghost use Rattle.pay_engine.specs.EngineFault.{engine_of};
 ghost use Rattle.pay_frame.specs.Frame.{FrameFields};
 ghost use Rattle.pay_frame.specs.Stream.{IsFramesThen};
 ghost use Rattle.pay_link.specs.Keys.{IsKeysOf};
@@ -13,7 +14,8 @@ use crate::laws::every_text;
 use crate::progress::Progress;
 use crate::sharing::judge_parts;
 use pay_engine::{exact_text, handle_stream};
-use pay_frame::{EngineFault, Input, MOST_READS, Output};
+use pay_engine::EngineFault;
+use pay_io::{Input, Output};
 use pay_hmac::Tagger;
 use pay_link::{Genesis, Keys};
 use std::alloc::{AllocError, Global};
@@ -40,15 +42,8 @@ pub fn run_check<H: Threads + Sync, R: Input, W: Output, T: Tagger + Sync>(
     requires keys { IsKeysOf genesis.now keys.now }
     ensures text { Writes keys.now (R.remaining reader.old) (R.remaining reader.new)
         (W.contents writer.old) (W.contents writer.new) result }
-    ensures read { IsErrOf result EngineFault.Read
-        → RoseBy 1 (R.failure_count reader.old) (R.failure_count reader.new) }
-    ensures write { IsErrOf result EngineFault.Write
-        → RoseBy 1 (W.failure_count writer.old) (W.failure_count writer.new) }
-    ensures most { R.call_count reader.new ≤ R.call_count reader.old + MOST_READS }
-    ensures bound { IsErrOf result EngineFault.Bound
-        → RoseBy MOST_READS (R.call_count reader.old) (R.call_count reader.new) }
-    ensures gave { IsErrOf result EngineFault.Bound
-        → Gave MOST_READS (R.remaining reader.old) (R.remaining reader.new) }
+    ensures counts { KeepsCounts engine_of R.call_count R.failure_count R.remaining
+        W.failure_count reader.old reader.new writer.old writer.new result }
 {
     // laws that the proof stands on: the calls do nothing
     every_text();

@@ -1,7 +1,7 @@
 -- A desk over all lines of a text.
 use Rattle.std.specs.Prelude.{◌≡◌, ℕ, Bool, true, List, Option, Some, None, Result, Ok, Err, IfSome, ◌⊎◌}
 use Rattle.std.specs.Io.KnownBytes.{IsAtEnd}
-use Rattle.pay_frame.specs.declared.engine_fault.EngineFault.{EngineFault}
+use Rattle.pay_io.specs.declared.stream_fault.StreamFault.{StreamFault}
 use Rattle.pay_text.specs.Lines.{lines_within}
 use Rattle.pay_text.specs.Engine.{AnswersAll, AnswersFirst}
 use Rattle.pay_desk.specs.declared.command.Command.{Command}
@@ -30,7 +30,7 @@ pub record DeskSays {T : Type 0} (says : T → Call → TellerReply → T → Ty
 
 -- What is written, by how the engine ended: the answers to all lines of the input, at its end; else a prefix of
 -- them, and the desk is what the answered lines made of it.
-abbrev pub WritesAnswers : {T : Type 0} → (T → Call → TellerReply → T → Type 0) → Desk T → Desk T → Option (List ℕ) → Option (List ℕ) → Option (List ℕ) → Option (List ℕ) → Result Unit EngineFault → Type 0
+abbrev pub WritesAnswers : {T : Type 0} → (T → Call → TellerReply → T → Type 0) → Desk T → Desk T → Option (List ℕ) → Option (List ℕ) → Option (List ℕ) → Option (List ℕ) → Result Unit StreamFault → Type 0
 WritesAnswers says old new input left before after (Ok done) =
     IfSome input (λ bytes. AnswersAll (DeskSays says) old (lines_within MOST_LINE bytes) before after true new × IsAtEnd left)
 WritesAnswers says old new input left before after (Err fault) =

@@ -1,6 +1,5 @@
-ghost use Rattle.std.specs.Prelude.{◌≡◌, ◌+◌, ◌≤◌, IsErrOf, MatchResult};
-ghost use Rattle.pay_frame.specs.declared.fault.FrameFault.{FrameFault};
-ghost use Rattle.pay_frame.specs.Device.{Gave, RoseBy};
+ghost use Rattle.std.specs.Prelude.{◌≡◌, MatchResult};
+ghost use Rattle.pay_io.specs.Counts.{KeepsCounts, itself};
 ghost use Rattle.pay_text.specs.Answers.{bytes_of};
 ghost use Rattle.pay_desk.specs.Desk.{DeskSays, WritesAnswers};
 ghost use Rattle.pay_desk.specs.Words.{refused_words};
@@ -9,7 +8,7 @@ use crate::command::MOST_LINE;
 use crate::desk::Desk;
 use crate::fault::DeskFault;
 use crate::teller::Teller;
-use pay_frame::{EngineFault, Input, MOST_READS, Output};
+use pay_io::{Input, Output, StreamFault};
 use pay_text::{Answer, Answerer, Text, run_lines};
 use std::alloc::{AllocError, Global};
 
@@ -68,19 +67,11 @@ pub fn run_desk<T: Teller, R: Input, W: Output>(
     desk: &mut Desk<T>,
     reader: &mut R,
     writer: &mut W,
-) -> Result<(), EngineFault>
+) -> Result<(), StreamFault>
     ensures text { WritesAnswers T.says desk.old desk.new (R.remaining reader.old)
         (R.remaining reader.new) (W.contents writer.old) (W.contents writer.new) result }
-    ensures read { IsErrOf result EngineFault.Read
-        → RoseBy 1 (R.failure_count reader.old) (R.failure_count reader.new) }
-    ensures write { IsErrOf result EngineFault.Write
-        → RoseBy 1 (W.failure_count writer.old) (W.failure_count writer.new) }
-    ensures most { R.call_count reader.new ≤ R.call_count reader.old + MOST_READS }
-    ensures bound { IsErrOf result EngineFault.Bound
-        → RoseBy MOST_READS (R.call_count reader.old) (R.call_count reader.new) }
-    ensures gave { IsErrOf result EngineFault.Bound
-        → Gave MOST_READS (R.remaining reader.old) (R.remaining reader.new) }
-    ensures frame { (fault : FrameFault) → ¬ (IsErrOf result (EngineFault.Frame fault)) }
+    ensures counts { KeepsCounts itself R.call_count R.failure_count R.remaining
+        W.failure_count reader.old reader.new writer.old writer.new result }
 {
     run_lines(alloc, MOST_LINE, desk, reader, writer)?;
     Ok(())

@@ -3,11 +3,11 @@ use Rattle.std.proofs.Common.{◌≡◌, ℕ, List, [], ◌∷◌, ◌++◌, len
 use Rattle.std.specs.Prelude.{IfSome, ⊤}
 use Rattle.std.specs.Io.KnownBytes.{Appends, Consumes}
 use Rattle.std.proofs.lemmas.List.{append-nil, length-append, take-append-le}
-use Rattle.pay_frame.specs.declared.engine_fault.EngineFault.{EngineFault}
-use Rattle.pay_frame.specs.declared.engine_fault.EngineFault.TheVariants.{Memory, Frame, Read, Write, Bound}
+use Rattle.pay_engine.specs.declared.engine_fault.EngineFault.{EngineFault}
+use Rattle.pay_engine.specs.declared.engine_fault.EngineFault.TheVariants.{Memory, Frame, Read, Write, Bound}
 use Rattle.pay_frame.specs.declared.fault.FrameFault.{FrameFault}
-use Rattle.pay_frame.specs.declared.limits.TheConstants.{MOST_READS}
-use Rattle.pay_frame.specs.Device.{WroteBeginning}
+use Rattle.pay_io.specs.declared.limits.TheConstants.{MOST_READS}
+use Rattle.pay_io.specs.Device.{WroteBeginning}
 use Rattle.pay_frame.specs.Frame.{FrameFields}
 use Rattle.pay_frame.specs.Stream.{IsBytes, IsFramesThen, IsStream, EveryStream, Parts}
 use Rattle.pay_engine.specs.Handling.{Steps, HandledAll, HandledPrefix, HasHandled, IsTail, Open, Ended, Start}

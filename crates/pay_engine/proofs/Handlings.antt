@@ -12,7 +12,7 @@ use Rattle.std.proofs.Math.Seq.{take-append-add, drop-append_seam}
 use Rattle.pay_frame.specs.declared.fault.FrameFault.{FrameFault}
 use Rattle.pay_engine.specs.declared.read_buffer.TheConstants.{GREATEST_READ}
 use Rattle.pay_engine.specs.Held.{ReadsMore}
-use Rattle.pay_frame.specs.Device.{Gave, WroteBeginning}
+use Rattle.pay_io.specs.Device.{Gave, WroteBeginning}
 use Rattle.pay_frame.specs.Frame.{FrameFields, IsFrame, frame_bytes}
 use Rattle.pay_frame.specs.Reading.{IsFault, IsReading}
 use Rattle.pay_frame.specs.Stream.{IsFramesThen, IsStream}

@@ -2,10 +2,10 @@
 use Rattle.std.specs.Prelude.{◌≡◌, ℕ, List, [], ◌∷◌, ◌++◌, Option, Some, None, IfSome, Result, Ok, Err, ⊤}
 use Rattle.std.specs.List.{All}
 use Rattle.std.specs.Io.KnownBytes.{Appends, IsAtEnd}
-use Rattle.pay_frame.specs.declared.engine_fault.EngineFault.{EngineFault}
-use Rattle.pay_frame.specs.declared.engine_fault.EngineFault.TheVariants.{Memory, Frame, Read, Write, Bound}
+use Rattle.pay_engine.specs.declared.engine_fault.EngineFault.{EngineFault}
+use Rattle.pay_engine.specs.declared.engine_fault.EngineFault.TheVariants.{Memory, Frame, Read, Write, Bound}
 use Rattle.pay_frame.specs.declared.fault.FrameFault.{FrameFault}
-use Rattle.pay_frame.specs.Device.{WroteBeginning}
+use Rattle.pay_io.specs.Device.{WroteBeginning}
 use Rattle.pay_frame.specs.Frame.{FrameFields, IsFrame}
 use Rattle.pay_frame.specs.Stream.{IsBytes, IsFramesThen, IsStream}
 use Rattle.pay_engine.specs.Handling.{Handling, never, Start}

@@ -1,3 +1,4 @@
+pub mod EngineFault
 pub mod Handling
 pub mod Exact
 pub mod Held

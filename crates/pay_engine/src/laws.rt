@@ -1,8 +1,11 @@
 //! Laws of the definitions alone. Each body does nothing but name the laws that it stands on: the
 //! contract is the law.
 
-ghost use Rattle.std.specs.Prelude.{ℕ, List, Option, Result, ⊤};
-ghost use Rattle.pay_frame.specs.declared.engine_fault.EngineFault.{EngineFault};
+ghost use Rattle.std.specs.Prelude.{◌≡◌, ℕ, List, Option, Result, ⊤};
+ghost use Rattle.pay_engine.specs.declared.engine_fault.EngineFault.{EngineFault};
+ghost use Rattle.pay_engine.specs.EngineFault.{engine_entry, engine_of};
+ghost use Rattle.pay_io.specs.StreamFault.{stream_entry};
+ghost use Rattle.pay_io.specs.declared.stream_fault.StreamFault.{StreamFault};
 ghost use Rattle.pay_engine.specs.Handling.{HasHandled, Start};
 ghost use Rattle.pay_engine.specs.Exact.{Function, Takes, Writes, exactly};
 
@@ -20,3 +23,8 @@ pub fn exact_text<S>()
     pay_frame::stream_goes_on();
     pay_frame::stream_grows();
 }
+
+/// An engine's fault that a device's became has its number and its name.
+pub fn faults_keep_their_names()
+    ensures law { (fault : StreamFault) → engine_entry (engine_of fault) ≡ stream_entry fault }
+{}

@@ -2,12 +2,14 @@
 //! [`FrameHandler`] takes them, and the texts that it makes of them are written.
 #![tactic(auto)]
 
+mod engine_fault;
 mod frame_handler;
 mod laws;
 mod read_buffer;
 mod stream;
 
+pub use engine_fault::EngineFault;
 pub use frame_handler::FrameHandler;
-pub use laws::exact_text;
+pub use laws::{exact_text, faults_keep_their_names};
 pub use read_buffer::GREATEST_READ;
 pub use stream::handle_stream;

@@ -1,12 +1,11 @@
 ghost use Rattle.std.specs.Prelude.{◌≡◌, ◌+◌, ◌-◌, ◌≤◌, ◌<◌, [], drop, length, take, vec_len, IfErr, IfOk, OnErr};
 ghost use Rattle.std.specs.Io.KnownBytes.{Keeps};
-ghost use Rattle.pay_frame.specs.Device.{counted, failures_after};
+ghost use Rattle.pay_io.specs.Device.{counted, failures_after};
 ghost use Rattle.pay_frame.specs.Reading.{IsFault};
 ghost use Rattle.pay_engine.specs.Held.{IsFront, ReadsMore};
 
-use pay_frame::{
-    CUTTER_ROOM, DeviceFailed, FrameFault, GREATEST_FRAME, Input, frame_sizes, read, stream_grows,
-};
+use pay_frame::{CUTTER_ROOM, FrameFault, GREATEST_FRAME, frame_sizes, read, stream_grows};
+use pay_io::{DeviceFailed, Input};
 use std::alloc::{AllocError, Global};
 use std::marker::Model;
 

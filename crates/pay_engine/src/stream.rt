@@ -1,16 +1,17 @@
-ghost use Rattle.std.specs.Prelude.{◌≡◌, ◌+◌, ◌≤◌, ◌<◌, ◌^◌, ℕ, List, Option, [], length, IfErr, IfOk, IfSome, IsErr, IsErrOf, IsTrue, OnErr, OnOk};
-ghost use Rattle.std.specs.Io.KnownBytes.{Appends, Consumes};
-ghost use Rattle.pay_frame.specs.Device.{Gave, RoseBy, WroteBeginning, counted};
+ghost use Rattle.std.specs.Prelude.{◌≡◌, ◌+◌, ◌≤◌, ◌<◌, ◌^◌, ℕ, List, Option, [], length, IfOk, IfSome, IsErr, IsErrOf, IsTrue, OnOk};
+ghost use Rattle.std.specs.Io.KnownBytes.{Consumes};
+ghost use Rattle.pay_io.specs.Counts.{KeepsCounts};
+ghost use Rattle.pay_engine.specs.EngineFault.{engine_of};
+ghost use Rattle.pay_io.specs.Device.{counted};
 ghost use Rattle.pay_frame.specs.Reading.{IsProperBeginning};
 ghost use Rattle.pay_frame.specs.Stream.{IsStream};
 ghost use Rattle.pay_engine.specs.Handling.{HandlesOnce, HasHandled, InProgress, Start};
 
+use crate::engine_fault::EngineFault;
 use crate::frame_handler::FrameHandler;
 use crate::read_buffer::{GREATEST_READ, ReadBuffer, frames_in_front};
-use pay_frame::{
-    EngineFault, FrameFault, Input, MOST_READS, Output, fault_is_for_good, frame_sizes,
-    nothing_is_a_beginning, stream_grows, write_all,
-};
+use pay_frame::{FrameFault, fault_is_for_good, frame_sizes, nothing_is_a_beginning, stream_grows};
+use pay_io::{Input, MOST_READS, Output, write_text};
 use std::alloc::Global;
 
 /// What is held between two reads, and what is written next.
@@ -43,15 +44,8 @@ pub fn handle_stream<S, H: FrameHandler<S>, In: Input, Out: Output>(
           before = Out.contents writer.old;
         })
         state.new (In.remaining reader.new) (Out.contents writer.new) result }
-    ensures read { IsErrOf result EngineFault.Read
-        → RoseBy 1 (In.failure_count reader.old) (In.failure_count reader.new) }
-    ensures write { IsErrOf result EngineFault.Write
-        → RoseBy 1 (Out.failure_count writer.old) (Out.failure_count writer.new) }
-    ensures most { In.call_count reader.new ≤ In.call_count reader.old + MOST_READS }
-    ensures bound { IsErrOf result EngineFault.Bound
-        → RoseBy MOST_READS (In.call_count reader.old) (In.call_count reader.new) }
-    ensures gave { IsErrOf result EngineFault.Bound
-        → Gave MOST_READS (In.remaining reader.old) (In.remaining reader.new) }
+    ensures counts { KeepsCounts engine_of In.call_count In.failure_count In.remaining
+        Out.failure_count reader.old reader.new writer.old writer.new result }
 {
     // laws that the proof stands on: the calls do nothing
     nothing_is_a_beginning();
@@ -62,7 +56,7 @@ pub fn handle_stream<S, H: FrameHandler<S>, In: Input, Out: Output>(
         read,
         out: Vec::new(alloc),
     };
-    write_out(writer, first)?;
+    write_text(writer, first)?;
     for _ in 0..MOST_READS {
         if !read_once(alloc, handler, state, &mut work, reader, writer)? {
             return Ok(());
@@ -153,7 +147,7 @@ fn handle_held<S, H: FrameHandler<S>, Out: Output>(
                 out.clear();
                 let goes_on = handler.handle_batch(alloc, state, &read.held()[..size], out)?;
                 read.pass(size);
-                write_out(writer, out)?;
+                write_text(writer, out)?;
                 if !goes_on {
                     return Ok(false);
                 }
@@ -184,22 +178,6 @@ fn end_at<S, H: FrameHandler<S>, Out: Output>(
 {
     out.clear();
     handler.end(state, fault, out)?;
-    write_out(writer, out)?;
+    write_text(writer, out)?;
     Err(EngineFault::Frame(fault))
-}
-
-/// Writes a text.
-fn write_out<Out: Output>(writer: &mut Out, text: &[u8]) -> Result<(), EngineFault>
-    ensures ok { OnOk result (Appends (Out.contents writer.old) (Out.contents writer.new) text.now) }
-    ensures err { OnErr result (WroteBeginning (Out.contents writer.old) (Out.contents writer.new) text.now) }
-    ensures write { IfErr result (λ e. e ≡ EngineFault.Write) }
-    ensures failed { OnErr result
-        (Out.failure_count writer.new ≡ counted (Out.failure_count writer.old)) }
-    ensures all_written { OnOk result
-        (Out.failure_count writer.new ≡ Out.failure_count writer.old) }
-{
-    match write_all(writer, text) {
-        Ok(()) => Ok(()),
-        Err(_) => Err(EngineFault::Write),
-    }
 }

@@ -7,7 +7,6 @@ pub mod Answering
 pub mod OneReading
 pub mod Windows
 pub mod WholeRuns
-pub mod Written
 pub mod EveryReading
 pub mod FaultStays
 pub mod Streams

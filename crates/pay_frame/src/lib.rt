@@ -7,10 +7,7 @@
 
 mod body;
 mod bytes;
-mod counted;
 mod cutter;
-mod device;
-mod engine_fault;
 mod fault;
 mod frame_ref;
 mod kind;
@@ -22,10 +19,7 @@ mod writing;
 
 pub use body::Body;
 pub use bytes::Bytes;
-pub use counted::{Counted, Reader, Writer};
 pub use cutter::Cutter;
-pub use device::{DeviceFailed, Input, Output, write_all};
-pub use engine_fault::EngineFault;
 pub use fault::FrameFault;
 pub use frame_ref::FrameRef;
 pub use kind::Kind;
@@ -35,8 +29,8 @@ pub use laws::{
     read_again, stream_is_frames_and_rest,
 };
 pub use limits::{
-    CUTTER_ROOM, GREATEST_FRAME, GREATEST_PIECE, GREATEST_VALUE, HEAD_LEN, LEAST_LENGTH,
-    MOST_MEMBERS, MOST_READS, MOST_TRIES, SEQS, TAG_LEN,
+    CUTTER_ROOM, GREATEST_FRAME, GREATEST_VALUE, HEAD_LEN, LEAST_LENGTH, MOST_MEMBERS, SEQS,
+    TAG_LEN,
 };
 pub use reading::{read, read_one};
 pub use stream_laws::{

@@ -18,16 +18,6 @@ pub const GREATEST_FRAME: usize = 1080;
 /// How many bytes a `Cutter` buffers at most.
 pub const CUTTER_ROOM: usize = 4096;
 
-/// How many bytes an engine reads at once at most. They fit a `Cutter` that holds less than a
-/// frame.
-pub const GREATEST_PIECE: usize = CUTTER_ROOM - GREATEST_FRAME;
-
-/// How many reads an engine makes at most.
-pub const MOST_READS: u32 = 1_000_000;
-
-/// How often a read is tried at most that the system interrupts each time.
-pub const MOST_TRIES: u32 = 1_000;
-
 /// How many sequence numbers an owner has, counted from 0.
 pub const SEQS: u32 = 65_536;
 

@@ -3,7 +3,7 @@
 
 use pay_book::PlainBook;
 use pay_echo::{Instance, MaskInstance, PlainInstance};
-use pay_frame::{Reader, Writer};
+use pay_io::{Reader, Writer};
 use pay_sim::{SimEnd, run_sim};
 use std::alloc::Global;
 use std::test::Fail;

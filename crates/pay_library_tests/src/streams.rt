@@ -2,7 +2,9 @@
 
 use pay_book::PlainBook;
 use pay_echo::PlainInstance;
-use pay_frame::{EngineFault, FrameFault, Reader, Writer};
+use pay_engine::EngineFault;
+use pay_frame::FrameFault;
+use pay_io::{Reader, Writer};
 use pay_hmac::HmacSha256;
 use pay_link::{Genesis, Keys};
 use pay_member::{Member, serve};

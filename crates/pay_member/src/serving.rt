@@ -1,7 +1,8 @@
 //! How a member is fed from a peer's stream.
 
-ghost use Rattle.std.specs.Prelude.{◌≡◌, ◌+◌, ◌≤◌, ℕ, IsErrOf};
-ghost use Rattle.pay_frame.specs.Device.{Gave, RoseBy};
+ghost use Rattle.std.specs.Prelude.{◌+◌};
+ghost use Rattle.pay_io.specs.Counts.{KeepsCounts};
+ghost use Rattle.pay_engine.specs.EngineFault.{engine_of};
 ghost use Rattle.pay_link.specs.Keys.{IsPeer};
 ghost use Rattle.pay_engine.specs.Exact.{Takes, Writes, exactly};
 ghost use Rattle.pay_member.specs.Serving.{serve_start, serving};
@@ -10,7 +11,9 @@ use crate::member::Member;
 use pay_book::Settle;
 use pay_echo::Instance;
 use pay_engine::{FrameHandler, exact_text, handle_stream};
-use pay_frame::{EngineFault, FrameFault, FrameRef, Input, MOST_READS, Output};
+use pay_engine::EngineFault;
+use pay_frame::{FrameFault, FrameRef};
+use pay_io::{Input, Output};
 use pay_hmac::Tagger;
 use pay_link::want;
 use std::alloc::{AllocError, Global};
@@ -85,15 +88,8 @@ where
     ensures took { Takes (serving stamp)
         (serve_start member.old peer (R.remaining reader.old) (W.contents writer.old))
         member.new }
-    ensures read { IsErrOf result EngineFault.Read
-        → RoseBy 1 (R.failure_count reader.old) (R.failure_count reader.new) }
-    ensures write { IsErrOf result EngineFault.Write
-        → RoseBy 1 (W.failure_count writer.old) (W.failure_count writer.new) }
-    ensures most { R.call_count reader.new ≤ R.call_count reader.old + MOST_READS }
-    ensures bound { IsErrOf result EngineFault.Bound
-        → RoseBy MOST_READS (R.call_count reader.old) (R.call_count reader.new) }
-    ensures gave { IsErrOf result EngineFault.Bound
-        → Gave MOST_READS (R.remaining reader.old) (R.remaining reader.new) }
+    ensures counts { KeepsCounts engine_of R.call_count R.failure_count R.remaining
+        W.failure_count reader.old reader.new writer.old writer.new result }
 {
     // a law that the proof stands on: the call does nothing
     exact_text::<Member<I, B>>();

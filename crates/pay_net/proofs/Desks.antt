@@ -5,7 +5,7 @@ use Rattle.std.proofs.lemmas.Bool.{eq-eqb, ltb-true, ltb-false}
 use Rattle.std.proofs.lemmas.List.{get_or_at, length_push}
 use Rattle.std.proofs.lemmas.List.Elements.{All-get_or, filter-append}
 use Rattle.std.proofs.lemmas.Option.{slice_get-get_or}
-use Rattle.pay_frame.specs.declared.engine_fault.EngineFault.{EngineFault}
+use Rattle.pay_io.specs.declared.stream_fault.StreamFault.{StreamFault}
 use Rattle.pay_member.specs.Member.{MemberFields}
 use Rattle.pay_node.specs.Closing.{AllSettled, IsKept, IsUnused, seats_with}
 use Rattle.pay_node.specs.Nodes.{AreFresh, NodeFields, fresh_seat}
@@ -34,11 +34,11 @@ last_is_fresh count seats others desk fresh is =
     (subst (λ (all : List SeatFields). slice_get all (length others) ≡ Some desk) (sym is) (at_end others desk)) in
     some_same desk (fresh_seat (count - 1)) (sym here ∙ fresh.each (count - 1) (omega arith))
 
-pub served_well : (n : NodeFields) (old fresh new : SeatFields) (input left before after : Option (List ℕ)) (ended : Result Unit EngineFault) (done : Unit)
+pub served_well : (n : NodeFields) (old fresh new : SeatFields) (input left before after : Option (List ℕ)) (ended : Result Unit StreamFault) (done : Unit)
     → old ≡ fresh → ended ≡ Ok done → HasServed n old new input left before after ended
     → HasServed n fresh new input left before after (Ok tt)
 served_well n old fresh new input left before after ended done same well served =
-    subst (λ (e : Result Unit EngineFault). HasServed n fresh new input left before after e) well
+    subst (λ (e : Result Unit StreamFault). HasServed n fresh new input left before after e) well
     (subst (λ (seat : SeatFields). HasServed n seat new input left before after ended) same served)
 
 -- ---- a seat among those that are settled

@@ -2,7 +2,7 @@
 use Rattle.std.specs.Prelude.{◌≡◌, ℕ, ◌*◌, ◌-◌, List, [], ◌∷◌, ◌++◌, length, Option, Result, Ok}
 use Rattle.pay_desk.specs.declared.desk.Desk.{Desk}
 use Rattle.pay_desk.specs.Desk.{WritesAnswers}
-use Rattle.pay_frame.specs.declared.engine_fault.EngineFault.{EngineFault}
+use Rattle.pay_io.specs.declared.stream_fault.StreamFault.{StreamFault}
 use Rattle.pay_member.specs.Legal.{Legal}
 use Rattle.pay_member.specs.Member.{MemberFields}
 use Rattle.pay_node.specs.Closing.{AllSettled}
@@ -27,7 +27,7 @@ desk_from n seat = record {
 
 -- What the node's desk wrote of its input, by how it ended: each answer is what the node told it, of which its seat has
 -- the receipt.
-pub record HasServed (n : NodeFields) (old new : SeatFields) (input left before after : Option (List ℕ)) (ended : Result Unit EngineFault) : Type 0 where
+pub record HasServed (n : NodeFields) (old new : SeatFields) (input left before after : Option (List ℕ)) (ended : Result Unit StreamFault) : Type 0 where
   pub desk : Desk TellerFields
   pub seat : desk.teller.seat ≡ new
   pub wrote : WritesAnswers TellerSays (desk_from n old) desk input left before after ended

@@ -1,6 +1,6 @@
 use crate::connections::Connections;
 use crate::ports::Ports;
-use pay_frame::{Reader, Writer};
+use pay_io::{Reader, Writer};
 use pay_peers::{Dial, Dialed};
 use std::io;
 use std::io::Read;

@@ -1,8 +1,8 @@
 ghost use Rattle.std.specs.Prelude.{◌≡◌};
-ghost use Rattle.pay_frame.specs.declared.engine_fault.EngineFault.TheVariants.{Memory};
+ghost use Rattle.pay_io.specs.declared.stream_fault.StreamFault.TheVariants.{Memory};
 ghost use Rattle.pay_net.specs.declared.node_fault.NodeFault.TheVariants.{Engine};
 
-use pay_frame::EngineFault;
+use pay_io::StreamFault;
 use pay_node::CloseFault;
 use std::alloc::{AllocError, AllocFailed};
 use thiserror::Error;
@@ -15,16 +15,16 @@ pub enum NodeFault {
     Port(u16),
     /// Memory was refused at the start, or the desk ended so.
     #[error("engine {0}")]
-    Engine(EngineFault),
+    Engine(StreamFault),
     /// The receipts of the seats and the history don't agree.
     #[error("close {0}")]
     Close(CloseFault),
 }
 
-impl From<EngineFault> for NodeFault {
+impl From<StreamFault> for NodeFault {
     ghost from_gives = { λ fault e. e ≡ Engine fault };
 
-    fn from(fault: EngineFault) -> NodeFault {
+    fn from(fault: StreamFault) -> NodeFault {
         NodeFault::Engine(fault)
     }
 }
@@ -33,7 +33,7 @@ impl From<AllocError> for NodeFault {
     ghost from_gives = { λ _ e. e ≡ Engine Memory };
 
     fn from(_: AllocError) -> NodeFault {
-        NodeFault::Engine(EngineFault::Memory)
+        NodeFault::Engine(StreamFault::Memory)
     }
 }
 
@@ -41,6 +41,6 @@ impl<T: Drop> From<AllocFailed<T>> for NodeFault {
     ghost from_gives = { λ _ e. e ≡ Engine Memory };
 
     fn from(_: AllocFailed<T>) -> NodeFault {
-        NodeFault::Engine(EngineFault::Memory)
+        NodeFault::Engine(StreamFault::Memory)
     }
 }

@@ -21,7 +21,7 @@ use crate::receipts::Receipts;
 use pay_book::Settle;
 use pay_desk::{Desk, run_desk};
 use pay_echo::Instance;
-use pay_frame::{EngineFault, Input, Output};
+use pay_io::{Input, Output, StreamFault};
 use pay_hmac::Tagger;
 use pay_member::Member;
 use pay_node::{CloseFault, Node, OpenGate, Seat};
@@ -107,7 +107,7 @@ where
         return Err(NodeFault::Port(port));
     };
     let Ok((node, seats)) = Node::new(alloc, member, 2 * members - 1) else {
-        return Err(NodeFault::Engine(EngineFault::Memory));
+        return Err(NodeFault::Engine(StreamFault::Memory));
     };
     let seats = run_threads(
         rt, alloc, &node, tagger, ports, dials, ahead, onlooker, &listening, seats, reader, writer,
@@ -207,7 +207,7 @@ where
         seats: Seats,
         reader: &mut In,
         writer: &mut Out,
-    ) -> (Seats, Result<(), EngineFault>)
+    ) -> (Seats, Result<(), StreamFault>)
         ensures { HasServed self.now.node.now seats.desk result.0.desk
             (In.remaining reader.old) (In.remaining reader.new)
             (Out.contents writer.old) (Out.contents writer.new) result.1 }
@@ -301,7 +301,7 @@ where
         desk: &mut Desk<NodeTeller<'a, H, I, B>>,
         reader: &mut In,
         writer: &mut Out,
-    ) -> Result<(), EngineFault>
+    ) -> Result<(), StreamFault>
         ensures { WritesAnswers TellerSays desk.old desk.new
             (In.remaining reader.old) (In.remaining reader.new)
             (Out.contents writer.old) (Out.contents writer.new) result }

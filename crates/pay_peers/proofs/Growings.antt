@@ -1,8 +1,8 @@
 -- A fed seat has its receipts still, and some more behind them.
 use Rattle.std.specs.Prelude.{⊤}
 use Rattle.std.proofs.Common.{◌≡◌, List, [], ◌∷◌, ◌++◌, Option, Result, Ok, Err, ℕ, inl, inr, sym, ap, ◌∙◌, append-nil, append_assoc}
-use Rattle.pay_frame.specs.declared.engine_fault.EngineFault.{EngineFault}
-use Rattle.pay_frame.specs.declared.engine_fault.EngineFault.TheVariants.{Memory, Frame, Read, Write, Bound}
+use Rattle.pay_engine.specs.declared.engine_fault.EngineFault.{EngineFault}
+use Rattle.pay_engine.specs.declared.engine_fault.EngineFault.TheVariants.{Memory, Frame, Read, Write, Bound}
 use Rattle.pay_frame.specs.Frame.{FrameFields}
 use Rattle.pay_link.specs.Opening.{OpenedFields, judgement}
 use Rattle.pay_member.specs.declared.brought.Brought.{Brought}

@@ -1,7 +1,7 @@
 -- What the WANT of a peer is answered.
 use Rattle.std.specs.Prelude.{◌≡◌, ◌⊎◌, ℕ, List, [], Option, Result, Err, ⊤}
 use Rattle.std.specs.List.{Any}
-use Rattle.pay_frame.specs.declared.engine_fault.EngineFault.{EngineFault}
+use Rattle.pay_engine.specs.declared.engine_fault.EngineFault.{EngineFault}
 use Rattle.pay_frame.specs.Frame.{BodyFields, FrameFields, frame_bytes}
 use Rattle.pay_link.specs.Keys.{KeyFields}
 use Rattle.pay_link.specs.Opening.{judgement}

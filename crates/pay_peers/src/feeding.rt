@@ -1,7 +1,8 @@
 //! How a node is fed from a peer's stream.
 
-ghost use Rattle.std.specs.Prelude.{◌≡◌, ◌+◌, ◌≤◌, IsErrOf};
-ghost use Rattle.pay_frame.specs.Device.{Gave, RoseBy};
+ghost use Rattle.std.specs.Prelude.{◌+◌};
+ghost use Rattle.pay_io.specs.Counts.{KeepsCounts};
+ghost use Rattle.pay_engine.specs.EngineFault.{engine_of};
 ghost use Rattle.pay_link.specs.Keys.{IsPeer};
 ghost use Rattle.pay_peers.specs.Feeding.{HasFed, feeding, want_for_all};
 
@@ -9,7 +10,9 @@ use crate::batches::MOST_AT_ONCE;
 use pay_book::Settle;
 use pay_echo::Instance;
 use pay_engine::{FrameHandler, handle_stream};
-use pay_frame::{EngineFault, FrameFault, FrameRef, Input, MOST_READS, Output};
+use pay_engine::EngineFault;
+use pay_frame::{FrameFault, FrameRef};
+use pay_io::{Input, Output};
 use pay_hmac::Tagger;
 use pay_link::want;
 use pay_node::{Gate, Node, Seat};
@@ -101,15 +104,8 @@ where
           before = Out.contents writer.old;
         })
         seat.new (In.remaining reader.new) (Out.contents writer.new) result }
-    ensures read { IsErrOf result EngineFault.Read
-        → RoseBy 1 (In.failure_count reader.old) (In.failure_count reader.new) }
-    ensures write { IsErrOf result EngineFault.Write
-        → RoseBy 1 (Out.failure_count writer.old) (Out.failure_count writer.new) }
-    ensures most { In.call_count reader.new ≤ In.call_count reader.old + MOST_READS }
-    ensures bound { IsErrOf result EngineFault.Bound
-        → RoseBy MOST_READS (In.call_count reader.old) (In.call_count reader.new) }
-    ensures gave { IsErrOf result EngineFault.Bound
-        → Gave MOST_READS (In.remaining reader.old) (In.remaining reader.new) }
+    ensures counts { KeepsCounts engine_of In.call_count In.failure_count In.remaining
+        Out.failure_count reader.old reader.new writer.old writer.new result }
 {
     let from_peer = FromPeer {
         rt,

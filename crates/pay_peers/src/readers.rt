@@ -10,7 +10,7 @@ use crate::reading_ahead::read_ahead;
 use crate::window::Ahead;
 use pay_book::Settle;
 use pay_echo::Instance;
-use pay_frame::{Input, Output};
+use pay_io::{Input, Output};
 use pay_hmac::Tagger;
 use pay_node::{Gate, Node};
 use std::alloc::Global;

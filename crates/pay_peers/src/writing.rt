@@ -1,7 +1,8 @@
 //! How a peer's WANTs are answered on one connection.
 
-ghost use Rattle.std.specs.Prelude.{◌+◌, ◌≤◌, IsErrOf};
-ghost use Rattle.pay_frame.specs.Device.{Gave, RoseBy};
+ghost use Rattle.std.specs.Prelude.{◌+◌};
+ghost use Rattle.pay_io.specs.Counts.{KeepsCounts};
+ghost use Rattle.pay_engine.specs.EngineFault.{engine_of};
 ghost use Rattle.pay_peers.specs.Answering.{HasAnswered, answering};
 
 use crate::answering::answer_want;
@@ -11,7 +12,9 @@ use crate::wanted::open_want;
 use pay_book::Settle;
 use pay_echo::Instance;
 use pay_engine::{FrameHandler, handle_stream};
-use pay_frame::{EngineFault, FrameFault, FrameRef, HEAD_LEN, Input, MOST_READS, Output, TAG_LEN};
+use pay_engine::EngineFault;
+use pay_frame::{FrameFault, FrameRef, HEAD_LEN, TAG_LEN};
+use pay_io::{Input, Output};
 use pay_hmac::Tagger;
 use pay_node::{Node, Seat};
 use std::alloc::{AllocError, Global};
@@ -126,15 +129,8 @@ where
     ensures answered { HasAnswered node.now seats.now
         (In.remaining reader.old) (In.remaining reader.new)
         (Out.contents writer.old) (Out.contents writer.new) result }
-    ensures read { IsErrOf result EngineFault.Read
-        → RoseBy 1 (In.failure_count reader.old) (In.failure_count reader.new) }
-    ensures write { IsErrOf result EngineFault.Write
-        → RoseBy 1 (Out.failure_count writer.old) (Out.failure_count writer.new) }
-    ensures most { In.call_count reader.new ≤ In.call_count reader.old + MOST_READS }
-    ensures bound { IsErrOf result EngineFault.Bound
-        → RoseBy MOST_READS (In.call_count reader.old) (In.call_count reader.new) }
-    ensures gave { IsErrOf result EngineFault.Bound
-        → Gave MOST_READS (In.remaining reader.old) (In.remaining reader.new) }
+    ensures counts { KeepsCounts engine_of In.call_count In.failure_count In.remaining
+        Out.failure_count reader.old reader.new writer.old writer.new result }
 {
     let to_peer = ToPeer {
         rt,

@@ -3,7 +3,7 @@
 use crate::rows::{FOUR, SEND, SEND_OF_2};
 use crate::told::Told;
 use crate::trial::{Tried, node_of};
-use pay_frame::{Reader, Writer};
+use pay_io::{Reader, Writer};
 use pay_hmac::HmacSha256;
 use pay_member::{MemberFault, Outcome};
 use pay_node::{Call, Gate, OpenGate, Seat};

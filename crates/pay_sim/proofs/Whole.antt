@@ -3,8 +3,8 @@ use Rattle.std.proofs.Common.{◌≡◌, ◌≢◌, ℕ, zero, suc, ◌≤◌, B
 use Rattle.std.specs.Prelude.{IfSome}
 use Rattle.std.specs.Io.KnownBytes.{Appends, IsAtEnd}
 use Rattle.std.proofs.KnownBytes.{Appends-trans}
-use Rattle.pay_frame.specs.declared.engine_fault.EngineFault.{EngineFault}
-use Rattle.pay_frame.specs.Device.{WroteBeginning}
+use Rattle.pay_io.specs.declared.stream_fault.StreamFault.{StreamFault}
+use Rattle.pay_io.specs.Device.{WroteBeginning}
 use Rattle.pay_text.specs.Answers.{Answers, Either}
 use Rattle.pay_text.specs.Engine.{AnswersAll, AnswersFirst, Writes}
 use Rattle.pay_text.specs.Lines.{line_feed, lines_of, lines_within, within}
@@ -153,7 +153,7 @@ module _ (p q : PlayFields) (input left before after : Option (List ℕ)) (fresh
         (no_line, (refl, refl), subst (λ (t : List ℕ). Appends before last (t ++ no_line)) nothing (Appends-trans before after last a.text no_line a.written written), λ done. absurd (bad_is_not_done done))
     go (Some (b ∷ bytes)) a = absurd (let many = some_read p q b bytes a.text on (starts p fresh) a.answers in omega arith)
 
-  pub breaks_empty : (on : Bool) (last : Option (List ℕ)) (fault : EngineFault) → Writes IsAnswer MayBeAny LONGEST_LINE p q input left before after (Ok on) → q.lines ≡ 0 → WroteBeginning after last no_line → WritesRun input left before last (Err fault)
+  pub breaks_empty : (on : Bool) (last : Option (List ℕ)) (fault : StreamFault) → Writes IsAnswer MayBeAny LONGEST_LINE p q input left before after (Ok on) → q.lines ≡ 0 → WroteBeginning after last no_line → WritesRun input left before last (Err fault)
   breaks_empty on last fault (all, at) none wrote = go input all where
     go : (o : Option (List ℕ)) → IfSome o (λ bytes. AnswersAll IsAnswer p (lines_within LONGEST_LINE bytes) before after on q) → IfSome o (λ script. IsRunBegun script before last)
     go None a = tt
@@ -181,7 +181,7 @@ module _ (p q : PlayFields) (input left before after : Option (List ℕ)) (fresh
     take_none zero = refl
     take_none (suc k) = refl
 
-  pub breaks : (fault : EngineFault) → Writes IsAnswer MayBeAny LONGEST_LINE p q input left before after (Err fault) → WritesRun input left before after (Err fault)
+  pub breaks : (fault : StreamFault) → Writes IsAnswer MayBeAny LONGEST_LINE p q input left before after (Err fault) → WritesRun input left before after (Err fault)
   breaks fault all = go input all where
     go : (o : Option (List ℕ)) → IfSome o (λ bytes. AnswersFirst IsAnswer MayBeAny p (lines_within LONGEST_LINE bytes) before after q) → IfSome o (λ script. IsRunBegun script before after)
     go None a = tt

@@ -2,8 +2,8 @@
 use Rattle.std.specs.Prelude.{◌≡◌, ◌⊎◌, ℕ, ◌-◌, Bool, true, false, List, [], ◌∷◌, ◌++◌, length, codes, decimal, Option, Some, None, Ok, Err, Result, IfSome, if◌then◌else◌}
 use Rattle.std.specs.List.{flat_map, range_with_len}
 use Rattle.std.specs.Io.KnownBytes.{Appends, IsAtEnd}
-use Rattle.pay_frame.specs.declared.engine_fault.EngineFault.{EngineFault}
-use Rattle.pay_frame.specs.Device.{WroteBeginning}
+use Rattle.pay_io.specs.declared.stream_fault.StreamFault.{StreamFault}
+use Rattle.pay_io.specs.Device.{WroteBeginning}
 use Rattle.pay_frame.specs.Frame.{BodyFields}
 use Rattle.pay_member.specs.Book.{book_after}
 use Rattle.pay_text.specs.Answers.{Answers}
@@ -179,7 +179,7 @@ IsRunBegun (b ∷ script) before after =
     (n : Moment) × AnswersFirst Reads (λ mid last. last ≡ mid) start (lines_within LONGEST_LINE (b ∷ script)) before after n
 
 -- What the engine writes, where its input is known. It ends as done only at the input's end.
-abbrev pub WritesRun : Option (List ℕ) → Option (List ℕ) → Option (List ℕ) → Option (List ℕ) → Result SimEnd EngineFault → Type 0
+abbrev pub WritesRun : Option (List ℕ) → Option (List ℕ) → Option (List ℕ) → Option (List ℕ) → Result SimEnd StreamFault → Type 0
 WritesRun input left before after (Ok ended) =
     IfSome input (λ script. (text : List ℕ) × IsRun script text ended × Appends before after text
     × (ended ≡ end.Done → IsAtEnd left))

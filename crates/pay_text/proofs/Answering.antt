@@ -4,8 +4,8 @@ use Rattle.std.specs.Prelude.{Option, Result, ◌⊎◌}
 use Rattle.std.specs.Io.KnownBytes.{Appends}
 use Rattle.std.proofs.KnownBytes.{Appends-nil, Appends-trans}
 use Rattle.std.proofs.Math.Seq.{take-append-add}
-use Rattle.pay_frame.specs.declared.engine_fault.EngineFault.{EngineFault}
-use Rattle.pay_frame.specs.Device.{WroteBeginning}
+use Rattle.pay_io.specs.declared.stream_fault.StreamFault.{StreamFault}
+use Rattle.pay_io.specs.Device.{WroteBeginning}
 use Rattle.pay_text.specs.Answers.{Answers}
 use Rattle.pay_text.specs.Engine.{AnswersAll, AnswersFirst, Went, Goes}
 
@@ -68,7 +68,7 @@ module _ {A : Type 0} (says : A → Option (List ℕ) → List ℕ → Bool → 
         ends = q.ends;
       }
 
-  pub goes_further : (lines mid left : List (Option (List ℕ))) (old a new : A) (before w after : Option (List ℕ)) (r : Result Bool EngineFault) → Went says lines mid old a before w → Goes says gives_up mid left a new w after r → Goes says gives_up lines left old new before after r
+  pub goes_further : (lines mid left : List (Option (List ℕ))) (old a new : A) (before w after : Option (List ℕ)) (r : Result Bool StreamFault) → Went says lines mid old a before w → Goes says gives_up mid left a new w after r → Goes says gives_up lines left old new before after r
   goes_further lines mid left old a new before w after (Ok true) p q = went_further says lines mid left old a new before w after p q
   goes_further lines mid left old a new before w after (Ok false) p q = all_further says lines mid old a new before w after false p q
   goes_further lines mid left old a new before w after (Err fault) p q = first_further lines mid old a new before w after p q

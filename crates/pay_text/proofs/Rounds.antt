@@ -3,8 +3,8 @@ use Rattle.std.proofs.Common.{◌≡◌, ℕ, ◌+◌, ◌<◌, ◌≤◌, List,
 use Rattle.std.specs.Prelude.{Option, Result, IfSome}
 use Rattle.std.specs.Io.KnownBytes.{Consumes, IsAtEnd}
 use Rattle.std.proofs.KnownBytes.{Consumes-nil, Consumes-trans}
-use Rattle.pay_frame.specs.declared.engine_fault.EngineFault.{EngineFault}
-use Rattle.pay_frame.specs.Device.{Gave}
+use Rattle.pay_io.specs.declared.stream_fault.StreamFault.{StreamFault}
+use Rattle.pay_io.specs.Device.{Gave}
 use Rattle.pay_text.specs.Lines.{lines_within}
 use Rattle.pay_text.specs.Cutting.{is_nothing, last_line, lines_after}
 use Rattle.pay_text.specs.Engine.{AnswersAll, AnswersFirst, Went, Goes, IsGoing, Writes, lines_left}
@@ -47,7 +47,7 @@ module _ {A : Type 0} (says : A → Option (List ℕ) → List ℕ → Bool → 
       some_weaker input (λ bytes. Went says (lines_within bound bytes) (lines_left bound begun left) old a before w) (λ bytes. AnswersFirst says gives_up old (lines_within bound bytes) before w a)
       (λ bytes went. first_further says gives_up (lines_within bound bytes) (lines_left bound begun left) old a a before w w went (broken_off says gives_up (lines_left bound begun left) a a w (inl refl))) g.went
 
-  piece_of : (begun begun1 : Option (List ℕ)) (old a b : A) (input left left1 before w w1 : Option (List ℕ)) (read piece : List ℕ) (r : Result Bool EngineFault) → Consumes input left read → Consumes left left1 piece
+  piece_of : (begun begun1 : Option (List ℕ)) (old a b : A) (input left left1 before w w1 : Option (List ℕ)) (read piece : List ℕ) (r : Result Bool StreamFault) → Consumes input left read → Consumes left left1 piece
       → IfSome input (λ bytes. Went says (lines_within bound bytes) (lines_left bound begun left) old a before w)
       → ((more : List ℕ) → Goes says gives_up (lines_after bound begun (piece ++ more)) (lines_after bound begun1 more) a b w w1 r)
       → IfSome input (λ bytes. Goes says gives_up (lines_within bound bytes) (lines_left bound begun1 left1) old b before w1 r)
@@ -58,7 +58,7 @@ module _ {A : Type 0} (says : A → Option (List ℕ) → List ℕ → Bool → 
       goes_further says gives_up (lines_within bound bytes) (lines_after bound begun (piece ++ l1)) (lines_after bound begun1 l1) old a b before w w1 r
       (subst (λ xs. Went says (lines_within bound bytes) (lines_after bound begun xs) old a before w) d went) (goes l1)
 
-  pub piece_goes : (begun begun1 : Option (List ℕ)) (old a b : A) (input left left1 before w w1 : Option (List ℕ)) (reads : ℕ) (piece : List ℕ) (r : Result Bool EngineFault) → IsGoing says bound begun old a input left before w reads → Consumes left left1 piece
+  pub piece_goes : (begun begun1 : Option (List ℕ)) (old a b : A) (input left left1 before w w1 : Option (List ℕ)) (reads : ℕ) (piece : List ℕ) (r : Result Bool StreamFault) → IsGoing says bound begun old a input left before w reads → Consumes left left1 piece
       → ((more : List ℕ) → Goes says gives_up (lines_after bound begun (piece ++ more)) (lines_after bound begun1 more) a b w w1 r)
       → IfSome input (λ bytes. Goes says gives_up (lines_within bound bytes) (lines_left bound begun1 left1) old b before w1 r)
   piece_goes begun begun1 old a b input left left1 before w w1 reads piece r g d goes = piece_of begun begun1 old a b input left left1 before w w1 g.read piece r g.consumed d g.went goes
@@ -91,7 +91,7 @@ module _ {A : Type 0} (says : A → Option (List ℕ) → List ℕ → Bool → 
       (λ bytes went. all_further says (lines_within bound bytes) [] old a a before w w true (subst (λ ls. Went says (lines_within bound bytes) ls old a before w) (last_is_none begun none) went) (nothing_left says a w))
       (end_of begun old a input left left1 before w g.read g.consumed d end g.went)
 
-  pub last_goes : (begun : Option (List ℕ)) (old a b : A) (input left left1 before w w1 : Option (List ℕ)) (reads : ℕ) (r : Result Bool EngineFault) → IsGoing says bound begun old a input left before w reads → Consumes left left1 [] → IsAtEnd left1 → is_nothing begun ≡ false
+  pub last_goes : (begun : Option (List ℕ)) (old a b : A) (input left left1 before w w1 : Option (List ℕ)) (reads : ℕ) (r : Result Bool StreamFault) → IsGoing says bound begun old a input left before w reads → Consumes left left1 [] → IsAtEnd left1 → is_nothing begun ≡ false
       → Goes says gives_up (begun ∷ []) [] a b w w1 r → IfSome input (λ bytes. Goes says gives_up (lines_within bound bytes) [] old b before w1 r)
   last_goes begun old a b input left left1 before w w1 reads r g d end some goes =
       some_weaker input (λ bytes. Went says (lines_within bound bytes) (last_line begun) old a before w) (λ bytes. Goes says gives_up (lines_within bound bytes) [] old b before w1 r)

@@ -1,8 +1,8 @@
 -- What the engine that answers lines reads and writes, where it is known.
 use Rattle.std.specs.Prelude.{◌≡◌, ℕ, ◌+◌, ◌≤◌, Bool, true, false, List, [], ◌++◌, ◌⊎◌, length, IfSome, Option, Some, None, Result, Ok, Err}
 use Rattle.std.specs.Io.KnownBytes.{Appends, Consumes, IsAtEnd}
-use Rattle.pay_frame.specs.declared.engine_fault.EngineFault.{EngineFault}
-use Rattle.pay_frame.specs.Device.{WroteBeginning}
+use Rattle.pay_io.specs.declared.stream_fault.StreamFault.{StreamFault}
+use Rattle.pay_io.specs.Device.{WroteBeginning}
 use Rattle.pay_text.specs.Lines.{lines_within}
 use Rattle.pay_text.specs.Cutting.{lines_after}
 use Rattle.pay_text.specs.Answers.{Answers, Either}
@@ -30,7 +30,7 @@ pub record AnswersFirst {A : Type 0} (says : A → Option (List ℕ) → List �
 
 -- What is written, by how the engine ended: the answers to all lines of the input, at its end or at the first line
 -- behind which none may follow; else a beginning of them.
-abbrev pub Writes : {A : Type 0} → (A → Option (List ℕ) → List ℕ → Bool → A → Type 0) → (A → A → Type 0) → ℕ → A → A → Option (List ℕ) → Option (List ℕ) → Option (List ℕ) → Option (List ℕ) → Result Bool EngineFault → Type 0
+abbrev pub Writes : {A : Type 0} → (A → Option (List ℕ) → List ℕ → Bool → A → Type 0) → (A → A → Type 0) → ℕ → A → A → Option (List ℕ) → Option (List ℕ) → Option (List ℕ) → Option (List ℕ) → Result Bool StreamFault → Type 0
 Writes says gives_up bound old new input left before after (Ok on) =
     IfSome input (λ bytes. AnswersAll says old (lines_within bound bytes) before after on new) × Either on (IsAtEnd left) Unit
 Writes says gives_up bound old new input left before after (Err fault) =
@@ -47,7 +47,7 @@ pub record Went {A : Type 0} (says : A → Option (List ℕ) → List ℕ → Bo
   pub written : Appends before after text
 
 -- By some bytes: lines are left, or the last one is answered that may be, or the engine broke off.
-abbrev pub Goes : {A : Type 0} → (A → Option (List ℕ) → List ℕ → Bool → A → Type 0) → (A → A → Type 0) → List (Option (List ℕ)) → List (Option (List ℕ)) → A → A → Option (List ℕ) → Option (List ℕ) → Result Bool EngineFault → Type 0
+abbrev pub Goes : {A : Type 0} → (A → Option (List ℕ) → List ℕ → Bool → A → Type 0) → (A → A → Type 0) → List (Option (List ℕ)) → List (Option (List ℕ)) → A → A → Option (List ℕ) → Option (List ℕ) → Result Bool StreamFault → Type 0
 Goes says gives_up lines left old new before after (Ok true) = Went says lines left old new before after
 Goes says gives_up lines left old new before after (Ok false) = AnswersAll says old lines before after false new
 Goes says gives_up lines left old new before after (Err fault) = AnswersFirst says gives_up old lines before after new
@@ -65,7 +65,7 @@ pub record IsGoing {A : Type 0} (says : A → Option (List ℕ) → List ℕ →
   pub went : IfSome input (λ bytes. Went says (lines_within bound bytes) (lines_left bound begun left) old new before after)
 
 -- after one read more: it goes on, or it came to an end
-abbrev pub Reads : {A : Type 0} → (A → Option (List ℕ) → List ℕ → Bool → A → Type 0) → (A → A → Type 0) → ℕ → Option (List ℕ) → A → A → Option (List ℕ) → Option (List ℕ) → Option (List ℕ) → Option (List ℕ) → ℕ → Result (Option Bool) EngineFault → Type 0
+abbrev pub Reads : {A : Type 0} → (A → Option (List ℕ) → List ℕ → Bool → A → Type 0) → (A → A → Type 0) → ℕ → Option (List ℕ) → A → A → Option (List ℕ) → Option (List ℕ) → Option (List ℕ) → Option (List ℕ) → ℕ → Result (Option Bool) StreamFault → Type 0
 Reads says gives_up bound begun old new input left before after reads (Ok None) = IsGoing says bound begun old new input left before after (reads + 1)
 Reads says gives_up bound begun old new input left before after reads (Ok (Some on)) = Writes says gives_up bound old new input left before after (Ok on)
 Reads says gives_up bound begun old new input left before after reads (Err fault) = Writes says gives_up bound old new input left before after (Err fault)

@@ -1,13 +1,12 @@
-ghost use Rattle.std.specs.Prelude.{◌≡◌, ◌+◌, ◌++◌, ◌∷◌, ◌≤◌, ℕ, List, Option, Some, Err, [], IfErr, OnErr, OnOk, IsErrOf};
-ghost use Rattle.std.specs.Io.KnownBytes.{Appends};
-ghost use Rattle.pay_frame.specs.declared.fault.FrameFault.{FrameFault};
-ghost use Rattle.pay_frame.specs.Device.{Gave, RoseBy, WroteBeginning, counted};
+ghost use Rattle.std.specs.Prelude.{◌≡◌, ◌+◌, ◌++◌, ◌∷◌, ℕ, List, Option, Some, Err, [], OnOk, IsErrOf};
+ghost use Rattle.pay_io.specs.Counts.{KeepsCounts, itself};
+ghost use Rattle.pay_io.specs.Device.{counted};
 ghost use Rattle.pay_text.specs.Cutting.{lines_after};
 ghost use Rattle.pay_text.specs.Engine.{Goes, IsGoing, Reads, Writes};
 
 use crate::answerer::{Answer, Answerer};
 use crate::cutter::LineCutter;
-use pay_frame::{EngineFault, Input, MOST_READS, Output, write_all};
+use pay_io::{Input, MOST_READS, Output, StreamFault, write_text};
 use std::alloc::Global;
 
 // How many bytes are asked for in one read.
@@ -26,19 +25,11 @@ pub fn run_lines<A: Answerer, R: Input, W: Output>(
     answerer: &mut A,
     reader: &mut R,
     writer: &mut W,
-) -> Result<bool, EngineFault>
+) -> Result<bool, StreamFault>
     ensures text { Writes A.says A.gives_up bound answerer.old answerer.new (R.remaining reader.old)
         (R.remaining reader.new) (W.contents writer.old) (W.contents writer.new) result }
-    ensures read { IsErrOf result EngineFault.Read
-        → RoseBy 1 (R.failure_count reader.old) (R.failure_count reader.new) }
-    ensures write { IsErrOf result EngineFault.Write
-        → RoseBy 1 (W.failure_count writer.old) (W.failure_count writer.new) }
-    ensures most { R.call_count reader.new ≤ R.call_count reader.old + MOST_READS }
-    ensures bound { IsErrOf result EngineFault.Bound
-        → RoseBy MOST_READS (R.call_count reader.old) (R.call_count reader.new) }
-    ensures gave { IsErrOf result EngineFault.Bound
-        → Gave MOST_READS (R.remaining reader.old) (R.remaining reader.new) }
-    ensures frame { (fault : FrameFault) → ¬ (IsErrOf result (EngineFault.Frame fault)) }
+    ensures counts { KeepsCounts itself R.call_count R.failure_count R.remaining
+        W.failure_count reader.old reader.new writer.old writer.new result }
     ensures all_written { OnOk result (W.failure_count writer.new ≡ W.failure_count writer.old) }
 {
     let mut cutter = LineCutter::new(alloc, bound)?;
@@ -47,7 +38,7 @@ pub fn run_lines<A: Answerer, R: Input, W: Output>(
             return Ok(at_end);
         }
     }
-    Err(EngineFault::Bound)
+    Err(StreamFault::Bound)
 }
 
 /// Reads a piece and answers the lines that end in it. At the end answers whether the input came to its own.
@@ -57,26 +48,25 @@ fn read_once<A: Answerer, R: Input, W: Output>(
     cutter: &mut LineCutter,
     reader: &mut R,
     writer: &mut W,
-) -> Result<Option<bool>, EngineFault>
+) -> Result<Option<bool>, StreamFault>
     ensures reads { (old : A) (input before : Option (List ℕ)) (reads : ℕ)
         → IsGoing A.says cutter.old.bound cutter.old.line old answerer.old input
         (R.remaining reader.old) before (W.contents writer.old) reads
         → Reads A.says A.gives_up cutter.old.bound cutter.new.line old answerer.new input
         (R.remaining reader.new) before (W.contents writer.new) reads result }
     ensures cutter { OnOk result (cutter.new.bound ≡ cutter.old.bound) }
-    ensures bound { ¬ (IsErrOf result EngineFault.Bound) }
-    ensures frame { (fault : FrameFault) → ¬ (IsErrOf result (EngineFault.Frame fault)) }
+    ensures bound { ¬ (IsErrOf result StreamFault.Bound) }
     ensures called { R.call_count reader.new ≡ counted (R.call_count reader.old) }
-    ensures read { IsErrOf result EngineFault.Read
+    ensures read { IsErrOf result StreamFault.Read
         → R.failure_count reader.new ≡ counted (R.failure_count reader.old) }
-    ensures write { IsErrOf result EngineFault.Write
+    ensures write { IsErrOf result StreamFault.Write
         → W.failure_count writer.new ≡ counted (W.failure_count writer.old) }
     ensures none_failed { OnOk result (R.failure_count reader.new ≡ R.failure_count reader.old) }
     ensures all_written { OnOk result (W.failure_count writer.new ≡ W.failure_count writer.old) }
 {
     let mut buffer = [0u8; PIECE];
     let Ok(count) = reader.read(&mut buffer) else {
-        return Err(EngineFault::Read);
+        return Err(StreamFault::Read);
     };
     if count == 0 {
         if cutter.is_empty() {
@@ -99,16 +89,15 @@ fn take_piece<A: Answerer, W: Output>(
     cutter: &mut LineCutter,
     piece: &[u8],
     writer: &mut W,
-) -> Result<bool, EngineFault>
+) -> Result<bool, StreamFault>
     ensures goes { (more : List ℕ) → Goes A.says A.gives_up
         (lines_after cutter.old.bound cutter.old.line (piece.now ++ more))
         (lines_after cutter.old.bound cutter.new.line more)
         answerer.old answerer.new (W.contents writer.old) (W.contents writer.new) result }
     ensures cutter { OnOk result (cutter.new.bound ≡ cutter.old.bound) }
-    ensures read { ¬ (IsErrOf result EngineFault.Read) }
-    ensures bound { ¬ (IsErrOf result EngineFault.Bound) }
-    ensures frame { (fault : FrameFault) → ¬ (IsErrOf result (EngineFault.Frame fault)) }
-    ensures write { IsErrOf result EngineFault.Write
+    ensures read { ¬ (IsErrOf result StreamFault.Read) }
+    ensures bound { ¬ (IsErrOf result StreamFault.Bound) }
+    ensures write { IsErrOf result StreamFault.Write
         → W.failure_count writer.new ≡ counted (W.failure_count writer.old) }
     ensures all_written { OnOk result (W.failure_count writer.new ≡ W.failure_count writer.old) }
 {
@@ -128,15 +117,14 @@ fn answer_line<A: Answerer, W: Output>(
     answerer: &mut A,
     cutter: &mut LineCutter,
     writer: &mut W,
-) -> Result<bool, EngineFault>
+) -> Result<bool, StreamFault>
     ensures goes { (left : List (Option (List ℕ)))
         → Goes A.says A.gives_up (cutter.old.line ∷ left) left
         answerer.old answerer.new (W.contents writer.old) (W.contents writer.new) result }
     ensures cutter { OnOk result (cutter.new ≡ record cutter.old { line = Some [] }) }
-    ensures read { ¬ (IsErrOf result EngineFault.Read) }
-    ensures bound { ¬ (IsErrOf result EngineFault.Bound) }
-    ensures frame { (fault : FrameFault) → ¬ (IsErrOf result (EngineFault.Frame fault)) }
-    ensures write { IsErrOf result EngineFault.Write
+    ensures read { ¬ (IsErrOf result StreamFault.Read) }
+    ensures bound { ¬ (IsErrOf result StreamFault.Bound) }
+    ensures write { IsErrOf result StreamFault.Write
         → W.failure_count writer.new ≡ counted (W.failure_count writer.old) }
     ensures all_written { OnOk result (W.failure_count writer.new ≡ W.failure_count writer.old) }
 {
@@ -144,18 +132,4 @@ fn answer_line<A: Answerer, W: Output>(
     write_text(writer, text.as_bytes())?;
     cutter.clear();
     Ok(goes_on)
-}
-
-fn write_text<W: Output>(writer: &mut W, text: &[u8]) -> Result<(), EngineFault>
-    ensures ok { OnOk result (Appends (W.contents writer.old) (W.contents writer.new) text.now) }
-    ensures none_failed { OnOk result (W.failure_count writer.new ≡ W.failure_count writer.old) }
-    ensures err { IfErr result (λ fault. fault ≡ EngineFault.Write) }
-    ensures beginning { OnErr result
-        (WroteBeginning (W.contents writer.old) (W.contents writer.new) text.now) }
-    ensures failed { OnErr result (W.failure_count writer.new ≡ counted (W.failure_count writer.old)) }
-{
-    if write_all(writer, text).is_err() {
-        return Err(EngineFault::Write);
-    }
-    Ok(())
 }

@@ -1,7 +1,7 @@
 -- The date of a journal, as a word says it.
 use Rattle.std.specs.Prelude.{◌≡◌, List, ℕ, Option, Some, None}
 use Rattle.jiff.specs.Types.{Date}
-use Rattle.pay_frame.specs.declared.engine_fault.EngineFault.TheVariants as engine
+use Rattle.pay_engine.specs.declared.engine_fault.EngineFault.TheVariants as engine
 use Rattle.pay_journal.specs.Journal.{IsDateWord}
 use Rattle.payd.specs.declared.stop.Stop.{Stop}
 use Rattle.payd.specs.declared.stop.Stop.TheVariants as stop

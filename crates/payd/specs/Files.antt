@@ -5,7 +5,7 @@ use Rattle.pay_audit.specs.Export.{ExportFields, export_in}
 use Rattle.pay_audit.specs.Verdict.{verdict_of}
 use Rattle.pay_audit.specs.declared.export_fault.ExportFault.TheVariants as export
 use Rattle.pay_audit.specs.declared.verdict.Verdict.{Verdict}
-use Rattle.pay_frame.specs.declared.engine_fault.EngineFault.TheVariants as engine
+use Rattle.pay_engine.specs.declared.engine_fault.EngineFault.TheVariants as engine
 use Rattle.pay_link.specs.Files.{genesis_in, keys_in}
 use Rattle.pay_link.specs.Genesis.{GenesisFields}
 use Rattle.pay_link.specs.Keys.{KeyFields}

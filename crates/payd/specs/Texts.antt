@@ -1,7 +1,7 @@
 -- The texts about an export that words ask for.
 use Rattle.std.specs.Prelude.{◌≡◌, ℕ, List, Option, Some, None, option_map}
 use Rattle.pay_audit.specs.Export.{ExportFields}
-use Rattle.pay_frame.specs.declared.engine_fault.EngineFault.TheVariants as engine
+use Rattle.pay_engine.specs.declared.engine_fault.EngineFault.TheVariants as engine
 use Rattle.pay_journal.specs.Statements.{account_named, statement_in, statements_in}
 use Rattle.payd.specs.declared.stop.Stop.{Stop}
 use Rattle.payd.specs.declared.stop.Stop.TheVariants.{Engine, Genesis, Keys, Ports, Export, Close, Port, File, Dials, Ahead, Jobs, Account, Date, Clock}

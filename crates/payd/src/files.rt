@@ -7,7 +7,7 @@ ghost use Rattle.payd.specs.Files.{AreKeysIn, IsExportOf, IsExportStop, IsExport
 
 use crate::stop::Stop;
 use pay_audit::{Auditor, Export, Verdict, read_export};
-use pay_frame::EngineFault;
+use pay_engine::EngineFault;
 use pay_link::{Genesis, Keys, test_keys};
 use std::alloc::Global;
 use std::fs::OpenFile;

@@ -1,10 +1,10 @@
 ghost use Rattle.std.specs.Prelude.{◌≡◌};
-ghost use Rattle.pay_frame.specs.declared.engine_fault.EngineFault.TheVariants.{Memory};
+ghost use Rattle.pay_engine.specs.declared.engine_fault.EngineFault.TheVariants.{Memory};
 ghost use Rattle.payd.specs.declared.stop.Stop.TheVariants.{Engine, Export, Genesis, Keys, Ports};
 ghost use Rattle.payd.specs.Stops.{node_stop};
 
 use pay_audit::ExportFault;
-use pay_frame::EngineFault;
+use pay_engine::EngineFault;
 use pay_link::{GenesisFault, KeysFault};
 use pay_net::{NodeFault, PortsFault};
 use pay_node::CloseFault;

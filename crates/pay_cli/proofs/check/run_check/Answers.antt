@@ -1,6 +1,6 @@
 use Rattle.std.proofs.Common.{◌≡◌, ◌∙◌, ℕ, [], Err, sym, ap, subst, rules}
 use Rattle.std.specs.Prelude.{replicate}
-use Rattle.pay_frame.specs.declared.engine_fault.EngineFault.TheVariants.{Memory}
+use Rattle.pay_engine.specs.declared.engine_fault.EngineFault.TheVariants.{Memory}
 use Rattle.pay_engine.specs.Handling.{Start}
 use Rattle.pay_engine.specs.Exact.{Writes as EngineWrites}
 use Rattle.pay_cli.specs.declared.progress.Progress.{Progress}

@@ -1,8 +1,8 @@
 use Rattle.std.proofs.Common.{◌≡◌, ◌∙◌, ◌++◌, ap, Err, rules}
 use Rattle.std.specs.Io.KnownBytes.{Appends}
-use Rattle.pay_frame.specs.Device.{WroteBeginning}
-use Rattle.pay_frame.specs.declared.engine_fault.EngineFault.{EngineFault}
-use Rattle.pay_frame.specs.declared.engine_fault.EngineFault.TheVariants.{Memory, Write}
+use Rattle.pay_io.specs.Device.{WroteBeginning}
+use Rattle.pay_engine.specs.declared.engine_fault.EngineFault.{EngineFault}
+use Rattle.pay_engine.specs.declared.engine_fault.EngineFault.TheVariants.{Memory, Write}
 use Rattle.pay_engine.proofs.Handlings.{all_to, some_to, none_written}
 use Rattle.pay_engine.proofs.stream.end_at.Goals as goal
 

@@ -1,9 +1,9 @@
 use Rattle.std.proofs.Common.{drop, take, ◌≡◌, ◌∙◌, ◌++◌, ◌∷◌, [], ap, append_assoc, arith, true, false, Ok, Err, ℕ, inr, sym, subst, rules}
 use Rattle.std.specs.Io.KnownBytes.{Appends}
 use Rattle.std.proofs.KnownBytes.{Consumes-nil}
-use Rattle.pay_frame.specs.declared.engine_fault.EngineFault.{EngineFault}
-use Rattle.pay_frame.specs.declared.engine_fault.EngineFault.TheVariants.{Memory, Write}
-use Rattle.pay_frame.specs.Device.{WroteBeginning}
+use Rattle.pay_engine.specs.declared.engine_fault.EngineFault.{EngineFault}
+use Rattle.pay_engine.specs.declared.engine_fault.EngineFault.TheVariants.{Memory, Write}
+use Rattle.pay_io.specs.Device.{WroteBeginning}
 use Rattle.pay_frame.specs.Reading.{IsFault}
 use Rattle.pay_frame.specs.Stream.{IsFramesThen}
 use Rattle.pay_engine.specs.Handling.{StopsAmong, HandlesBatch, InProgress, StepsPrefix}

@@ -1,7 +1,7 @@
 use Rattle.std.proofs.Common.{◌≡◌, ◌∙◌, ℕ, [], Err, true, false, ap, arith, rules}
-use Rattle.pay_frame.specs.declared.engine_fault.EngineFault.{EngineFault}
-use Rattle.pay_frame.specs.declared.engine_fault.EngineFault.TheVariants.{Memory, Write}
-use Rattle.pay_frame.specs.declared.limits.TheConstants.{MOST_READS}
+use Rattle.pay_engine.specs.declared.engine_fault.EngineFault.{EngineFault}
+use Rattle.pay_engine.specs.declared.engine_fault.EngineFault.TheVariants.{Memory, Write}
+use Rattle.pay_io.specs.declared.limits.TheConstants.{MOST_READS}
 use Rattle.pay_engine.specs.Handling.{Start}
 use Rattle.pay_engine.proofs.Handlings.{first_failed, at_start, none_written, room_after, gave}
 use Rattle.pay_engine.proofs.stream.handle_stream.Goals as goal

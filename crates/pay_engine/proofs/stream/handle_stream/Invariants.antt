@@ -1,5 +1,5 @@
 use Rattle.std.proofs.Common.{◌≡◌, ◌+◌, ◌≤◌}
-use Rattle.pay_frame.specs.Device.{RoseBy}
+use Rattle.pay_io.specs.Device.{RoseBy}
 use Rattle.pay_frame.specs.Reading.{IsProperBeginning}
 use Rattle.pay_engine.specs.Handling.{InProgress}
 use Rattle.pay_engine.proofs.stream.handle_stream.Given as goal

@@ -1,6 +1,6 @@
 use Rattle.std.proofs.Common.{◌≡◌, Err, rules}
 use Rattle.std.specs.Io.KnownBytes.{Appends}
-use Rattle.pay_frame.specs.Device.{WroteBeginning}
+use Rattle.pay_io.specs.Device.{WroteBeginning}
 use Rattle.pay_text.specs.Answers.{bytes_of}
 use Rattle.pay_text.proofs.Answering.{one_answered, one_broken}
 use Rattle.pay_text.proofs.engine.answer_line.Goals as goal

@@ -1,6 +1,6 @@
 use Rattle.std.proofs.Common.{◌≡◌, [], Ok, Err, true, false, rules, arith, sym, ◌∙◌, take, length-take}
 use Rattle.std.specs.Io.KnownBytes.{Consumes, IsAtEnd}
-use Rattle.pay_frame.specs.declared.engine_fault.EngineFault.{EngineFault}
+use Rattle.pay_io.specs.declared.stream_fault.StreamFault.{StreamFault}
 use Rattle.pay_text.specs.Cutting.{is_nothing}
 use Rattle.pay_text.proofs.Rounds.{ends_empty, last_goes, last_writes, piece_goes, goes_on}
 use Rattle.pay_text.proofs.engine.read_once.Goals as goal
@@ -23,7 +23,7 @@ returns-in_err-may_follow-clause-reads g c =
     let consumed : Consumes (remaining c.args.reader.now) (remaining c.read.new.self) [] = rw none at bytes.0 in
     let end : IsAtEnd (remaining c.read.new.self) = bytes.1 none (omega arith) in
     let some : is_nothing c.args.cutter.now.line ≡ false = sym c.is_empty.ensures ∙ c.if-is_empty.false in
-    let e : EngineFault = c.in_err-may_follow.field-0.0 in
+    let e : StreamFault = c.in_err-may_follow.field-0.0 in
     let same : c.from_residual.result ≡ Err e = search rules in
     rw same (λ old input before reads going. last_goes g.A.Answerer.says g.A.Answerer.gives_up c.args.cutter.now.bound c.args.cutter.now.line old c.args.answerer.now c.answer_line.new.answerer input _ _ before _ _ reads (Err e) going consumed end some (c.in_err-may_follow.ensures.goes []))
 
@@ -39,7 +39,7 @@ returns-then-count-eq0-clause-reads g c =
 
 pub returns-in_err-take_piece-clause-reads : goal.returns-in_err-take_piece-clause-reads
 returns-in_err-take_piece-clause-reads g c =
-    let e : EngineFault = c.in_err-take_piece.field-0.0 in
+    let e : StreamFault = c.in_err-take_piece.field-0.0 in
     let same : c.from_residual-in_err-take_piece.result ≡ Err e = search rules in
     rw same (λ old input before reads going. piece_goes g.A.Answerer.says g.A.Answerer.gives_up c.args.cutter.now.bound c.args.cutter.now.line c.take_piece.new.cutter.line old c.args.answerer.now c.take_piece.new.answerer input _ _ before _ _ reads (take c.in-Ok.count c.read.new.buffer) (Err e) going c.in-Ok.ensures.bytes.0 c.in_err-take_piece.ensures.goes)
 

@@ -1,5 +1,5 @@
 use Rattle.std.proofs.Common.{◌≡◌, ℕ, Ok, Err, rules, sym, ap, subst}
-use Rattle.pay_frame.specs.declared.engine_fault.EngineFault.{EngineFault}
+use Rattle.pay_io.specs.declared.stream_fault.StreamFault.{StreamFault}
 use Rattle.pay_text.specs.Cutting.{Begun}
 use Rattle.pay_text.specs.Engine.{IsGoing, Writes}
 use Rattle.pay_text.proofs.Rounds.{going_at_start, broken}
@@ -21,7 +21,7 @@ returns-in_err-at_end-clause-text g c =
     let gives_up = g.A.Answerer.gives_up in
     let remaining = g.R.Input.remaining in
     let contents = g.W.Output.contents in
-    let e : EngineFault = c.in_err-at_end.field-0.0 in
+    let e : StreamFault = c.in_err-at_end.field-0.0 in
     let same : c.from_residual-in_err-at_end.result ≡ Err e = search rules in
     let going = subst (λ (n : ℕ). IsGoing says n c.loop.cutter.line c.args.answerer.now c.loop.answerer (remaining c.args.reader.now) (remaining c.loop.reader) (contents c.args.writer.now) (contents c.loop.writer) c.loop.counter) (sym c.loop.invariant.bound) c.loop.invariant.going in
     rw same (subst (λ (n : ℕ). Writes says gives_up n c.args.answerer.now c.read_once.new.answerer (remaining c.args.reader.now) (remaining c.read_once.new.reader) (contents c.args.writer.now) (contents c.read_once.new.writer) (Err e)) c.loop.invariant.bound

@@ -1,6 +1,6 @@
 use Rattle.std.proofs.Common.{length, take, ◌-◌, ◌≡◌, ◌≤◌}
 use Rattle.std.specs.Io.KnownBytes.{Appends}
-use Rattle.pay_frame.proofs.device.write_all.Given as goal
+use Rattle.pay_io.proofs.device.write_all.Given as goal
 
 -- what went out so far
 abbrev pub invariant-loop-written : goal.invariant-loop-written

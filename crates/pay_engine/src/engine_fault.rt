@@ -1,7 +1,9 @@
 ghost use Rattle.std.specs.Prelude.{◌≡◌};
-ghost use Rattle.pay_frame.specs.declared.engine_fault.EngineFault.TheVariants.{Memory};
+ghost use Rattle.pay_engine.specs.declared.engine_fault.EngineFault.TheVariants.{Memory};
+ghost use Rattle.pay_engine.specs.EngineFault.{engine_of};
 
-use crate::fault::FrameFault;
+use pay_frame::FrameFault;
+use pay_io::StreamFault;
 use std::alloc::{AllocError, AllocFailed};
 use thiserror::Error;
 
@@ -22,7 +24,7 @@ pub enum EngineFault {
 }
 
 impl EngineFault {
-    ghost use Rattle.pay_frame.specs.EngineFault.{engine_number, engine_name};
+    ghost use Rattle.pay_engine.specs.EngineFault.{engine_number, engine_name};
 
     const fn entry(self) -> (u8, &'static str)
         ensures number { result.0 ≡ engine_number self }
@@ -47,6 +49,19 @@ impl EngineFault {
         ensures value { result.now ≡ engine_name self }
     {
         self.entry().1
+    }
+}
+
+impl From<StreamFault> for EngineFault {
+    ghost from_gives = { λ fault e. e ≡ engine_of fault };
+
+    fn from(fault: StreamFault) -> EngineFault {
+        match fault {
+            StreamFault::Memory => EngineFault::Memory,
+            StreamFault::Read => EngineFault::Read,
+            StreamFault::Write => EngineFault::Write,
+            StreamFault::Bound => EngineFault::Bound,
+        }
     }
 }
 

@@ -1,6 +1,6 @@
 use Rattle.std.proofs.Common.{rules}
-use Rattle.pay_frame.proofs.Written.{appends_further}
-use Rattle.pay_frame.proofs.device.write_all.Goals as goal
+use Rattle.pay_io.proofs.Written.{appends_further}
+use Rattle.pay_io.proofs.device.write_all.Goals as goal
 
 pub loop-written-preserved : goal.loop-written-preserved
 loop-written-preserved g c =

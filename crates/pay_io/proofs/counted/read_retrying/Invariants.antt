@@ -1,5 +1,5 @@
 use Rattle.std.specs.Io.KnownBytes.{Keeps}
-use Rattle.pay_frame.proofs.counted.read_retrying.Given as goal
+use Rattle.pay_io.proofs.counted.read_retrying.Given as goal
 
 -- the reads that were interrupted took nothing
 abbrev pub invariant-loop : goal.invariant-loop

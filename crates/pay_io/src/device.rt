@@ -3,7 +3,7 @@
 ghost use Rattle.std.specs.Prelude.{◌≡◌, ◌+◌, ◌<◌, ℕ, List, Option, length, IfOk, OnOk, OnErr};
 ghost use Rattle.std.specs.Io.{ReadsAtMost, WritesAtMost};
 ghost use Rattle.std.specs.Io.KnownBytes.{Appends, ReadConsumes, WriteAppends};
-ghost use Rattle.pay_frame.specs.Device.{counted, failures_after, RoseBy, WroteBeginning};
+ghost use Rattle.pay_io.specs.Device.{counted, failures_after, RoseBy, WroteBeginning};
 
 use thiserror::Error;
 

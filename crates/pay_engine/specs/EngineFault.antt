@@ -1,7 +1,9 @@
 -- Numbers and names of engines' faults, as programs print them.
 use Rattle.std.specs.Prelude.{ℕ, List, codes}
-use Rattle.pay_frame.specs.declared.engine_fault.EngineFault.{EngineFault}
-use Rattle.pay_frame.specs.declared.engine_fault.EngineFault.TheVariants.{Memory, Frame, Read, Write, Bound}
+use Rattle.pay_engine.specs.declared.engine_fault.EngineFault.{EngineFault}
+use Rattle.pay_engine.specs.declared.engine_fault.EngineFault.TheVariants.{Memory, Frame, Read, Write, Bound}
+use Rattle.pay_io.specs.declared.stream_fault.StreamFault.{StreamFault}
+use Rattle.pay_io.specs.declared.stream_fault.StreamFault.TheVariants as stream
 
 abbrev pub engine_entry : EngineFault → ℕ × List ℕ
 engine_entry Memory = (0, codes "Memory")
@@ -15,3 +17,10 @@ engine_number fault = (engine_entry fault).0
 
 abbrev pub engine_name : EngineFault → List ℕ
 engine_name fault = (engine_entry fault).1
+
+-- what a fault of a device is among an engine's
+abbrev pub engine_of : StreamFault → EngineFault
+engine_of stream.Memory = Memory
+engine_of stream.Read = Read
+engine_of stream.Write = Write
+engine_of stream.Bound = Bound

@@ -1,0 +1,63 @@
+ghost use Rattle.std.specs.Prelude.{◌≡◌};
+ghost use Rattle.pay_io.specs.declared.stream_fault.StreamFault.TheVariants.{Memory};
+
+use std::alloc::{AllocError, AllocFailed};
+use thiserror::Error;
+
+/// Why what reads an `Input` and writes an `Output` ended early.
+#[derive(Clone, Copy, Debug, PartialEq, Eq, Error)]
+#[error("{} {}", self.number(), self.name())]
+pub enum StreamFault {
+    /// An allocation failed.
+    Memory,
+    /// A read failed.
+    Read,
+    /// A write failed.
+    Write,
+    /// `MOST_READS` reads did not reach the end of the input.
+    Bound,
+}
+
+impl StreamFault {
+    ghost use Rattle.pay_io.specs.StreamFault.{stream_number, stream_name};
+
+    const fn entry(self) -> (u8, &'static str)
+        ensures number { result.0 ≡ stream_number self }
+        ensures name { result.1.now ≡ stream_name self }
+    {
+        match self {
+            StreamFault::Memory => (0, "Memory"),
+            StreamFault::Read => (2, "Read"),
+            StreamFault::Write => (3, "Write"),
+            StreamFault::Bound => (4, "Bound"),
+        }
+    }
+
+    pub fn number(self) -> u8
+        ensures value { result ≡ stream_number self }
+    {
+        self.entry().0
+    }
+
+    pub fn name(self) -> &'static str
+        ensures value { result.now ≡ stream_name self }
+    {
+        self.entry().1
+    }
+}
+
+impl From<AllocError> for StreamFault {
+    ghost from_gives = { λ _ e. e ≡ Memory };
+
+    fn from(_error: AllocError) -> StreamFault {
+        StreamFault::Memory
+    }
+}
+
+impl<T: Drop> From<AllocFailed<T>> for StreamFault {
+    ghost from_gives = { λ _ e. e ≡ Memory };
+
+    fn from(_error: AllocFailed<T>) -> StreamFault {
+        StreamFault::Memory
+    }
+}
