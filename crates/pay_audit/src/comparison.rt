@@ -3,7 +3,8 @@
 ghost use Rattle.std.specs.Prelude.{◌≡◌, ◌+◌, ◌^◌, ◌<◌, ◌≤◌, ◌∷◌, ◌++◌, ℕ, List, [], length, IfOk};
 ghost use Rattle.pay_frame.specs.declared.limits.TheConstants.{MOST_MEMBERS};
 ghost use Rattle.pay_audit.specs.Auditor.{HasComparedBy};
-ghost use Rattle.pay_audit.specs.Compared.{fork_among, fork_by, fork_with, lengths_of, longer, within};
+ghost use Rattle.pay_audit.specs.Compared.{fork_among, fork_by, fork_with, lengths_of, longer};
+ghost use Rattle.pay_audit.specs.Compared.{within};
 ghost use Rattle.pay_audit.specs.Export.{ExportFields, list_in};
 ghost use Rattle.pay_audit.specs.Verdict.{fork_from};
 
@@ -84,7 +85,8 @@ impl Comparison {
 
 // Lists for so many accounts: those that are there, and none of the others.
 fn pad(alloc: Global, lists: &mut Vec<OwnerList>, accounts: usize) -> Result<(), AllocError>
-    ensures same { (account : ℕ) → list_in lists.new.items account ≡ list_in lists.old.items account }
+    ensures same { (account : ℕ)
+        → list_in lists.new.items account ≡ list_in lists.old.items account }
     ensures more { length lists.old.items ≤ length lists.new.items }
     ensures enough { IfOk result (λ _. accounts ≤ length lists.new.items) }
 {

@@ -1,6 +1,7 @@
 //! A book's accounts, which move by one settled entry at a time.
 
-ghost use Rattle.std.specs.Prelude.{◌≡◌, ◌+◌, ◌<◌, ◌≤◌, ◌^◌, ◌↔◌, length, sum, slice_get, slice_index, slice_set, IsTrue, IfOk, IfNone, IfSome};
+ghost use Rattle.std.specs.Prelude.{◌≡◌, ◌+◌, ◌<◌, ◌≤◌, ◌^◌, ◌↔◌, length, sum, slice_get};
+ghost use Rattle.std.specs.Prelude.{slice_index, slice_set, IsTrue, IfOk, IfNone, IfSome};
 ghost use Rattle.std.specs.Bool.{OnTrue, OnFalse};
 ghost use Rattle.pay_book.specs.Balance.{amount_of, PayWithin, Moves};
 ghost use Rattle.pay_book.specs.Payment.{count_in};
@@ -118,7 +119,8 @@ impl Accounts {
             < length (entries_for self.now (S.lists source.now) account) }
         requires number { slice_index self.now.front account + 1 < 2 ^ 32 }
         ensures { result
-            ≡ place_in count_in (S.lists source.now account) (slice_index self.now.front account + 1) }
+            ≡ place_in count_in (S.lists source.now account)
+            (slice_index self.now.front account + 1) }
     {
         let place = self.place(account);
         place_after(source.at(account, place.0), place)

@@ -1,7 +1,8 @@
 //! Reading payment values.
 
 ghost use Rattle.std.specs.Prelude.{◌≡◌, ◌<◌, length, slice_get};
-ghost use Rattle.pay_book.specs.Payment.{payment, entry_of, is_several, count_in, entries_in, pair_entry};
+ghost use Rattle.pay_book.specs.Payment.{payment, entry_of, is_several, count_in, entries_in};
+ghost use Rattle.pay_book.specs.Payment.{pair_entry};
 
 use crate::payment::{
     Entry, MOST_PAYMENTS, PAIR_LENGTH, PAYMENT_LENGTH, PAYMENT_VERSION, SEVERAL_VERSION,

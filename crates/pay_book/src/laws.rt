@@ -1,7 +1,21 @@
 //! The laws of settling. Each function does nothing: what it ensures is the law, which
 //! specs/Laws.antt spells out.
 
-ghost use Rattle.pay_book.specs.Laws.{ReachedFrontsJoin, StuckIsLargest, LargestIsStuck, LargestIsOne, LargestIsComputed, ReachedIsWithinLists, NoBalanceBelowZero, BalancesSumToOpening, ReachedStaysReached, LargestGrows, EqualListsEqualLargest, EqualListsEqualBalances, EqualListsEqualBooks, FreshBookIsSettled, GrownListCanSettle, SameListsStaySettled, FewEntriesAreCountable, ShortListsAreCountable, GroupListsAreCountable, ValuesHaveFewEntries, SettledBookExists, SettledBookIsOne, SettledIsLargest, BookKeepsTotal, NobodyOwesOnceSettled, OneListGrows, BookStays, SettledCountGrows, SettledEntriesGrow, SettledEntriesCompare, SettledEntriesWereAsked, ValuesCountTheirEntries, SingleEntries, WhollySettled, SettledBookTellsPlaces, SettledPlacesGrow, SettledValuesBeginEntries};
+ghost use Rattle.pay_book.specs.Laws.{ReachedFrontsJoin, StuckIsLargest, LargestIsStuck};
+ghost use Rattle.pay_book.specs.Laws.{LargestIsOne, LargestIsComputed, ReachedIsWithinLists};
+ghost use Rattle.pay_book.specs.Laws.{NoBalanceBelowZero, BalancesSumToOpening};
+ghost use Rattle.pay_book.specs.Laws.{ReachedStaysReached, LargestGrows, EqualListsEqualLargest};
+ghost use Rattle.pay_book.specs.Laws.{EqualListsEqualBalances, EqualListsEqualBooks};
+ghost use Rattle.pay_book.specs.Laws.{FreshBookIsSettled, GrownListCanSettle, SameListsStaySettled};
+ghost use Rattle.pay_book.specs.Laws.{FewEntriesAreCountable, ShortListsAreCountable};
+ghost use Rattle.pay_book.specs.Laws.{GroupListsAreCountable, ValuesHaveFewEntries};
+ghost use Rattle.pay_book.specs.Laws.{SettledBookExists, SettledBookIsOne, SettledIsLargest};
+ghost use Rattle.pay_book.specs.Laws.{BookKeepsTotal, NobodyOwesOnceSettled, OneListGrows};
+ghost use Rattle.pay_book.specs.Laws.{BookStays, SettledCountGrows, SettledEntriesGrow};
+ghost use Rattle.pay_book.specs.Laws.{SettledEntriesCompare, SettledEntriesWereAsked};
+ghost use Rattle.pay_book.specs.Laws.{ValuesCountTheirEntries, SingleEntries, WhollySettled};
+ghost use Rattle.pay_book.specs.Laws.{SettledBookTellsPlaces, SettledPlacesGrow};
+ghost use Rattle.pay_book.specs.Laws.{SettledValuesBeginEntries};
 
 /// Two fronts that steps reach have a common one: the front that is as far as either at each
 /// account is reached too.

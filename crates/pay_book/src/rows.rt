@@ -7,7 +7,13 @@ ghost use Rattle.pay_book.specs.declared.line.Line.{Line};
 ghost use Rattle.pay_book.specs.Payment.{entry_of, entries_in, payment_value, payments_value};
 ghost use Rattle.pay_book.specs.Places.{places_of};
 ghost use Rattle.pay_book.specs.Statement.{statement_of};
-ghost use Rattle.pay_book.specs.Rows.{thirty_to_1, five_to_0, five_to_1, five_to_2, five_to_3, five_to_4, unknown_version, one_byte_short, amount_zero, ten_to_0, ten_to_1, one_fifty_to_1, fifty_to_0, greatest_u64_to_1, one_to_1, greatest_total_to_1, four_payments, five_to_1_one_to_3, no_payments, four_payments_and_more, four_payments_and_less, times_one_to_1, thirty_to_0, four, lists_of, EndsAt};
+ghost use Rattle.pay_book.specs.Rows.{thirty_to_1, five_to_0, five_to_1, five_to_2, five_to_3};
+ghost use Rattle.pay_book.specs.Rows.{five_to_4, unknown_version, one_byte_short, amount_zero};
+ghost use Rattle.pay_book.specs.Rows.{ten_to_0, ten_to_1, one_fifty_to_1, fifty_to_0};
+ghost use Rattle.pay_book.specs.Rows.{greatest_u64_to_1, one_to_1, greatest_total_to_1};
+ghost use Rattle.pay_book.specs.Rows.{four_payments, five_to_1_one_to_3, no_payments};
+ghost use Rattle.pay_book.specs.Rows.{four_payments_and_more, four_payments_and_less};
+ghost use Rattle.pay_book.specs.Rows.{times_one_to_1, thirty_to_0, four, lists_of, EndsAt};
 
 /// Values of owner 3 as entries: payments, and what is void for its bytes, its payee or its amount.
 pub fn values_decode()

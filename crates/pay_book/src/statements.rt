@@ -1,10 +1,12 @@
 //! The statement of an account.
 
-ghost use Rattle.std.specs.Prelude.{◌≡◌, ◌+◌, ◌<◌, ◌≤◌, ◌++◌, map, take, length, slice_index, IfOk, OnOk};
+ghost use Rattle.std.specs.Prelude.{◌≡◌, ◌+◌, ◌<◌, ◌≤◌, ◌++◌, map, take, length, slice_index, IfOk};
+ghost use Rattle.std.specs.Prelude.{OnOk};
 ghost use Rattle.std.specs.List.{filter_map};
 ghost use Rattle.pay_book.specs.Payment.{entries_of};
 ghost use Rattle.pay_book.specs.Book.{IsBook};
-ghost use Rattle.pay_book.specs.Statement.{numbered_entries_of, own_line, incoming_line, statement_of};
+ghost use Rattle.pay_book.specs.Statement.{numbered_entries_of, own_line, incoming_line};
+ghost use Rattle.pay_book.specs.Statement.{statement_of};
 
 use crate::decode::entry_at;
 use crate::line::Line;

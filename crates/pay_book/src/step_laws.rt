@@ -1,7 +1,8 @@
 //! The laws of one step of a book, for whoever looks for steps in an order of its own. Each function
 //! does nothing: what it ensures is the law, which specs/StepLaws.antt spells out.
 
-ghost use Rattle.pay_book.specs.StepLaws.{StepSettlesOne, StepPaysWithin, OthersMayNoMore, StuckBookIsSettled, SettledAreListed};
+ghost use Rattle.pay_book.specs.StepLaws.{StepSettlesOne, StepPaysWithin, OthersMayNoMore};
+ghost use Rattle.pay_book.specs.StepLaws.{StuckBookIsSettled, SettledAreListed};
 
 /// A step settles one entry more, which pays an account that is there, if any. Another account may
 /// settle no more than it might before, unless the entry pays it.

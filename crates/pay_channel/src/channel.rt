@@ -1,11 +1,15 @@
-ghost use Rattle.std.specs.Prelude.{true, ◌≡◌, ◌≢◌, ◌≤◌, ◌<◌, ◌+◌, ◌++◌, Some, List, [], ◌∷◌, length, slice_get, replicate, vec_len, vec_capacity, IfOk, IfSome, OnOk, OnErr};
+ghost use Rattle.std.specs.Prelude.{true, ◌≡◌, ◌≢◌, ◌≤◌, ◌<◌, ◌+◌, ◌++◌, Some, List, [], ◌∷◌};
+ghost use Rattle.std.specs.Prelude.{length, slice_get, replicate, vec_len, vec_capacity, IfOk};
+ghost use Rattle.std.specs.Prelude.{IfSome, OnOk, OnErr};
 ghost use Rattle.std.specs.Option.{option_copied, option_map, option_to_list};
 ghost use Rattle.pay_echo.specs.Broadcast.{IsForeign, value_of};
 ghost use Rattle.pay_echo.specs.Votes.{vote_of};
 ghost use Rattle.pay_channel.specs.Source.{GrowsOnly};
-ghost use Rattle.pay_channel.specs.History.{Event, Ask, From, IsEvent, is_ask, owner_of, vote_of as event_vote, seqs};
+ghost use Rattle.pay_channel.specs.History.{Event, Ask, From, IsEvent, is_ask, owner_of};
+ghost use Rattle.pay_channel.specs.History.{vote_of as event_vote, seqs};
 ghost use Rattle.pay_channel.specs.State.{State, Follows, value_at, lists_of};
-ghost use Rattle.pay_channel.specs.Applied.{TakesVote, IsToldOf, Takes, IsApplied, IsAsBefore, event_of};
+ghost use Rattle.pay_channel.specs.Applied.{TakesVote, IsToldOf, Takes, IsApplied, IsAsBefore};
+ghost use Rattle.pay_channel.specs.Applied.{event_of};
 
 use crate::applied::Applied;
 use crate::event::EventRef;

@@ -3,7 +3,8 @@
 ghost use Rattle.std.specs.Prelude.{◌≡◌, [], ◌∷◌, ◌++◌, All};
 ghost use Rattle.pay_frame.specs.declared.kind.Kind.TheVariants.{Send, Echo, Ready};
 ghost use Rattle.pay_echo.specs.Broadcast.{echoed};
-ghost use Rattle.pay_channel.specs.History.{IsEvent, Ask, From, body_of, votes, out, delivered_at, list_of};
+ghost use Rattle.pay_channel.specs.History.{IsEvent, Ask, From, body_of, votes, out, delivered_at};
+ghost use Rattle.pay_channel.specs.History.{list_of};
 ghost use Rattle.pay_channel.specs.Asked.{asked, sends_in, sends_of};
 ghost use Rattle.pay_channel.specs.Examples.{four, forestalled, late_first_number, A, X, Y};
 

@@ -1,11 +1,26 @@
 //! Laws of a history's votes, sent list and lists. Each function's contract is the law. Its body is
 //! empty, or only names the laws of one broadcast that it stands on.
 
-ghost use Rattle.pay_channel.specs.VoteLaws.{NoVotesAtFirst, NoAsksAtFirst, VotesByOneMore, AsksByOneMore, OthersUntouched, VotesGrow, EchoIsTaken, ReadyIsTaken, SendIsTaken};
-ghost use Rattle.pay_channel.specs.TakenLaws.{NothingTakenAtFirst, TakenByOneMore, TakenFromHere, TakenFromElsewhere, TakenGrows, TakenIsFrom, NextIsCount, NextByOneMore};
-ghost use Rattle.pay_channel.specs.SentLaws.{NothingSentAtFirst, OutByOneMore, OutGrows, EchoInOut, ReadyInOut, EchoIsSaid, ReadyIsSaid, SentMayCome, NothingAskedAtFirst, AskedByOneMore, AskedGrows, AsksAreCounted, SendsAreAsks, SendInOut, SentIsAsked, OwnEchoIsAsk};
-ghost use Rattle.pay_channel.specs.ListLaws.{DeliveredIs, NothingDeliveredAtFirst, DeliveryStays, DeliveredCame, PlaceIsValue, PlaceIsDelivered, ListedIsDelivered, ListIsShort, ListReaches, ListEnds, EmptyAtFirst, EmptyOfNobody, ListIsValues, ListBeginsValues, ListsAlike, ListsCompare, ListsGrow, OneListGrows};
-ghost use Rattle.pay_channel.specs.FollowLaws.{ChannelFollows, UnchangedFollows, ValuesFollow, ListsFollow, AnswersFollow, FollowersAreAlike, ListsOfAreShort, UnchangedLists};
+ghost use Rattle.pay_channel.specs.VoteLaws.{NoVotesAtFirst, NoAsksAtFirst, VotesByOneMore};
+ghost use Rattle.pay_channel.specs.VoteLaws.{AsksByOneMore, OthersUntouched, VotesGrow};
+ghost use Rattle.pay_channel.specs.VoteLaws.{EchoIsTaken, ReadyIsTaken, SendIsTaken};
+ghost use Rattle.pay_channel.specs.TakenLaws.{NothingTakenAtFirst, TakenByOneMore, TakenFromHere};
+ghost use Rattle.pay_channel.specs.TakenLaws.{TakenFromElsewhere, TakenGrows, TakenIsFrom};
+ghost use Rattle.pay_channel.specs.TakenLaws.{NextIsCount, NextByOneMore};
+ghost use Rattle.pay_channel.specs.SentLaws.{NothingSentAtFirst, OutByOneMore, OutGrows, EchoInOut};
+ghost use Rattle.pay_channel.specs.SentLaws.{ReadyInOut, EchoIsSaid, ReadyIsSaid, SentMayCome};
+ghost use Rattle.pay_channel.specs.SentLaws.{NothingAskedAtFirst, AskedByOneMore, AskedGrows};
+ghost use Rattle.pay_channel.specs.SentLaws.{AsksAreCounted, SendsAreAsks, SendInOut, SentIsAsked};
+ghost use Rattle.pay_channel.specs.SentLaws.{OwnEchoIsAsk};
+ghost use Rattle.pay_channel.specs.ListLaws.{DeliveredIs, NothingDeliveredAtFirst, DeliveryStays};
+ghost use Rattle.pay_channel.specs.ListLaws.{DeliveredCame, PlaceIsValue, PlaceIsDelivered};
+ghost use Rattle.pay_channel.specs.ListLaws.{ListedIsDelivered, ListIsShort, ListReaches, ListEnds};
+ghost use Rattle.pay_channel.specs.ListLaws.{EmptyAtFirst, EmptyOfNobody, ListIsValues};
+ghost use Rattle.pay_channel.specs.ListLaws.{ListBeginsValues, ListsAlike, ListsCompare, ListsGrow};
+ghost use Rattle.pay_channel.specs.ListLaws.{OneListGrows};
+ghost use Rattle.pay_channel.specs.FollowLaws.{ChannelFollows, UnchangedFollows, ValuesFollow};
+ghost use Rattle.pay_channel.specs.FollowLaws.{ListsFollow, AnswersFollow, FollowersAreAlike};
+ghost use Rattle.pay_channel.specs.FollowLaws.{ListsOfAreShort, UnchangedLists};
 
 use pay_echo::laws::{known_stays, nothing_known_at_first, one_vote_more};
 

@@ -5,7 +5,8 @@ ghost use Rattle.pay_frame.specs.Frame.{FrameFields};
 ghost use Rattle.pay_frame.specs.Lent.{fields_of};
 ghost use Rattle.pay_frame.specs.Stream.{IsFramesThen};
 ghost use Rattle.pay_engine.specs.Exact.{exactly};
-ghost use Rattle.pay_cli.specs.Verdicts.{IsJudged, judging, opened_turn, opened_words, turn_of, words_of};
+ghost use Rattle.pay_cli.specs.Verdicts.{IsJudged, judging, opened_turn, opened_words, turn_of};
+ghost use Rattle.pay_cli.specs.Verdicts.{words_of};
 
 use crate::lines::{push_ok, push_refused, push_want};
 use crate::verdict::{Turn, Verdict, Verdicts};

@@ -6,7 +6,8 @@ ghost use Rattle.pay_frame.specs.declared.fault.FrameFault.{FrameFault as Fault}
 ghost use Rattle.pay_frame.specs.Frame.{FrameFields};
 ghost use Rattle.pay_frame.specs.Stream.{IsBytes};
 ghost use Rattle.pay_link.specs.Keys.{KeyFields};
-ghost use Rattle.pay_cli.specs.CheckText.{IsCheckText, HasCheckText, at_start, known_after, outcomes, is_ok_from};
+ghost use Rattle.pay_cli.specs.CheckText.{IsCheckText, HasCheckText, at_start, known_after};
+ghost use Rattle.pay_cli.specs.CheckText.{outcomes, is_ok_from};
 
 /// Any bytes have a text.
 pub fn every_text()

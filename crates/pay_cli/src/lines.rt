@@ -2,7 +2,8 @@
 
 ghost use Rattle.std.specs.Prelude.{◌≡◌, ◌++◌, OnOk, decimal, codes};
 ghost use Rattle.pay_frame.specs.Lent.{fields_of};
-ghost use Rattle.pay_cli.specs.Lines.{kind_word, ok_words, want_words, refused_words, next_words, fault_line};
+ghost use Rattle.pay_cli.specs.Lines.{kind_word, ok_words, want_words, refused_words, next_words};
+ghost use Rattle.pay_cli.specs.Lines.{fault_line};
 
 use pay_frame::{FrameFault, FrameRef, Kind};
 use pay_link::LinkFault;

@@ -1,6 +1,8 @@
-ghost use Rattle.std.specs.Prelude.{◌≡◌, ◌⊎◌, ℕ, ◌+◌, ◌++◌, ◌<◌, ◌^◌, IfOk, OnErr, OnOk, length, replicate, slice_index};
+ghost use Rattle.std.specs.Prelude.{◌≡◌, ◌⊎◌, ℕ, ◌+◌, ◌++◌, ◌<◌, ◌^◌, IfOk, OnErr, OnOk, length};
+ghost use Rattle.std.specs.Prelude.{replicate, slice_index};
 ghost use Rattle.pay_frame.specs.Lent.{fields_of};
-ghost use Rattle.pay_cli.specs.Lines.{line_of, moved, outcome_of, outcome_words, opened_outcome, fronts_after};
+ghost use Rattle.pay_cli.specs.Lines.{line_of, moved, outcome_of, outcome_words, opened_outcome};
+ghost use Rattle.pay_cli.specs.Lines.{fronts_after};
 ghost use Rattle.pay_cli.specs.Engine.{HasRoom};
 
 use crate::lines::{push_ok, push_refused, push_want};

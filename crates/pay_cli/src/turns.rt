@@ -1,10 +1,12 @@
 //! The lines of frames that were judged, in order.
 
-ghost use Rattle.std.specs.Prelude.{◌≡◌, ◌⊎◌, ℕ, List, ◌+◌, ◌++◌, ◌<◌, ◌^◌, IfSome, OnErr, OnOk, length, slice_index};
+ghost use Rattle.std.specs.Prelude.{◌≡◌, ◌⊎◌, ℕ, List, ◌+◌, ◌++◌, ◌<◌, ◌^◌, IfSome, OnErr, OnOk};
+ghost use Rattle.std.specs.Prelude.{length, slice_index};
 ghost use Rattle.pay_frame.specs.Frame.{FrameFields};
 ghost use Rattle.pay_link.specs.Keys.{KeyFields};
 ghost use Rattle.pay_cli.specs.Engine.{HasRoom};
-ghost use Rattle.pay_cli.specs.Verdicts.{AreJudged, IsJudged, Pushes, fronts_in_turn, line_in_turn, moved_in_turn, words_in_turn};
+ghost use Rattle.pay_cli.specs.Verdicts.{AreJudged, IsJudged, Pushes, fronts_in_turn, line_in_turn};
+ghost use Rattle.pay_cli.specs.Verdicts.{moved_in_turn, words_in_turn};
 
 use crate::judging::Judged;
 use crate::lines::push_refused;

@@ -17,7 +17,8 @@ pub struct OneMember<I: Instance + Drop, B: Settle + Drop> {
 }
 
 impl<I: Instance + Drop, B: Settle + Drop> Teller for OneMember<I, B> {
-    ghost says = { λ old called reply new. MemberSays old.stamp old.member called reply new.member × (new.stamp ≡ old.stamp) };
+    ghost says = { λ old called reply new.
+        MemberSays old.stamp old.member called reply new.member × (new.stamp ≡ old.stamp) };
 
     ghost asked = { λ m. values_asked m.member.history };
 

@@ -3,7 +3,8 @@
 
 ghost use Rattle.std.specs.Prelude.{[], ◌∷◌, ◌++◌};
 ghost use Rattle.pay_echo.specs.Broadcast.{Send, Echo, Ready};
-ghost use Rattle.pay_echo.specs.Examples.{Knows, four, alone, A, B, two_echoes, three_echoes, one_ready, two_readys, echoes_of_others, readys_of_two};
+ghost use Rattle.pay_echo.specs.Examples.{Knows, four, alone, A, B, two_echoes, three_echoes};
+ghost use Rattle.pay_echo.specs.Examples.{one_ready, two_readys, echoes_of_others, readys_of_two};
 
 /// Three of four ECHOs of one value make READY, and three READYs, one's own among them, deliver.
 /// Second votes and votes for another value don't count.
@@ -40,5 +41,6 @@ pub fn quorum_before_send()
 pub fn second_ready()
     ensures third { Knows four readys_of_two None None None }
     ensures fourth { Knows four (readys_of_two ++ Ready 3 A ∷ []) None (Some A) (Some A) }
-    ensures fifth { Knows four (readys_of_two ++ Ready 3 A ∷ Ready 2 B ∷ []) None (Some A) (Some A) }
+    ensures fifth { Knows four (readys_of_two ++ Ready 3 A ∷ Ready 2 B ∷ [])
+        None (Some A) (Some A) }
 {}

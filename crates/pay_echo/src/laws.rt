@@ -1,8 +1,19 @@
 //! Laws of authenticated double-echo broadcast over its definitions. Each function's contract is
 //! the law; its body is empty.
 
-ghost use Rattle.pay_echo.specs.Laws.{NotEchoedAtFirst, NotReadyAtFirst, NotDeliveredAtFirst, SentIsItsValue, EchoedByOneMore, ReadiedByOneMore, DeliveredByOneMore, ForeseenBecame, EchoedStays, ReadiedStays, DeliveredStays, EchoStays, ReadyStays, OtherReadyStays, EchoSetGrows, ReadySetGrows, OtherReadySetGrows, SecondSend, SecondEcho, SecondReady, InEchoSet, InReadySet, InOtherReadySet, OwnEcho, OwnReady, SendCame, EchoCame, ReadyCame, SendIsEchoed, EchoCounts, ReadyCounts, WhyReady, WhyDelivered, QuorumMakesReady, AmplificationMakesReady, ReadysDeliver, OneValueByQuorum};
-ghost use Rattle.pay_echo.specs.Quorums.{SizeIsAtMost, SizeOfListed, SizeOfOthers, PartIsSmaller, QuorumsShare, LargerHasAnother, RestIsQuorum, QuorumIsMore, MoreRemain};
+ghost use Rattle.pay_echo.specs.Laws.{NotEchoedAtFirst, NotReadyAtFirst, NotDeliveredAtFirst};
+ghost use Rattle.pay_echo.specs.Laws.{SentIsItsValue, EchoedByOneMore, ReadiedByOneMore};
+ghost use Rattle.pay_echo.specs.Laws.{DeliveredByOneMore, ForeseenBecame, EchoedStays};
+ghost use Rattle.pay_echo.specs.Laws.{ReadiedStays, DeliveredStays, EchoStays, ReadyStays};
+ghost use Rattle.pay_echo.specs.Laws.{OtherReadyStays, EchoSetGrows, ReadySetGrows};
+ghost use Rattle.pay_echo.specs.Laws.{OtherReadySetGrows, SecondSend, SecondEcho, SecondReady};
+ghost use Rattle.pay_echo.specs.Laws.{InEchoSet, InReadySet, InOtherReadySet, OwnEcho, OwnReady};
+ghost use Rattle.pay_echo.specs.Laws.{SendCame, EchoCame, ReadyCame, SendIsEchoed, EchoCounts};
+ghost use Rattle.pay_echo.specs.Laws.{ReadyCounts, WhyReady, WhyDelivered, QuorumMakesReady};
+ghost use Rattle.pay_echo.specs.Laws.{AmplificationMakesReady, ReadysDeliver, OneValueByQuorum};
+ghost use Rattle.pay_echo.specs.Quorums.{SizeIsAtMost, SizeOfListed, SizeOfOthers, PartIsSmaller};
+ghost use Rattle.pay_echo.specs.Quorums.{QuorumsShare, LargerHasAnother, RestIsQuorum};
+ghost use Rattle.pay_echo.specs.Quorums.{QuorumIsMore, MoreRemain};
 
 /// Before any vote nothing is echoed, readied or delivered.
 pub fn nothing_known_at_first()

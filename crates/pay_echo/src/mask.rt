@@ -1,8 +1,12 @@
-ghost use Rattle.std.specs.Prelude.{◌≡◌, ◌≤◌, ◌<◌, ◌+◌, ◌++◌, ℕ, List, Bool, Some, None, length, slice_get, slice_index_or, IfOk, OnOk, OnErr, is_some, is_none, true, false};
+ghost use Rattle.std.specs.Prelude.{◌≡◌, ◌≤◌, ◌<◌, ◌+◌, ◌++◌, ℕ, List, Bool, Some, None, length};
+ghost use Rattle.std.specs.Prelude.{slice_get, slice_index_or, IfOk, OnOk, OnErr, is_some, is_none};
+ghost use Rattle.std.specs.Prelude.{true, false};
 ghost use Rattle.std.specs.List.{count_by};
 ghost use Rattle.pay_echo.specs.Broadcast.{IsForeign, is_for};
 ghost use Rattle.pay_echo.specs.Votes.{vote_of};
-ghost use Rattle.pay_echo.specs.Step.{vote_before, echo_count, ready_count, moves_by, can_ready, can_deliver, put_echo, put_ready, put_if, with_moves, IsPlaced};
+ghost use Rattle.pay_echo.specs.Step.{vote_before, echo_count, ready_count, moves_by, can_ready};
+ghost use Rattle.pay_echo.specs.Step.{can_deliver, put_echo, put_ready, put_if, with_moves};
+ghost use Rattle.pay_echo.specs.Step.{IsPlaced};
 ghost use Rattle.pay_echo.specs.Masks.{place_before};
 
 use crate::group::Group;

@@ -1,9 +1,13 @@
-ghost use Rattle.std.specs.Prelude.{◌≡◌, ◌≤◌, ◌<◌, ◌+◌, ◌++◌, ℕ, List, Bool, Some, None, length, slice_get, slice_set, replicate, IfOk, IfSome, OnOk, OnErr, is_some, is_none, true, false};
+ghost use Rattle.std.specs.Prelude.{◌≡◌, ◌≤◌, ◌<◌, ◌+◌, ◌++◌, ℕ, List, Bool, Some, None, length};
+ghost use Rattle.std.specs.Prelude.{slice_get, slice_set, replicate, IfOk, IfSome, OnOk, OnErr};
+ghost use Rattle.std.specs.Prelude.{is_some, is_none, true, false};
 ghost use Rattle.std.specs.List.{count_by};
 ghost use Rattle.std.specs.Option.{option_copied};
 ghost use Rattle.pay_echo.specs.Broadcast.{IsForeign, is_for};
 ghost use Rattle.pay_echo.specs.Votes.{vote_of};
-ghost use Rattle.pay_echo.specs.Step.{vote_at, vote_before, echo_count, ready_count, moves_by, can_ready, can_deliver, put_echo, put_ready, put_if, with_moves, IsPlaced};
+ghost use Rattle.pay_echo.specs.Step.{vote_at, vote_before, echo_count, ready_count, moves_by};
+ghost use Rattle.pay_echo.specs.Step.{can_ready, can_deliver, put_echo, put_ready, put_if};
+ghost use Rattle.pay_echo.specs.Step.{with_moves, IsPlaced};
 ghost use Rattle.pay_echo.specs.Plain.{value_at, votes_at, is_at, AreDistinct, IsPlaceOf};
 
 use crate::group::Group;

@@ -1,4 +1,5 @@
-ghost use Rattle.std.specs.Prelude.{◌≡◌, ◌<◌, ◌≤◌, ◌+◌, ◌++◌, [], ℕ, List, Some, None, length, replicate, slice_get, slice_index_or, is_some, IfOk, OnErr};
+ghost use Rattle.std.specs.Prelude.{◌≡◌, ◌<◌, ◌≤◌, ◌+◌, ◌++◌, [], ℕ, List, Some, None, length};
+ghost use Rattle.std.specs.Prelude.{replicate, slice_get, slice_index_or, is_some, IfOk, OnErr};
 ghost use Rattle.std.specs.List.{count_by};
 ghost use Rattle.std.specs.Option.{option_copied};
 ghost use Rattle.pay_echo.specs.Plain.{value_at, is_at, AreDistinct, IsPlaceOf};

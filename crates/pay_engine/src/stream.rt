@@ -1,4 +1,5 @@
-ghost use Rattle.std.specs.Prelude.{◌≡◌, ◌+◌, ◌≤◌, ◌<◌, ◌^◌, ℕ, List, Option, [], length, IfOk, IfSome, IsErr, IsErrOf, IsTrue, OnOk};
+ghost use Rattle.std.specs.Prelude.{◌≡◌, ◌+◌, ◌≤◌, ◌<◌, ◌^◌, ℕ, List, Option, [], length, IfOk};
+ghost use Rattle.std.specs.Prelude.{IfSome, IsErr, IsErrOf, IsTrue, OnOk};
 ghost use Rattle.std.specs.Io.KnownBytes.{Consumes};
 ghost use Rattle.pay_io.specs.Counts.{KeepsCounts};
 ghost use Rattle.pay_engine.specs.EngineFault.{engine_of};
@@ -165,11 +166,14 @@ fn end_at<S, H: FrameHandler<S>, Out: Output>(
     writer: &mut Out,
     fault: FrameFault,
 ) -> Result<bool, EngineFault>
-    ensures handles { (start : Start S) (left rest : Option (List ℕ)) (held : List ℕ) (reads later : ℕ)
-        → (g : InProgress (H.handling handler.now) start state.now left (Out.contents writer.old) held reads)
+    ensures handles { (start : Start S) (left rest : Option (List ℕ)) (held : List ℕ)
+        (reads later : ℕ)
+        → (g : InProgress (H.handling handler.now) start state.now left
+        (Out.contents writer.old) held reads)
         → Consumes left rest [] → IsStream g.read g.frames (Some fault)
         → IfSome start.input (λ bytes. IsStream bytes g.frames (Some fault))
-        → HandlesOnce (H.handling handler.now) start state.now rest (Out.contents writer.new) held later result }
+        → HandlesOnce (H.handling handler.now) start state.now rest
+        (Out.contents writer.new) held later result }
     ensures bound { ¬ (IsErrOf result EngineFault.Bound) }
     ensures read { ¬ (IsErrOf result EngineFault.Read) }
     ensures err { IsErr result }

@@ -39,14 +39,16 @@ impl Model for Cutter {
 }
 
 impl Cutter {
-    ghost use Rattle.std.specs.Prelude.{◌≡◌, ◌<◌, ◌≤◌, ◌++◌, [], ⊤, true, false, IfOk, IfErr, Err, length, drop, vec_len};
+    ghost use Rattle.std.specs.Prelude.{◌≡◌, ◌<◌, ◌≤◌, ◌++◌, [], ⊤, true, false, IfOk, IfErr, Err};
+    ghost use Rattle.std.specs.Prelude.{length, drop, vec_len};
     ghost use Rattle.std.specs.Vec.{vec_capacity};
     ghost use Rattle.std.specs.Borrow.{sem};
     ghost use mathlib.Core.Option.{none};
     ghost use denote.Follow.{follows_so};
     ghost use Rattle.pay_frame.specs.contracts.cutter.Cutter.{the_row};
     ghost use Rattle.pay_frame.specs.Reading.{HasFrame};
-    ghost use Rattle.pay_frame.specs.Cutting.{Held, Feeds, HandsOut, PassesFrames, EndsWith, IsDrained, nothing_held};
+    ghost use Rattle.pay_frame.specs.Cutting.{Held, Feeds, HandsOut, PassesFrames, EndsWith};
+    ghost use Rattle.pay_frame.specs.Cutting.{IsDrained, nothing_held};
     ghost use Rattle.pay_frame.specs.Places.{IsWhole};
     ghost use Rattle.pay_frame.specs.Frame.{frame_bytes};
     ghost use Rattle.pay_frame.specs.Lent.{fields_of, given_of};

@@ -1,14 +1,16 @@
 //! Laws of the definitions, which proofs of other crates cite. The bodies are empty: the contract
 //! is the law.
 
-ghost use Rattle.std.specs.Prelude.{◌≡◌, ℕ, ◌≤◌, List, [], ◌++◌, length, Option, Some, None, Result, Ok, Err, ◌↔◌};
+ghost use Rattle.std.specs.Prelude.{◌≡◌, ℕ, ◌≤◌, List, [], ◌++◌, length, Option, Some, None};
+ghost use Rattle.std.specs.Prelude.{Result, Ok, Err, ◌↔◌};
 ghost use Rattle.pay_frame.specs.declared.fault.FrameFault.{FrameFault as Fault};
 ghost use Rattle.pay_frame.specs.Fault.{number_of};
 ghost use Rattle.pay_frame.specs.Frame.{FrameFields, frame_bytes, IsFrame};
 ghost use Rattle.pay_frame.specs.Reading.{IsReading, IsProperBeginning, IsFault};
 ghost use Rattle.pay_frame.specs.OneFrame.{IsOneFrame, IsOneReading, one_frame};
 ghost use Rattle.pay_frame.specs.Stream.{IsBytes};
-ghost use Rattle.pay_frame.specs.Cutting.{Held, Call, Runs, stream_of, frames_of, nothing_held, IsDrained};
+ghost use Rattle.pay_frame.specs.Cutting.{Held, Call, Runs, stream_of, frames_of, nothing_held};
+ghost use Rattle.pay_frame.specs.Cutting.{IsDrained};
 ghost use Rattle.std.specs.List.{flat_map};
 
 /// Encoding is injective: equal bytes encode equal fields.

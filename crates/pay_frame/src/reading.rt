@@ -1,9 +1,12 @@
-ghost use Rattle.std.specs.Prelude.{◌≡◌, ℕ, ◌+◌, ◌<◌, ◌≤◌, true, false, Some, length, min, IfOk, IfErr, IfSome, IfNone};
+ghost use Rattle.std.specs.Prelude.{◌≡◌, ℕ, ◌+◌, ◌<◌, ◌≤◌, true, false, Some, length, min, IfOk};
+ghost use Rattle.std.specs.Prelude.{IfErr, IfSome, IfNone};
 ghost use Rattle.pay_frame.specs.Frame.{code_of, frame_bytes};
 ghost use Rattle.pay_frame.specs.Lent.{fields_of, sized_of, one_of};
 ghost use Rattle.pay_frame.specs.Reading.{IsReading, IsProperBeginning, IsFault, fault_at};
 ghost use Rattle.pay_frame.specs.OneFrame.{IsOneReading};
-ghost use Rattle.pay_frame.specs.Places.{length_field, is_want, may_stand, PassBelow, IsFirstWrong, IsWhole, IsSizeOf, two_at, eight_at, are_lengths, is_bare_head, is_head};
+ghost use Rattle.pay_frame.specs.Places.{length_field, is_want, may_stand, PassBelow, IsFirstWrong};
+ghost use Rattle.pay_frame.specs.Places.{IsWhole, IsSizeOf, two_at, eight_at, are_lengths};
+ghost use Rattle.pay_frame.specs.Places.{is_bare_head, is_head};
 
 use crate::fault::FrameFault;
 use crate::frame_ref::FrameRef;

@@ -1,12 +1,14 @@
 //! Laws of streams: how bytes are frames and an end, and how that grows as they come. Each body is
 //! empty: the contract is the law.
 
-ghost use Rattle.std.specs.Prelude.{◌≡◌, ℕ, ◌+◌, ◌*◌, ◌<◌, ◌≤◌, List, [], ◌∷◌, ◌++◌, length, take, Option, Some, None, Result};
+ghost use Rattle.std.specs.Prelude.{◌≡◌, ℕ, ◌+◌, ◌*◌, ◌<◌, ◌≤◌, List, [], ◌∷◌, ◌++◌, length, take};
+ghost use Rattle.std.specs.Prelude.{Option, Some, None, Result};
 ghost use Rattle.pay_frame.specs.declared.fault.FrameFault.{FrameFault as Fault};
 ghost use Rattle.pay_frame.specs.Frame.{FrameFields, frame_bytes, IsFrame};
 ghost use Rattle.pay_frame.specs.Reading.{IsReading, IsProperBeginning, IsFault};
 ghost use Rattle.pay_frame.specs.Cutting.{Held, Feeds, HandsOut, EndsWith, frame_in};
-ghost use Rattle.pay_frame.specs.Stream.{IsBytes, IsFramesThen, IsStream, EveryStream, Joins, Parts, end_of};
+ghost use Rattle.pay_frame.specs.Stream.{IsBytes, IsFramesThen, IsStream, EveryStream, Joins};
+ghost use Rattle.pay_frame.specs.Stream.{Parts, end_of};
 
 use crate::limits::{GREATEST_FRAME, LEAST_LENGTH};
 

@@ -2,7 +2,8 @@
 
 ghost use Rattle.std.specs.Prelude.{◌≡◌, ◌<◌, ℕ, List, length};
 ghost use Rattle.pay_hmac.specs.Mac.{block_bytes, mac};
-ghost use Rattle.pay_hmac.specs.PublishedTags.{case_2_key, case_2_tag, case_2_text, case_6_key, case_6_tag, case_6_text};
+ghost use Rattle.pay_hmac.specs.PublishedTags.{case_2_key, case_2_tag, case_2_text, case_6_key};
+ghost use Rattle.pay_hmac.specs.PublishedTags.{case_6_tag, case_6_text};
 ghost use Rattle.sha2.specs.Sha256.{sha256};
 
 /// The definition gives two of the tags that RFC 4231 publishes, one for a key shorter than a block

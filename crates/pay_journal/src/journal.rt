@@ -3,7 +3,9 @@
 ghost use Rattle.std.specs.Prelude.{◌≡◌, ◌++◌, ◌<◌, IfOk, OnOk};
 ghost use Rattle.std.specs.List.{enumerate_from, flat_map, range_with_len};
 ghost use Rattle.pay_audit.specs.Verdict.{book_of};
-ghost use Rattle.pay_journal.specs.Journal.{declared_words, entries_words, entry_name, entry_words, journal_of, names_words, opening_posting, opening_words, posting_words, title_words};
+ghost use Rattle.pay_journal.specs.Journal.{declared_words, entries_words, entry_name, entry_words};
+ghost use Rattle.pay_journal.specs.Journal.{journal_of, names_words, opening_posting};
+ghost use Rattle.pay_journal.specs.Journal.{opening_words, posting_words, title_words};
 
 use crate::statements::lines_of;
 use jiff::civil::Date;
@@ -85,7 +87,8 @@ fn push_entries<B: Settle>(
 ) -> Result<(), AllocError>
     requires book { B.shows book.now ≡ book_of export.now }
     requires account { account < export.now.genesis.members }
-    ensures { OnOk result (out.new.items ≡ out.old.items ++ entries_words day.now export.now account) }
+    ensures { OnOk result (out.new.items
+        ≡ out.old.items ++ entries_words day.now export.now account) }
 {
     let lines = lines_of(alloc, export, book, account)?;
     push_lines(out, day, account, lines.as_slice())
@@ -135,7 +138,8 @@ fn push_title(
     number: u64,
     seq: u32,
 ) -> Result<(), AllocError>
-    ensures { OnOk result (out.new.items ≡ out.old.items ++ title_words day.now account number seq) }
+    ensures { OnOk result (out.new.items
+        ≡ out.old.items ++ title_words day.now account number seq) }
 {
     push_word(out, "\n")?;
     push_word(out, day)?;

@@ -2,7 +2,8 @@
 
 ghost use Rattle.std.specs.Prelude.{◌≡◌, ◌++◌, ◌<◌, IfOk, IfSome, OnOk};
 ghost use Rattle.pay_audit.specs.Verdict.{book_of};
-ghost use Rattle.pay_journal.specs.Statements.{account_named, lines_in, statement_in, statements_in};
+ghost use Rattle.pay_journal.specs.Statements.{account_named, lines_in, statement_in};
+ghost use Rattle.pay_journal.specs.Statements.{statements_in};
 
 use pay_audit::{Export, settled};
 use pay_book::laws::settled_book_exists;

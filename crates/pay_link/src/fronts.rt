@@ -1,4 +1,5 @@
-ghost use Rattle.std.specs.Prelude.{◌≡◌, ◌+◌, ◌<◌, ◌^◌, IfOk, length, replicate, slice_index, slice_set};
+ghost use Rattle.std.specs.Prelude.{◌≡◌, ◌+◌, ◌<◌, ◌^◌, IfOk, length, replicate, slice_index};
+ghost use Rattle.std.specs.Prelude.{slice_set};
 ghost use Rattle.pay_link.specs.Fronts.{turn};
 
 use crate::link_fault::LinkFault;

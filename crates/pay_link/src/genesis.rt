@@ -1,4 +1,5 @@
-ghost use Rattle.std.specs.Prelude.{◌≡◌, ◌<◌, ◌≤◌, ◌↔◌, ◌⊎◌, IfOk, IsOkUnless, IsTrue, MatchOption, slice_index, sum};
+ghost use Rattle.std.specs.Prelude.{◌≡◌, ◌<◌, ◌≤◌, ◌↔◌, ◌⊎◌, IfOk, IsOkUnless, IsTrue, MatchOption};
+ghost use Rattle.std.specs.Prelude.{slice_index, sum};
 ghost use Rattle.pay_link.specs.Files.{genesis_in};
 ghost use Rattle.pay_link.specs.Genesis.{IsGenesis, genesis_fault};
 

@@ -1,8 +1,10 @@
-ghost use Rattle.std.specs.Prelude.{◌≡◌, ◌<◌, ◌≤◌, ◌↔◌, ◌⊎◌, [], IfOk, IsOkUnless, IsTrue, MatchOption, length, map};
+ghost use Rattle.std.specs.Prelude.{◌≡◌, ◌<◌, ◌≤◌, ◌↔◌, ◌⊎◌, [], IfOk, IsOkUnless, IsTrue};
+ghost use Rattle.std.specs.Prelude.{MatchOption, length, map};
 ghost use Rattle.std.specs.Option.{option_map_or};
 ghost use Rattle.std.specs.Result.{result_map_both};
 ghost use Rattle.pay_link.specs.Files.{key_at, keys_from, keys_in};
-ghost use Rattle.pay_link.specs.Keys.{IsKeys, IsKeysOf, IsPeer, kept_keys, key_for, keys_fault, place_fault};
+ghost use Rattle.pay_link.specs.Keys.{IsKeys, IsKeysOf, IsPeer, kept_keys, key_for, keys_fault};
+ghost use Rattle.pay_link.specs.Keys.{place_fault};
 
 use crate::genesis::Genesis;
 use crate::keys_fault::KeysFault;

@@ -10,11 +10,10 @@ ghost use Rattle.pay_member.specs.Serving.{serve_start, serving};
 use crate::member::Member;
 use pay_book::Settle;
 use pay_echo::Instance;
-use pay_engine::{FrameHandler, exact_text, handle_stream};
-use pay_engine::EngineFault;
+use pay_engine::{EngineFault, FrameHandler, exact_text, handle_stream};
 use pay_frame::{FrameFault, FrameRef};
-use pay_io::{Input, Output};
 use pay_hmac::Tagger;
+use pay_io::{Input, Output};
 use pay_link::want;
 use std::alloc::{AllocError, Global};
 

@@ -1,8 +1,8 @@
 use crate::guests::{Admission, Guests};
 use pay_book::Settle;
 use pay_echo::Instance;
-use pay_io::{Reader, Writer};
 use pay_hmac::Tagger;
+use pay_io::{Reader, Writer};
 use pay_node::{Node, Seat};
 use pay_peers::{Claim, Lookout, write_peer};
 use std::alloc::Global;

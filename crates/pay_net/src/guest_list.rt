@@ -1,6 +1,8 @@
-ghost use Rattle.std.specs.Prelude.{◌≡◌, ◌≢◌, ◌↔◌, ◌<◌, ◌++◌, ◌∷◌, [], None, IfOk, IfSome, IsTrue, OnErr, OnOk, count_by, length, position};
+ghost use Rattle.std.specs.Prelude.{◌≡◌, ◌≢◌, ◌↔◌, ◌<◌, ◌++◌, ◌∷◌, [], None, IfOk, IfSome, IsTrue};
+ghost use Rattle.std.specs.Prelude.{OnErr, OnOk, count_by, length, position};
 ghost use Rattle.std.specs.List.{Any};
-ghost use Rattle.pay_net.specs.Guests.{AreFewOfEach, claimed, is_at, is_of, is_stranger, place_of, who_makes_place, who_makes_place_for, without};
+ghost use Rattle.pay_net.specs.Guests.{AreFewOfEach, claimed, is_at, is_of, is_stranger, place_of};
+ghost use Rattle.pay_net.specs.Guests.{who_makes_place, who_makes_place_for, without};
 
 use crate::guest::{Guest, MOST_OF_A_PEER};
 use std::alloc::{AllocError, Global};

@@ -1,4 +1,5 @@
-ghost use Rattle.std.specs.Prelude.{◌≡◌, ◌≢◌, ◌+◌, ◌-◌, ◌*◌, ◌<◌, ◌++◌, ◌∷◌, ℕ, List, Option, [], Some, IfErr, IfOk, length, slice_get};
+ghost use Rattle.std.specs.Prelude.{◌≡◌, ◌≢◌, ◌+◌, ◌-◌, ◌*◌, ◌<◌, ◌++◌, ◌∷◌, ℕ, List, Option, []};
+ghost use Rattle.std.specs.Prelude.{Some, IfErr, IfOk, length, slice_get};
 ghost use Rattle.pay_desk.specs.Desk.{WritesAnswers};
 ghost use Rattle.pay_node.specs.Nodes.{AreFresh, IsOwn};
 ghost use Rattle.pay_node.specs.Seats.{SeatFields};
@@ -21,8 +22,8 @@ use crate::receipts::Receipts;
 use pay_book::Settle;
 use pay_desk::{Desk, run_desk};
 use pay_echo::Instance;
-use pay_io::{Input, Output, StreamFault};
 use pay_hmac::Tagger;
+use pay_io::{Input, Output, StreamFault};
 use pay_member::Member;
 use pay_node::{CloseFault, Node, OpenGate, Seat};
 use pay_peers::{Ahead, Asking, Dials, NodeTeller, run_readers};

@@ -1,6 +1,7 @@
 //! Whether a history bears out what a seat was told.
 
-ghost use Rattle.std.specs.Prelude.{◌≡◌, ◌↔◌, ◌≤◌, ◌==◌, [], length, take, slice_get, IfOk, IfSome, IsTrue};
+ghost use Rattle.std.specs.Prelude.{◌≡◌, ◌↔◌, ◌≤◌, ◌==◌, [], length, take, slice_get, IfOk, IfSome};
+ghost use Rattle.std.specs.Prelude.{IsTrue};
 ghost use Rattle.std.specs.List.{AllPairs, count_by};
 ghost use Rattle.pay_member.specs.Events.{events};
 ghost use Rattle.pay_member.specs.Legal.{Legal};

@@ -1,4 +1,5 @@
-ghost use Rattle.std.specs.Prelude.{◌≡◌, ◌≢◌, ◌↔◌, ◌+◌, ◌<◌, ◌≤◌, ◌^◌, Ok, [], IfOk, IfErr, IfSome, IsTrue, OnErr};
+ghost use Rattle.std.specs.Prelude.{◌≡◌, ◌≢◌, ◌↔◌, ◌+◌, ◌<◌, ◌≤◌, ◌^◌, Ok, [], IfOk, IfErr, IfSome};
+ghost use Rattle.std.specs.Prelude.{IsTrue, OnErr};
 ghost use Rattle.pay_frame.specs.Lent.{fields_of};
 ghost use Rattle.pay_link.specs.Keys.{IsPeer};
 ghost use Rattle.pay_link.specs.Opening.{OpenedFields, judgement};
@@ -10,7 +11,8 @@ ghost use Rattle.pay_node.specs.Closing.{AllSettled, IsFault};
 ghost use Rattle.pay_node.specs.Keeping.{IsFetched};
 ghost use Rattle.pay_node.specs.Receipts.{HadMemory, LackedMemory};
 ghost use Rattle.pay_node.specs.Sending.{HasSent};
-ghost use Rattle.pay_node.specs.Nodes.{AreFresh, IsAnswered, IsAnsweredAs, IsBrought, IsOwn, IsShown, IsTaken, asked, outcome_of, taken, told, want_of};
+ghost use Rattle.pay_node.specs.Nodes.{AreFresh, IsAnswered, IsAnsweredAs, IsBrought, IsOwn};
+ghost use Rattle.pay_node.specs.Nodes.{IsShown, IsTaken, asked, outcome_of, taken, told, want_of};
 
 use crate::close_fault::CloseFault;
 use crate::gate::Gate;
@@ -272,7 +274,8 @@ impl<I: Instance + Drop, B: Settle + Drop> Node<I, B> {
         account: u16,
     ) -> Result<Statement, MemberFault>
         ensures shown { HadMemory result
-            → IsShown self.now seat.old seat.new (Question.Statement account) (Shown.Statement result) }
+            → IsShown self.now seat.old seat.new (Question.Statement account)
+            (Shown.Statement result) }
         ensures memory { LackedMemory result → seat.new ≡ seat.old }
     {
         seat.make_room()?;

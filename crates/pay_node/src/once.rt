@@ -2,7 +2,8 @@
 
 ghost use Rattle.std.specs.Prelude.{◌≡◌, ◌≤◌, IfOk, IfSome, IsTrue, length, take};
 ghost use Rattle.std.specs.List.{All};
-ghost use Rattle.pay_node.specs.Judging.{AreAllCounted, CountedBorneOut, EachBorneOut, FirstBorneOut};
+ghost use Rattle.pay_node.specs.Judging.{AreAllCounted, CountedBorneOut, EachBorneOut};
+ghost use Rattle.pay_node.specs.Judging.{FirstBorneOut};
 
 use crate::judging::is_borne_out_here;
 use crate::replaying::{anew, replay_to};

@@ -1,4 +1,5 @@
-ghost use Rattle.std.specs.Prelude.{◌≡◌, ◌≢◌, ◌↔◌, ◌+◌, ◌<◌, ℕ, Some, [], ◌++◌, IfOk, IsTrue, OnErr, OnOk, length, max, vec_len, vec_capacity};
+ghost use Rattle.std.specs.Prelude.{◌≡◌, ◌≢◌, ◌↔◌, ◌+◌, ◌<◌, ℕ, Some, [], ◌++◌, IfOk, IsTrue};
+ghost use Rattle.std.specs.Prelude.{OnErr, OnOk, length, max, vec_len, vec_capacity};
 ghost use Rattle.pay_member.specs.Answer.{IsAnswer};
 ghost use Rattle.pay_member.specs.Legal.{Legal};
 ghost use Rattle.pay_member.specs.Member.{with_entry};

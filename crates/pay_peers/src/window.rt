@@ -1,5 +1,6 @@
 ghost use Rattle.std.specs.Prelude.{◌≡◌, ◌+◌, ◌<◌, ◌≤◌, ◌^◌, IfNone, IfSome};
-ghost use Rattle.pay_peers.specs.Window.{CanAskAhead, count_behind, first_window, from_behind, moved};
+ghost use Rattle.pay_peers.specs.Window.{CanAskAhead, count_behind, first_window, from_behind};
+ghost use Rattle.pay_peers.specs.Window.{moved};
 
 /// How many frames may be asked for and not come yet, at most.
 pub const MOST_AHEAD: u64 = 64;

@@ -3,8 +3,8 @@
 use crate::rows::{FOUR, PAYMENT, SEND, WANT, WANT_FROM_2, WANT_OF_0, WANT_OF_2};
 use crate::trial::{Group, node_of};
 use pay_frame::Bytes;
-use pay_io::{Output, Reader, Writer};
 use pay_hmac::HmacSha256;
+use pay_io::{Output, Reader, Writer};
 use pay_node::Seat;
 use pay_peers::{Claim, write_peer};
 use std::alloc::Global;

@@ -3,8 +3,8 @@
 use crate::rows::{FOUR, SEND, SEND_OF_2};
 use crate::told::Told;
 use crate::trial::{Tried, node_of};
-use pay_io::{Reader, Writer};
 use pay_hmac::HmacSha256;
+use pay_io::{Reader, Writer};
 use pay_member::{MemberFault, Outcome};
 use pay_node::{Call, Gate, OpenGate, Seat};
 use pay_peers::{Ahead, Asking, Dial, Dialed, Dials, run_readers};

@@ -1,4 +1,5 @@
-ghost use Rattle.std.specs.Prelude.{◌≡◌, ◌+◌, ◌++◌, ◌∷◌, ℕ, List, Option, Some, Err, [], OnOk, IsErrOf};
+ghost use Rattle.std.specs.Prelude.{◌≡◌, ◌+◌, ◌++◌, ◌∷◌, ℕ, List, Option, Some, Err, [], OnOk};
+ghost use Rattle.std.specs.Prelude.{IsErrOf};
 ghost use Rattle.pay_io.specs.Counts.{KeepsCounts, itself};
 ghost use Rattle.pay_io.specs.Device.{counted};
 ghost use Rattle.pay_text.specs.Cutting.{lines_after};

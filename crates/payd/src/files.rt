@@ -3,7 +3,8 @@
 ghost use Rattle.std.specs.Prelude.{◌≡◌, ◌+◌, ◌≤◌, ℕ, List, IfErr, IfOk, IfSome, map, take};
 ghost use Rattle.std.specs.Option.{option_map};
 ghost use Rattle.pay_link.specs.Keys.{IsKeysOf};
-ghost use Rattle.payd.specs.Files.{AreKeysIn, IsExportOf, IsExportStop, IsExportsStop, IsGenesisOf, IsGenesisStop, IsKeysStop, IsUnread, IsVerdictOn};
+ghost use Rattle.payd.specs.Files.{AreKeysIn, IsExportOf, IsExportStop, IsExportsStop, IsGenesisOf};
+ghost use Rattle.payd.specs.Files.{IsGenesisStop, IsKeysStop, IsUnread, IsVerdictOn};
 
 use crate::stop::Stop;
 use pay_audit::{Auditor, Export, Verdict, read_export};

@@ -26,8 +26,8 @@ use pay_cli::run_check;
 use pay_desk::{Desk, OneMember, run_desk};
 use pay_echo::MaskInstance;
 use pay_engine::EngineFault;
-use pay_io::{Reader, Writer, write_all};
 use pay_hmac::PreparedHmac;
+use pay_io::{Reader, StreamFault, Writer, write_text};
 use pay_journal::journal_text;
 use pay_link::{Genesis, Keys};
 use pay_member::Member;
@@ -249,13 +249,13 @@ fn journal<'a>(
 }
 
 /// Writes a text that is there as a whole.
-fn print_text(rt: &impl Print, text: &[u8]) -> Result<(), EngineFault> {
+fn print_text(rt: &impl Print, text: &[u8]) -> Result<(), StreamFault> {
     let mut writer = Writer::new(io::writer(rt));
-    write_all(&mut writer, text).map_err(|_| EngineFault::Write)
+    write_text(&mut writer, text)
 }
 
 /// Plays the script on standard input.
-fn sim(alloc: Global, rt: &(impl Input + Print)) -> Result<SimEnd, EngineFault> {
+fn sim(alloc: Global, rt: &(impl Input + Print)) -> Result<SimEnd, StreamFault> {
     let mut reader = Reader::new(rt.reader());
     let mut writer = Writer::new(io::writer(rt));
     run_sim::<MaskInstance, WaitingBook, _, _>(alloc, &mut reader, &mut writer)
@@ -321,12 +321,12 @@ fn status_of_answer(rt: &(impl Print + Eprint), answer: &clap::Error) -> ExitCod
 }
 
 /// A script that ends before its input does has its last line already; a fault is named on standard error.
-fn status_of_sim(rt: &impl Eprint, ended: Result<SimEnd, EngineFault>) -> ExitCode {
+fn status_of_sim(rt: &impl Eprint, ended: Result<SimEnd, StreamFault>) -> ExitCode {
     match ended {
         Ok(SimEnd::Done) => ExitCode::SUCCESS,
         Ok(SimEnd::Forged) => ExitCode::from(1),
         Ok(SimEnd::BadLine) => ExitCode::from(2),
         Ok(SimEnd::Limit) => ExitCode::from(3),
-        Err(fault) => status_of(rt, Err(Stop::Engine(fault))),
+        Err(fault) => status_of(rt, Err(Stop::from(fault))),
     }
 }

@@ -1,10 +1,12 @@
 ghost use Rattle.std.specs.Prelude.{◌≡◌};
 ghost use Rattle.pay_engine.specs.declared.engine_fault.EngineFault.TheVariants.{Memory};
+ghost use Rattle.pay_engine.specs.EngineFault.{engine_of};
 ghost use Rattle.payd.specs.declared.stop.Stop.TheVariants.{Engine, Export, Genesis, Keys, Ports};
 ghost use Rattle.payd.specs.Stops.{node_stop};
 
 use pay_audit::ExportFault;
 use pay_engine::EngineFault;
+use pay_io::StreamFault;
 use pay_link::{GenesisFault, KeysFault};
 use pay_net::{NodeFault, PortsFault};
 use pay_node::CloseFault;
@@ -60,6 +62,14 @@ impl<'a> From<EngineFault> for Stop<'a> {
     }
 }
 
+impl<'a> From<StreamFault> for Stop<'a> {
+    ghost from_gives = { λ fault stop. stop ≡ Engine (engine_of fault) };
+
+    fn from(fault: StreamFault) -> Stop<'a> {
+        Stop::Engine(EngineFault::from(fault))
+    }
+}
+
 impl<'a> From<GenesisFault> for Stop<'a> {
     ghost from_gives = { λ fault stop. stop ≡ Genesis fault };
 
@@ -98,7 +108,7 @@ impl<'a> From<NodeFault> for Stop<'a> {
     fn from(fault: NodeFault) -> Stop<'a> {
         match fault {
             NodeFault::Port(port) => Stop::Port(port),
-            NodeFault::Engine(fault) => Stop::Engine(fault),
+            NodeFault::Engine(fault) => Stop::from(fault),
             NodeFault::Close(fault) => Stop::Close(fault),
         }
     }

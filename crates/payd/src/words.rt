@@ -1,6 +1,12 @@
 ghost use Rattle.std.specs.Prelude.{◌≡◌, IfOk, map, option_map, string_bytes};
-ghost use Rattle.clap.specs.Words.{FailsBy, fault_of, first_of, found_of, new_app, rows_of, subcommand_of, subcommand_rows_of};
-ghost use Rattle.payd.specs.Job.{IsArgument, IsCommand, asked, asked_by, asked_in, asked_of, audit_app, audit_asked, check_app, check_asked, desk_app, desk_asked, export_rule, files_of, files_rule, journal_app, journal_asked, named, node_app, node_asked, option_rule, payd_alone, payd_app, required_rule, statement_app, statement_asked};
+ghost use Rattle.clap.specs.Words.{FailsBy, fault_of, first_of, found_of, new_app, rows_of};
+ghost use Rattle.clap.specs.Words.{subcommand_of, subcommand_rows_of};
+ghost use Rattle.payd.specs.Job.{IsArgument, IsCommand, asked, asked_by, asked_in, asked_of};
+ghost use Rattle.payd.specs.Job.{audit_app, audit_asked, check_app, check_asked, desk_app};
+ghost use Rattle.payd.specs.Job.{desk_asked, export_rule, files_of, files_rule, journal_app};
+ghost use Rattle.payd.specs.Job.{journal_asked, named, node_app, node_asked, option_rule};
+ghost use Rattle.payd.specs.Job.{payd_alone, payd_app, required_rule, statement_app};
+ghost use Rattle.payd.specs.Job.{statement_asked};
 
 use clap::{Arg, ArgAction, ArgMatches, Command, Error};
 use std::alloc::{AllocError, Global};

@@ -1,7 +1,6 @@
 use Rattle.std.proofs.Common.{◌≡◌, ◌∙◌, ◌++◌, ap, Err, rules}
 use Rattle.std.specs.Io.KnownBytes.{Appends}
 use Rattle.pay_io.specs.Device.{WroteBeginning}
-use Rattle.pay_engine.specs.declared.engine_fault.EngineFault.{EngineFault}
 use Rattle.pay_engine.specs.declared.engine_fault.EngineFault.TheVariants.{Memory, Write}
 use Rattle.pay_engine.proofs.Handlings.{all_to, some_to, none_written}
 use Rattle.pay_engine.proofs.stream.end_at.Goals as goal
@@ -11,16 +10,13 @@ returns-in_err-end-clause-handles g c =
     let memory : c.from_residual.result ≡ Err Memory = search rules in
     rw memory (λ start left rest held reads later going none stream whole. some_to _ start _ left rest _ _ held reads c.args.fault going none stream whole (none_written _ _))
 
-pub returns-in_err-write_out-clause-handles : goal.returns-in_err-write_out-clause-handles
-returns-in_err-write_out-clause-handles g c =
+pub returns-in_err-write_text-clause-handles : goal.returns-in_err-write_text-clause-handles
+returns-in_err-write_text-clause-handles g c =
     let contents = g.Out.Output.contents in
     let last = (g.H.FrameHandler.handling c.args.handler.now).fault_text c.args.state.now c.args.fault in
-    let e : EngineFault = c.in_err-write_out.field-0.0 in
-    let is : e ≡ Write = c.in_err-write_out.ensures.write in
-    let same : c.from_residual-in_err-write_out.result ≡ Err e = search rules in
-    let write : c.from_residual-in_err-write_out.result ≡ Err Write = same ∙ ap Err is in
+    let write : c.from_residual-in_err-write_text.result ≡ Err Write = search rules in
     let text : c.end.new.out.items ≡ last = c.in_ok-end.ensures.text ∙ ap (λ xs. xs ++ last) c.clear.ensures.items in
-    let wrote : WroteBeginning (contents c.args.writer.now) (contents c.write_out.new.writer) last = rw text at (rw c.deref.ensures.value at c.in_err-write_out.ensures.err) in
+    let wrote : WroteBeginning (contents c.args.writer.now) (contents c.write_text.new.writer) last = rw text at (rw c.deref.ensures.value at c.in_err-write_text.ensures.beginning) in
     rw write (λ start left rest held reads later going none stream whole. some_to _ start _ left rest _ _ held reads c.args.fault going none stream whole wrote)
 
 pub returns-clause-handles : goal.returns-clause-handles
@@ -28,5 +24,5 @@ returns-clause-handles g c =
     let contents = g.Out.Output.contents in
     let last = (g.H.FrameHandler.handling c.args.handler.now).fault_text c.args.state.now c.args.fault in
     let text : c.end.new.out.items ≡ last = c.in_ok-end.ensures.text ∙ ap (λ xs. xs ++ last) c.clear.ensures.items in
-    let written : Appends (contents c.args.writer.now) (contents c.write_out.new.writer) last = rw text at (rw c.deref.ensures.value at c.in_ok-write_out.ensures.ok) in
+    let written : Appends (contents c.args.writer.now) (contents c.write_text.new.writer) last = rw text at (rw c.deref.ensures.value at c.in_ok-write_text.ensures.ok) in
     λ start left rest held reads later going none stream whole. all_to _ start _ left rest _ _ held reads c.args.fault going none stream whole written

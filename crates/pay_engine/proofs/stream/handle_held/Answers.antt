@@ -1,7 +1,6 @@
-use Rattle.std.proofs.Common.{drop, take, ◌≡◌, ◌∙◌, ◌++◌, ◌∷◌, [], ap, append_assoc, arith, true, false, Ok, Err, ℕ, inr, sym, subst, rules}
+use Rattle.std.proofs.Common.{drop, take, ◌≡◌, ◌∙◌, ◌++◌, ◌∷◌, [], append_assoc, arith, true, false, Ok, Err, ℕ, inr, sym, subst, rules}
 use Rattle.std.specs.Io.KnownBytes.{Appends}
 use Rattle.std.proofs.KnownBytes.{Consumes-nil}
-use Rattle.pay_engine.specs.declared.engine_fault.EngineFault.{EngineFault}
 use Rattle.pay_engine.specs.declared.engine_fault.EngineFault.TheVariants.{Memory, Write}
 use Rattle.pay_io.specs.Device.{WroteBeginning}
 use Rattle.pay_frame.specs.Reading.{IsFault}
@@ -28,20 +27,17 @@ returns-in_err-goes_on-in-Ok-clause-handles g c =
     some_written h start c.batches.state c.handle_batch.new.state left _ _ c.batches.read _ some.first reads was
     (behind h start c.batches.state left _ c.batches.read (drop c.in-Ok.size c.batches.read) passed.frames some.first some.others reads c.stream_grows.ensures.frames was cut some.parts) some.text some.handled (none_written _ some.text))
 
-pub returns-in_err-write_out-in-Ok-clause-handles : goal.returns-in_err-write_out-in-Ok-clause-handles
-returns-in_err-write_out-in-Ok-clause-handles g c =
+pub returns-in_err-write_text-in-Ok-clause-handles : goal.returns-in_err-write_text-in-Ok-clause-handles
+returns-in_err-write_text-in-Ok-clause-handles g c =
     let h = g.H.FrameHandler.handling c.args.handler.now in
     let contents = g.Out.Output.contents in
     let passed : IsFront c.batches.read c.at_once.result c.in-Ok.size = rw c.held.ensures at c.in-Ok.ensures.front in
     let cut : IsFramesThen c.batches.read passed.frames (drop c.in-Ok.size c.batches.read) = cut_of c.stream_grows.ensures.piece c.batches.read c.at_once.result c.in-Ok.size passed in
     let given : IsFramesThen (take c.in-Ok.size c.held-in-Ok.result.now) passed.frames [] = rw c.held-in-Ok.ensures passed.cut in
     let some : Batch h c.batches.state c.handle_batch.new.state passed.frames [] c.handle_batch.new.out.items = batch_of h _ _ passed.frames [] _ c.in_ok-goes_on-in-Ok.goes_on (subst (λ xs. HandlesBatch h c.batches.state c.handle_batch.new.state passed.frames xs c.handle_batch.new.out.items (Ok c.in_ok-goes_on-in-Ok.goes_on)) c.clear.ensures.items (c.in_ok-goes_on-in-Ok.ensures.handles passed.frames given)) in
-    let e : EngineFault = c.in_err-write_out-in-Ok.field-0.0 in
-    let is : e ≡ Write = c.in_err-write_out-in-Ok.ensures.write in
-    let same : c.from_residual-in_err-write_out-in-Ok.result ≡ Err e = search rules in
-    let write : c.from_residual-in_err-write_out-in-Ok.result ≡ Err Write = same ∙ ap Err is in
-    let told : WroteBeginning (contents c.batches.writer) (contents c.write_out.new.writer) c.handle_batch.new.out.items = rw c.deref.ensures.value at c.in_err-write_out-in-Ok.ensures.err in
-    let wrote : WroteBeginning (contents c.batches.writer) (contents c.write_out.new.writer) some.text = subst (WroteBeginning (contents c.batches.writer) (contents c.write_out.new.writer)) some.longer told in
+    let write : c.from_residual-in_err-write_text-in-Ok.result ≡ Err Write = search rules in
+    let told : WroteBeginning (contents c.batches.writer) (contents c.write_text.new.writer) c.handle_batch.new.out.items = rw c.deref.ensures.value at c.in_err-write_text-in-Ok.ensures.beginning in
+    let wrote : WroteBeginning (contents c.batches.writer) (contents c.write_text.new.writer) some.text = subst (WroteBeginning (contents c.batches.writer) (contents c.write_text.new.writer)) some.longer told in
     rw write (λ start left reads going.
     let was = c.batches.invariant.handles start left reads going in
     some_written h start c.batches.state c.handle_batch.new.state left _ _ c.batches.read _ some.first reads was
@@ -56,8 +52,8 @@ returns-then-not-goes_on-clause-handles g c =
     let given : IsFramesThen (take c.in-Ok.size c.held-in-Ok.result.now) passed.frames [] = rw c.held-in-Ok.ensures passed.cut in
     let off : c.in_ok-goes_on-in-Ok.goes_on ≡ false = search rules in
     let some : StopsAmong h c.batches.state c.handle_batch.new.state passed.frames [] c.handle_batch.new.out.items = rw (off, c.clear.ensures.items) at (c.in_ok-goes_on-in-Ok.ensures.handles passed.frames given) in
-    let told : Appends (contents c.batches.writer) (contents c.write_out.new.writer) c.handle_batch.new.out.items = rw c.deref.ensures.value at c.in_ok-write_out-in-Ok.ensures.ok in
-    let written : Appends (contents c.batches.writer) (contents c.write_out.new.writer) some.text = subst (Appends (contents c.batches.writer) (contents c.write_out.new.writer)) some.longer told in
+    let told : Appends (contents c.batches.writer) (contents c.write_text.new.writer) c.handle_batch.new.out.items = rw c.deref.ensures.value at c.in_ok-write_text-in-Ok.ensures.ok in
+    let written : Appends (contents c.batches.writer) (contents c.write_text.new.writer) some.text = subst (Appends (contents c.batches.writer) (contents c.write_text.new.writer)) some.longer told in
     let parts : passed.frames ≡ (some.first ++ some.last ∷ []) ++ some.others = some.parts ∙ sym (append_assoc some.first (some.last ∷ []) some.others) in
     λ start left reads going.
     let was = c.batches.invariant.handles start left reads going in
@@ -73,8 +69,8 @@ batches-preserved g c =
     let given : IsFramesThen (take c.in-Ok.size c.held-in-Ok.result.now) passed.frames [] = rw c.held-in-Ok.ensures passed.cut in
     let on : c.in_ok-goes_on-in-Ok.goes_on ≡ true = search rules in
     let all : HandlesBatch h c.batches.state c.handle_batch.new.state passed.frames [] c.handle_batch.new.out.items (Ok true) = rw (on, c.clear.ensures.items) at (c.in_ok-goes_on-in-Ok.ensures.handles passed.frames given) in
-    let told : Appends (contents c.batches.writer) (contents c.write_out.new.writer) c.handle_batch.new.out.items = rw c.deref.ensures.value at c.in_ok-write_out-in-Ok.ensures.ok in
-    let written : Appends (contents c.batches.writer) (contents c.write_out.new.writer) all.0 = subst (Appends (contents c.batches.writer) (contents c.write_out.new.writer)) all.2 told in
+    let told : Appends (contents c.batches.writer) (contents c.write_text.new.writer) c.handle_batch.new.out.items = rw c.deref.ensures.value at c.in_ok-write_text-in-Ok.ensures.ok in
+    let written : Appends (contents c.batches.writer) (contents c.write_text.new.writer) all.0 = subst (Appends (contents c.batches.writer) (contents c.write_text.new.writer)) all.2 told in
     let count = c.frame_sizes.ensures.count c.batches.read c.pass.new.self passed.frames cut in
     let Room : g.row.S.Denot → ℕ → Type 0 = λ s m. g.H.FrameHandler.has_room c.args.handler.now s m in
     record {
@@ -83,7 +79,7 @@ batches-preserved g c =
           handles_more h start c.batches.state c.handle_batch.new.state left _ _ c.batches.read c.pass.new.self passed.frames reads was
           (c.stream_grows.ensures.frames was.read c.batches.read c.pass.new.self was.frames passed.frames was.cut cut) all.0 all.1 written;
       room = λ n le. room_after h Room (λ s t f text m. g.met.H.FrameHandler.keeps_room c.args.handler.now s t f text m) c.batches.state c.handle_batch.new.state passed.frames all.0 n all.1 (c.batches.invariant.room _ (omega arith));
-      writes = c.in_ok-write_out-in-Ok.ensures.all_written ∙ c.batches.invariant.writes;
+      writes = c.in_ok-write_text-in-Ok.ensures.none_failed ∙ c.batches.invariant.writes;
     }
 
 pub returns-in-Err-clause-handles : goal.returns-in-Err-clause-handles

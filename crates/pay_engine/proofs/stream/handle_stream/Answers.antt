@@ -1,4 +1,4 @@
-use Rattle.std.proofs.Common.{◌≡◌, ◌∙◌, ℕ, [], Err, true, false, ap, arith, rules}
+use Rattle.std.proofs.Common.{◌≡◌, ℕ, [], Err, true, false, arith, rules}
 use Rattle.pay_engine.specs.declared.engine_fault.EngineFault.{EngineFault}
 use Rattle.pay_engine.specs.declared.engine_fault.EngineFault.TheVariants.{Memory, Write}
 use Rattle.pay_io.specs.declared.limits.TheConstants.{MOST_READS}
@@ -11,13 +11,10 @@ returns-in_err-read-clause-handled g c =
     let memory : c.from_residual.result ≡ Err Memory = search rules in
     rw memory (first_failed (g.H.FrameHandler.handling c.args.handler.now) _ _ (c.stream_grows.ensures.nothing []) (none_written _ c.args.first.now))
 
-pub returns-in_err-write_out-clause-handled : goal.returns-in_err-write_out-clause-handled
-returns-in_err-write_out-clause-handled g c =
-    let e : EngineFault = c.in_err-write_out.field-0.0 in
-    let is : e ≡ Write = c.in_err-write_out.ensures.write in
-    let same : c.from_residual-in_err-write_out.result ≡ Err e = search rules in
-    let write : c.from_residual-in_err-write_out.result ≡ Err Write = same ∙ ap Err is in
-    rw write (first_failed (g.H.FrameHandler.handling c.args.handler.now) _ _ (c.stream_grows.ensures.nothing []) c.in_err-write_out.ensures.err)
+pub returns-in_err-write_text-clause-handled : goal.returns-in_err-write_text-clause-handled
+returns-in_err-write_text-clause-handled g c =
+    let write : c.from_residual-in_err-write_text.result ≡ Err Write = search rules in
+    rw write (first_failed (g.H.FrameHandler.handling c.args.handler.now) _ _ (c.stream_grows.ensures.nothing []) c.in_err-write_text.ensures.beginning)
 
 pub loop-init : goal.loop-init
 loop-init g c =
@@ -25,7 +22,7 @@ loop-init g c =
     let start : Start g.row.S.Denot = record { first = c.args.first.now; state = c.args.state.now; input = g.In.Input.remaining c.args.reader.now; before = contents c.args.writer.now } in
     let empty = c.in_ok-read.ensures.empty in
     record {
-      handling = at_start (g.H.FrameHandler.handling c.args.handler.now) start (contents c.write_out.new.writer) c.in_ok-read.read (c.stream_grows.ensures.nothing []) empty c.in_ok-write_out.ensures.ok;
+      handling = at_start (g.H.FrameHandler.handling c.args.handler.now) start (contents c.write_text.new.writer) c.in_ok-read.read (c.stream_grows.ensures.nothing []) empty c.in_ok-write_text.ensures.ok;
       begins = rw empty c.nothing_is_a_beginning.ensures.law;
       calls = search rules;
       most = search rules;
@@ -70,5 +67,11 @@ returns-clause-handled g c =
     let all : c.loop.counter ≡ MOST_READS = omega arith in
     (_, rw all at c.loop.invariant.handling, c.loop.invariant.begins)
 
-pub returns-clause-gave : goal.returns-clause-gave
-returns-clause-gave g c = λ _. gave _ _ _ _ _ _ _ MOST_READS c.loop.invariant.handling (omega arith)
+pub returns-clause-counts : goal.returns-clause-counts
+returns-clause-counts g c = record {
+  read = search rules;
+  write = search rules;
+  most = search rules;
+  bound = search rules;
+  gave = λ _. gave _ _ _ _ _ _ _ MOST_READS c.loop.invariant.handling (omega arith);
+}
