@@ -12,4 +12,4 @@ law Write = refl
 law Bound = refl
 
 pub returns : goal.returns
-returns = record { law = law }
+returns g = record { law = law }
