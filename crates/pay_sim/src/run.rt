@@ -1,6 +1,8 @@
-ghost use Rattle.std.specs.Prelude.{◌≡◌, ◌+◌};
+ghost use Rattle.std.specs.Prelude.{◌≡◌, IfErr, OnErr, OnOk};
+ghost use Rattle.std.specs.Io.KnownBytes.{Appends};
 ghost use Rattle.pay_io.specs.Counts.{KeepsCounts, itself};
-ghost use Rattle.pay_sim.specs.Script.{WritesRun, end_of};
+ghost use Rattle.pay_io.specs.Device.{WroteBeginning, counted};
+ghost use Rattle.pay_sim.specs.Script.{WritesRun, end_of, no_line};
 
 use crate::play::Play;
 use crate::sim_end::SimEnd;
@@ -39,8 +41,21 @@ where
     if !play.is_empty() {
         return Ok(end_of(play.stop()));
     }
-    write_text(writer, b"bad line 1\n")?;
+    write_no_line(writer)?;
     Ok(SimEnd::BadLine)
+}
+
+/// Writes what an empty script prints.
+fn write_no_line<W: Output>(writer: &mut W) -> Result<(), StreamFault>
+    ensures ok { OnOk result (Appends (W.contents writer.old) (W.contents writer.new) no_line) }
+    ensures none_failed { OnOk result (W.failure_count writer.new ≡ W.failure_count writer.old) }
+    ensures err { IfErr result (λ fault. fault ≡ StreamFault.Write) }
+    ensures beginning { OnErr result
+        (WroteBeginning (W.contents writer.old) (W.contents writer.new) no_line) }
+    ensures failed { OnErr result
+        (W.failure_count writer.new ≡ counted (W.failure_count writer.old)) }
+{
+    write_text(writer, b"bad line 1\n")
 }
 
 fn end_of(stop: Option<RunStop>) -> SimEnd

@@ -25,14 +25,14 @@ returns-then-not-is_empty-clause-text g c =
     (ends c.new-play.result q (remaining c.args.reader.now) (remaining c.run_lines.new.reader) (contents c.args.writer.now) (contents c.run_lines.new.writer) c.new-play.ensures
     c.in_ok-run_lines.field-0 c.in_ok-run_lines.ensures.text (λ none. true_false (sym (c.is_empty.ensures.1 none) ∙ c.if-not-is_empty.true)))
 
-pub returns-in_err-write_text-clause-text : goal.returns-in_err-write_text-clause-text
-returns-in_err-write_text-clause-text g c =
+pub returns-in_err-write_no_line-clause-text : goal.returns-in_err-write_no_line-clause-text
+returns-in_err-write_no_line-clause-text g c =
     let remaining = g.R.Input.remaining in
     let contents = g.W.Output.contents in
     let q = c.run_lines.new.answerer in
-    let same : c.from_residual-in_err-write_text.result ≡ Err c.in_err-write_text.field-0.0 = search rules in
+    let same : c.from_residual-in_err-write_no_line.result ≡ Err c.in_err-write_no_line.field-0.0 = search rules in
     rw same (breaks_empty c.new-play.result q (remaining c.args.reader.now) (remaining c.run_lines.new.reader) (contents c.args.writer.now) (contents c.run_lines.new.writer) c.new-play.ensures
-    c.in_ok-run_lines.field-0 (contents c.write_text.new.writer) c.in_err-write_text.field-0.0 c.in_ok-run_lines.ensures.text (c.is_empty.ensures.0 c.if-not-is_empty.false) c.in_err-write_text.ensures.beginning)
+    c.in_ok-run_lines.field-0 (contents c.write_no_line.new.writer) c.in_err-write_no_line.field-0.0 c.in_ok-run_lines.ensures.text (c.is_empty.ensures.0 c.if-not-is_empty.false) c.in_err-write_no_line.ensures.beginning)
 
 pub returns-clause-text : goal.returns-clause-text
 returns-clause-text g c =
@@ -40,4 +40,4 @@ returns-clause-text g c =
     let contents = g.W.Output.contents in
     let q = c.run_lines.new.answerer in
     ends_empty c.new-play.result q (remaining c.args.reader.now) (remaining c.run_lines.new.reader) (contents c.args.writer.now) (contents c.run_lines.new.writer) c.new-play.ensures
-    c.in_ok-run_lines.field-0 (contents c.write_text.new.writer) c.in_ok-run_lines.ensures.text (c.is_empty.ensures.0 c.if-not-is_empty.false) c.in_ok-write_text.ensures.ok
+    c.in_ok-run_lines.field-0 (contents c.write_no_line.new.writer) c.in_ok-run_lines.ensures.text (c.is_empty.ensures.0 c.if-not-is_empty.false) c.in_ok-write_no_line.ensures.ok
