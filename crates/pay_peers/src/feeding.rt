@@ -1,6 +1,5 @@
 //! How a node is fed from a peer's stream.
 
-ghost use Rattle.std.specs.Prelude.{◌+◌};
 ghost use Rattle.pay_io.specs.Counts.{KeepsCounts};
 ghost use Rattle.pay_engine.specs.EngineFault.{engine_of};
 ghost use Rattle.pay_link.specs.Keys.{IsPeer};

@@ -1,6 +1,5 @@
 //! How a peer's WANTs are answered on one connection.
 
-ghost use Rattle.std.specs.Prelude.{◌+◌};
 ghost use Rattle.pay_io.specs.Counts.{KeepsCounts};
 ghost use Rattle.pay_engine.specs.EngineFault.{engine_of};
 ghost use Rattle.pay_peers.specs.Answering.{HasAnswered, answering};
