@@ -1,10 +1,15 @@
 mod Adding
 mod Backward
 mod OneList
+mod ColumnLengths
 mod Comparing
+mod Digits
 mod Firsts
 mod Forking
 mod Forks
+mod ExportText
+mod Gathering
+mod Items
 mod Judging
 mod Numbers
 mod Pushing

@@ -11,3 +11,5 @@ pub mod ReadBack
 pub mod FileLaws
 pub mod Compared
 pub mod Auditor
+pub mod Columns
+pub mod Gathering

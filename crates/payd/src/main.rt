@@ -21,7 +21,7 @@ use dates::date_of;
 use dials::dials_of;
 use files::{export_of, genesis_of, keys_of, verdict_on};
 use jobs::jobs_of;
-use pay_audit::{Verdict, export_text};
+use pay_audit::{Verdict, write_export};
 use pay_cli::run_check;
 use pay_desk::{Desk, OneMember, run_desk};
 use pay_echo::MaskInstance;
@@ -164,7 +164,7 @@ where
     let keys = keys_of(alloc, rt, &genesis, Some(keys))?;
     let ports = ports_of(alloc, rt, &genesis, ports)?;
     let (member, receipts) = meet_peers(alloc, rt, genesis, keys, &ports, dials, ahead)?;
-    print_export(alloc, rt, &member)?;
+    print_export(rt, &member)?;
     match receipts {
         Receipts::BorneOut => Ok(()),
         Receipts::Unjudged => Err(Stop::Close(CloseFault::Memory)),
@@ -205,11 +205,11 @@ where
     )
 }
 
-/// Writes a member's export as a line.
-fn print_export(alloc: Global, rt: &impl Print, member: &OwnMember) -> Result<(), EngineFault> {
-    let text = export_text(alloc, member)?;
-    println!(rt; "{text}").map_err(|_| EngineFault::Write)?;
-    Ok(())
+/// Writes a member's export as a line. It takes no memory, so that memory which is refused at the end loses nothing.
+fn print_export(rt: &impl Print, member: &OwnMember) -> Result<(), StreamFault> {
+    let mut writer = Writer::new(io::writer(rt));
+    write_export(member, &mut writer).map_err(|_| StreamFault::Write)?;
+    write_text(&mut writer, b"\n")
 }
 
 /// Says what is wrong with the exports in these files, if anything is.
