@@ -32,7 +32,6 @@ TEXT = f"{compact(EXPORT)}\n"
 REFUSED = ["refused 0 Memory"]
 
 CLOSE_REFUSED = (3, TEXT, "payd: close 0 Memory\n")
-EXPORT_REFUSED = (3, "", "payd: engine 0 Memory\n")
 
 # How many seconds nothing settles before it counts that a node lacks threads, as one does to which memory was refused
 # while they were made; and of how many runs that may be said, for a slow machine makes them late.
@@ -137,7 +136,7 @@ def audit_all(runs):
 def each_growth_of_a_node_among_peers_refused(library):
     """Payments settle all the same, and are in the export, or a fault is named."""
     runs = each(library, "growth")
-    counts = {name: 0 for name in ("first", "none", "desk", "peers", "close", "export", "threads")}
+    counts = {name: 0 for name in ("first", "none", "desk", "peers", "close", "threads")}
     for one in runs:
         if not one.has_begun:
             kind = "first"
@@ -147,7 +146,7 @@ def each_growth_of_a_node_among_peers_refused(library):
             kind = "threads"
             same((one.ended[0], one.ended[2]), (0, ""), one.of)
         else:
-            kinds = {(0, TEXT, ""): "none", CLOSE_REFUSED: "close", EXPORT_REFUSED: "export"}
+            kinds = {(0, TEXT, ""): "none", CLOSE_REFUSED: "close"}
             same(one.ended in kinds, True, one.of)
             kind = kinds[one.ended]
             if kind == "none":

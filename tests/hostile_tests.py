@@ -188,7 +188,9 @@ def each_growth_of_a_node_refused(library):
             same((export.startswith("{"), errors), (True, ""), of)
             same(answers[0] == "refused 0 Memory" or paid, True, of)
         else:
+            # (only on the way: a node that has answered all its lines writes its export without memory)
             same((status, MEMORY.fullmatch(errors) is not None), (3, True), of)
+            same(len(text.splitlines()) < len(lines), True, of)
     raise AssertionError("no end of growths")
 
 

@@ -1,8 +1,8 @@
-use Rattle.std.proofs.Common.{◌∷◌, [], ◌≡◌, false, map, take, nat_lt, ◌++◌, ◌+◌, refl, arith}
+use Rattle.std.proofs.Common.{◌∷◌, [], ◌≡◌, false, map, take, nat_lt, ◌++◌, ◌+◌, refl, arith, rules}
 use Rattle.std.proofs.lemmas.List.{take_all}
 use Rattle.serde_json.specs.Written.{comma_if, compact_text}
 use Rattle.pay_audit.specs.Exporting.{value_data}
-use Rattle.pay_audit.specs.Gathering.{state}
+use Rattle.pay_audit.specs.Gathering.{Adds, state}
 use Rattle.pay_audit.proofs.Gathering.{adds_next, adds_then}
 use Rattle.pay_audit.proofs.Items.{all_in_array, begun, next_in_array}
 use Rattle.pay_audit.proofs.export_writing.add_list.Goals as goal
@@ -15,9 +15,10 @@ loop-place-preserved g c =
     let start = at c.args.text.now c.args.writer.now in
     let behind = at c.add_comma.new.self c.add_comma.new.writer in
     let so_far = 91 ∷ begun false (map value_data (take k list)) in
+    let comma : Adds (at c.loop-place.text c.loop-place.writer) behind (comma_if (nat_lt 0 k)) = search rules in
     adds_next start behind (at c.add_value.new.text c.add_value.new.writer)
     (so_far ++ comma_if (nat_lt 0 k)) (compact_text (value_data c.at.result.now)) (91 ∷ begun false (map value_data (take (k + 1) list)))
-    (adds_then start (at c.loop-place.text c.loop-place.writer) behind so_far (comma_if (nat_lt 0 k)) c.loop-place.invariant c.add_comma.ensures)
+    (adds_then start (at c.loop-place.text c.loop-place.writer) behind so_far (comma_if (nat_lt 0 k)) c.loop-place.invariant comma)
     c.add_value.ensures (next_in_array value_data list k c.at.result.now (compact_text (value_data c.at.result.now)) c.at.ensures refl)
 
 pub returns : goal.returns

@@ -1,4 +1,4 @@
-use Rattle.std.proofs.Common.{◌∷◌, [], ◌≡◌, ◌<◌, Some, false, refl, ap, map, length, take, nat_lt, zero-add, ◌++◌, ◌∙◌, ◌+◌, arith}
+use Rattle.std.proofs.Common.{◌∷◌, [], ◌≡◌, ◌<◌, Some, false, refl, ap, map, length, take, nat_lt, zero-add, ◌++◌, ◌∙◌, ◌+◌, arith, rules}
 use Rattle.std.specs.List.{slice_get}
 use Rattle.std.proofs.lemmas.List.{take_all}
 use Rattle.std.proofs.lemmas.List.FromFn.{get_or-map-range_with_len, length-map-range_with_len}
@@ -6,7 +6,7 @@ use Rattle.std.proofs.lemmas.Option.{slice_get-get_or}
 use Rattle.serde_json.specs.Written.{comma_if, compact_text}
 use Rattle.pay_link.specs.Genesis.{GenesisFields}
 use Rattle.pay_audit.specs.Exporting.{exported, list_data, lists_by}
-use Rattle.pay_audit.specs.Gathering.{state}
+use Rattle.pay_audit.specs.Gathering.{Adds, state}
 use Rattle.pay_audit.proofs.Gathering.{adds_next, adds_then}
 use Rattle.pay_audit.proofs.Items.{all_in_array, begun, next_in_array}
 use Rattle.pay_audit.proofs.export_writing.add_lists.Goals as goal
@@ -25,10 +25,11 @@ loop-owner-preserved g c =
     let start = at c.args.text.now c.args.writer.now in
     let behind = at c.add_comma.new.self c.add_comma.new.writer in
     let so_far = 91 ∷ begun false (map list_data (take k list)) in
+    let comma : Adds (at c.loop-owner.text c.loop-owner.writer) behind (comma_if (nat_lt 0 k)) = search rules in
     let here = compact_text (list_data (lists_by m k)) in
     adds_next start behind (at c.add_list.new.text c.add_list.new.writer)
     (so_far ++ comma_if (nat_lt 0 k)) here (91 ∷ begun false (map list_data (take (k + 1) list)))
-    (adds_then start (at c.loop-owner.text c.loop-owner.writer) behind so_far (comma_if (nat_lt 0 k)) c.loop-owner.invariant c.add_comma.ensures)
+    (adds_then start (at c.loop-owner.text c.loop-owner.writer) behind so_far (comma_if (nat_lt 0 k)) c.loop-owner.invariant comma)
     c.add_list.ensures (next_in_array list_data list k (lists_by m k) here got refl)
 
 pub returns : goal.returns

@@ -1,4 +1,4 @@
-use Rattle.std.proofs.Common.{◌∷◌, [], ◌≡◌, ap, take, ◌++◌, ◌+◌, ◌∙◌, arith}
+use Rattle.std.proofs.Common.{slice_index, ◌∷◌, [], ◌≡◌, ap, take, ◌++◌, ◌+◌, ◌∙◌, arith, rules}
 use Rattle.std.proofs.lemmas.List.{take_all}
 use Rattle.hex.specs.Hex.{encode_lower}
 use Rattle.pay_audit.specs.Gathering.{state}
@@ -14,10 +14,11 @@ loop-byte-preserved g c =
     let at = state g.W.Output.contents g.W.Output.failure_count in
     let bytes = c.args.value.now in
     let k = c.loop-byte.byte-index in
+    let digits : c.digits_of.result ≡ encode_lower (slice_index bytes k ∷ []) = search rules in
     adds_next (at c.args.text.now c.args.writer.now) (at c.loop-byte.text c.loop-byte.writer) (at c.add-in-loop-byte.new.self c.add-in-loop-byte.new.writer)
     (34 ∷ encode_lower (take k bytes)) c.digits_of.result (34 ∷ encode_lower (take (k + 1) bytes))
     c.loop-byte.invariant c.add-in-loop-byte.ensures
-    (ap (λ t. (34 ∷ encode_lower (take k bytes)) ++ t) c.digits_of.ensures ∙ next_digits bytes k c.loop-byte-test.true)
+    (ap (λ t. (34 ∷ encode_lower (take k bytes)) ++ t) digits ∙ next_digits bytes k (omega (arith, c.loop-byte-test.true)))
 
 pub returns : goal.returns
 returns g c =
