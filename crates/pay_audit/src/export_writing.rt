@@ -28,8 +28,7 @@ pub(crate) enum Column {
     Opening,
 }
 
-/// Writes the text of a member's own export, without spaces. `read_export` reads it as that export. After a failure, a
-/// prefix of it has been written.
+/// Writes the text of a member's own export, that of `export_text`. After a failure, a prefix of it has been written.
 pub fn write_export<I: Instance + Drop, B: Settle + Drop, W: Output>(
     member: &Member<I, B>,
     writer: &mut W,
