@@ -2,7 +2,7 @@ ghost use Rattle.std.specs.Prelude.{◌≡◌, [], ◌∷◌, IfOk};
 
 use pay_book::Line;
 use pay_frame::Body;
-use pay_member::{MemberFault, PaymentState};
+use pay_member::{PaymentState, QueryFault};
 use std::alloc::{AllocError, Global};
 use std::marker::Model;
 
@@ -10,8 +10,8 @@ use std::marker::Model;
 #[derive(Drop)]
 pub enum Shown {
     Sent(Bodies),
-    State(Result<PaymentState, MemberFault>),
-    Statement(Result<Statement, MemberFault>),
+    State(Result<PaymentState, QueryFault>),
+    Statement(Result<Statement, QueryFault>),
     Fronts(Fronts),
 }
 
