@@ -19,7 +19,7 @@ use crate::gate::Gate;
 use crate::question::Question;
 use crate::seat::Seat;
 use crate::showing::{copy_of_statement, sent_count, state_of, statement_of};
-use crate::shown::{Bodies, Fronts, Shown, Statement};
+use crate::shown::{Bodies, SettledCounts, Shown, Statement};
 use crate::stopped::Stopped;
 use pay_book::Settle;
 use pay_channel::laws::{one_event_more, taken_in_order};
@@ -303,7 +303,7 @@ impl<I: Instance + Drop, B: Settle + Drop> Node<I, B> {
     {
         seat.make_room()?;
         let member = self.locked(rt);
-        let fronts = Fronts::new(member.fronts(alloc)?);
+        let fronts = SettledCounts::new(member.fronts(alloc)?);
         let copy = fronts.copy(alloc)?;
         seat.note(&*member, Question::Fronts, Shown::Fronts(copy))?;
         Ok(fronts.into_vec())

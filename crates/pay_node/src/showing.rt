@@ -5,7 +5,7 @@ ghost use Rattle.pay_node.specs.Receipts.{shown_of, state_shown, statement_shown
 ghost use Rattle.pay_node.specs.Sending.{sent_by};
 
 use crate::question::Question;
-use crate::shown::{Bodies, Fronts, Shown, Statement};
+use crate::shown::{Bodies, SettledCounts, Shown, Statement};
 use pay_book::Settle;
 use pay_echo::Instance;
 use pay_member::{Member, PaymentState, QueryFault};
@@ -27,7 +27,7 @@ pub(crate) fn show<I: Instance + Drop, B: Settle + Drop>(
         Question::Statement(account) => {
             Ok(Shown::Statement(statement_of(alloc, member, account)?))
         }
-        Question::Fronts => Ok(Shown::Fronts(Fronts::new(member.fronts(alloc)?))),
+        Question::Fronts => Ok(Shown::Fronts(SettledCounts::new(member.fronts(alloc)?))),
     }
 }
 
