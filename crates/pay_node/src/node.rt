@@ -379,6 +379,7 @@ impl<I: Instance + Drop, B: Settle + Drop> Node<I, B> {
     }
 
     // Takes a frame that opened, and answers with the WANT for what is next.
+    #[tactic(auto, using(crate::proofs::Taking::taken_so))]
     fn take_opened<R: Wait, T: Tagger, G: Gate>(
         &self,
         rt: &R,
