@@ -1,11 +1,12 @@
 -- What payments by numbers are, where values can name all payees.
-use Rattle.std.proofs.Common.{◌≡◌, ℕ, ◌<◌, ◌≤◌, ◌^◌, ◌&&◌, [], ◌∷◌, Bool, true, false, List, length, map, refl, sym, ◌∙◌, ap, arith, inl, inr, Some, None}
+use Rattle.std.proofs.Common.{◌≡◌, ℕ, ◌<◌, ◌≤◌, ◌^◌, [], ◌∷◌, true, List, length, map, refl, sym, ◌∙◌, ap, arith, inl, inr, Some, None}
 use Rattle.std.specs.List.{list_all}
 use Rattle.std.proofs.lemmas.Bool.{and_from, and_parts, cases_Bool, cond-true, cond-false, ltb-true, lt-ltb}
 use Rattle.std.proofs.lemmas.List.{length-map}
 use Rattle.pay_book.specs.declared.payment.Payment.{Payment}
 use Rattle.pay_book.specs.declared.payment.TheConstants.{MOST_PAYMENTS}
 use Rattle.pay_book.specs.Payment.{names_payee, payment_named, payments_named, payments_value}
+use Rattle.pay_desk.specs.declared.fault.DeskFault.TheVariants.{NoAccount}
 use Rattle.pay_desk.specs.declared.payments.Payments.{Payments}
 use Rattle.pay_desk.specs.declared.payments.Payments.TheVariants.{Several}
 use Rattle.pay_desk.specs.Payments.{if_named, pairs_of, value_of}
@@ -49,12 +50,13 @@ accounts_named accounts (p ∷ pairs) small all =
     let less : p.0 < accounts = ltb-true p.0 accounts both.0 in
     and_from (names_payee p) (list_all names_payee pairs) (lt-ltb p.0 (2 ^ 16) (omega arith)) (accounts_named accounts pairs small both.1)
 
-pub has_value : (accounts own : ℕ) (payments : Payments) → accounts < 2 ^ 16 → pay_fault accounts own (pairs_of payments) ≡ None
-    → None ≡ if_named payments (value_of payments) → ⊥
-has_value accounts own payments small fine none =
+-- so where one can't, some payee is no account
+pub unnamed_is_no_account : (accounts own : ℕ) (payments : Payments) → accounts < 2 ^ 16 → None ≡ if_named payments (value_of payments)
+    → pay_fault accounts own (pairs_of payments) ≡ Some NoAccount
+unnamed_is_no_account accounts own payments small none =
     elim (cases_Bool (list_all (is_account accounts) (pairs_of payments))) [
       | inl all ↦ (
           let some = cond-true (list_all names_payee (pairs_of payments)) (Some (value_of payments)) None (accounts_named accounts (pairs_of payments) small all) in
-          let bad : None ≡ Some (value_of payments) = none ∙ some in cc)
-      | inr out ↦ (let fault = sym (cond-false (list_all (is_account accounts) (pairs_of payments)) _ _ out) ∙ fine in cc)
+          let bad : None ≡ Some (value_of payments) = none ∙ some in absurd cc)
+      | inr out ↦ cond-false (list_all (is_account accounts) (pairs_of payments)) _ _ out
     ]

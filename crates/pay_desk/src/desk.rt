@@ -1,6 +1,7 @@
 ghost use Rattle.std.specs.Prelude.{◌≡◌, ◌≤◌, [], length, IfOk, IfSome};
 ghost use Rattle.std.specs.Prelude.{OnErr, None, Some, MatchResult};
 ghost use Rattle.std.specs.List.{list_all, list_any};
+ghost use Rattle.std.specs.Result.{result_err};
 ghost use Rattle.pay_desk.specs.Answers.{Answers, AnswersBalance, AnswersFront};
 ghost use Rattle.pay_desk.specs.Answers.{AnswersPay, AnswersState, AnswersStatement};
 ghost use Rattle.pay_desk.specs.Answers.{Calls, GaveUp, Pays, account_fault};
@@ -113,33 +114,9 @@ impl<T: Teller> Desk<T> {
             AnswersPay T.says None order.now self.old text.items self.new) }
         ensures err { OnErr result (self.new ≡ self.old) }
     {
-        if let Some(fault) = self.fault(&order.payments) {
-            return refused_text(alloc, fault);
-        }
-        let value = value_to_accounts(self.accounts, self.own, &order.payments, value);
-        self.ask(alloc, order.id, value)
-    }
-
-    // Why payments aren't asked for, if they aren't.
-    fn fault(&self, payments: &Payments) -> Option<DeskFault>
-        ensures { result ≡ pay_fault self.now.accounts self.now.own (pairs_of payments.now) }
-    {
-        match payments {
-            Payments::One { to, amount } => self.fault_of(&[(*to, *amount)]),
-            Payments::Several(pairs) => self.fault_of(pairs.as_slice()),
-        }
-    }
-
-    // All payees are looked at before any amount.
-    fn fault_of(&self, pairs: &[(u64, u64)]) -> Option<DeskFault>
-        ensures { result ≡ pay_fault self.now.accounts self.now.own pairs.now }
-    {
-        if !are_accounts(self.accounts, pairs) {
-            Some(DeskFault::NoAccount)
-        } else if has_void(self.own, pairs) {
-            Some(DeskFault::ZeroOrSelf)
-        } else {
-            None
+        match value_or_fault(self.accounts, self.own, &order.payments, value) {
+            Ok(value) => self.ask(alloc, order.id, value),
+            Err(fault) => refused_text(alloc, fault),
         }
     }
 
@@ -264,14 +241,48 @@ impl<T: Teller> Desk<T> {
     }
 }
 
-// The value of payments that nothing is wrong with: a value can name all accounts that there are.
-fn value_to_accounts(accounts: u16, own: u16, payments: &Payments, value: Option<Bytes>) -> Bytes
-    requires fine { pay_fault accounts own (pairs_of payments.now) ≡ None }
+// The value of payments, or why they aren't asked for. A payee that no value can name is no account.
+#[tactic(auto, using(crate::proofs::Naming::unnamed_is_no_account))]
+fn value_or_fault(
+    accounts: u16,
+    own: u16,
+    payments: &Payments,
+    value: Option<Bytes>,
+) -> Result<Bytes, DeskFault>
     requires value { value ≡ if_named payments.now (value_of payments.now) }
-    ensures { value ≡ Some result }
+    ensures value { IfOk result (λ found. value ≡ Some found) }
+    ensures fault { result_err result ≡ pay_fault accounts own (pairs_of payments.now) }
 {
-    let Some(value) = value else { unreachable!() };
-    value
+    let Some(value) = value else {
+        return Err(DeskFault::NoAccount);
+    };
+    match fault(accounts, own, payments) {
+        Some(fault) => Err(fault),
+        None => Ok(value),
+    }
+}
+
+// Why payments aren't asked for, if they aren't.
+fn fault(accounts: u16, own: u16, payments: &Payments) -> Option<DeskFault>
+    ensures { result ≡ pay_fault accounts own (pairs_of payments.now) }
+{
+    match payments {
+        Payments::One { to, amount } => fault_of(accounts, own, &[(*to, *amount)]),
+        Payments::Several(pairs) => fault_of(accounts, own, pairs.as_slice()),
+    }
+}
+
+// All payees are looked at before any amount.
+fn fault_of(accounts: u16, own: u16, pairs: &[(u64, u64)]) -> Option<DeskFault>
+    ensures { result ≡ pay_fault accounts own pairs.now }
+{
+    if !are_accounts(accounts, pairs) {
+        Some(DeskFault::NoAccount)
+    } else if has_void(own, pairs) {
+        Some(DeskFault::ZeroOrSelf)
+    } else {
+        None
+    }
 }
 
 fn are_accounts(accounts: u16, pairs: &[(u64, u64)]) -> bool

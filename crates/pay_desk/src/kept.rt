@@ -76,7 +76,8 @@ impl KeptValues {
             seq,
         };
         let Ok(_) = self.values.insert(ById { kept }) else {
-            unreachable!()
+            // never, for there is room
+            return Err(TellerFault::Memory);
         };
         Ok(seq)
     }

@@ -6,7 +6,7 @@ use crate::teller_fault::TellerFault;
 use pay_book::{Line, Settle};
 use pay_echo::Instance;
 use pay_frame::Bytes;
-use pay_member::{Member, MemberFault, PaymentState, Told};
+use pay_member::{AskFault, Member, PaymentState, QueryFault, Told};
 use std::alloc::Global;
 
 /// A member as a teller, which puts a stamp on what it is asked for.
@@ -26,8 +26,9 @@ impl<I: Instance + Drop, B: Settle + Drop> Teller for OneMember<I, B> {
     fn ask(&mut self, alloc: Global, value: Bytes) -> Result<u32, TellerFault> {
         match self.member.ask(alloc, self.stamp, value) {
             Ok(seq) => Ok(seq),
-            Err(MemberFault::Spent) => Err(TellerFault::Spent),
-            Err(_) => Err(TellerFault::Memory),
+            Err(AskFault::Spent) => Err(TellerFault::Spent),
+            // never `TooLong`, by what the call requires
+            Err(AskFault::Memory | AskFault::TooLong) => Err(TellerFault::Memory),
         }
     }
 
@@ -35,8 +36,8 @@ impl<I: Instance + Drop, B: Settle + Drop> Teller for OneMember<I, B> {
     fn query(&mut self, alloc: Global, account: u16) -> Result<Told, TellerFault> {
         match self.member.query(alloc, self.stamp, account) {
             Ok(told) => Ok(told),
-            Err(MemberFault::NoAccount) => Err(TellerFault::NoAccount),
-            Err(_) => Err(TellerFault::Memory),
+            Err(QueryFault::NoAccount) => Err(TellerFault::NoAccount),
+            Err(QueryFault::Memory) => Err(TellerFault::Memory),
         }
     }
 

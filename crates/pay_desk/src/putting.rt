@@ -96,9 +96,9 @@ fn put_word(out: &mut Vec<u8>, word: &str)
     ensures len { vec_len out.new ≡ vec_len out.old + length word.now }
     ensures capacity { vec_capacity out.old ≤ vec_capacity out.new }
 {
-    let Ok(()) = out.extend_from_slice(word.as_bytes()) else {
-        unreachable!()
-    };
+    for byte in word.as_bytes() {
+        out.push_reserved(*byte);
+    }
 }
 
 // Puts a number into room that is there.

@@ -17,8 +17,12 @@ use Rattle.pay_member.specs.declared.fault.MemberFault.{MemberFault}
 use Rattle.pay_member.specs.declared.fault.MemberFault.TheVariants.{Memory, Repeat, Gap}
 use Rattle.pay_member.specs.declared.outcome.Outcome.{Outcome}
 use Rattle.pay_member.specs.declared.outcome.Outcome.TheVariants as outcome
+use Rattle.pay_member.specs.declared.reply.Reply.{Reply}
 use Rattle.pay_member.specs.declared.reply.Reply.TheVariants as reply
+use Rattle.pay_member.specs.declared.take_fault.TakeFault.{TakeFault}
+use Rattle.pay_member.specs.declared.take_fault.TakeFault.TheVariants as take
 use Rattle.pay_member.specs.declared.took.Took.{Took}
+use Rattle.pay_member.specs.Answer.{taken}
 use Rattle.pay_member.specs.Events.{events}
 use Rattle.pay_member.specs.Refusal.{refusal, turn_refusal}
 use Rattle.pay_member.specs.Reply.{took_by}
@@ -28,8 +32,8 @@ use Rattle.pay_member.proofs.Members.{events-push}
 
 -- ---- what taking a frame for this member answers
 
-abbrev pub Answers : Option MemberFault → Result Took MemberFault → Type 0
-Answers refused r = MatchOption refused (IsOkUnless r Memory) (λ fault. r ≡ Err fault)
+abbrev pub Answers : Option MemberFault → Result Took TakeFault → Type 0
+Answers refused r = MatchOption refused (IsOkUnless r take.Memory) (λ fault. taken r ≡ Err fault)
 
 refusal_for :
     (g : GenesisFields) (k : KeyFields) (before : List channel.Event) (c : CheckedFields) → IsFor k c
@@ -60,23 +64,29 @@ gap_is told n same = cc
 repeat_no_gap : (told n : ℕ) → Repeat told ≡ Gap n → ⊥
 repeat_no_gap told n same = cc
 
-repeat_no_memory : (told : ℕ) → Repeat told ≡ Memory → ⊥
+repeat_no_memory : (told : ℕ) → take.Repeat told ≡ take.Memory → ⊥
 repeat_no_memory told same = cc
 
-gap_no_memory : (told : ℕ) → Gap told ≡ Memory → ⊥
+gap_no_memory : (told : ℕ) → take.Gap told ≡ take.Memory → ⊥
 gap_no_memory told same = cc
+
+memory_no_repeat : (told : ℕ) → Memory ≡ Repeat told → ⊥
+memory_no_repeat told same = cc
+
+memory_no_gap : (told : ℕ) → Memory ≡ Gap told → ⊥
+memory_no_gap told same = cc
 
 turned_ok : (n number : ℕ) (took : Took) → Answers (turn_refusal n number) (Ok took) → turn n number ≡ Ok tt
 turned_ok n number took answers = go (cases_order number n) where
   go : (number ≡ n) ⊎ ((number < n) ⊎ (n < number)) → turn n number ≡ Ok tt
   go (inl same) = search rules
-  go (inr (inl below)) = absurd (ok_err took (Repeat n) (subst (λ o. Answers o (Ok took)) (below_repeats n number below) answers))
-  go (inr (inr above)) = absurd (ok_err took (Gap n) (subst (λ o. Answers o (Ok took)) (above_gaps n number above) answers))
+  go (inr (inl below)) = absurd (ok_err (reply.Took took) (Repeat n) (subst (λ o. Answers o (Ok took)) (below_repeats n number below) answers))
+  go (inr (inr above)) = absurd (ok_err (reply.Took took) (Gap n) (subst (λ o. Answers o (Ok took)) (above_gaps n number above) answers))
 
-turned_repeat : (n number told : ℕ) → Answers (turn_refusal n number) (Err (Repeat told)) → turn n number ≡ Err (link.Repeat told)
+turned_repeat : (n number told : ℕ) → Answers (turn_refusal n number) (Err (take.Repeat told)) → turn n number ≡ Err (link.Repeat told)
 turned_repeat n number told answers = go (cases_order number n) where
   At : Option MemberFault → Type 0
-  At o = Answers o (Err (Repeat told))
+  At o = Answers o (Err (take.Repeat told))
 
   here : number < n → turn n number ≡ Err (link.Repeat n)
   here below = search rules
@@ -84,23 +94,23 @@ turned_repeat n number told answers = go (cases_order number n) where
   go : (number ≡ n) ⊎ ((number < n) ⊎ (n < number)) → turn n number ≡ Err (link.Repeat told)
   go (inl same) = absurd (repeat_no_memory told (subst At (equal_taken n number same) answers))
   go (inr (inl below)) =
-      let is = repeat_is told n (err_is {A = Took} (Repeat told) (Repeat n) (subst At (below_repeats n number below) answers)) in
+      let is = repeat_is told n (err_is {A = Reply} (Repeat told) (Repeat n) (subst At (below_repeats n number below) answers)) in
       here below ∙ ap (λ t. Err (link.Repeat t)) is
-  go (inr (inr above)) = absurd (repeat_no_gap told n (err_is {A = Took} (Repeat told) (Gap n) (subst At (above_gaps n number above) answers)))
+  go (inr (inr above)) = absurd (repeat_no_gap told n (err_is {A = Reply} (Repeat told) (Gap n) (subst At (above_gaps n number above) answers)))
 
-turned_gap : (n number told : ℕ) → Answers (turn_refusal n number) (Err (Gap told)) → turn n number ≡ Err (link.Gap told)
+turned_gap : (n number told : ℕ) → Answers (turn_refusal n number) (Err (take.Gap told)) → turn n number ≡ Err (link.Gap told)
 turned_gap n number told answers = go (cases_order number n) where
   At : Option MemberFault → Type 0
-  At o = Answers o (Err (Gap told))
+  At o = Answers o (Err (take.Gap told))
 
   here : n < number → turn n number ≡ Err (link.Gap n)
   here above = search rules
 
   go : (number ≡ n) ⊎ ((number < n) ⊎ (n < number)) → turn n number ≡ Err (link.Gap told)
   go (inl same) = absurd (gap_no_memory told (subst At (equal_taken n number same) answers))
-  go (inr (inl below)) = absurd (repeat_no_gap n told (sym (err_is {A = Took} (Gap told) (Repeat n) (subst At (below_repeats n number below) answers))))
+  go (inr (inl below)) = absurd (repeat_no_gap n told (sym (err_is {A = Reply} (Gap told) (Repeat n) (subst At (below_repeats n number below) answers))))
   go (inr (inr above)) =
-      let is = gap_is told n (err_is {A = Took} (Gap told) (Gap n) (subst At (above_gaps n number above) answers)) in
+      let is = gap_is told n (err_is {A = Reply} (Gap told) (Gap n) (subst At (above_gaps n number above) answers)) in
       here above ∙ ap (λ t. Err (link.Gap t)) is
 
 pub answers_took :
@@ -114,19 +124,19 @@ answers_took g k before c took mine answers is =
 
 pub answers_repeat :
     (g : GenesisFields) (k : KeyFields) (before : List channel.Event) (c : CheckedFields) (told : ℕ) → IsFor k c
-    → Answers (refusal g k before (Taken c)) (Err (Repeat told)) → outcome.Link (link.Repeat told) ≡ answer_to g k.own before c.frame
+    → Answers (refusal g k before (Taken c)) (Err (take.Repeat told)) → outcome.Link (link.Repeat told) ≡ answer_to g k.own before c.frame
 unfolding answer_to
 answers_repeat g k before c told mine answers =
     sym (ap (answered g k.own before c.frame)
-    (turned_repeat (next c.frame.from before) c.frame.number told (subst (λ o. Answers o (Err (Repeat told))) (refusal_for g k before c mine) answers)))
+    (turned_repeat (next c.frame.from before) c.frame.number told (subst (λ o. Answers o (Err (take.Repeat told))) (refusal_for g k before c mine) answers)))
 
 pub answers_gap :
     (g : GenesisFields) (k : KeyFields) (before : List channel.Event) (c : CheckedFields) (told : ℕ) → IsFor k c
-    → Answers (refusal g k before (Taken c)) (Err (Gap told)) → outcome.Link (link.Gap told) ≡ answer_to g k.own before c.frame
+    → Answers (refusal g k before (Taken c)) (Err (take.Gap told)) → outcome.Link (link.Gap told) ≡ answer_to g k.own before c.frame
 unfolding answer_to
 answers_gap g k before c told mine answers =
     sym (ap (answered g k.own before c.frame)
-    (turned_gap (next c.frame.from before) c.frame.number told (subst (λ o. Answers o (Err (Gap told))) (refusal_for g k before c mine) answers)))
+    (turned_gap (next c.frame.from before) c.frame.number told (subst (λ o. Answers o (Err (take.Gap told))) (refusal_for g k before c mine) answers)))
 
 -- ---- memory is asked for where the frame is the next one
 
@@ -161,21 +171,21 @@ judged_not g own before f fault is = sym (ap (answered g own before f) is)
 
 pub answers_memory :
     (g : GenesisFields) (k : KeyFields) (before : List channel.Event) (c : CheckedFields) → IsFor k c
-    → Answers (refusal g k before (Taken c)) (Err Memory) → event_of before c.frame ≢ None
+    → Answers (refusal g k before (Taken c)) (Err take.Memory) → event_of before c.frame ≢ None
 answers_memory g k before c mine answers = go (cases_order c.frame.number n) where
   n : ℕ
   n = next c.frame.from before
 
   At : Option MemberFault → Type 0
-  At o = Answers o (Err Memory)
+  At o = Answers o (Err take.Memory)
 
   turned : At (turn_refusal n c.frame.number)
   turned = subst At (refusal_for g k before c mine) answers
 
   go : (c.frame.number ≡ n) ⊎ ((c.frame.number < n) ⊎ (n < c.frame.number)) → event_of before c.frame ≢ None
   go (inl same) = in_turn before c.frame same
-  go (inr (inl below)) = absurd (repeat_no_memory n (sym (err_is {A = Took} Memory (Repeat n) (subst At (below_repeats n c.frame.number below) turned))))
-  go (inr (inr above)) = absurd (gap_no_memory n (sym (err_is {A = Took} Memory (Gap n) (subst At (above_gaps n c.frame.number above) turned))))
+  go (inr (inl below)) = absurd (memory_no_repeat n (err_is {A = Reply} Memory (Repeat n) (subst At (below_repeats n c.frame.number below) turned)))
+  go (inr (inr above)) = absurd (memory_no_gap n (err_is {A = Reply} Memory (Gap n) (subst At (above_gaps n c.frame.number above) turned)))
 
 -- ---- what the member is then
 

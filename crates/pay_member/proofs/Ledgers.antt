@@ -1,9 +1,9 @@
 -- A channel and its book after an event.
 use Rattle.std.specs.Result.{OnErr}
 use Rattle.std.proofs.lemmas.List.{take_more, take_all, get_or-drop}
-use Rattle.std.proofs.lemmas.Option.{slice_get_within, get_or_from_slice_get}
+use Rattle.std.proofs.lemmas.Option.{slice_get_within, slice_get_cases, get_or_from_slice_get}
 use Rattle.pay_frame.specs.Frame.{BodyFields}
-use Rattle.std.proofs.Common.{drop, take, slice_get, Some, length-drop, ◌+◌, ◌≡◌, ℕ, ◌<◌, ◌≤◌, Bool, Result, Ok, Err, List, [], ◌∷◌, ◌++◌, length, sum, slice_index, refl, sym, ap, ◌∙◌, subst, arith}
+use Rattle.std.proofs.Common.{drop, take, slice_get, None, Some, inl, inr, length-drop, ◌+◌, ◌≡◌, ℕ, ◌<◌, ◌≤◌, Bool, Result, Ok, Err, List, [], ◌∷◌, ◌++◌, length, sum, slice_index, refl, sym, ap, ◌∙◌, subst, arith}
 use Rattle.pay_frame.specs.declared.limits.TheConstants.{MOST_MEMBERS}
 use Rattle.pay_echo.specs.Broadcast.{Group}
 use Rattle.pay_channel.specs.Source.{GrowsOnly}
@@ -150,6 +150,14 @@ piece_more sent from k x is =
     let inside = slice_get_within sent (from + k) x is in
     take_more (drop from sent) k x (simp length-drop (omega arith))
     ∙ ap (λ y. take k (drop from sent) ++ y ∷ []) (get_or-drop from sent k x ∙ get_or_from_slice_get sent (from + k) x x is)
+
+-- where none stands the list is at its end
+pub none_past : (sent : List BodyFields) (place : ℕ) → None ≡ slice_get sent place → length sent ≤ place
+none_past sent place none =
+    elim (slice_get_cases sent place).1 [
+      | inl at ↦ (let some = at.2 in absurd (cc (none, some)))
+      | inr past ↦ past.0
+    ]
 
 -- ---- the front in pieces
 

@@ -1,13 +1,36 @@
 -- What a member answers to an event that is handed in, memory aside.
-use Rattle.std.specs.Prelude.{◌≡◌, ◌≢◌, Some, None, Result, Ok, Err}
+use Rattle.std.specs.Prelude.{◌≡◌, ◌≢◌, ℕ, Some, None, Result, Ok, Err}
+use Rattle.pay_member.specs.declared.ask_fault.AskFault.{AskFault}
 use Rattle.pay_member.specs.declared.event.Event.{Event}
 use Rattle.pay_member.specs.declared.fault.MemberFault.{MemberFault}
 use Rattle.pay_member.specs.declared.fault.MemberFault.TheVariants.{Memory}
+use Rattle.pay_member.specs.declared.query_fault.QueryFault.{QueryFault}
 use Rattle.pay_member.specs.declared.reply.Reply.{Reply}
+use Rattle.pay_member.specs.declared.reply.Reply.TheVariants as reply
+use Rattle.pay_member.specs.declared.take_fault.TakeFault.{TakeFault}
+use Rattle.pay_member.specs.declared.told.Told.{Told}
+use Rattle.pay_member.specs.declared.took.Took.{Took}
 use Rattle.pay_member.specs.Events.{events}
+use Rattle.pay_member.specs.Faults.{fault_of_ask, fault_of_take, fault_of_query}
 use Rattle.pay_member.specs.Member.{MemberFields}
 use Rattle.pay_member.specs.Refusal.{refusal}
 use Rattle.pay_member.specs.Reply.{reply_to}
+
+-- ---- what each call answers, as what is answered to an event
+
+abbrev pub asked : Result ℕ AskFault → Result Reply MemberFault
+asked (Ok seq) = Ok (reply.Asked seq)
+asked (Err fault) = Err (fault_of_ask fault)
+
+abbrev pub taken : Result Took TakeFault → Result Reply MemberFault
+taken (Ok took) = Ok (reply.Took took)
+taken (Err fault) = Err (fault_of_take fault)
+
+abbrev pub told : Result Told QueryFault → Result Reply MemberFault
+told (Ok state) = Ok (reply.Told state)
+told (Err fault) = Err (fault_of_query fault)
+
+-- ---- what is owed
 
 -- its refusal, if there is one, else its reply
 abbrev pub IsAnswer : MemberFields → Event → Result Reply MemberFault → Type 0

@@ -1,5 +1,11 @@
--- The number and the name under which each refusal is printed.
+-- Refusals: which each call can meet, and the number and the name under which each is printed.
 use Rattle.std.specs.Prelude.{ℕ, List, codes}
+use Rattle.pay_member.specs.declared.ask_fault.AskFault.{AskFault}
+use Rattle.pay_member.specs.declared.ask_fault.AskFault.TheVariants as ask
+use Rattle.pay_member.specs.declared.take_fault.TakeFault.{TakeFault}
+use Rattle.pay_member.specs.declared.take_fault.TakeFault.TheVariants as take
+use Rattle.pay_member.specs.declared.query_fault.QueryFault.{QueryFault}
+use Rattle.pay_member.specs.declared.query_fault.QueryFault.TheVariants as query
 use Rattle.pay_member.specs.declared.fault.MemberFault.{MemberFault}
 use Rattle.pay_member.specs.declared.fault.MemberFault.TheVariants.{Memory, Spent, TooLong, Repeat, Gap, WrongKey, NoAccount}
 
@@ -17,3 +23,20 @@ member_fault_number fault = (member_fault_entry fault).0
 
 abbrev pub member_fault_name : MemberFault → List ℕ
 member_fault_name fault = (member_fault_entry fault).1
+
+-- ---- the refusals of one call among all
+
+abbrev pub fault_of_ask : AskFault → MemberFault
+fault_of_ask ask.Memory = Memory
+fault_of_ask ask.TooLong = TooLong
+fault_of_ask ask.Spent = Spent
+
+abbrev pub fault_of_take : TakeFault → MemberFault
+fault_of_take take.Memory = Memory
+fault_of_take take.WrongKey = WrongKey
+fault_of_take (take.Repeat next) = Repeat next
+fault_of_take (take.Gap next) = Gap next
+
+abbrev pub fault_of_query : QueryFault → MemberFault
+fault_of_query query.Memory = Memory
+fault_of_query query.NoAccount = NoAccount

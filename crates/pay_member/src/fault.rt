@@ -4,7 +4,7 @@ ghost use Rattle.pay_member.specs.Faults.{member_fault_name, member_fault_number
 use std::alloc::AllocError;
 use thiserror::Error;
 
-/// Why a member refuses an event.
+/// Why a member refuses an event, whichever it is.
 #[derive(Clone, Copy, Debug, PartialEq, Eq, Error)]
 #[error("{} {}", self.number(), self.name())]
 pub enum MemberFault {

@@ -98,10 +98,9 @@ impl<I: Instance + Drop, B: Settle + Drop> Ledger<I, B> {
         let left = self.channel.sent_len().saturating_sub(from);
         let mut bodies = Vec::new(alloc);
         for k in 0..left.min(most) {
-            let Some(body) = self.channel.sent(from + k) else {
-                unreachable!()
-            };
-            bodies.push(body.copy(alloc)?)?;
+            if let Some(body) = self.channel.sent(from + k) {
+                bodies.push(body.copy(alloc)?)?;
+            }
         }
         Ok(bodies)
     }

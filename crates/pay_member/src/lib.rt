@@ -4,6 +4,7 @@
 //! it shows is a function of its genesis, its keys and its stored history.
 #![tactic(auto)]
 
+mod ask_fault;
 mod bringing;
 mod brought;
 mod entry;
@@ -14,12 +15,15 @@ mod ledger;
 mod lists;
 mod member;
 mod outcome;
+mod query_fault;
 mod reply;
 mod serving;
 mod standing;
+mod take_fault;
 mod told;
 mod took;
 
+pub use ask_fault::AskFault;
 pub use bringing::{open_bytes, open_frame};
 pub use brought::Brought;
 pub use entry::HistoryEntry;
@@ -27,8 +31,10 @@ pub use event::Event;
 pub use fault::MemberFault;
 pub use member::{MOST_FETCHED, Member};
 pub use outcome::Outcome;
+pub use query_fault::QueryFault;
 pub use reply::Reply;
 pub use serving::serve;
 pub use standing::PaymentState;
+pub use take_fault::TakeFault;
 pub use told::Told;
 pub use took::Took;

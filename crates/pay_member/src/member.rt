@@ -15,7 +15,7 @@ ghost use Rattle.pay_member.specs.Events.{events};
 ghost use Rattle.pay_member.specs.Book.{book_after};
 ghost use Rattle.pay_member.specs.Reply.{took_by, told_of};
 ghost use Rattle.pay_member.specs.Refusal.{refusal};
-ghost use Rattle.pay_member.specs.Answer.{IsAnswer};
+ghost use Rattle.pay_member.specs.Answer.{IsAnswer, asked, taken, told};
 ghost use Rattle.pay_member.specs.Reading.{state_of, fetched};
 ghost use Rattle.pay_member.specs.Legal.{Legal};
 ghost use Rattle.pay_member.specs.Member.{with_entry};
@@ -23,6 +23,7 @@ ghost use Rattle.pay_member.specs.Bringing.{IsOutcome, answer_to, opened_in, eve
 ghost use Rattle.pay_member.specs.Bringing.{want_for, want_after, with_taken, with_brought};
 ghost use Rattle.pay_member.specs.Serving.{after_frame, want_of};
 
+use crate::ask_fault::AskFault;
 use crate::bringing::{open_bytes, open_frame};
 use crate::brought::Brought;
 use crate::entry::HistoryEntry;
@@ -30,8 +31,10 @@ use crate::event::{Event, asked_is_kept, taken_is_kept};
 use crate::fault::MemberFault;
 use crate::ledger::Ledger;
 use crate::outcome::Outcome;
+use crate::query_fault::QueryFault;
 use crate::reply::Reply;
 use crate::standing::PaymentState;
+use crate::take_fault::TakeFault;
 use crate::told::Told;
 use crate::took::Took;
 use pay_book::laws::settled_book_is_one;
@@ -97,11 +100,11 @@ impl<I: Instance + Drop, B: Settle + Drop> Member<I, B> {
     ///
     /// Refuses a value of more than 1,024 bytes (`TooLong`) and one behind 65,536 others (`Spent`).
     /// A refused value is dropped, and the member is unchanged.
-    pub fn ask(&mut self, alloc: Global, stamp: u16, value: Bytes) -> Result<u32, MemberFault>
+    pub fn ask(&mut self, alloc: Global, stamp: u16, value: Bytes) -> Result<u32, AskFault>
         ensures refused { MatchOption
             (refusal self.old.genesis self.old.keys (events self.old.history) (Event.Ask value))
-            (IsOkUnless result MemberFault.Memory)
-            (λ fault. result ≡ Err fault) }
+            (IsOkUnless result AskFault.Memory)
+            (λ fault. asked result ≡ Err fault) }
         ensures asked { IfOk result (λ seq. seq ≡ asks (events self.old.history)) }
         ensures entry { IfOk result (λ seq. self.new ≡ with_entry self.old
             (record { stamp = stamp; event = Event.Ask value; reply = Reply.Asked seq })) }
@@ -112,11 +115,11 @@ impl<I: Instance + Drop, B: Settle + Drop> Member<I, B> {
         a_channel_follows();
         settled_book_is_one();
         if value.len() > usize::from(GREATEST_VALUE) {
-            return Err(MemberFault::TooLong);
+            return Err(AskFault::TooLong);
         }
         let seq = self.ledger.asks();
         if seq >= SEQS {
-            return Err(MemberFault::Spent);
+            return Err(AskFault::Spent);
         }
         self.history.reserve(1)?;
         self.ledger
@@ -135,11 +138,11 @@ impl<I: Instance + Drop, B: Settle + Drop> Member<I, B> {
     /// Refuses one that isn't for this member or was opened under another key (`WrongKey`), and
     /// then one whose number isn't the next from its sender (`Repeat`, `Gap`). A refused frame is
     /// dropped, and the member is unchanged.
-    pub fn take(&mut self, alloc: Global, stamp: u16, checked: Checked) -> Result<Took, MemberFault>
+    pub fn take(&mut self, alloc: Global, stamp: u16, checked: Checked) -> Result<Took, TakeFault>
         ensures refused { MatchOption
             (refusal self.old.genesis self.old.keys (events self.old.history) (Event.Taken checked))
-            (IsOkUnless result MemberFault.Memory)
-            (λ fault. result ≡ Err fault) }
+            (IsOkUnless result TakeFault.Memory)
+            (λ fault. taken result ≡ Err fault) }
         ensures took { IfOk result (λ took. took
             ≡ took_by self.old.genesis self.old.keys.own (events self.old.history)
             (From checked.frame.from checked.frame.body)) }
@@ -152,15 +155,15 @@ impl<I: Instance + Drop, B: Settle + Drop> Member<I, B> {
         a_channel_follows();
         settled_book_is_one();
         if !checked.is_for(&self.keys) {
-            return Err(MemberFault::WrongKey);
+            return Err(TakeFault::WrongKey);
         }
         let from = checked.from();
         let next = self.fronts.next(from);
         if checked.number() < next {
-            return Err(MemberFault::Repeat(next));
+            return Err(TakeFault::Repeat(next));
         }
         if checked.number() > next {
-            return Err(MemberFault::Gap(next));
+            return Err(TakeFault::Gap(next));
         }
         self.history.reserve(1)?;
         taken_is_kept(&checked);
@@ -380,20 +383,20 @@ impl<I: Instance + Drop, B: Settle + Drop> Member<I, B> {
     {
         match self.take(alloc, stamp, checked) {
             Ok(took) => Ok(Outcome::Took(took)),
-            Err(MemberFault::Repeat(next)) => Ok(Outcome::Link(LinkFault::Repeat(next))),
-            Err(MemberFault::Gap(next)) => Ok(Outcome::Link(LinkFault::Gap(next))),
-            Err(MemberFault::Memory) => Err(AllocError),
-            Err(_) => unreachable!(),
+            Err(TakeFault::Repeat(next)) => Ok(Outcome::Link(LinkFault::Repeat(next))),
+            Err(TakeFault::Gap(next)) => Ok(Outcome::Link(LinkFault::Gap(next))),
+            Err(TakeFault::WrongKey) => Ok(Outcome::WrongKey),
+            Err(TakeFault::Memory) => Err(AllocError),
         }
     }
 
     /// Tells the state of an account, and notes that it was asked for. Refuses an account that
     /// isn't there.
-    pub fn query(&mut self, _alloc: Global, stamp: u16, account: u16) -> Result<Told, MemberFault>
+    pub fn query(&mut self, _alloc: Global, stamp: u16, account: u16) -> Result<Told, QueryFault>
         ensures refused { MatchOption
             (refusal self.old.genesis self.old.keys (events self.old.history) (Event.Query account))
-            (IsOkUnless result MemberFault.Memory)
-            (λ fault. result ≡ Err fault) }
+            (IsOkUnless result QueryFault.Memory)
+            (λ fault. told result ≡ Err fault) }
         ensures told { IfOk result (λ told. told
             ≡ told_of self.old.genesis self.old.keys.own (events self.old.history) account) }
         ensures entry { IfOk result (λ told. self.new ≡ with_entry self.old
@@ -403,7 +406,7 @@ impl<I: Instance + Drop, B: Settle + Drop> Member<I, B> {
         a_channel_follows();
         settled_book_is_one();
         if account >= self.genesis.members() {
-            return Err(MemberFault::NoAccount);
+            return Err(QueryFault::NoAccount);
         }
         self.history.reserve(1)?;
         let told = Told {

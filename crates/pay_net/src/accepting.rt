@@ -83,7 +83,7 @@ where
             }
             thread::sleep(rt, Duration::from_millis(LEAVE_MILLIS));
         }
-        unreachable!()
+        None
     }
 
     fn attend<R: Wait>(&self, rt: &R, stream: &TcpStream, place: usize) {

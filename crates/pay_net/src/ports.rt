@@ -47,7 +47,15 @@ impl Ports {
         }
     }
 
-    /// The port of a member, where there is such a member.
+    /// The port of a member.
+    pub fn port(&self, member: u16) -> u16
+        requires { member < length self.now }
+        ensures { slice_get self.now member ≡ Some result }
+    {
+        self.ports[usize::from(member)]
+    }
+
+    /// The same, where there is such a member.
     pub fn of(&self, member: u16) -> Option<u16>
         ensures { result ≡ slice_get self.now member }
     {

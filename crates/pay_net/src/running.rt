@@ -101,9 +101,7 @@ where
 {
     let own = member.keys().own();
     let members = member.keys().members();
-    let Some(port) = ports.of(own) else {
-        unreachable!()
-    };
+    let port = ports.port(own);
     let Ok(listening) = Listening::on(rt, port) else {
         return Err(NodeFault::Port(port));
     };
@@ -354,10 +352,7 @@ fn last_of(left: &mut Vec<Seat>) -> Seat
     requires { 0 < length left.old.items }
     ensures { left.old.items ≡ left.new.items ++ result ∷ [] }
 {
-    match left.pop() {
-        Some(seat) => seat,
-        None => unreachable!(),
-    }
+    left.remove(left.len() - 1)
 }
 
 // All seats in one list, the desk's at its end.

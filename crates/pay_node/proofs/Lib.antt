@@ -7,3 +7,4 @@ pub mod Replays
 pub mod Rights
 pub mod Verdicts
 pub mod Sent
+pub mod Taking

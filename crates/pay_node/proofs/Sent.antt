@@ -12,8 +12,8 @@ use Rattle.pay_link.specs.Checked.{CheckedFields}
 use Rattle.pay_link.specs.Genesis.{GenesisFields}
 use Rattle.pay_member.specs.declared.entry.HistoryEntry.{HistoryEntry}
 use Rattle.pay_member.specs.declared.event.Event.TheVariants.{Taken}
-use Rattle.pay_member.specs.declared.fault.MemberFault.{MemberFault}
 use Rattle.pay_member.specs.declared.reply.Reply.TheVariants as reply
+use Rattle.pay_member.specs.declared.take_fault.TakeFault.{TakeFault}
 use Rattle.pay_member.specs.declared.took.Took.{Took}
 use Rattle.pay_member.specs.Answer.{IsAnswer}
 use Rattle.pay_member.specs.EventLaws.{EventsByOneMore}
@@ -66,11 +66,11 @@ length-sent out_more events_more m stamp c took is =
     (length-says m.genesis m.keys.own before c.frame.from c.frame.body
     ∙ ap (λ (t : Took). counted t.echo + counted t.ready) (sym same))
 
-abbrev pub told : Result Took MemberFault → Bool
+abbrev pub told : Result Took TakeFault → Bool
 told (Ok took) = took.echo || took.ready
 told (Err fault) = false
 
-pub tells : OutByOneMore → EventsByOneMore → (answer : Result Took MemberFault) (grown : Bool) → grown ≡ told answer → HasSent answer grown
+pub tells : OutByOneMore → EventsByOneMore → (answer : Result Took TakeFault) (grown : Bool) → grown ≡ told answer → HasSent answer grown
 tells out_more events_more (Ok took) grown same m stamp c is =
     let more = length-sent out_more events_more m stamp c took is in
     let one = either took.echo took.ready in

@@ -1,5 +1,5 @@
 -- What a node's calls answer, and what they leave at their seat.
-use Rattle.std.specs.Prelude.{◌≡◌, ℕ, ◌+◌, ◌<◌, List, [], length, slice_get, Option, Some, None, Result, Ok, Err}
+use Rattle.std.specs.Prelude.{◌≡◌, ◌≢◌, ℕ, ◌+◌, ◌<◌, List, [], length, slice_get, Option, Some, None, Result, Ok, Err}
 use Rattle.pay_frame.specs.Frame.{FrameFields, frame_bytes}
 use Rattle.pay_link.specs.Genesis.{GenesisFields}
 use Rattle.pay_link.specs.Keys.{KeyFields}
@@ -11,20 +11,19 @@ use Rattle.pay_member.specs.declared.brought.Brought.{Brought}
 use Rattle.pay_member.specs.declared.event.Event.{Event}
 use Rattle.pay_member.specs.declared.event.Event.TheVariants.{Taken}
 use Rattle.pay_member.specs.declared.fault.MemberFault.{MemberFault}
-use Rattle.pay_member.specs.declared.fault.MemberFault.TheVariants.{Memory, Spent, TooLong, Repeat, Gap, WrongKey, NoAccount}
 use Rattle.pay_member.specs.declared.outcome.Outcome.{Outcome}
 use Rattle.pay_member.specs.declared.outcome.Outcome.TheVariants as outcome
 use Rattle.pay_member.specs.declared.reply.Reply.{Reply}
-use Rattle.pay_member.specs.declared.reply.Reply.TheVariants as reply
+use Rattle.pay_member.specs.declared.take_fault.TakeFault.{TakeFault}
+use Rattle.pay_member.specs.declared.take_fault.TakeFault.TheVariants.{Memory, WrongKey, Repeat, Gap}
 use Rattle.pay_member.specs.declared.took.Took.{Took}
-use Rattle.pay_member.specs.declared.told.Told.{Told}
-use Rattle.pay_member.specs.Answer.{IsAnswer}
+use Rattle.pay_member.specs.Answer.{IsAnswer, taken}
 use Rattle.pay_member.specs.Bringing.{IsOpening}
 use Rattle.pay_member.specs.Legal.{Legal}
 use Rattle.pay_member.specs.Member.{MemberFields}
 use Rattle.pay_node.specs.declared.question.Question.{Question}
 use Rattle.pay_node.specs.declared.shown.Shown.{Shown}
-use Rattle.pay_node.specs.Receipts.{HadMemory, shown_of, receipts_of, reading_receipt}
+use Rattle.pay_node.specs.Receipts.{shown_of, receipts_of, reading_receipt}
 use Rattle.pay_node.specs.Seats.{SeatFields, with_receipts}
 
 -- What is known of a node without its lock: its group's genesis, the keys with which it opens frames, and how many
@@ -71,46 +70,28 @@ pub record IsShown (n : NodeFields) (before after : SeatFields) (question : Ques
   pub is : shown ≡ shown_of member question
   pub receipt : after ≡ with_receipts before (reading_receipt (length member.history) question shown)
 
-abbrev pub asked : Result ℕ MemberFault → Result Reply MemberFault
-asked (Ok seq) = Ok (reply.Asked seq)
-asked (Err fault) = Err fault
-
-abbrev pub taken : Result Took MemberFault → Result Reply MemberFault
-taken (Ok took) = Ok (reply.Took took)
-taken (Err fault) = Err fault
-
-abbrev pub told : Result Told MemberFault → Result Reply MemberFault
-told (Ok state) = Ok (reply.Told state)
-told (Err fault) = Err fault
-
 -- ---- what is brought
 
 -- what is answered of a frame that opened
-abbrev pub outcome_of : Result Took MemberFault → Outcome
+abbrev pub outcome_of : Result Took TakeFault → Outcome
 outcome_of (Ok took) = outcome.Took took
 outcome_of (Err (Repeat next)) = outcome.Link (link.Repeat next)
 outcome_of (Err (Gap next)) = outcome.Link (link.Gap next)
 outcome_of (Err WrongKey) = outcome.WrongKey
 outcome_of (Err Memory) = outcome.WrongKey
-outcome_of (Err Spent) = outcome.WrongKey
-outcome_of (Err TooLong) = outcome.WrongKey
-outcome_of (Err NoAccount) = outcome.WrongKey
 
 -- the WANT that goes with it, for the number behind the frame's or for the one that was next
-abbrev pub want_of : KeyFields → FrameFields → Result Took MemberFault → Option (List ℕ)
+abbrev pub want_of : KeyFields → FrameFields → Result Took TakeFault → Option (List ℕ)
 want_of k f (Ok took) = Some (frame_bytes (wanted k f.from (f.number + 1)))
 want_of k f (Err (Repeat next)) = Some (frame_bytes (wanted k f.from next))
 want_of k f (Err (Gap next)) = Some (frame_bytes (wanted k f.from next))
 want_of k f (Err WrongKey) = None
 want_of k f (Err Memory) = None
-want_of k f (Err Spent) = None
-want_of k f (Err TooLong) = None
-want_of k f (Err NoAccount) = None
 
 -- A frame that opened was handed to the member, whose answer this is; that memory was refused is no answer.
 pub record IsTaken (n : NodeFields) (before after : SeatFields) (opened : OpenedFields) (b : Brought) : Type 0 where
-  pub answer : Result Took MemberFault
-  pub memory : HadMemory answer
+  pub answer : Result Took TakeFault
+  pub memory : answer ≢ Err Memory
   pub answered : IsAnswered n before after (Taken (checked_fields opened)) (taken answer)
   pub outcome : b.outcome ≡ outcome_of answer
   pub want : b.want ≡ want_of n.keys opened.frame answer

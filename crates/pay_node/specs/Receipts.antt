@@ -1,5 +1,5 @@
 -- Receipts of a node's calls, and when a history bears one out.
-use Rattle.std.specs.Prelude.{◌≡◌, ◌≢◌, ℕ, ◌+◌, ◌≤◌, nat_lt, min, Bool, true, false, if◌then◌else◌, List, [], ◌∷◌, take, length, slice_get, slice_index, Some, Result, Ok, Err, ⊤}
+use Rattle.std.specs.Prelude.{◌≡◌, ℕ, ◌+◌, ◌≤◌, nat_lt, min, Bool, true, false, if◌then◌else◌, List, [], ◌∷◌, take, length, slice_get, slice_index, Some, Result, Ok, Err}
 use Rattle.pay_frame.specs.Frame.{BodyFields}
 use Rattle.pay_channel.specs.History.{list_of}
 use Rattle.pay_book.specs.Statement.{statement_of}
@@ -8,6 +8,8 @@ use Rattle.pay_member.specs.declared.event.Event.{Event}
 use Rattle.pay_member.specs.declared.reply.Reply.{Reply}
 use Rattle.pay_member.specs.declared.fault.MemberFault.{MemberFault}
 use Rattle.pay_member.specs.declared.fault.MemberFault.TheVariants.{Memory, Spent, TooLong, Repeat, Gap, WrongKey, NoAccount}
+use Rattle.pay_member.specs.declared.query_fault.QueryFault.{QueryFault}
+use Rattle.pay_member.specs.declared.query_fault.QueryFault.TheVariants as query
 use Rattle.pay_member.specs.declared.standing.PaymentState.{PaymentState}
 use Rattle.pay_member.specs.Group.{group_in}
 use Rattle.pay_member.specs.Events.{events}
@@ -26,9 +28,9 @@ use Rattle.pay_node.specs.declared.receipt.Receipt.{Receipt}
 
 -- ---- what a member shows
 
-abbrev pub state_shown : MemberFields → ℕ → ℕ → Result PaymentState MemberFault
+abbrev pub state_shown : MemberFields → ℕ → ℕ → Result PaymentState QueryFault
 state_shown m owner seq =
-    if nat_lt owner m.genesis.members then Ok (state_of m.genesis m.keys.own (events m.history) owner seq) else Err NoAccount
+    if nat_lt owner m.genesis.members then Ok (state_of m.genesis m.keys.own (events m.history) owner seq) else Err query.NoAccount
 
 -- an account's lines and its balance
 abbrev pub statement_in : MemberFields → ℕ → StatementFields
@@ -39,8 +41,8 @@ statement_in m account =
       balance = slice_index (book_after m.genesis m.keys.own (events m.history)).balances account;
     }
 
-abbrev pub statement_shown : MemberFields → ℕ → Result StatementFields MemberFault
-statement_shown m account = if nat_lt account m.genesis.members then Ok (statement_in m account) else Err NoAccount
+abbrev pub statement_shown : MemberFields → ℕ → Result StatementFields QueryFault
+statement_shown m account = if nat_lt account m.genesis.members then Ok (statement_in m account) else Err query.NoAccount
 
 -- the answer to a question
 abbrev pub shown_of : MemberFields → Question → Shown
@@ -49,16 +51,6 @@ shown_of m (question.Sent from max) =
 shown_of m (question.State owner seq) = shown.State (state_shown m owner seq)
 shown_of m (question.Statement account) = shown.Statement (statement_shown m account)
 shown_of m question.Fronts = shown.Fronts (book_after m.genesis m.keys.own (events m.history)).front
-
--- ---- whether memory was refused
-
-abbrev pub HadMemory : {T : Type 0} → Result T MemberFault → Type 0
-HadMemory (Ok x) = ⊤
-HadMemory (Err fault) = fault ≢ Memory
-
-abbrev pub LackedMemory : {T : Type 0} → Result T MemberFault → Type 0
-LackedMemory (Ok x) = ⊥
-LackedMemory (Err fault) = fault ≡ Memory
 
 -- ---- receipts
 

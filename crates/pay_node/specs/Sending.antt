@@ -7,12 +7,12 @@ use Rattle.pay_member.specs.declared.event.Event.{Event}
 use Rattle.pay_member.specs.declared.event.Event.TheVariants.{Taken}
 use Rattle.pay_member.specs.declared.fault.MemberFault.{MemberFault}
 use Rattle.pay_member.specs.declared.reply.Reply.{Reply}
+use Rattle.pay_member.specs.declared.take_fault.TakeFault.{TakeFault}
 use Rattle.pay_member.specs.declared.took.Took.{Took}
-use Rattle.pay_member.specs.Answer.{IsAnswer}
+use Rattle.pay_member.specs.Answer.{IsAnswer, taken}
 use Rattle.pay_member.specs.Events.{events}
 use Rattle.pay_member.specs.Group.{group_in}
 use Rattle.pay_member.specs.Member.{MemberFields, with_entry}
-use Rattle.pay_node.specs.Nodes.{taken}
 
 abbrev pub sent_by : MemberFields → List BodyFields
 sent_by m = out (group_in m.genesis m.keys.own) (events m.history)
@@ -24,7 +24,7 @@ behind m stamp event (Ok reply) =
 behind m stamp event (Err fault) = m
 
 -- Whichever member answered a frame so: its sent list has grown by it, or it hasn't.
-abbrev pub HasSent : Result Took MemberFault → Bool → Type 0
+abbrev pub HasSent : Result Took TakeFault → Bool → Type 0
 HasSent answer grown =
     (m : MemberFields) (stamp : ℕ) (frame : CheckedFields) → IsAnswer m (Taken frame) (taken answer)
     → IsTrue grown

@@ -26,5 +26,5 @@ pub use node::{MOST_SEATS, Node};
 pub use question::Question;
 pub use receipt::{Call, Receipt};
 pub use seat::Seat;
-pub use shown::{Bodies, Fronts, Shown, Statement};
+pub use shown::{Bodies, SettledCounts, Shown, Statement};
 pub use stopped::Stopped;

@@ -1,25 +1,25 @@
-ghost use Rattle.std.specs.Prelude.{◌≡◌, ◌≢◌, ◌↔◌, ◌+◌, ◌<◌, ◌≤◌, ◌^◌, Ok, [], IfOk, IfErr, IfSome};
+ghost use Rattle.std.specs.Prelude.{◌≡◌, ◌≢◌, ◌↔◌, ◌+◌, ◌<◌, ◌≤◌, ◌^◌, Ok, Err, [], IfOk, IfErr, IfSome};
 ghost use Rattle.std.specs.Prelude.{IsTrue, OnErr};
 ghost use Rattle.pay_frame.specs.Lent.{fields_of};
 ghost use Rattle.pay_link.specs.Keys.{IsPeer};
 ghost use Rattle.pay_link.specs.Opening.{OpenedFields, judgement};
 ghost use Rattle.pay_member.specs.declared.event.Event.TheVariants.{Ask, Query, Taken};
+ghost use Rattle.pay_member.specs.Answer.{asked, taken, told};
 ghost use Rattle.pay_member.specs.Bringing.{IsOpening, judged};
 ghost use Rattle.pay_member.specs.Legal.{Legal};
 ghost use Rattle.std.specs.Sync.Mutex.{mutex_guard_value};
 ghost use Rattle.pay_node.specs.Closing.{AllSettled, IsFault};
 ghost use Rattle.pay_node.specs.Keeping.{IsFetched};
-ghost use Rattle.pay_node.specs.Receipts.{HadMemory, LackedMemory};
 ghost use Rattle.pay_node.specs.Sending.{HasSent};
 ghost use Rattle.pay_node.specs.Nodes.{AreFresh, IsAnswered, IsAnsweredAs, IsBrought, IsOwn};
-ghost use Rattle.pay_node.specs.Nodes.{IsShown, IsTaken, asked, outcome_of, taken, told, want_of};
+ghost use Rattle.pay_node.specs.Nodes.{IsShown, IsTaken, outcome_of, want_of};
 
 use crate::close_fault::CloseFault;
 use crate::gate::Gate;
 use crate::question::Question;
 use crate::seat::Seat;
 use crate::showing::{copy_of_statement, sent_count, state_of, statement_of};
-use crate::shown::{Bodies, Fronts, Shown, Statement};
+use crate::shown::{Bodies, SettledCounts, Shown, Statement};
 use crate::stopped::Stopped;
 use pay_book::Settle;
 use pay_channel::laws::{one_event_more, taken_in_order};
@@ -29,7 +29,8 @@ use pay_hmac::Tagger;
 use pay_link::{Checked, Genesis, Keys, LinkFault, Opened, want};
 use pay_member::laws::events_in_order;
 use pay_member::{
-    Brought, Member, MemberFault, Outcome, PaymentState, Told, Took, open_bytes, open_frame,
+    AskFault, Brought, Member, Outcome, PaymentState, QueryFault, TakeFault, Told, Took,
+    open_bytes, open_frame,
 };
 use std::alloc::{AllocError, Global};
 use std::marker::Model;
@@ -56,7 +57,6 @@ impl<I: Instance + Drop, B: Settle + Drop> Model for Node<I, B> {
     ghost use Rattle.pay_member.specs.Legal.{Legal};
     ghost use Rattle.pay_node.specs.Closing.{AllSettled, IsFault};
     ghost use Rattle.pay_node.specs.Keeping.{IsFetched};
-    ghost use Rattle.pay_node.specs.Receipts.{HadMemory, LackedMemory};
     ghost use Rattle.pay_node.specs.Nodes.{NodeFields};
 
     ghost Value = { NodeFields };
@@ -168,10 +168,10 @@ impl<I: Instance + Drop, B: Settle + Drop> Node<I, B> {
         alloc: Global,
         seat: &mut Seat,
         value: Bytes,
-    ) -> Result<u32, MemberFault>
-        ensures answered { HadMemory result
+    ) -> Result<u32, AskFault>
+        ensures answered { result ≢ Err AskFault.Memory
             → IsAnswered self.now seat.old seat.new (Ask value) (asked result) }
-        ensures memory { LackedMemory result → seat.new ≡ seat.old }
+        ensures memory { result ≡ Err AskFault.Memory → seat.new ≡ seat.old }
     {
         let copy = value.copy(alloc)?;
         seat.make_room()?;
@@ -192,10 +192,10 @@ impl<I: Instance + Drop, B: Settle + Drop> Node<I, B> {
         alloc: Global,
         seat: &mut Seat,
         account: u16,
-    ) -> Result<Told, MemberFault>
-        ensures answered { HadMemory result
+    ) -> Result<Told, QueryFault>
+        ensures answered { result ≢ Err QueryFault.Memory
             → IsAnswered self.now seat.old seat.new (Query account) (told result) }
-        ensures memory { LackedMemory result → seat.new ≡ seat.old }
+        ensures memory { result ≡ Err QueryFault.Memory → seat.new ≡ seat.old }
     {
         seat.make_room()?;
         let mut member = self.locked(rt);
@@ -249,10 +249,10 @@ impl<I: Instance + Drop, B: Settle + Drop> Node<I, B> {
         seat: &mut Seat,
         owner: u16,
         seq: u32,
-    ) -> Result<PaymentState, MemberFault>
-        ensures shown { HadMemory result
+    ) -> Result<PaymentState, QueryFault>
+        ensures shown { result ≢ Err QueryFault.Memory
             → IsShown self.now seat.old seat.new (Question.State owner seq) (Shown.State result) }
-        ensures memory { LackedMemory result → seat.new ≡ seat.old }
+        ensures memory { result ≡ Err QueryFault.Memory → seat.new ≡ seat.old }
     {
         seat.make_room()?;
         let member = self.locked(rt);
@@ -272,11 +272,11 @@ impl<I: Instance + Drop, B: Settle + Drop> Node<I, B> {
         alloc: Global,
         seat: &mut Seat,
         account: u16,
-    ) -> Result<Statement, MemberFault>
-        ensures shown { HadMemory result
+    ) -> Result<Statement, QueryFault>
+        ensures shown { result ≢ Err QueryFault.Memory
             → IsShown self.now seat.old seat.new (Question.Statement account)
             (Shown.Statement result) }
-        ensures memory { LackedMemory result → seat.new ≡ seat.old }
+        ensures memory { result ≡ Err QueryFault.Memory → seat.new ≡ seat.old }
     {
         seat.make_room()?;
         let member = self.locked(rt);
@@ -303,7 +303,7 @@ impl<I: Instance + Drop, B: Settle + Drop> Node<I, B> {
     {
         seat.make_room()?;
         let member = self.locked(rt);
-        let fronts = Fronts::new(member.fronts(alloc)?);
+        let fronts = SettledCounts::new(member.fronts(alloc)?);
         let copy = fronts.copy(alloc)?;
         seat.note(&*member, Question::Fronts, Shown::Fronts(copy))?;
         Ok(fronts.into_vec())
@@ -379,6 +379,7 @@ impl<I: Instance + Drop, B: Settle + Drop> Node<I, B> {
     }
 
     // Takes a frame that opened, and answers with the WANT for what is next.
+    #[tactic(auto, using(crate::proofs::Taking::taken_so))]
     fn take_opened<R: Wait, T: Tagger, G: Gate>(
         &self,
         rt: &R,
@@ -407,11 +408,11 @@ impl<I: Instance + Drop, B: Settle + Drop> Node<I, B> {
         seat: &mut Seat,
         gate: &G,
         checked: Checked,
-    ) -> Result<Took, MemberFault>
-        ensures answered { HadMemory result
+    ) -> Result<Took, TakeFault>
+        ensures answered { result ≢ Err TakeFault.Memory
             → IsAnswered self.now seat.old seat.new (Taken checked) (taken result) }
         ensures next { IfOk result (λ _. checked.frame.number + 1 < 2 ^ 64) }
-        ensures memory { LackedMemory result → seat.new ≡ seat.old }
+        ensures memory { result ≡ Err TakeFault.Memory → seat.new ≡ seat.old }
     {
         let copy = checked.copy(alloc)?;
         seat.make_room()?;
@@ -432,12 +433,12 @@ impl<I: Instance + Drop, B: Settle + Drop> Node<I, B> {
         seat: &mut Seat,
         checked: Checked,
         copy: Checked,
-    ) -> Result<Took, MemberFault>
+    ) -> Result<Took, TakeFault>
         requires copy { copy ≡ checked }
-        ensures answered { HadMemory result
+        ensures answered { result ≢ Err TakeFault.Memory
             → IsAnswered self.now seat.old seat.new (Taken checked) (taken result) }
         ensures next { IfOk result (λ _. checked.frame.number + 1 < 2 ^ 64) }
-        ensures memory { LackedMemory result → seat.new ≡ seat.old }
+        ensures memory { result ≡ Err TakeFault.Memory → seat.new ≡ seat.old }
     {
         taken_in_order();
         let mut member = self.locked(rt);
@@ -451,7 +452,7 @@ impl<I: Instance + Drop, B: Settle + Drop> Node<I, B> {
 
 // Whether the member sent a body to all as it took a frame: some may wait for it.
 #[tactic(auto, using(crate::proofs::Sent::tells))]
-fn has_sent(answer: &Result<Took, MemberFault>) -> bool
+fn has_sent(answer: &Result<Took, TakeFault>) -> bool
     ensures { HasSent answer.now result }
 {
     one_event_more();
@@ -487,28 +488,23 @@ fn brought_of<T: Tagger>(
     tagger: &T,
     keys: &Keys,
     opened: &Opened<'_>,
-    answer: Result<Took, MemberFault>,
+    answer: Result<Took, TakeFault>,
 ) -> Result<Brought, AllocError>
     requires peer { IsPeer keys.now opened.now.frame.from }
     requires next { IfOk answer (λ _. opened.now.frame.number + 1 < 2 ^ 64) }
-    ensures memory { IfOk result (λ _. HadMemory answer) }
+    ensures memory { IfOk result (λ _. answer ≢ Err TakeFault.Memory) }
     ensures outcome { IfOk result (λ brought. brought.outcome ≡ outcome_of answer) }
     ensures want { IfOk result (λ brought.
         brought.want ≡ want_of keys.now opened.now.frame answer) }
-    ensures err { OnErr result (LackedMemory answer) }
+    ensures err { OnErr result (answer ≡ Err TakeFault.Memory) }
 {
     let from = opened.frame().from();
     let (outcome, next) = match answer {
         Ok(took) => (Outcome::Took(took), opened.frame().number() + 1),
-        Err(MemberFault::Repeat(next)) => (Outcome::Link(LinkFault::Repeat(next)), next),
-        Err(MemberFault::Gap(next)) => (Outcome::Link(LinkFault::Gap(next)), next),
-        Err(MemberFault::Memory) => return Err(AllocError),
-        Err(
-            MemberFault::WrongKey
-            | MemberFault::Spent
-            | MemberFault::TooLong
-            | MemberFault::NoAccount,
-        ) => {
+        Err(TakeFault::Repeat(next)) => (Outcome::Link(LinkFault::Repeat(next)), next),
+        Err(TakeFault::Gap(next)) => (Outcome::Link(LinkFault::Gap(next)), next),
+        Err(TakeFault::Memory) => return Err(AllocError),
+        Err(TakeFault::WrongKey) => {
             return Ok(Brought {
                 outcome: Outcome::WrongKey,
                 want: None,

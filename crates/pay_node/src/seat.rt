@@ -1,11 +1,10 @@
-ghost use Rattle.std.specs.Prelude.{◌≡◌, ◌≢◌, ◌↔◌, ◌+◌, ◌<◌, ℕ, Some, [], ◌++◌, IfOk, IsTrue};
+ghost use Rattle.std.specs.Prelude.{◌≡◌, ◌≢◌, ◌↔◌, ◌+◌, ◌<◌, ℕ, Some, Err, [], ◌++◌, IfOk, IsTrue};
 ghost use Rattle.std.specs.Prelude.{OnErr, OnOk, length, max, vec_len, vec_capacity};
-ghost use Rattle.pay_member.specs.Answer.{IsAnswer};
+ghost use Rattle.pay_member.specs.Answer.{IsAnswer, asked, taken, told};
 ghost use Rattle.pay_member.specs.Legal.{Legal};
 ghost use Rattle.pay_member.specs.Member.{with_entry};
 ghost use Rattle.pay_node.specs.Keeping.{IsKeptFor, IsNoted, mark_of};
-ghost use Rattle.pay_node.specs.Nodes.{asked, taken, told};
-ghost use Rattle.pay_node.specs.Receipts.{HadMemory, reading_receipt, receipts_of, shown_of};
+ghost use Rattle.pay_node.specs.Receipts.{reading_receipt, receipts_of, shown_of};
 ghost use Rattle.pay_node.specs.Seats.{Right, SeatFields, with_receipts};
 
 use crate::marks::Marks;
@@ -16,7 +15,7 @@ use pay_book::Settle;
 use pay_echo::Instance;
 use pay_frame::{Body, Bytes};
 use pay_link::Checked;
-use pay_member::{Event, Member, MemberFault, Reply, Told, Took};
+use pay_member::{AskFault, Event, Member, MemberFault, QueryFault, Reply, TakeFault, Told, Took};
 use std::alloc::{AllocError, Global};
 use std::marker::Model;
 
@@ -81,7 +80,7 @@ impl Seat {
         member: &mut Member<I, B>,
         value: Bytes,
         copy: Bytes,
-    ) -> Result<u32, MemberFault>
+    ) -> Result<u32, AskFault>
         requires copy { copy ≡ value }
         ensures answer { IsAnswer member.old (Event.Ask value) (asked result) }
         ensures entry { IfOk (asked result) (λ reply. member.new ≡ with_entry member.old
@@ -89,7 +88,7 @@ impl Seat {
         ensures err { OnErr result (member.new ≡ member.old) }
         ensures receipt { self.new ≡ with_receipts self.old
             (receipts_of (length member.old.history) (Event.Ask value) (asked result)) }
-        ensures legal { HadMemory result
+        ensures legal { result ≢ Err AskFault.Memory
             → Legal member.old.genesis member.old.keys member.old.history }
         ensures own { Right member.old self.old → Right member.new self.new }
         ensures others { (seat : SeatFields) → seat.stamp ≢ self.old.stamp
@@ -115,7 +114,7 @@ impl Seat {
         member: &mut Member<I, B>,
         checked: Checked,
         copy: Checked,
-    ) -> Result<Took, MemberFault>
+    ) -> Result<Took, TakeFault>
         requires copy { copy ≡ checked }
         ensures answer { IsAnswer member.old (Event.Taken checked) (taken result) }
         ensures entry { IfOk (taken result) (λ reply. member.new ≡ with_entry member.old
@@ -123,7 +122,7 @@ impl Seat {
         ensures err { OnErr result (member.new ≡ member.old) }
         ensures receipt { self.new ≡ with_receipts self.old
             (receipts_of (length member.old.history) (Event.Taken checked) (taken result)) }
-        ensures legal { HadMemory result
+        ensures legal { result ≢ Err TakeFault.Memory
             → Legal member.old.genesis member.old.keys member.old.history }
         ensures own { Right member.old self.old → Right member.new self.new }
         ensures others { (seat : SeatFields) → seat.stamp ≢ self.old.stamp
@@ -147,14 +146,14 @@ impl Seat {
         alloc: Global,
         member: &mut Member<I, B>,
         account: u16,
-    ) -> Result<Told, MemberFault>
+    ) -> Result<Told, QueryFault>
         ensures answer { IsAnswer member.old (Event.Query account) (told result) }
         ensures entry { IfOk (told result) (λ reply. member.new ≡ with_entry member.old
             (record { stamp = self.old.stamp; event = Event.Query account; reply = reply })) }
         ensures err { OnErr result (member.new ≡ member.old) }
         ensures receipt { self.new ≡ with_receipts self.old
             (receipts_of (length member.old.history) (Event.Query account) (told result)) }
-        ensures legal { HadMemory result
+        ensures legal { result ≢ Err QueryFault.Memory
             → Legal member.old.genesis member.old.keys member.old.history }
         ensures own { Right member.old self.old → Right member.new self.new }
         ensures others { (seat : SeatFields) → seat.stamp ≢ self.old.stamp
@@ -291,29 +290,20 @@ fn keep(receipts: &mut Vec<Receipt>, seen: usize, event: Event, answer: Result<R
 
 // What a receipt keeps of the answer to each call.
 
-fn reply_asked(answer: Result<u32, MemberFault>) -> Result<Reply, MemberFault>
+fn reply_asked(answer: Result<u32, AskFault>) -> Result<Reply, MemberFault>
     ensures { result ≡ asked answer }
 {
-    match answer {
-        Ok(seq) => Ok(Reply::Asked(seq)),
-        Err(fault) => Err(fault),
-    }
+    Ok(Reply::Asked(answer?))
 }
 
-fn reply_taken(answer: Result<Took, MemberFault>) -> Result<Reply, MemberFault>
+fn reply_taken(answer: Result<Took, TakeFault>) -> Result<Reply, MemberFault>
     ensures { result ≡ taken answer }
 {
-    match answer {
-        Ok(took) => Ok(Reply::Took(took)),
-        Err(fault) => Err(fault),
-    }
+    Ok(Reply::Took(answer?))
 }
 
-fn reply_told(answer: Result<Told, MemberFault>) -> Result<Reply, MemberFault>
+fn reply_told(answer: Result<Told, QueryFault>) -> Result<Reply, MemberFault>
     ensures { result ≡ told answer }
 {
-    match answer {
-        Ok(state) => Ok(Reply::Told(state)),
-        Err(fault) => Err(fault),
-    }
+    Ok(Reply::Told(answer?))
 }

@@ -5,10 +5,10 @@ ghost use Rattle.pay_node.specs.Receipts.{shown_of, state_shown, statement_shown
 ghost use Rattle.pay_node.specs.Sending.{sent_by};
 
 use crate::question::Question;
-use crate::shown::{Bodies, Fronts, Shown, Statement};
+use crate::shown::{Bodies, SettledCounts, Shown, Statement};
 use pay_book::Settle;
 use pay_echo::Instance;
-use pay_member::{Member, MemberFault, PaymentState};
+use pay_member::{Member, PaymentState, QueryFault};
 use std::alloc::{AllocError, Global};
 
 /// Asks a member a question.
@@ -27,7 +27,7 @@ pub(crate) fn show<I: Instance + Drop, B: Settle + Drop>(
         Question::Statement(account) => {
             Ok(Shown::Statement(statement_of(alloc, member, account)?))
         }
-        Question::Fronts => Ok(Shown::Fronts(Fronts::new(member.fronts(alloc)?))),
+        Question::Fronts => Ok(Shown::Fronts(SettledCounts::new(member.fronts(alloc)?))),
     }
 }
 
@@ -36,13 +36,13 @@ pub(crate) fn state_of<I: Instance + Drop, B: Settle + Drop>(
     member: &Member<I, B>,
     owner: u16,
     seq: u32,
-) -> Result<PaymentState, MemberFault>
+) -> Result<PaymentState, QueryFault>
     ensures { result ≡ state_shown member.now owner seq }
 {
     if owner < member.genesis().members() {
         Ok(member.state(owner, seq))
     } else {
-        Err(MemberFault::NoAccount)
+        Err(QueryFault::NoAccount)
     }
 }
 
@@ -51,14 +51,14 @@ pub(crate) fn statement_of<I: Instance + Drop, B: Settle + Drop>(
     alloc: Global,
     member: &Member<I, B>,
     account: u16,
-) -> Result<Result<Statement, MemberFault>, AllocError>
+) -> Result<Result<Statement, QueryFault>, AllocError>
     ensures { IfOk result (λ answer. answer ≡ statement_shown member.now account) }
 {
     if account < member.genesis().members() {
         let lines = member.statement(alloc, account)?;
         Ok(Ok(Statement::new(lines, member.balance(account))))
     } else {
-        Ok(Err(MemberFault::NoAccount))
+        Ok(Err(QueryFault::NoAccount))
     }
 }
 
@@ -81,8 +81,8 @@ pub(crate) fn sent_count<I: Instance + Drop, B: Settle + Drop>(member: &Member<I
 /// An equal answer.
 pub(crate) fn copy_of_statement(
     alloc: Global,
-    answer: &Result<Statement, MemberFault>,
-) -> Result<Result<Statement, MemberFault>, AllocError>
+    answer: &Result<Statement, QueryFault>,
+) -> Result<Result<Statement, QueryFault>, AllocError>
     ensures { IfOk result (λ copy. copy ≡ answer.now) }
 {
     match answer {

@@ -2,7 +2,7 @@ ghost use Rattle.std.specs.Prelude.{◌≡◌, [], ◌∷◌, IfOk};
 
 use pay_book::Line;
 use pay_frame::Body;
-use pay_member::{MemberFault, PaymentState};
+use pay_member::{PaymentState, QueryFault};
 use std::alloc::{AllocError, Global};
 use std::marker::Model;
 
@@ -10,9 +10,9 @@ use std::marker::Model;
 #[derive(Drop)]
 pub enum Shown {
     Sent(Bodies),
-    State(Result<PaymentState, MemberFault>),
-    Statement(Result<Statement, MemberFault>),
-    Fronts(Fronts),
+    State(Result<PaymentState, QueryFault>),
+    Statement(Result<Statement, QueryFault>),
+    Fronts(SettledCounts),
 }
 
 /// Bodies that a member sent to all. Contracts see them as a list.
@@ -123,41 +123,41 @@ impl Statement {
 
 /// How many entries are settled of each account. Contracts see it as a list.
 #[derive(Drop)]
-pub struct Fronts {
-    fronts: Vec<u32>,
+pub struct SettledCounts {
+    counts: Vec<u32>,
 }
 
-impl Model for Fronts {
+impl Model for SettledCounts {
     ghost use Rattle.std.specs.Prelude.{ℕ, List};
 
     ghost Value = { List ℕ };
 
-    ghost view = { λ f. f.fronts.items };
+    ghost view = { λ c. c.counts.items };
 }
 
-impl Fronts {
-    pub fn new(fronts: Vec<u32>) -> Fronts
-        ensures { result ≡ fronts.items }
+impl SettledCounts {
+    pub fn new(counts: Vec<u32>) -> SettledCounts
+        ensures { result ≡ counts.items }
     {
-        Fronts { fronts }
+        SettledCounts { counts }
     }
 
     pub fn as_slice(&self) -> &[u32]
         ensures { result.now ≡ self.now }
     {
-        self.fronts.as_slice()
+        self.counts.as_slice()
     }
 
     pub fn into_vec(self) -> Vec<u32>
         ensures { result.items ≡ self }
     {
-        self.fronts
+        self.counts
     }
 
-    pub fn copy(&self, alloc: Global) -> Result<Fronts, AllocError>
+    pub fn copy(&self, alloc: Global) -> Result<SettledCounts, AllocError>
         ensures { IfOk result (λ copy. copy ≡ self.now) }
     {
-        let fronts = Vec::from_slice(alloc, self.fronts.as_slice())?;
-        Ok(Fronts { fronts })
+        let counts = Vec::from_slice(alloc, self.counts.as_slice())?;
+        Ok(SettledCounts { counts })
     }
 }

@@ -1,7 +1,7 @@
 //! Rows as plain data: what is called from a seat, and what has to be answered.
 
 use pay_frame::Kind;
-use pay_member::MemberFault;
+use pay_member::AskFault;
 use pay_node::CloseFault;
 
 /// The group of a node, its member and how many seats it has.
@@ -25,7 +25,7 @@ pub(crate) struct Said {
 /// A call, and its answer.
 #[derive(Clone, Copy)]
 pub(crate) enum Step {
-    Ask(&'static [u8], Result<u32, MemberFault>),
+    Ask(&'static [u8], Result<u32, AskFault>),
     Fetch(usize, usize, &'static [Said]),
     /// The body of a number: the one at that place of these, if there is one.
     FetchOnce(usize, &'static [Said]),

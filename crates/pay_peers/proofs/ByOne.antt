@@ -10,10 +10,10 @@ use Rattle.pay_link.specs.Sealing.{wanted}
 use Rattle.pay_link.specs.declared.link_fault.LinkFault.{LinkFault}
 use Rattle.pay_link.specs.declared.link_fault.LinkFault.TheVariants.{NotForMe, UnknownSender, UnknownOwner, BadTag, Repeat, Gap}
 use Rattle.pay_member.specs.declared.brought.Brought.{Brought}
-use Rattle.pay_member.specs.declared.fault.MemberFault.{MemberFault}
-use Rattle.pay_member.specs.declared.fault.MemberFault.TheVariants as fault
 use Rattle.pay_member.specs.declared.outcome.Outcome.{Outcome}
 use Rattle.pay_member.specs.declared.outcome.Outcome.TheVariants.{Took, Wanted, Frame, Link, WrongKey}
+use Rattle.pay_member.specs.declared.take_fault.TakeFault.{TakeFault}
+use Rattle.pay_member.specs.declared.take_fault.TakeFault.TheVariants as fault
 use Rattle.pay_member.specs.declared.took.Took.{Took as Reply}
 use Rattle.pay_member.specs.Bringing.{is_want, judged}
 use Rattle.pay_member.specs.Serving.{bytes_of}
@@ -106,7 +106,7 @@ next_is number below = ap (λ b. cond b (Some (number + 1)) None) (lt-ltb number
 
 -- of a frame that was handed in
 of_answer :
-    (k : KeyFields) (peer : ℕ) (w : Window) (f : FrameFields) (answer : Result Reply MemberFault) → w.asked ≡ w.due + 1 → f.from ≡ peer → f.number ≡ w.due
+    (k : KeyFields) (peer : ℕ) (w : Window) (f : FrameFields) (answer : Result Reply TakeFault) → w.asked ≡ w.due + 1 → f.from ≡ peer → f.number ≡ w.due
     → IsInOrder w (outcome_of answer) → IsSame k peer w (next_told (outcome_of answer) f.number) (want_of k f answer)
 of_answer k peer w f (Ok took) one sender due order =
     same_some k peer w (f.number + 1) _ _ one (omega arith) (omega arith) (next_is f.number (omega arith)) (ap (λ p. Some (frame_bytes (wanted k p (f.number + 1)))) sender)
@@ -115,9 +115,6 @@ of_answer k peer w f (Err (fault.Repeat next)) one sender due order =
 of_answer k peer w f (Err (fault.Gap next)) one sender due order = absurd order
 of_answer k peer w f (Err fault.WrongKey) one sender due order = same_none k peer w None None one refl refl
 of_answer k peer w f (Err fault.Memory) one sender due order = same_none k peer w None None one refl refl
-of_answer k peer w f (Err fault.Spent) one sender due order = same_none k peer w None None one refl refl
-of_answer k peer w f (Err fault.TooLong) one sender due order = same_none k peer w None None one refl refl
-of_answer k peer w f (Err fault.NoAccount) one sender due order = same_none k peer w None None one refl refl
 
 -- ---- both ways
 

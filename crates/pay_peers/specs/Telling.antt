@@ -5,6 +5,7 @@ use Rattle.pay_desk.specs.declared.teller_fault.TellerFault.TheVariants as telle
 use Rattle.pay_desk.specs.Calls as desk
 use Rattle.pay_member.specs.declared.event.Event.TheVariants as event
 use Rattle.pay_member.specs.declared.fault.MemberFault.TheVariants as fault
+use Rattle.pay_member.specs.declared.query_fault.QueryFault.TheVariants as query
 use Rattle.pay_member.specs.declared.reply.Reply.TheVariants as reply
 use Rattle.pay_node.specs.declared.question.Question.TheVariants as question
 use Rattle.pay_node.specs.declared.receipt.Call.{Call}
@@ -37,7 +38,7 @@ SeatSays n old (desk.Query account) (desk.Settled fronts) new = ⊥
 SeatSays n old (desk.State owner seq) (desk.Stood state) new =
     IsShown n old new (question.State owner seq) (shown.State (Ok state))
 SeatSays n old (desk.State owner seq) (desk.Refused teller.NoAccount) new =
-    IsShown n old new (question.State owner seq) (shown.State (Err fault.NoAccount))
+    IsShown n old new (question.State owner seq) (shown.State (Err query.NoAccount))
 SeatSays n old (desk.State owner seq) (desk.Refused teller.Memory) new = ⊥
 SeatSays n old (desk.State owner seq) (desk.Refused teller.Spent) new = ⊥
 SeatSays n old (desk.State owner seq) (desk.Asked number) new = ⊥
@@ -48,7 +49,7 @@ SeatSays n old (desk.Statement account) (desk.Stated lines balance) new =
     IsShown n old new (question.Statement account)
     (shown.Statement (Ok (record { lines = lines; balance = balance })))
 SeatSays n old (desk.Statement account) (desk.Refused teller.NoAccount) new =
-    IsShown n old new (question.Statement account) (shown.Statement (Err fault.NoAccount))
+    IsShown n old new (question.Statement account) (shown.Statement (Err query.NoAccount))
 SeatSays n old (desk.Statement account) (desk.Refused teller.Memory) new = ⊥
 SeatSays n old (desk.Statement account) (desk.Refused teller.Spent) new = ⊥
 SeatSays n old (desk.Statement account) (desk.Asked seq) new = ⊥

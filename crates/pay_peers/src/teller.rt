@@ -5,7 +5,7 @@ use pay_book::{Line, Settle};
 use pay_desk::{Teller, TellerFault};
 use pay_echo::Instance;
 use pay_frame::Bytes;
-use pay_member::{MemberFault, PaymentState, Told};
+use pay_member::{AskFault, PaymentState, QueryFault, Told};
 use pay_node::{Node, Seat};
 use std::alloc::Global;
 use std::marker::Model;
@@ -49,32 +49,33 @@ impl<R: Wait, I: Instance + Drop, B: Settle + Drop> Teller for NodeTeller<'_, R,
     fn ask(&mut self, alloc: Global, value: Bytes) -> Result<u32, TellerFault> {
         match self.node.ask(self.rt, alloc, &mut self.seat, value) {
             Ok(seq) => Ok(seq),
-            Err(MemberFault::Spent) => Err(TellerFault::Spent),
-            Err(_) => Err(TellerFault::Memory),
+            Err(AskFault::Spent) => Err(TellerFault::Spent),
+            // never `TooLong`, by what the call requires
+            Err(AskFault::Memory | AskFault::TooLong) => Err(TellerFault::Memory),
         }
     }
 
     fn query(&mut self, alloc: Global, account: u16) -> Result<Told, TellerFault> {
         match self.node.query(self.rt, alloc, &mut self.seat, account) {
             Ok(told) => Ok(told),
-            Err(MemberFault::NoAccount) => Err(TellerFault::NoAccount),
-            Err(_) => Err(TellerFault::Memory),
+            Err(QueryFault::NoAccount) => Err(TellerFault::NoAccount),
+            Err(QueryFault::Memory) => Err(TellerFault::Memory),
         }
     }
 
     fn state(&mut self, alloc: Global, owner: u16, seq: u32) -> Result<PaymentState, TellerFault> {
         match self.node.state(self.rt, alloc, &mut self.seat, owner, seq) {
             Ok(state) => Ok(state),
-            Err(MemberFault::NoAccount) => Err(TellerFault::NoAccount),
-            Err(_) => Err(TellerFault::Memory),
+            Err(QueryFault::NoAccount) => Err(TellerFault::NoAccount),
+            Err(QueryFault::Memory) => Err(TellerFault::Memory),
         }
     }
 
     fn statement(&mut self, alloc: Global, account: u16) -> Result<(Vec<Line>, u64), TellerFault> {
         match self.node.statement(self.rt, alloc, &mut self.seat, account) {
             Ok(statement) => Ok(statement.into_parts()),
-            Err(MemberFault::NoAccount) => Err(TellerFault::NoAccount),
-            Err(_) => Err(TellerFault::Memory),
+            Err(QueryFault::NoAccount) => Err(TellerFault::NoAccount),
+            Err(QueryFault::Memory) => Err(TellerFault::Memory),
         }
     }
 

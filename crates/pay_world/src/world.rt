@@ -32,7 +32,7 @@ use pay_frame::{Body, Bytes, FrameRef, one_answer, read_one};
 use pay_hmac::Tagger;
 use pay_link::{Checked, Genesis, Keys, sealed};
 use pay_member::laws::{events_in_order, what_is_brought, what_opens};
-use pay_member::{Member, MemberFault};
+use pay_member::{AskFault, Member};
 use std::alloc::{AllocError, Global};
 use std::marker::Model;
 
@@ -376,8 +376,8 @@ fn ask_place<I: Instance + Drop, B: Settle + Drop>(
     };
     match member.ask(alloc, 0, value) {
         Ok(number) => Ok(WorldReply::Asked(number)),
-        Err(MemberFault::Memory) => Err(WorldFault::Memory),
-        Err(fault) => Ok(WorldReply::Refused(fault)),
+        Err(AskFault::Memory) => Err(WorldFault::Memory),
+        Err(fault) => Ok(WorldReply::Refused(fault.into())),
     }
 }
 

@@ -1,8 +1,7 @@
 use Rattle.std.proofs.Common.{◌≡◌, IfOk, OnErr, length, rules}
 use Rattle.pay_member.specs.declared.event.Event.TheVariants.{Taken}
-use Rattle.pay_member.specs.Answer.{IsAnswer}
+use Rattle.pay_member.specs.Answer.{IsAnswer, taken}
 use Rattle.pay_member.specs.Member.{with_entry}
-use Rattle.pay_node.specs.Nodes.{taken}
 use Rattle.pay_node.specs.Receipts.{receipts_of}
 use Rattle.pay_node.specs.Seats.{SeatFields, with_receipts}
 use Rattle.pay_node.proofs.Rights.{own_stays, others_stay}
