@@ -43,7 +43,7 @@ module _ (holds : List ℕ → List ℕ → Type 0) (names : List (List ℕ)) wh
     stops = λ stop s. r.stops stop (later holds name left stop e is s);
   }
 
-  pub all_read : (exports : List ExportFields) → IsReading holds names [] exports → AllZip (IsExportOf holds) names exports
+  all_read : (exports : List ExportFields) → IsReading holds names [] exports → AllZip (IsExportOf holds) names exports
   all_read exports r = subst (AllZip (IsExportOf holds) names) (append-nil exports) (r.reads [] tt)
 
 -- the texts that names lend

@@ -1,5 +1,5 @@
 -- Exports that are read side by side, and taken in their order.
-use Rattle.std.proofs.Common.{◌≡◌, ℕ, suc, ◌+◌, ◌≤◌, ◌<◌, Bor, List, [], ◌∷◌, ◌++◌, Result, Ok, Err, length, length-append, map, get_or, refl, sym, ap, subst, ◌∙◌, append_assoc, append-nil, inl, arith}
+use Rattle.std.proofs.Common.{◌≡◌, ℕ, suc, ◌+◌, ◌<◌, Bor, List, [], ◌∷◌, ◌++◌, Result, Ok, Err, length, length-append, map, get_or, refl, sym, ap, subst, ◌∙◌, append_assoc, append-nil, inl, arith}
 use Rattle.std.proofs.lemmas.List.{length-map, map-append}
 use Rattle.std.specs.List.{AllZip}
 use Rattle.pay_audit.specs.Auditor.{HasTaken, taken_by}
@@ -79,15 +79,7 @@ map_more : (es : List ExportFields) (e : ExportFields) (left : List (Result Expo
 map_more [] e left = refl
 map_more (d ∷ es) e left = ap (λ os. Ok d ∷ os) (map_more es e left)
 
-length_ok : (es : List ExportFields) (left : List (Result ExportFields Stop)) → length (map Ok es ++ left) ≡ length es + length left
-length_ok [] left = omega arith
-length_ok (d ∷ es) left = let h = length_ok es left in omega arith
-
 module _ (outcomes left : List (Result ExportFields Stop)) (before after : Auditor) (t : IsTaking outcomes left before after) where
-  -- how many are left
-  pub count_left : length outcomes ≡ length t.exports + length left
-  count_left = ap length t.parts ∙ length_ok t.exports left
-
   pub stops_here : (outcome : Result ExportFields Stop) (others : List (Result ExportFields Stop)) (stop : Stop) → left ≡ outcome ∷ others → IsStopOf outcome stop → IsFirstStop outcomes stop
   stops_here outcome others stop cut is = record {
     first = t.exports;
@@ -121,17 +113,6 @@ pub record IsSharing (holds : List ℕ → List ℕ → Type 0) (names left : Li
   pub taken : HasTaken exports auditor
   pub each : length exports + length left ≡ length names
 
-pub at_start : (holds : List ℕ → List ℕ → Type 0) (names left : List (List ℕ)) (auditor : Auditor) → left ≡ names → HasTaken [] auditor → IsSharing holds names left auditor
-at_start holds names left auditor all taken = record {
-  exports = [];
-  reading = record {
-    reads = λ rest read. subst (λ ns. AllZip (IsExportOf holds) ns rest) all read;
-    stops = λ stop h. subst (λ ns. IsExportsStop holds ns stop) all h;
-  };
-  taken = taken;
-  each = (let same = ap length all in omega arith);
-}
-
 module _ (holds : List ℕ → List ℕ → Type 0) where
   joined : (batch others : List (List ℕ)) (es rest : List ExportFields) → AllZip (IsExportOf holds) batch es → AllZip (IsExportOf holds) others rest → AllZip (IsExportOf holds) (batch ++ others) (es ++ rest)
   joined [] others [] rest h k = k
@@ -164,12 +145,6 @@ module _ (holds : List ℕ → List ℕ → Type 0) where
 
 module _ (holds : List ℕ → List ℕ → Type 0) (names batch others : List (List ℕ)) (auditor : Auditor)
     (s : IsSharing holds names (batch ++ others) auditor) where
-  pub room : length s.exports + length batch ≤ length names
-  room = let e = s.each in let l = length-append batch others in omega arith
-
-  pub taken_is : taken_by auditor ≡ length s.exports
-  taken_is = s.taken.taken
-
   pub batch_stops : (stop : Stop) → IsExportsStop holds batch stop → IsExportsStop holds names stop
   batch_stops stop h = s.reading.stops stop (stop_before holds batch others stop h)
 
