@@ -115,7 +115,8 @@ def audit_of_pipes(contents, meanwhile):
 
         writer = threading.Thread(target=write, daemon=True)
         writer.start()
-        done = subprocess.run([PAYD, "audit", first, *pipes], capture_output=True, timeout=SECONDS)
+        words = [PAYD, "audit", "--jobs", "1", first, *pipes]
+        done = subprocess.run(words, capture_output=True, timeout=SECONDS)
         writer.join(SECONDS)
     return done.returncode, done.stdout.decode("ascii"), done.stderr.decode()
 

@@ -127,7 +127,7 @@ def each_growth_of_an_audit_refused(library):
             names.append(f"{place}-{number}.json")
             write_json(library.place.name, names[-1], export)
         ample = (0 if line == "clean" else 1, f"{line}\n", "")
-        for growth, was in library.each(["audit", *names], b"", "growth"):
+        for growth, was in library.each(["audit", "--jobs", "1", *names], b"", "growth"):
             refused = was[:2] == (3, "") and MEMORY.fullmatch(was[2]) is not None
             same(was == ample or refused, True, f"{line}, growth {growth}: {was}")
 

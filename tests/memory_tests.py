@@ -70,7 +70,7 @@ def refused_memory_leaves_no_verdict():
         for name in names:
             with open(name, "w", encoding="ascii") as file:
                 json.dump({**export, "lists": [20_000 * ["ff"]]}, file)
-        writes_a_beginning("clean\n", ["audit", *names])
+        writes_a_beginning("clean\n", ["audit", "--jobs", "1", *names])
 
 
 @test

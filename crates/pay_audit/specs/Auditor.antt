@@ -1,5 +1,6 @@
 -- What an auditor knows of the exports that it has taken one by one.
 use Rattle.std.specs.Prelude.{◌≡◌, ℕ, List, [], ◌∷◌, length, Option, Some, None}
+use Rattle.std.specs.Option.{option_or}
 use Rattle.pay_link.specs.Genesis.{GenesisFields}
 use Rattle.pay_audit.specs.Compared.{HasCompared}
 use Rattle.pay_audit.specs.Export.{ExportFields}
@@ -48,6 +49,14 @@ pub record HasTaken (exports : List ExportFields) (a : Auditor) : Type 0 where
   pub genesis : a.genesis ≡ first_genesis exports
   pub wrong : HasFound exports a.wrong
   pub lists : IsNothing a.wrong → HasComparedBy exports a.comparison
+
+-- what is wrong once it has taken this export too
+pub record IsWrongWith (a : Auditor) (e : ExportFields) (w : Wrong) : Type 0 where
+  pub genesis : w.genesis ≡ option_or a.wrong.genesis (other_genesis_than a.genesis a.taken e)
+  pub front : w.genesis ≡ None → w.front ≡ option_or a.wrong.front (wrong_front_at a.taken e)
+  pub balance :
+      w.genesis ≡ None → w.front ≡ None
+      → w.balance ≡ option_or a.wrong.balance (wrong_balance_at a.taken e)
 
 -- no two lists of exports that it can have taken have different verdicts
 abbrev pub VerdictOfTakenIsOne : Type 0

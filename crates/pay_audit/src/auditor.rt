@@ -1,12 +1,13 @@
 //! Exports audited one by one: each is let go as soon as it is taken.
 
 ghost use Rattle.std.specs.Prelude.{◌≡◌, ◌+◌, ◌<◌, ◌∷◌, ◌++◌, List, [], IfOk, unwrap_or};
-ghost use Rattle.pay_audit.specs.Auditor.{HasTaken, taken_by};
+ghost use Rattle.pay_audit.specs.Auditor.{HasTaken, IsWrongWith, taken_by};
 ghost use Rattle.pay_audit.specs.Export.{ExportFields};
 ghost use Rattle.pay_audit.specs.Verdict.{verdict_of};
 
 use crate::comparison::Comparison;
 use crate::exported::Export;
+use crate::judged_export::JudgedExport;
 use crate::verdict::Verdict;
 use crate::wrong::Wrong;
 use pay_link::Genesis;
@@ -56,10 +57,33 @@ impl Auditor {
         self.add(alloc, &export)
     }
 
-    /// Judges and settles one more export, compares its lists with the longest so far, and copies of them what is
-    /// longer.
+    /// Takes one more export that was settled before, and lets it go.
+    pub fn take_judged(self, alloc: Global, judged: JudgedExport) -> Result<Auditor, AllocError>
+        requires { taken_by self < usize.MAX }
+        ensures taken { IfOk result (λ auditor. (exports : List ExportFields)
+            → HasTaken exports self → HasTaken (exports ++ judged ∷ []) auditor) }
+        ensures count { IfOk result (λ auditor. taken_by auditor ≡ taken_by self + 1) }
+    {
+        let wrong = self.wrong.with_judged(&self.genesis, self.taken, &judged);
+        self.with_lists(alloc, wrong, &judged.export)
+    }
+
+    /// Judges and settles one more export, and adds it.
     fn add(self, alloc: Global, export: &Export) -> Result<Auditor, AllocError>
         requires { taken_by self < usize.MAX }
+        ensures taken { IfOk result (λ auditor. (exports : List ExportFields)
+            → HasTaken exports self → HasTaken (exports ++ export.now ∷ []) auditor) }
+        ensures count { IfOk result (λ auditor. taken_by auditor ≡ taken_by self + 1) }
+    {
+        let wrong = self.wrong.with(alloc, &self.genesis, self.taken, export)?;
+        self.with_lists(alloc, wrong, export)
+    }
+
+    /// Compares the lists of one more export with the longest so far, and copies of them what is longer. `wrong` is
+    /// what is wrong once it is added.
+    fn with_lists(self, alloc: Global, wrong: Wrong, export: &Export) -> Result<Auditor, AllocError>
+        requires count { taken_by self < usize.MAX }
+        requires wrong { IsWrongWith self export.now wrong }
         ensures taken { IfOk result (λ auditor. (exports : List ExportFields)
             → HasTaken exports self → HasTaken (exports ++ export.now ∷ []) auditor) }
         ensures count { IfOk result (λ auditor. taken_by auditor ≡ taken_by self + 1) }
@@ -67,10 +91,9 @@ impl Auditor {
         let Auditor {
             taken,
             genesis,
-            wrong,
             mut comparison,
+            ..
         } = self;
-        let wrong = wrong.with(alloc, &genesis, taken, export)?;
         if wrong.is_nothing() {
             comparison = comparison.add(alloc, export.lists.as_slice())?;
         }

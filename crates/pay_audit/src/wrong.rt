@@ -5,6 +5,7 @@ ghost use Rattle.pay_audit.specs.Verdict.{wrong_balance_at, wrong_front_at};
 
 use crate::auditing::{is_same_genesis, wrong_balance_of, wrong_front_of};
 use crate::exported::Export;
+use crate::judged_export::JudgedExport;
 use crate::settling::settled;
 use crate::verdict::Verdict;
 use pay_link::Genesis;
@@ -64,6 +65,36 @@ impl Wrong {
             return Ok(self);
         }
         self.with_book(alloc, place, export)
+    }
+
+    /// The same of an export that was settled before.
+    pub(crate) fn with_judged(
+        self,
+        genesis: &Option<Genesis>,
+        place: usize,
+        judged: &JudgedExport,
+    ) -> Wrong
+        ensures genesis { result.genesis
+            ≡ option_or self.genesis (other_genesis_than genesis.now place judged.now) }
+        ensures front { result.front ≡ option_or self.front (wrong_front_at place judged.now) }
+        ensures balance { result.balance
+            ≡ option_or self.balance (wrong_balance_at place judged.now) }
+    {
+        let front = judged.front.map(|account| Verdict::WrongFront {
+            export: place,
+            account,
+        });
+        let balance = judged.balance.map(|account| Verdict::WrongBalance {
+            export: place,
+            account,
+        });
+        Wrong {
+            genesis: self
+                .genesis
+                .or(other_genesis_than(genesis, place, &judged.export)),
+            front: self.front.or(front),
+            balance: self.balance.or(balance),
+        }
     }
 
     // The same, where no genesis and no front is wrong so far.

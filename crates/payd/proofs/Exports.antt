@@ -9,7 +9,7 @@ use Rattle.payd.specs.Files.{IsExportOf, IsExportStop, IsExportsStop}
 use Rattle.payd.specs.declared.stop.Stop.{Stop}
 
 module _ (holds : List ℕ → List ℕ → Type 0) where
-  at_once : (name : List ℕ) (others : List (List ℕ)) (stop : Stop) → IsExportStop holds name stop → IsExportsStop holds (name ∷ others) stop
+  pub at_once : (name : List ℕ) (others : List (List ℕ)) (stop : Stop) → IsExportStop holds name stop → IsExportsStop holds (name ∷ others) stop
   at_once name others stop stopped = record {
     first = [];
     name = name;
@@ -20,7 +20,7 @@ module _ (holds : List ℕ → List ℕ → Type 0) where
     stopped = stopped;
   }
 
-  later : (name : List ℕ) (others : List (List ℕ)) (stop : Stop) (e : ExportFields) → IsExportOf holds name e → IsExportsStop holds others stop → IsExportsStop holds (name ∷ others) stop
+  pub later : (name : List ℕ) (others : List (List ℕ)) (stop : Stop) (e : ExportFields) → IsExportOf holds name e → IsExportsStop holds others stop → IsExportsStop holds (name ∷ others) stop
   later name others stop e is s = record {
     first = name ∷ s.first;
     name = s.name;

@@ -1,3 +1,4 @@
 mod AskedLemmas
 mod Exports
 mod Reading
+mod Outcomes

@@ -44,9 +44,9 @@ node_app =
 abbrev pub files_rule : Rule
 files_rule = record (new_rule (codes "files")) { required = true; action = Some Append; value_names = 1 }
 
--- `audit`, which takes files
+-- `audit`, which takes files and a count of threads
 abbrev pub audit_app : App
-audit_app = with_rule (new_app (codes "audit")) files_rule
+audit_app = with_rule (with_rule (new_app (codes "audit")) files_rule) (option_rule (codes "jobs"))
 
 -- the name of a file with an export
 abbrev pub export_rule : Rule
@@ -98,12 +98,12 @@ pub record IsArgument (o : Arg) (r : Rule) : Type 0 where
   pub global : o.global ≡ false
 
 -- a command, and what it is given: the names of files, an account, a date, and the words that say the threads of a
--- check, and of a node its dials and how many frames it asks for ahead
+-- check or an audit, and of a node its dials and how many frames it asks for ahead
 pub data Asked : Type 0 where
   check : Option Text → Option Text → Option Text → Asked
   desk : Text → Text → Asked
   node : Text → Text → Text → Option Text → Option Text → Asked
-  audit : List Text → Asked
+  audit : List Text → Option Text → Asked
   statement : Text → Option Text → Asked
   journal : Text → Option Text → Asked
   sim : Asked
@@ -116,7 +116,8 @@ asked (Check genesis keys jobs) =
 asked (Desk genesis keys) = desk genesis.now keys.now
 asked (Node genesis keys ports dials ahead) =
     node genesis.now keys.now ports.now (option_map (λ word. word.now) dials) (option_map (λ word. word.now) ahead)
-asked (Audit files) = audit (map (λ name. name.now) files.items)
+asked (Audit files jobs) =
+    audit (map (λ name. name.now) files.items) (option_map (λ word. word.now) jobs)
 asked (Statement export account) = statement export.now (option_map (λ word. word.now) account)
 asked (Journal export date) = journal export.now (option_map (λ word. word.now) date)
 asked Sim = sim
@@ -142,7 +143,7 @@ abbrev pub files_of : List Row → List Text
 files_of rows = unwrap_or (all_of (codes "files") rows) []
 
 abbrev pub audit_asked : List Row → Asked
-audit_asked rows = audit (files_of rows)
+audit_asked rows = audit (files_of rows) (first_of (codes "jobs") rows)
 
 abbrev pub statement_asked : List Row → Asked
 statement_asked rows = statement (named (codes "export") rows) (first_of (codes "account") rows)

@@ -1,4 +1,4 @@
--- How many threads judge frames, as a word says it.
+-- How many threads share the work, as a word says it.
 use Rattle.std.specs.Prelude.{◌≡◌, ℕ, ◌&&◌, nat_le, nat_lt, List, Option, Some, None, option_and_then, if◌then◌else◌}
 use Rattle.pay_text.specs.Numbers.{number_of}
 use Rattle.payd.specs.declared.jobs.TheConstants.{MOST_JOBS}

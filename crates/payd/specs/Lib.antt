@@ -6,3 +6,4 @@ pub mod Dates
 pub mod Ahead
 pub mod Texts
 pub mod Jobs
+pub mod Outcomes

@@ -1,4 +1,4 @@
-//! How many threads judge frames.
+//! How many threads share the work of `check` and `audit`.
 
 ghost use Rattle.std.specs.Prelude.{◌≡◌, ◌<◌, ◌≤◌, Some, IfErr, IfOk, IfSome};
 ghost use Rattle.std.specs.Option.{option_map};

@@ -5,6 +5,7 @@ ghost use Rattle.std.specs.Prelude.{◌≡◌, length};
 ghost use Rattle.pay_link.specs.Keys.{IsKeysOf};
 
 mod ahead;
+mod batches;
 mod dates;
 mod dials;
 mod files;
@@ -16,10 +17,11 @@ mod texts;
 mod words;
 
 use ahead::ahead_of;
+use batches::verdict_over;
 use clap::error::ErrorKind;
 use dates::date_of;
 use dials::dials_of;
-use files::{export_of, genesis_of, keys_of, verdict_on};
+use files::{NamedFiles, export_of, genesis_of, keys_of};
 use jobs::jobs_of;
 use pay_audit::{Verdict, write_export};
 use pay_cli::run_check;
@@ -87,7 +89,9 @@ fn main(rt: HostRuntime) -> ExitCode {
             &rt,
             serve_node(rt.alloc(), &rt, genesis, keys, ports, dials, ahead),
         ),
-        Ok(Job::Audit { files }) => status_of_audit(&rt, audit(rt.alloc(), &rt, files.as_slice())),
+        Ok(Job::Audit { files, jobs }) => {
+            status_of_audit(&rt, audit(rt.alloc(), &rt, &rt, files.as_slice(), jobs))
+        }
         Ok(Job::Statement { export, account }) => {
             status_of(&rt, statement(rt.alloc(), &rt, export, account))
         }
@@ -212,13 +216,16 @@ fn print_export(rt: &impl Print, member: &OwnMember) -> Result<(), StreamFault> 
     write_text(&mut writer, b"\n")
 }
 
-/// Says what is wrong with the exports in these files, if anything is.
+/// Says what is wrong with the exports in the files of these names, if anything is.
 fn audit<'a>(
     alloc: Global,
-    rt: &(impl Files + Print),
-    files: &[&'a str],
+    rt: &(impl Print + Threads + Sync),
+    files: &(impl NamedFiles + Sync),
+    names: &[&'a str],
+    jobs: Option<&'a str>,
 ) -> Result<Verdict, Stop<'a>> {
-    let verdict = verdict_on(alloc, rt, files)?;
+    let jobs = jobs_of(rt, jobs)?;
+    let verdict = verdict_over(rt, jobs, alloc, files, names)?;
     println!(rt; "{verdict}").map_err(|_| EngineFault::Write)?;
     Ok(verdict)
 }

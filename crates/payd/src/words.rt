@@ -36,9 +36,11 @@ pub(crate) enum Job<'a> {
         dials: Option<&'a str>,
         ahead: Option<&'a str>,
     },
-    /// Say what is wrong with the exports in the files of these names, if anything is.
+    /// Say what is wrong with the exports in the files of these names, if anything is, read by as many
+    /// threads as this word says.
     Audit {
         files: Vec<&'a str>,
+        jobs: Option<&'a str>,
     },
     /// Write the statement of this account, or of all, by the export in the file of this name.
     Statement {
@@ -150,6 +152,10 @@ const AUDIT_ABOUT: &str =
 
 const AUDIT_HELP: &str = "\
 Input: a file of JSON for each export.
+
+--jobs says how many threads read and settle exports, 1 to 8; without it as many as there are processors,
+8 at most. The verdict is the same. As many exports as threads are in memory at once; with 1 no thread is
+started.
 
 Output: one line, in which exports are named by their places from 0: the first of these that there is.
   clean
@@ -321,12 +327,13 @@ fn node_job<'a>(node: &ArgMatches<'a>) -> Job<'a>
     }
 }
 
-/// The job of `audit` with these files.
+/// The job of `audit` with these files and options.
 fn audit_job<'a>(alloc: Global, audit: &ArgMatches<'a>) -> Result<Job<'a>, AllocError>
     ensures { IfOk result (λ job. asked job ≡ audit_asked (rows_of (found_of audit.now))) }
 {
     Ok(Job::Audit {
         files: files_in(alloc, audit)?,
+        jobs: given(audit, "jobs"),
     })
 }
 
@@ -452,11 +459,13 @@ fn node<'a>(alloc: Global) -> Result<Command<'a>, AllocError>
         .arg(ahead)
 }
 
-/// The command `audit` and its files.
+/// The command `audit`, its files and its options.
 fn audit<'a>(alloc: Global) -> Result<Command<'a>, AllocError>
     ensures { IfOk result (λ command. IsCommand command audit_app) }
 {
-    titled(alloc, "audit", AUDIT_ABOUT, AUDIT_HELP).arg(files(alloc))
+    let command = titled(alloc, "audit", AUDIT_ABOUT, AUDIT_HELP);
+    let jobs = option(alloc, "jobs", "COUNT", "How many threads read exports");
+    command.arg(files(alloc))?.arg(jobs)
 }
 
 /// The command `statement`, its export and its account.

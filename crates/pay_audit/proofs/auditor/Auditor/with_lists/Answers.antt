@@ -4,15 +4,15 @@ use Rattle.pay_link.specs.Genesis.{GenesisFields}
 use Rattle.pay_audit.specs.Auditor.{HasComparedBy}
 use Rattle.pay_audit.specs.Export.{ExportFields}
 use Rattle.pay_audit.proofs.Taking.{first_with_genesis, found_with, nothing_before}
-use Rattle.pay_audit.proofs.auditor.Auditor.add.Goals as goal
-use Rattle.pay_audit.proofs.auditor.Auditor.add.Goals.{then-is_nothing+in_ok-comparison, else-is_nothing}
+use Rattle.pay_audit.proofs.auditor.Auditor.with_lists.Goals as goal
+use Rattle.pay_audit.proofs.auditor.Auditor.with_lists.Goals.{then-is_nothing+in_ok-comparison, else-is_nothing}
 
 pub returns-clause-taken : goal.returns-clause-taken
 returns-clause-taken c =
     let self = c.args.self in
     let e = c.args.export.now in
-    let now = c.in_ok-wrong.wrong in
-    let ens = c.in_ok-wrong.ensures in
+    let now = c.args.wrong in
+    let ens = c.requires.wrong in
     λ exports h. record {
       taken = omega (arith, h.taken, length-append exports (e ∷ []));
       genesis =
