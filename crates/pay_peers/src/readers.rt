@@ -139,7 +139,6 @@ where
         }
         thread::sleep(rt, Duration::from_millis(patience.note(met)));
     }
-    unreachable!()
 }
 
 // Feeds the node from one connection. Answers whether a frame came that opened.
