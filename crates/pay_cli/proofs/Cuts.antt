@@ -14,7 +14,7 @@ use Rattle.pay_frame.specs.Stream.{IsFramesThen}
 use Rattle.pay_link.specs.Keys.{KeyFields}
 use Rattle.std.specs.declared.alloc.AllocError.{AllocError}
 use Rattle.pay_cli.specs.declared.judging.Judged.{Judged}
-use Rattle.pay_cli.specs.Verdicts.{AreHalves, AreJudged, IsCut, IsJudged}
+use Rattle.pay_cli.specs.Findings.{AreHalves, AreJudged, IsCut, IsJudged}
 
 abbrev pub ReadAgain : Type 0
 ReadAgain = (f : FrameFields) (rest : List ℕ) (answer : Result (Option (FrameFields × ℕ)) FrameFault) → IsFrame f → IsReading (frame_bytes f ++ rest) answer → answer ≡ Ok (Some (f, length (frame_bytes f)))

@@ -1,6 +1,6 @@
 pub mod Room
 pub mod Counting
 pub mod Starting
-pub mod Verdicts
+pub mod Findings
 pub mod Cuts
 pub mod Parts

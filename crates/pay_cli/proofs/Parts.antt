@@ -10,7 +10,7 @@ use Rattle.pay_cli.specs.declared.progress.Progress.{Progress}
 use Rattle.pay_cli.specs.CheckText.{checking}
 use Rattle.pay_cli.specs.Engine.{HasRoom}
 use Rattle.pay_cli.specs.Lines.{line_of, moved}
-use Rattle.pay_cli.specs.Verdicts.{AreJudged, IsJudged, Pushes}
+use Rattle.pay_cli.specs.Findings.{AreJudged, IsJudged, Pushes}
 
 state_both : (k : KeyFields) (p : Progress) (fs gs : List FrameFields) → state_after (checking k) p (fs ++ gs) ≡ state_after (checking k) (state_after (checking k) p fs) gs
 state_both k p [] gs = refl

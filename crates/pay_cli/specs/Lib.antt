@@ -1,4 +1,4 @@
 pub mod Lines
 pub mod CheckText
 pub mod Engine
-pub mod Verdicts
+pub mod Findings

@@ -5,7 +5,7 @@ ghost use Rattle.pay_frame.specs.Frame.{FrameFields};
 ghost use Rattle.pay_frame.specs.Stream.{IsFramesThen};
 ghost use Rattle.pay_link.specs.Keys.{IsKeysOf};
 ghost use Rattle.pay_cli.specs.Engine.{Writes};
-ghost use Rattle.pay_cli.specs.Verdicts.{JudgesAll};
+ghost use Rattle.pay_cli.specs.Findings.{JudgesAll};
 
 use crate::checking::Checking;
 use crate::cores::{LEAST_PART, OverCores, Shared};

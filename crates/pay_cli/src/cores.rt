@@ -4,7 +4,7 @@ ghost use Rattle.pay_frame.specs.Stream.{IsFramesThen};
 ghost use Rattle.pay_engine.specs.Exact.{exactly};
 ghost use Rattle.pay_cli.specs.CheckText.{checking};
 ghost use Rattle.pay_cli.specs.Engine.{HasRoom};
-ghost use Rattle.pay_cli.specs.Verdicts.{JudgesAll};
+ghost use Rattle.pay_cli.specs.Findings.{JudgesAll};
 ghost use Rattle.std.proofs.Common.{subst, sym};
 ghost use Rattle.std.proofs.Math.Numerals.{add-one};
 

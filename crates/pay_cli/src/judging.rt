@@ -5,21 +5,21 @@ ghost use Rattle.pay_frame.specs.Frame.{FrameFields};
 ghost use Rattle.pay_frame.specs.Lent.{fields_of};
 ghost use Rattle.pay_frame.specs.Stream.{IsFramesThen};
 ghost use Rattle.pay_engine.specs.Exact.{exactly};
-ghost use Rattle.pay_cli.specs.Verdicts.{IsJudged, judging, opened_turn, opened_words, turn_of};
-ghost use Rattle.pay_cli.specs.Verdicts.{words_of};
+ghost use Rattle.pay_cli.specs.Findings.{IsJudged, judging, opened_turn, opened_words, turn_of};
+ghost use Rattle.pay_cli.specs.Findings.{words_of};
 
+use crate::finding::{Finding, Findings, Turn};
 use crate::lines::{push_ok, push_refused, push_want};
-use crate::verdict::{Turn, Verdict, Verdicts};
 use pay_engine::FrameHandler;
 use pay_frame::{FrameFault, FrameRef, Kind};
 use pay_hmac::Tagger;
 use pay_link::{Keys, laws, open};
 use std::alloc::{AllocError, Global};
 
-/// The verdicts of some frames, and the words of their lines, one behind the other.
+/// The findings of some frames, and the words of their lines, one behind the other.
 #[derive(Drop)]
 pub struct Judged {
-    pub verdicts: Verdicts,
+    pub findings: Findings,
     pub words: Vec<u8>,
 }
 
@@ -30,7 +30,7 @@ pub struct Judging<'a, T> {
     pub keys: &'a Keys,
 }
 
-impl<T: Tagger> FrameHandler<Verdicts> for Judging<'_, T> {
+impl<T: Tagger> FrameHandler<Findings> for Judging<'_, T> {
     ghost handling = { λ j. exactly (judging j.keys.now) };
 
     ghost has_room = { λ _ _ _. Unit {0} };
@@ -44,20 +44,20 @@ impl<T: Tagger> FrameHandler<Verdicts> for Judging<'_, T> {
     fn handle(
         &self,
         _alloc: Global,
-        verdicts: &mut Verdicts,
+        findings: &mut Findings,
         frame: FrameRef<'_>,
         words: &mut Vec<u8>,
     ) -> Result<bool, AllocError> {
         let before = words.len();
         let turn = push_words(words, self.tagger, self.keys, frame)?;
         let size = words.len() - before;
-        verdicts.push(Verdict { size, turn })?;
+        findings.push(Finding { size, turn })?;
         Ok(true)
     }
 
     fn end(
         &self,
-        _verdicts: &Verdicts,
+        _findings: &Findings,
         _fault: FrameFault,
         _words: &mut Vec<u8>,
     ) -> Result<(), AllocError> {
@@ -69,7 +69,7 @@ impl Judged {
     /// Those of no frames.
     pub fn new(alloc: Global) -> Judged {
         Judged {
-            verdicts: Verdicts::new(alloc),
+            findings: Findings::new(alloc),
             words: Vec::new(alloc),
         }
     }
@@ -88,14 +88,14 @@ pub fn judge<T: Tagger>(
         → IfOk result (IsJudged keys.now fs) }
 {
     let Judged {
-        mut verdicts,
+        mut findings,
         mut words,
     } = before;
-    verdicts.clear();
+    findings.clear();
     words.clear();
     let judging = Judging { tagger: t, keys };
-    judging.handle_batch(alloc, &mut verdicts, frames, &mut words)?;
-    Ok(Judged { verdicts, words })
+    judging.handle_batch(alloc, &mut findings, frames, &mut words)?;
+    Ok(Judged { findings, words })
 }
 
 /// Writes the words of a frame, and returns whose turn has to be for its line to say them.

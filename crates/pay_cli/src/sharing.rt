@@ -4,7 +4,7 @@ ghost use Rattle.std.specs.Prelude.{◌≡◌, ◌++◌, ◌≤◌, List, [], le
 ghost use denote.Param.Send.{IsSync};
 ghost use Rattle.pay_frame.specs.Frame.{FrameFields};
 ghost use Rattle.pay_frame.specs.Stream.{IsFramesThen};
-ghost use Rattle.pay_cli.specs.Verdicts.{AreHalves, IsCut, JudgesAll};
+ghost use Rattle.pay_cli.specs.Findings.{AreHalves, IsCut, JudgesAll};
 
 use crate::judging::{Judged, judge};
 use pay_frame::{frame_sizes, read, read_again};

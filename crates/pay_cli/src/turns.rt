@@ -5,13 +5,13 @@ ghost use Rattle.std.specs.Prelude.{length, slice_index};
 ghost use Rattle.pay_frame.specs.Frame.{FrameFields};
 ghost use Rattle.pay_link.specs.Keys.{KeyFields};
 ghost use Rattle.pay_cli.specs.Engine.{HasRoom};
-ghost use Rattle.pay_cli.specs.Verdicts.{AreJudged, IsJudged, Pushes, fronts_in_turn, line_in_turn};
-ghost use Rattle.pay_cli.specs.Verdicts.{moved_in_turn, words_in_turn};
+ghost use Rattle.pay_cli.specs.Findings.{AreJudged, IsJudged, Pushes, fronts_in_turn, line_in_turn};
+ghost use Rattle.pay_cli.specs.Findings.{moved_in_turn, words_in_turn};
 
+use crate::finding::Turn;
 use crate::judging::Judged;
 use crate::lines::push_refused;
 use crate::progress::Progress;
-use crate::verdict::Turn;
 use pay_link::{Fronts, laws};
 use pay_text::{push_number, push_word};
 use std::alloc::AllocError;
@@ -48,12 +48,12 @@ fn push_judged(
 {
     // a law that the proof stands on: the call does nothing
     laws::opened();
-    let mut verdicts = judged.verdicts.as_slice();
+    let mut findings = judged.findings.as_slice();
     let mut words = judged.words.as_slice();
-    while let Some((verdict, others)) = verdicts.split_first() {
-        let (own, rest) = words.split_at(verdict.size);
-        push_line(out, progress, verdict.turn, own)?;
-        verdicts = others;
+    while let Some((finding, others)) = findings.split_first() {
+        let (own, rest) = words.split_at(finding.size);
+        push_line(out, progress, finding.turn, own)?;
+        findings = others;
         words = rest;
     }
     Ok(())

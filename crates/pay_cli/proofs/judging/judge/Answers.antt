@@ -1,8 +1,8 @@
 use Rattle.std.proofs.Common.{[], Ok, ◌≡◌, subst}
 use Rattle.pay_engine.specs.Handling.{HandlesBatch}
 use Rattle.pay_engine.specs.Exact.{exactly}
-use Rattle.pay_cli.specs.Verdicts.{judging}
-use Rattle.pay_cli.proofs.Verdicts.{judged_of}
+use Rattle.pay_cli.specs.Findings.{judging}
+use Rattle.pay_cli.proofs.Findings.{judged_of}
 use Rattle.pay_cli.proofs.judging.judge.Goals as goal
 
 pub returns : goal.returns
@@ -18,5 +18,5 @@ returns g c =
           let handled : HandlesBatch h c.clear.new.self state fs c.clear-2.new.self.items out (Ok on) = c.in_ok-handle_batch.ensures.handles fs cut in
           let all : HandlesBatch h [] state fs [] out (Ok on) = subst (λ vs. HandlesBatch h vs state fs [] out (Ok on)) first (subst (λ xs. HandlesBatch h c.clear.new.self state fs xs out (Ok on)) none handled) in
           let are = judged_of c.args.keys.now fs state out on all in
-          record { verdicts = are.0; words = are.1 };
+          record { findings = are.0; words = are.1 };
     }

@@ -3,7 +3,7 @@ use Rattle.std.specs.Prelude.{IfOk, OnOk}
 use Rattle.pay_frame.specs.Frame.{FrameFields}
 use Rattle.pay_frame.specs.Lent.{fields_of}
 use Rattle.pay_link.specs.Opening.{OpenedFields, judgement}
-use Rattle.pay_cli.specs.Verdicts.{opened_turn, opened_words}
+use Rattle.pay_cli.specs.Findings.{opened_turn, opened_words}
 use Rattle.pay_cli.proofs.judging.push_words.Goals as goal
 
 pub returns-in-Ok-clause-words : goal.returns-in-Ok-clause-words

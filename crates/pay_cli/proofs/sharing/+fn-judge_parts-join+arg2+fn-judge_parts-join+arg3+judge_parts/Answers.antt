@@ -1,6 +1,6 @@
 use Rattle.std.proofs.Common.{◌≡◌, Ok, rules}
 use Rattle.std.specs.Prelude.{IfOk}
-use Rattle.pay_cli.specs.Verdicts.{AreJudged}
+use Rattle.pay_cli.specs.Findings.{AreJudged}
 use Rattle.pay_cli.proofs.Cuts.{both_judged, joined_is, told_of}
 use Rattle.pay_cli.proofs.sharing.+fn-judge_parts-join+arg2+fn-judge_parts-join+arg3+judge_parts.Goals as goal
 

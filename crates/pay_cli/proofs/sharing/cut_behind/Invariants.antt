@@ -1,7 +1,7 @@
 use Rattle.std.proofs.Common.{◌-◌, ◌≤◌, [], List, length}
 use Rattle.pay_frame.specs.Frame.{FrameFields}
 use Rattle.pay_frame.specs.Stream.{IsFramesThen}
-use Rattle.pay_cli.specs.Verdicts.{IsCut}
+use Rattle.pay_cli.specs.Findings.{IsCut}
 use Rattle.pay_cli.proofs.sharing.cut_behind.Given as goal
 
 abbrev pub invariant-loop-at : goal.invariant-loop-at

@@ -1,7 +1,7 @@
 use Rattle.std.proofs.Common.{List, length}
 use Rattle.pay_frame.specs.Frame.{FrameFields}
 use Rattle.pay_link.specs.Keys.{KeyFields}
-use Rattle.pay_cli.specs.Verdicts.{AreJudged}
+use Rattle.pay_cli.specs.Findings.{AreJudged}
 use Rattle.pay_cli.proofs.Parts.{AmongParts, RoomForParts}
 use Rattle.pay_cli.proofs.turns.push_parts.Given as goal
 

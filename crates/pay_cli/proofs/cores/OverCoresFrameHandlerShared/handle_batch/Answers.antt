@@ -4,9 +4,9 @@ use Rattle.pay_engine.specs.Handling.{StepsPrefix}
 use Rattle.pay_cli.specs.declared.progress.Progress.{Progress}
 use Rattle.pay_cli.specs.CheckText.{checking}
 use Rattle.pay_cli.specs.Engine.{HasRoom}
-use Rattle.pay_cli.specs.Verdicts.{AreJudged}
+use Rattle.pay_cli.specs.Findings.{AreJudged}
 use Rattle.pay_cli.proofs.Cuts.{told_of}
-use Rattle.pay_cli.proofs.Verdicts.{batch_failed, batch_pushed, none_handled}
+use Rattle.pay_cli.proofs.Findings.{batch_failed, batch_pushed, none_handled}
 use Rattle.pay_cli.proofs.cores.OverCoresFrameHandlerShared.handle_batch.Goals as goal
 
 pub push_parts-requires : goal.push_parts-requires

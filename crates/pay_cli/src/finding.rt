@@ -15,46 +15,46 @@ pub struct Turn {
 /// How many bytes the words of a frame's line have, and whose turn has to be for the line to say
 /// them.
 #[derive(Clone, Copy, Debug, PartialEq, Eq)]
-pub struct Verdict {
+pub struct Finding {
     pub size: usize,
     pub turn: Option<Turn>,
 }
 
-/// The verdicts of some frames, in order.
+/// The findings of some frames, in order.
 #[derive(Drop)]
-pub struct Verdicts {
-    verdicts: Vec<Verdict>,
+pub struct Findings {
+    findings: Vec<Finding>,
 }
 
-impl Model for Verdicts {
+impl Model for Findings {
     ghost use Rattle.std.specs.Prelude.{List};
-    ghost use Rattle.pay_cli.specs.declared.verdict.Verdict.{Verdict as VerdictFields};
+    ghost use Rattle.pay_cli.specs.declared.finding.Finding.{Finding as FindingFields};
 
-    ghost Value = { List VerdictFields };
+    ghost Value = { List FindingFields };
 
-    ghost view = { λ v. v.verdicts.items };
+    ghost view = { λ f. f.findings.items };
 }
 
-impl Verdicts {
-    pub fn new(alloc: Global) -> Verdicts
+impl Findings {
+    pub fn new(alloc: Global) -> Findings
         ensures { result ≡ [] }
     {
-        Verdicts {
-            verdicts: Vec::new(alloc),
+        Findings {
+            findings: Vec::new(alloc),
         }
     }
 
-    pub fn as_slice(&self) -> &[Verdict]
+    pub fn as_slice(&self) -> &[Finding]
         ensures { result.now ≡ self.now }
     {
-        self.verdicts.as_slice()
+        self.findings.as_slice()
     }
 
-    pub fn push(&mut self, verdict: Verdict) -> Result<(), AllocError>
-        ensures pushed { OnOk result (self.new ≡ self.old ++ verdict ∷ []) }
+    pub fn push(&mut self, finding: Finding) -> Result<(), AllocError>
+        ensures pushed { OnOk result (self.new ≡ self.old ++ finding ∷ []) }
         ensures err { OnErr result (self.new ≡ self.old) }
     {
-        self.verdicts.push(verdict)?;
+        self.findings.push(finding)?;
         Ok(())
     }
 
@@ -62,6 +62,6 @@ impl Verdicts {
     pub fn clear(&mut self)
         ensures { self.new ≡ [] }
     {
-        self.verdicts.clear();
+        self.findings.clear();
     }
 }

@@ -1,4 +1,4 @@
--- The lines that follow from verdicts are those of the frames.
+-- The lines that follow from findings are those of the frames.
 use Rattle.std.proofs.Common.{◌≡◌, ◌⊎◌, inl, inr, ℕ, suc, ◌+◌, ◌<◌, ◌≤◌, ◌^◌, List, [], ◌∷◌, ◌++◌, length, take, drop, refl, sym, ◌∙◌, ap, ap₂, subst, arith, append_assoc, Result, Ok, Err}
 use Rattle.std.specs.Prelude.{◌↔◌, Bool, true, false, codes, decimal, map, slice_index, IfSome, ⊤}
 use Rattle.std.specs.List.{flat_map}
@@ -15,11 +15,11 @@ use Rattle.pay_link.specs.Fronts.{turn}
 use Rattle.pay_link.specs.Keys.{KeyFields}
 use Rattle.pay_link.specs.Opening.{OpenedFields, Opens, judgement, opened_fields}
 use Rattle.pay_cli.specs.declared.progress.Progress.{Progress}
-use Rattle.pay_cli.specs.declared.verdict.Verdict.{Verdict}
+use Rattle.pay_cli.specs.declared.finding.Finding.{Finding}
 use Rattle.pay_cli.specs.CheckText.{checking}
 use Rattle.pay_cli.specs.Engine.{HasRoom}
 use Rattle.pay_cli.specs.Lines.{fronts_after, judged_outcome, line_of, moved, ok_words, opened_outcome, outcome_words, turned}
-use Rattle.pay_cli.specs.Verdicts.{Pushes, fronts_in_turn, judged_turn, judged_words, judging, line_in_turn, moved_in_turn, opened_turn, opened_words, turned_fronts, turned_words, turn_of, verdict_of, words_in_turn, words_of}
+use Rattle.pay_cli.specs.Findings.{Pushes, fronts_in_turn, judged_turn, judged_words, judging, line_in_turn, moved_in_turn, opened_turn, opened_words, turned_fronts, turned_words, turn_of, finding_of, words_in_turn, words_of}
 
 -- ---- one line
 
@@ -59,58 +59,58 @@ pub moved_is : (k : KeyFields) (p : Progress) (f : FrameFields) → moved_in_tur
 unfolding moved
 moved_is k p f = ap (λ (fronts : List ℕ). let q : Progress = record { fronts = fronts; line = p.line + 1 } in q) (judged_moves p.fronts f (judgement k f))
 
--- ---- verdicts
+-- ---- findings
 
--- all verdicts and words of some frames
-pub judged_all : (k : KeyFields) (s t : List Verdict) (fs : List FrameFields) (text : List ℕ) → Steps (exactly (judging k)) s t fs text → (t ≡ s ++ map (verdict_of k) fs) × (text ≡ flat_map (words_of k) fs)
+-- all findings and words of some frames
+pub judged_all : (k : KeyFields) (s t : List Finding) (fs : List FrameFields) (text : List ℕ) → Steps (exactly (judging k)) s t fs text → (t ≡ s ++ map (finding_of k) fs) × (text ≡ flat_map (words_of k) fs)
 judged_all k s t [] text are = (are.0 ∙ sym (append-nil s), are.1)
 judged_all k s t (f ∷ fs) text are =
     let rest = judged_all k are.0 t fs are.2 are.4 in (
-      rest.0 ∙ ap (λ vs. vs ++ map (verdict_of k) fs) are.3.0 ∙ append_assoc s (verdict_of k f ∷ []) (map (verdict_of k) fs),
+      rest.0 ∙ ap (λ vs. vs ++ map (finding_of k) fs) are.3.0 ∙ append_assoc s (finding_of k f ∷ []) (map (finding_of k) fs),
       are.5 ∙ ap₂ (λ xs ys. xs ++ ys) are.3.1 rest.1,
     )
 
-pub judged_of : (k : KeyFields) (fs : List FrameFields) (t : List Verdict) (words : List ℕ) (on : Bool) → HandlesBatch (exactly (judging k)) [] t fs [] words (Ok on) → (t ≡ map (verdict_of k) fs) × (words ≡ flat_map (words_of k) fs)
+pub judged_of : (k : KeyFields) (fs : List FrameFields) (t : List Finding) (words : List ℕ) (on : Bool) → HandlesBatch (exactly (judging k)) [] t fs [] words (Ok on) → (t ≡ map (finding_of k) fs) × (words ≡ flat_map (words_of k) fs)
 judged_of k fs t words true all =
     let are = judged_all k [] t fs all.0 all.1 in
     (are.0, all.2 ∙ are.1)
 judged_of k fs t words false some = absurd some.stopped
 
--- the verdict in front
-pub record NextJudged (k : KeyFields) (fs : List FrameFields) (v : Verdict) (vs : List Verdict) (words : List ℕ) : Type 0 where
+-- the finding in front
+pub record NextJudged (k : KeyFields) (fs : List FrameFields) (v : Finding) (vs : List Finding) (words : List ℕ) : Type 0 where
   pub frame : FrameFields
   pub more : List FrameFields
   pub is : fs ≡ frame ∷ more
   pub turn : v.turn ≡ turn_of k frame
   pub fits : v.size ≤ length words
   pub own : take v.size words ≡ words_of k frame
-  pub verdicts : vs ≡ map (verdict_of k) more
+  pub findings : vs ≡ map (finding_of k) more
   pub rest : drop v.size words ≡ flat_map (words_of k) more
 
-first_verdict : Verdict → List Verdict → Verdict
-first_verdict d [] = d
-first_verdict d (v ∷ vs) = v
+first_finding : Finding → List Finding → Finding
+first_finding d [] = d
+first_finding d (v ∷ vs) = v
 
-other_verdicts : List Verdict → List Verdict
-other_verdicts [] = []
-other_verdicts (v ∷ vs) = vs
+other_findings : List Finding → List Finding
+other_findings [] = []
+other_findings (v ∷ vs) = vs
 
-pub next_judged : (k : KeyFields) (fs : List FrameFields) (all : List Verdict) (v : Verdict) (vs : List Verdict) (words : List ℕ) → all ≡ v ∷ vs → all ≡ map (verdict_of k) fs → words ≡ flat_map (words_of k) fs → NextJudged k fs v vs words
-unfolding first_verdict other_verdicts
+pub next_judged : (k : KeyFields) (fs : List FrameFields) (all : List Finding) (v : Finding) (vs : List Finding) (words : List ℕ) → all ≡ v ∷ vs → all ≡ map (finding_of k) fs → words ≡ flat_map (words_of k) fs → NextJudged k fs v vs words
+unfolding first_finding other_findings
 next_judged k [] all v vs words are is same = let none : v ∷ vs ≡ [] = sym are ∙ is in absurd (omega (arith, ap length none))
 next_judged k (f ∷ fs) all v vs words are is same =
-    let both : v ∷ vs ≡ verdict_of k f ∷ map (verdict_of k) fs = sym are ∙ is in
-    let head : v ≡ verdict_of k f = ap (first_verdict v) both in
-    let size : v.size ≡ length (words_of k f) = ap (λ (w : Verdict). w.size) head in
+    let both : v ∷ vs ≡ finding_of k f ∷ map (finding_of k) fs = sym are ∙ is in
+    let head : v ≡ finding_of k f = ap (first_finding v) both in
+    let size : v.size ≡ length (words_of k f) = ap (λ (w : Finding). w.size) head in
     let behind : List ℕ = flat_map (words_of k) fs in
     record {
       frame = f;
       more = fs;
       is = refl;
-      turn = ap (λ (w : Verdict). w.turn) head;
+      turn = ap (λ (w : Finding). w.turn) head;
       fits = omega (arith, size, ap length same, length-append (words_of k f) behind);
       own = ap (λ n. take n words) size ∙ ap (take (length (words_of k f))) same ∙ take-append-le (length (words_of k f)) (words_of k f) behind (omega arith) ∙ take_all (length (words_of k f)) (words_of k f) (omega arith);
-      verdicts = ap other_verdicts both;
+      findings = ap other_findings both;
       rest = ap (λ n. drop n words) size ∙ ap (drop (length (words_of k f))) same ∙ drop-append_seam (words_of k f) behind;
     }
 
@@ -141,19 +141,19 @@ texts_more k p [] f = append-nil (line_of k p f)
 texts_more k p (g ∷ gs) f = ap (λ xs. line_of k p g ++ xs) (texts_more k (moved k p g) gs f) ∙ sym (append_assoc (line_of k p g) (texts_from (checking k) (moved k p g) gs) (line_of k (state_after (checking k) (moved k p g) gs) f))
 
 -- the first lines are written, and of these frames they aren't yet
-pub record AmongLines (k : KeyFields) (fs : List FrameFields) (before now : Progress) (old new : List ℕ) (vs : List Verdict) (ws : List ℕ) : Type 0 where
+pub record AmongLines (k : KeyFields) (fs : List FrameFields) (before now : Progress) (old new : List ℕ) (vs : List Finding) (ws : List ℕ) : Type 0 where
   pub first : List FrameFields
   pub others : List FrameFields
   pub parts : fs ≡ first ++ others
-  pub verdicts : vs ≡ map (verdict_of k) others
+  pub findings : vs ≡ map (finding_of k) others
   pub words : ws ≡ flat_map (words_of k) others
   pub state : now ≡ state_after (checking k) before first
   pub text : new ≡ old ++ texts_from (checking k) before first
 
-pub one_line_more : (k : KeyFields) (fs : List FrameFields) (before now later : Progress) (old new newer : List ℕ) (all : List Verdict) (v : Verdict) (vs : List Verdict) (words own rest : List ℕ)
+pub one_line_more : (k : KeyFields) (fs : List FrameFields) (before now later : Progress) (old new newer : List ℕ) (all : List Finding) (v : Finding) (vs : List Finding) (words own rest : List ℕ)
     → AmongLines k fs before now old new all words → all ≡ v ∷ vs → own ≡ take v.size words → rest ≡ drop v.size words → later ≡ moved_in_turn now v.turn → newer ≡ new ++ line_in_turn now v.turn own → AmongLines k fs before later old newer vs rest
 one_line_more k fs before now later old new newer all v vs words own rest a are own_is rest_is moves writes =
-    let next = next_judged k a.others all v vs words are a.verdicts a.words in
+    let next = next_judged k a.others all v vs words are a.findings a.words in
     let f = next.frame in
     let line : line_in_turn now v.turn own ≡ line_of k (state_after (checking k) before a.first) f =
     ap₂ (λ t xs. line_in_turn now t xs) next.turn (own_is ∙ next.own) ∙ line_is k now f ∙ ap (λ q. line_of k q f) a.state
@@ -162,23 +162,23 @@ one_line_more k fs before now later old new newer all v vs words own rest a are 
       first = a.first ++ f ∷ [];
       others = next.more;
       parts = a.parts ∙ ap (λ gs. a.first ++ gs) next.is ∙ sym (append_assoc a.first (f ∷ []) next.more);
-      verdicts = next.verdicts;
+      findings = next.findings;
       words = rest_is ∙ next.rest;
       state = moves ∙ ap (λ t. moved_in_turn now t) next.turn ∙ moved_is k now f ∙ ap (λ q. moved k q f) a.state ∙ sym (state_more k before a.first f);
       text = writes ∙ ap₂ (λ xs ys. xs ++ ys) a.text line ∙ append_assoc old (texts_from (checking k) before a.first) (line_of k (state_after (checking k) before a.first) f)
           ∙ ap (λ xs. old ++ xs) (sym (texts_more k before a.first f));
     }
 
-pub all_lines : (k : KeyFields) (fs : List FrameFields) (before now : Progress) (old new : List ℕ) (vs : List Verdict) (words : List ℕ) → AmongLines k fs before now old new vs words → length vs ≡ 0 → Pushes k before now fs old new (Ok tt)
-all_lines k fs before now old new vs words a none = by a.others a.verdicts a.parts where
-  by : (others : List FrameFields) → vs ≡ map (verdict_of k) others → fs ≡ a.first ++ others → Pushes k before now fs old new (Ok tt)
+pub all_lines : (k : KeyFields) (fs : List FrameFields) (before now : Progress) (old new : List ℕ) (vs : List Finding) (words : List ℕ) → AmongLines k fs before now old new vs words → length vs ≡ 0 → Pushes k before now fs old new (Ok tt)
+all_lines k fs before now old new vs words a none = by a.others a.findings a.parts where
+  by : (others : List FrameFields) → vs ≡ map (finding_of k) others → fs ≡ a.first ++ others → Pushes k before now fs old new (Ok tt)
   by [] is parts =
       let same : fs ≡ a.first = parts ∙ append-nil a.first in
       (a.state ∙ ap (state_after (checking k) before) (sym same), a.text ∙ ap (λ gs. old ++ texts_from (checking k) before gs) (sym same))
   by (f ∷ others) is parts = absurd (omega (arith, none, ap length is))
 
 -- memory was refused for a line: its frame was counted, or not
-pub some_lines : (k : KeyFields) (fs : List FrameFields) (before now later : Progress) (old new : List ℕ) (all : List Verdict) (v : Verdict) (vs : List Verdict) (words : List ℕ) (e : AllocError) (newer : List ℕ)
+pub some_lines : (k : KeyFields) (fs : List FrameFields) (before now later : Progress) (old new : List ℕ) (all : List Finding) (v : Finding) (vs : List Finding) (words : List ℕ) (e : AllocError) (newer : List ℕ)
     → AmongLines k fs before now old new all words → all ≡ v ∷ vs → (later ≡ now) ⊎ (later ≡ moved_in_turn now v.turn) → Pushes k before later fs old newer (Err e)
 some_lines k fs before now later old new all v vs words e newer a are (inl same) = (a.first, a.others, a.parts, same ∙ a.state)
 some_lines k fs before now later old new all v vs words e newer a are (inr moves) =
@@ -186,15 +186,15 @@ some_lines k fs before now later old new all v vs words e newer a are (inr moves
     (more.first, more.others, more.parts, more.state)
 
 -- there is room for the lines that are left
-pub record RoomLeft (now : Progress) (vs : List Verdict) (ws : List ℕ) : Type 0 where
+pub record RoomLeft (now : Progress) (vs : List Finding) (ws : List ℕ) : Type 0 where
   pub keys : KeyFields
   pub frames : List FrameFields
-  pub verdicts : vs ≡ map (verdict_of keys) frames
+  pub findings : vs ≡ map (finding_of keys) frames
   pub words : ws ≡ flat_map (words_of keys) frames
   pub room : HasRoom keys now (length frames)
 
 -- what the line in front needs
-pub record LineFits (now : Progress) (v : Verdict) (words : List ℕ) : Type 0 where
+pub record LineFits (now : Progress) (v : Finding) (words : List ℕ) : Type 0 where
   pub known : IfSome v.turn (λ t. t.from < length now.fronts)
   pub below : (member : ℕ) → slice_index now.fronts member + 1 < 2 ^ 64
   pub line : now.line + 1 < 2 ^ 64
@@ -203,9 +203,9 @@ pub record LineFits (now : Progress) (v : Verdict) (words : List ℕ) : Type 0 w
 room_of_first : (k : KeyFields) (p : Progress) (fs : List FrameFields) (f : FrameFields) (more : List FrameFields) → fs ≡ f ∷ more → HasRoom k p (length fs) → HasRoom k p (suc (length more))
 room_of_first k p fs f more is room = subst (λ gs. HasRoom k p (length gs)) is room
 
-pub line_fits : OpenedLaw → (now : Progress) (all : List Verdict) (v : Verdict) (vs : List Verdict) (words : List ℕ) → RoomLeft now all words → all ≡ v ∷ vs → LineFits now v words
+pub line_fits : OpenedLaw → (now : Progress) (all : List Finding) (v : Finding) (vs : List Finding) (words : List ℕ) → RoomLeft now all words → all ≡ v ∷ vs → LineFits now v words
 line_fits law now all v vs words r are =
-    let next = next_judged r.keys r.frames all v vs words are r.verdicts r.words in
+    let next = next_judged r.keys r.frames all v vs words are r.findings r.words in
     let in_line = (room_of_first r.keys now r.frames next.frame next.more next.is r.room).0 in
     let below = in_line.below in
     let more = in_line.more in
@@ -216,14 +216,14 @@ line_fits law now all v vs words r are =
       fits = next.fits;
     }
 
-pub room_more : (now later : Progress) (all : List Verdict) (v : Verdict) (vs : List Verdict) (words rest : List ℕ) → RoomLeft now all words → all ≡ v ∷ vs → rest ≡ drop v.size words → later ≡ moved_in_turn now v.turn → RoomLeft later vs rest
+pub room_more : (now later : Progress) (all : List Finding) (v : Finding) (vs : List Finding) (words rest : List ℕ) → RoomLeft now all words → all ≡ v ∷ vs → rest ≡ drop v.size words → later ≡ moved_in_turn now v.turn → RoomLeft later vs rest
 room_more now later all v vs words rest r are rest_is moves =
-    let next = next_judged r.keys r.frames all v vs words are r.verdicts r.words in
+    let next = next_judged r.keys r.frames all v vs words are r.findings r.words in
     let after = (room_of_first r.keys now r.frames next.frame next.more next.is r.room).1 next.frame in
     record {
       keys = r.keys;
       frames = next.more;
-      verdicts = next.verdicts;
+      findings = next.findings;
       words = rest_is ∙ next.rest;
       room = subst (λ q. HasRoom r.keys q (length next.more)) (sym (moves ∙ ap (λ t. moved_in_turn now t) next.turn ∙ moved_is r.keys now next.frame)) after;
     }

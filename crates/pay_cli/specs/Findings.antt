@@ -14,8 +14,8 @@ use Rattle.pay_link.specs.Keys.{KeyFields}
 use Rattle.pay_link.specs.Opening.{OpenedFields, judgement}
 use Rattle.pay_cli.specs.declared.judging.Judged.{Judged}
 use Rattle.pay_cli.specs.declared.progress.Progress.{Progress}
-use Rattle.pay_cli.specs.declared.verdict.Turn.{Turn}
-use Rattle.pay_cli.specs.declared.verdict.Verdict.{Verdict}
+use Rattle.pay_cli.specs.declared.finding.Turn.{Turn}
+use Rattle.pay_cli.specs.declared.finding.Finding.{Finding}
 use Rattle.pay_cli.specs.CheckText.{checking}
 use Rattle.pay_cli.specs.Lines.{ok_words, want_words, refused_words}
 
@@ -48,20 +48,20 @@ words_of k f = judged_words f (judgement k f)
 abbrev pub turn_of : KeyFields → FrameFields → Option Turn
 turn_of k f = judged_turn f (judgement k f)
 
-abbrev pub verdict_of : KeyFields → FrameFields → Verdict
-verdict_of k f = record { size = length (words_of k f); turn = turn_of k f }
+abbrev pub finding_of : KeyFields → FrameFields → Finding
+finding_of k f = record { size = length (words_of k f); turn = turn_of k f }
 
--- a verdict for each frame, and its words
-abbrev pub judging : KeyFields → Function (List Verdict)
+-- a finding for each frame, and its words
+abbrev pub judging : KeyFields → Function (List Finding)
 judging k = record {
-  after = λ verdicts f. verdicts ++ verdict_of k f ∷ [];
-  text = λ verdicts f. words_of k f;
-  fault_text = λ verdicts fault. [];
+  after = λ findings f. findings ++ finding_of k f ∷ [];
+  text = λ findings f. words_of k f;
+  fault_text = λ findings fault. [];
 }
 
--- all verdicts and all words of some frames
+-- all findings and all words of some frames
 pub record IsJudged (k : KeyFields) (fs : List FrameFields) (judged : Judged) : Type 0 where
-  pub verdicts : judged.verdicts ≡ map (verdict_of k) fs
+  pub findings : judged.findings ≡ map (finding_of k) fs
   pub words : judged.words.items ≡ flat_map (words_of k) fs
 
 -- so in parts, one behind the other
