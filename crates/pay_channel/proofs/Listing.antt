@@ -1,5 +1,6 @@
 -- An account's list by place, and the lists of a channel that took nothing.
-use Rattle.std.proofs.Common.{◌≡◌, ℕ, zero, suc, ◌+◌, ◌<◌, ◌≤◌, Bool, true, false, cond, ltb, List, [], ◌∷◌, length, slice_get, replicate, Option, None, Some, refl, sym, ap, ◌∙◌, arith, le-ltb, zero-add}
+use Rattle.std.proofs.Common.{◌≡◌, ℕ, Bor, zero, suc, ◌+◌, ◌<◌, ◌≤◌, Bool, true, false, cond, ltb, List, [], ◌∷◌, length, slice_get, replicate, Option, None, Some, refl, sym, ap, ◌∙◌, arith, le-ltb, zero-add}
+use Rattle.std.specs.Option.{IsSome, option_copied}
 use Rattle.std.proofs.lemmas.Bool.{cond-true, cond-false}
 use Rattle.std.proofs.lemmas.List.{get_or-replicate, length-replicate}
 use Rattle.pay_frame.specs.declared.limits.TheConstants.{MOST_MEMBERS}
@@ -43,8 +44,12 @@ lists-at c a k below =
     ∙ known_at (value_at c a) 0 seqs k (omega (arith, below, ap length whole))
     ∙ ap (value_at c a) (zero-add k)
 
-pub listed_is_known : (c : State) (a k : ℕ) → k < length (lists_of c a) → value_at c a k ≡ None → ⊥
+listed_is_known : (c : State) (a k : ℕ) → k < length (lists_of c a) → value_at c a k ≡ None → ⊥
 listed_is_known c a k below e = slice_get-none (lists_of c a) k below (lists-at c a k below ∙ e)
+
+pub listed_is_there : (c : State) (a k : ℕ) (found : Option (Bor (List ℕ))) → k < length (lists_of c a) → option_copied found ≡ value_at c a k → IsSome found
+listed_is_there c a k (Some value) below e = refl
+listed_is_there c a k None below e = absurd (listed_is_known c a k below (sym e))
 
 pub lists_nobody : (c : State) (a : ℕ) → c.group.members ≤ a → lists_of c a ≡ []
 unfolding lists_of listed

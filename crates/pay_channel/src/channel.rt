@@ -216,10 +216,7 @@ impl<I: Instance + Drop> Source for Channel<I> {
     }
 
     fn at(&self, owner: u16, k: u32) -> &[u8] {
-        match self.delivered(owner, k) {
-            Some(value) => value,
-            None => unreachable!(),
-        }
+        self.delivered(owner, k).unwrap()
     }
 }
 

@@ -64,8 +64,5 @@ impl PreparedKey {
 fn copy_of(hasher: &Sha256) -> Sha256
     ensures { result ≡ hasher.now }
 {
-    match hasher.clone() {
-        Ok(copy) => copy,
-        Err(_) => unreachable!(),
-    }
+    hasher.clone().unwrap()
 }

@@ -318,12 +318,8 @@ impl<I: Instance + Drop, B: Settle + Drop> World<I, B> {
         what_is_brought();
         what_is_sent();
         forged_is_told();
-        let Some(giver) = self.member(from) else {
-            unreachable!()
-        };
-        let Some(body) = giver.sent(number) else {
-            unreachable!()
-        };
+        let giver = self.member(from).unwrap();
+        let body = giver.sent(number).unwrap();
         let checked = sealed(alloc, tagger, giver.keys(), to, number, body)?;
         Ok(checked)
     }

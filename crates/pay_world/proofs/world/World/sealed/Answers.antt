@@ -1,4 +1,5 @@
-use Rattle.std.proofs.Common.{◌≡◌, sym, ◌∙◌, subst}
+use Rattle.std.proofs.Common.{◌≡◌, ap, sym, ◌∙◌, subst}
+use Rattle.std.specs.Option.{option_copied}
 use Rattle.std.proofs.lemmas.Option.{same_Some}
 use Rattle.pay_frame.specs.Frame.{IsFrame, frame_bytes}
 use Rattle.pay_link.specs.Checked.{IsFor, bytes_of}
@@ -10,26 +11,26 @@ use Rattle.pay_world.proofs.world.World.sealed.Goals as goal
 
 pub sealed-requires-clause-kind : goal.sealed-requires-clause-kind
 sealed-requires-clause-kind g c =
-    let giver = c.in-Some.giver.now in
-    let body = c.in-Some-sent.body.now in
-    let sends = sends_this c.args.self.now c.args.from c.args.to c.args.number c.requires giver body (sym c.in-Some.ensures.value) (sym c.in-Some-sent.ensures) in
+    let giver = c.unwrap-giver.result.now in
+    let body = c.unwrap-body.result.now in
+    let sends = sends_this c.args.self.now c.args.from c.args.to c.args.number c.requires giver body (sym c.member.ensures.value ∙ ap option_copied c.unwrap-giver.ensures) (sym c.sent.ensures ∙ ap option_copied c.unwrap-body.ensures) in
     (comes c.args.self.now c.args.from c.args.to c.args.number giver c.requires.taker body c.member.ensures.limits sends
     c.forged_is_told.ensures.correct c.what_is_sent.ensures.may_come).3
 
 pub returns-clause-bytes : goal.returns-clause-bytes
 returns-clause-bytes g c =
-    let giver = c.in-Some.giver.now in
-    let body = c.in-Some-sent.body.now in
-    let sends = sends_this c.args.self.now c.args.from c.args.to c.args.number c.requires giver body (sym c.in-Some.ensures.value) (sym c.in-Some-sent.ensures) in
+    let giver = c.unwrap-giver.result.now in
+    let body = c.unwrap-body.result.now in
+    let sends = sends_this c.args.self.now c.args.from c.args.to c.args.number c.requires giver body (sym c.member.ensures.value ∙ ap option_copied c.unwrap-giver.ensures) (sym c.sent.ensures ∙ ap option_copied c.unwrap-body.ensures) in
     let Is : KeyFields → Type 0 = λ k. bytes_of c.in_ok-checked.checked ≡ frame_bytes (sealed k c.args.to c.args.number body) in
     let bytes : Is giver.keys = subst Is c.keys.ensures.value c.in_ok-checked.ensures.bytes in
     bytes ∙ frame_is c.args.self.now c.args.from c.args.to c.args.number giver c.requires.taker body c.member.ensures.limits sends
 
 pub returns-clause-mine : goal.returns-clause-mine
 returns-clause-mine g c = λ taker takes.
-    let giver = c.in-Some.giver.now in
-    let body = c.in-Some-sent.body.now in
-    let sends = sends_this c.args.self.now c.args.from c.args.to c.args.number c.requires giver body (sym c.in-Some.ensures.value) (sym c.in-Some-sent.ensures) in
+    let giver = c.unwrap-giver.result.now in
+    let body = c.unwrap-body.result.now in
+    let sends = sends_this c.args.self.now c.args.from c.args.to c.args.number c.requires giver body (sym c.member.ensures.value ∙ ap option_copied c.unwrap-giver.ensures) (sym c.sent.ensures ∙ ap option_copied c.unwrap-body.ensures) in
     let Is : KeyFields → Type 0 = λ k. c.in_ok-checked.checked ≡ record { frame = sealed k c.args.to c.args.number body; key = key_for k c.args.to } in
     let value : Is giver.keys = subst Is c.keys.ensures.value c.in_ok-checked.ensures.value in
     let mine = is_for c.args.self.now c.args.from c.args.to c.args.number giver c.requires.taker body c.member.ensures.limits sends
@@ -40,9 +41,9 @@ returns-clause-mine g c = λ taker takes.
 
 pub returns-in_err-checked-clause-unforged : goal.returns-in_err-checked-clause-unforged
 returns-in_err-checked-clause-unforged g c =
-    let giver = c.in-Some.giver.now in
-    let body = c.in-Some-sent.body.now in
-    let sends = sends_this c.args.self.now c.args.from c.args.to c.args.number c.requires giver body (sym c.in-Some.ensures.value) (sym c.in-Some-sent.ensures) in
+    let giver = c.unwrap-giver.result.now in
+    let body = c.unwrap-body.result.now in
+    let sends = sends_this c.args.self.now c.args.from c.args.to c.args.number c.requires giver body (sym c.member.ensures.value ∙ ap option_copied c.unwrap-giver.ensures) (sym c.sent.ensures ∙ ap option_copied c.unwrap-body.ensures) in
     let Is : KeyFields → Type 0 = λ k. IsFrame (sealed k c.args.to c.args.number body) in
     let fits : Is giver.keys = subst Is c.keys.ensures.value c.sealed.ensures.frame in
     passing_unforged c.args.self.now c.args.from c.args.to c.args.number giver c.requires.taker body c.member.ensures.limits sends
@@ -50,9 +51,9 @@ returns-in_err-checked-clause-unforged g c =
 
 pub returns-clause-unforged : goal.returns-clause-unforged
 returns-clause-unforged g c =
-    let giver = c.in-Some.giver.now in
-    let body = c.in-Some-sent.body.now in
-    let sends = sends_this c.args.self.now c.args.from c.args.to c.args.number c.requires giver body (sym c.in-Some.ensures.value) (sym c.in-Some-sent.ensures) in
+    let giver = c.unwrap-giver.result.now in
+    let body = c.unwrap-body.result.now in
+    let sends = sends_this c.args.self.now c.args.from c.args.to c.args.number c.requires giver body (sym c.member.ensures.value ∙ ap option_copied c.unwrap-giver.ensures) (sym c.sent.ensures ∙ ap option_copied c.unwrap-body.ensures) in
     let Is : KeyFields → Type 0 = λ k. IsFrame (sealed k c.args.to c.args.number body) in
     let fits : Is giver.keys = subst Is c.keys.ensures.value c.sealed.ensures.frame in
     passing_unforged c.args.self.now c.args.from c.args.to c.args.number giver c.requires.taker body c.member.ensures.limits sends
