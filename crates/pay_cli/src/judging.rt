@@ -67,7 +67,10 @@ impl<T: Tagger> FrameHandler<Findings> for Judging<'_, T> {
 
 impl Judged {
     /// Those of no frames.
-    pub fn new(alloc: Global) -> Judged {
+    pub fn new(alloc: Global) -> Judged
+        ensures findings { result.findings ≡ [] }
+        ensures words { result.words.items ≡ [] }
+    {
         Judged {
             findings: Findings::new(alloc),
             words: Vec::new(alloc),
