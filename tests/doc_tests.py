@@ -1,10 +1,13 @@
 """Whether what the pages name is there: files and headings that links lead to, calls, and the clauses that carry a
-promise."""
+promise; and whether each script says how it is called."""
 
+import itertools
 import os
 import re
+import subprocess
+from concurrent.futures import ThreadPoolExecutor
 
-from runs import TOP, same, test
+from runs import SECONDS, TOP, same, test
 
 from inventory import files_below, read_crates, read_file
 
@@ -166,3 +169,31 @@ def named_calls_stand():
         called = {part for it in CALL.findall(read_file(f"{TOP}/{page}")) for part in it.split("::")}
         unknown = {it for it in called - names - OF_THE_BOOK if not it[0].isdigit()}
         same(sorted(unknown), [], f"{page}: names that nothing has")
+
+
+def scripts():
+    """All that a person calls; ./payd hands each word on to the program, and calls choose-program."""
+    for folder in "", "tools", "tests", "bench", "examples":
+        for name in sorted(os.listdir(os.path.join(TOP, folder))):
+            path = os.path.join(TOP, folder, name)
+            if os.path.isfile(path) and os.access(path, os.X_OK) and name not in ("payd", "choose-program"):
+                yield path
+
+
+def says_usage(call):
+    """A script called with one word ends so, and says its usage there and nothing elsewhere."""
+    path, (word, status) = call
+    done = subprocess.run([path, word], stdin=subprocess.DEVNULL, capture_output=True, text=True, timeout=SECONDS)
+    said, other = (done.stderr, done.stdout) if status else (done.stdout, done.stderr)
+    was = done.returncode, re.search("usage", said, re.IGNORECASE) is not None, other
+    same(was, (status, True, ""), f"{os.path.relpath(path, TOP)} {word}: {said[:200]}")
+
+
+@test
+def each_script_says_how_it_is_called():
+    """On standard output where it is asked, and on standard error, with a status of its own, where words are wrong."""
+    found = list(scripts())
+    same(len(found) > 35, True, f"scripts: {len(found)}")
+    calls = itertools.product(found, (("--help", 0), ("-h", 0), ("--no-such-word", 2)))
+    with ThreadPoolExecutor(len(os.sched_getaffinity(0))) as pool:
+        list(pool.map(says_usage, calls))

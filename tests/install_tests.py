@@ -107,6 +107,6 @@ def fish_completes_a_node():
 def words_of_install():
     for words in ([], ["one", "two"]):
         done = subprocess.run([INSTALL, *words], capture_output=True, text=True, timeout=SECONDS)
-        same((done.returncode, done.stdout, "usage: tools/install" in done.stderr), (1, "", True), f"{words}")
+        same((done.returncode, done.stdout, "usage: tools/install" in done.stderr), (2, "", True), f"{words}")
     done = subprocess.run([INSTALL, "--help"], capture_output=True, text=True, timeout=SECONDS)
     same((done.returncode, "usage: tools/install" in done.stdout, done.stderr), (0, True, ""), "--help")
