@@ -2,6 +2,7 @@
 
 import json
 import os
+import signal
 import subprocess
 import sys
 import tempfile
@@ -28,6 +29,14 @@ def test(function):
 
 
 # ---- runs
+
+
+def heed_signals():
+    """Has children take each signal as usual. Run in the background or by nohup this process ignores some, and its
+    children would too, but for those that it takes itself."""
+    for number in (signal.SIGINT, signal.SIGHUP):
+        if signal.getsignal(number) is signal.SIG_IGN:
+            signal.signal(number, lambda *_: None)
 
 
 def run(words, stream=b""):
