@@ -1,10 +1,10 @@
 """Black-box tests of how a node is told to end, and of where its export goes."""
 
+import errno
 import itertools
 import json
 import os
-import re
-import select
+import resource
 import signal
 import stat
 import subprocess
@@ -13,17 +13,12 @@ import tempfile
 import time
 
 from frames import payment
+from held import HOLD, INSIDE, KEEP, LINE, LOST, NEWLINE, closes, contents, end_of, full_pipe, held, line_of, started
 from nodes import Group, audited, export_text, until, write_json
 from runs import GENESIS, PAYD, SECONDS, TOP, run, same, test
 
 OPENING = GENESIS["opening"]
-HOLD = os.path.join(TOP, "tools", "hold-node")
 PAIR_KEYS = os.path.join(TOP, "tools", "pair-keys")
-
-# Stands in for the program: answers a line, reads all others to their end, then does this.
-STAND_IN = "import sys, time, os; os.write(1, sys.stdin.buffer.readline()); sys.stdin.buffer.read(); "
-LINE = b"a line\n"
-NEWLINE = b"\n"
 
 
 def paid(group):
@@ -59,35 +54,6 @@ def signals_come_to_the_script_alone():
         same(os.getpgid(node.program()) == os.getpgid(node.child.pid), False, "the same group of processes")
 
 
-def started(words, code, **how):
-    """A stand-in for a node, held by the script, which is given a line."""
-    pipe = subprocess.PIPE
-    how = {"stdin": pipe, "stdout": pipe, "stderr": pipe, "bufsize": 0, **how}
-    child = subprocess.Popen([HOLD, *words, sys.executable, "-c", STAND_IN + code], **how)
-    if child.stdin is not None:
-        child.stdin.write(LINE)
-    return child
-
-
-def held(words, code, **how):
-    """The same, once the stand-in has answered, from when on the script takes signals."""
-    child = started(words, code, **how)
-    same(line_of(child.stdout), LINE, "the answer of the stand-in")
-    return child
-
-
-def line_of(stream):
-    """The next line of a pipe that isn't buffered."""
-    line = b""
-    while not line.endswith(NEWLINE):
-        same(select.select([stream], [], [], SECONDS)[0], [stream], f"what comes behind {line!r}")
-        piece = os.read(stream.fileno(), 1)
-        if piece == b"":
-            break
-        line += piece
-    return line
-
-
 @test
 def third_signal_ends_a_node():
     child = held([], 'os.write(1, b"the input has ended\\n"); time.sleep(600)')
@@ -115,18 +81,14 @@ def ignored_signal_stays_ignored():
 
 
 # Makes a signal come while the script starts the node.
-SIGNALLED = """
-import os, runpy, signal, subprocess, sys
-
+SIGNALLED = INSIDE.format("""
 class Started(subprocess.Popen):
     def __init__(self, *words, **how):
         os.kill(os.getpid(), signal.SIGTERM)
         super().__init__(*words, **how)
 
 subprocess.Popen = Started
-sys.argv = sys.argv[1:]
-runpy.run_path(sys.argv[0], run_name="__main__")
-"""
+""")
 
 
 @test
@@ -144,16 +106,71 @@ def signal_while_the_node_is_started():
             same(file.read(), b"{0}\n", "the export, of a node that read nothing")
 
 
-def full_pipe():
-    """A pipe that takes nothing until it is read."""
-    source, sink = os.pipe()
-    os.set_blocking(sink, False)
-    try:
-        while True:
-            os.write(sink, NEWLINE)
-    except BlockingIOError:
-        os.set_blocking(sink, True)
-    return source, sink
+# Makes a signal come when a piece of the lines was written, and is looked at before the next thing is done.
+BETWEEN = INSIDE.format("""
+class Pipe:
+    def __init__(self):
+        self.lock, self.was_held = threading.Lock(), threading.Event()
+
+    def acquire(self, blocking):
+        is_taken = self.lock.acquire(blocking)
+        if not is_taken:
+            self.was_held.set()
+        return is_taken
+
+    def release(self):
+        self.lock.release()
+
+    def __enter__(self):
+        self.lock.acquire()
+
+    def __exit__(self, *_):
+        os.kill(os.getpid(), signal.SIGTERM)
+        self.was_held.wait()
+        self.lock.release()
+
+class Holder(script.Holder):
+    def __init__(self):
+        super().__init__()
+        self.pipe = Pipe()
+
+script.Holder = Holder
+""")
+
+
+@test
+def signal_behind_a_piece_of_the_lines():
+    """Whoever wrote the piece ends the node's input, as the signal couldn't."""
+    holder = [sys.executable, "-c", BETWEEN, HOLD]
+    child = started([], 'os.write(1, b"{}\\n")', holder=holder)
+    same((end_of(child), child.stdout.read()), ((0, []), LINE + b"{}\n"), "the end")
+
+
+# All but those in the tests above; each ends a process that doesn't take it.
+SIGNALS = "QUIT USR1 USR2 ALRM VTALRM PROF XCPU IO PWR RTMIN"
+
+
+@test
+def other_signals_count_as_well():
+    """One key, ^\\, sends the first of them."""
+    with tempfile.TemporaryDirectory() as folder:
+        names = SIGNALS.split()
+        children = {it: started(["--export", os.path.join(folder, it)], 'os.write(1, b"{}\\n")') for it in names}
+        for name, child in children.items():
+            same(line_of(child.stdout), LINE, "the answer")
+            child.send_signal(getattr(signal, f"SIG{name}"))
+            same(end_of(child), (0, []), f"the end by SIG{name}")
+            same(contents(folder, name), b"{}\n", f"the export by SIG{name}")
+        same(sorted(os.listdir(folder)), sorted(names), "what is left")
+
+
+@test
+def node_leaves_signals_to_the_script():
+    """As where one is sent to all processes at once."""
+    numbers = "[os.kill(os.getpid(), it) for it in (signal.SIGTERM, signal.SIGINT, signal.SIGHUP, signal.SIGQUIT)]"
+    child = held([], f'import signal; {numbers}; os.write(1, b"{{}}\\n")')
+    output, errors = child.communicate(timeout=SECONDS)
+    same((child.returncode, output, errors), (0, b"{}\n", b""), "the end")
 
 
 @test
@@ -282,37 +299,145 @@ def file_that_was_begun_is_there():
 @test
 def program_that_is_not_there():
     with tempfile.TemporaryDirectory() as folder:
-        words = [HOLD, "--export", os.path.join(folder, "e"), "./none", "node"]
-        done = subprocess.run(words, input=b"", capture_output=True, cwd=folder, timeout=SECONDS)
-        told = done.stderr.decode().splitlines()[0]
-        same((done.returncode, told), (2, "payd: file ./none: No such file or directory"), "no program")
+        for more in ([], ["--help"]):
+            words = [HOLD, "--export", os.path.join(folder, "e"), "./none", "node", *more]
+            done = subprocess.run(words, input=b"", capture_output=True, cwd=folder, timeout=SECONDS)
+            told = done.stderr.decode().splitlines()[0]
+            same((done.returncode, told), (2, "payd: file ./none: No such file or directory"), f"no program, {more}")
+            same(os.listdir(folder), [], "what is left")
+
+
+@test
+def program_tells_of_itself():
+    """Nothing is held then, no export is begun, and no advice follows."""
+    echoes = "import sys; print(sys.argv[1:]); sys.exit(5)"
+    with tempfile.TemporaryDirectory() as folder:
+        for word in ("--help", "-h", "--version", "-V"):
+            words = [HOLD, sys.executable, "-c", echoes, "node", "--export", "e", word, "--stay"]
+            done = subprocess.run(words, input=b"", capture_output=True, cwd=folder, timeout=SECONDS)
+            said = f"['node', '{word}']\n".encode()
+            same((done.returncode, done.stdout, done.stderr, os.listdir(folder)), (5, said, b"", []), word)
+
+
+@test
+def options_that_the_script_refuses():
+    """As the program refuses those that it doesn't take twice, or that have no value."""
+    twice = "the argument '{}' cannot be used multiple times"
+    nothing = "a value is required for '{} <FILE>' but none was supplied"
+    with tempfile.TemporaryDirectory() as folder:
+        for words, said in (
+            ("--export a --export b", twice.format("--export")),
+            ("--export=a --lines=l --lines l", twice.format("--lines")),
+            ("--stay --stay", twice.format("--stay")),
+            ("--export", nothing.format("--export")),
+            ("--export=", nothing.format("--export")),
+            ("--export --stay", nothing.format("--export")),
+            ("--lines -", nothing.format("--lines")),
+        ):
+            call = [HOLD, "/bin/echo", "node", *words.split()]
+            done = subprocess.run(call, input=b"", capture_output=True, cwd=folder, timeout=SECONDS)
+            told, to_do = done.stderr.decode().splitlines()
+            same((done.returncode, done.stdout, told), (2, b"", f"payd: {said}"), words)
+            same(to_do, "payd: to do: nothing was started: payd node --help has its words", words)
         same(os.listdir(folder), [], "what is left")
 
 
-def closes(stream):
-    return {"preexec_fn": lambda: os.close(stream)}
+# Answers each line, and does this at their end.
+ANSWERS = "import sys, os\nwhile line := sys.stdin.buffer.readline(): os.write(1, line)\n"
 
 
-NOT_TAKEN = re.compile("payd: the answers can't be written: [A-Z][a-z ]+; the node goes on without them\n")
+def not_taken(why):
+    return f"payd: the answers can't be written: {os.strerror(why)}; the node's input ends here"
 
 
 @test
 def nobody_takes_the_answers():
-    """The reader goes away behind the first answer, or there is none: the export is written all the same."""
-    code = 'os.write(1, b"1\\n2\\n3\\n{}\\n")'
-    for how in ({}, closes(1)):
-        with tempfile.TemporaryDirectory() as folder:
-            export = os.path.join(folder, "e")
-            child = started(["--export", export], code, **how)
-            if not how:
-                same(line_of(child.stdout), LINE, "the first answer")
-            child.stdout.close()
-            child.stdin.close()
-            errors = child.stderr.read().decode()
-            same(NOT_TAKEN.fullmatch(errors) is not None, True, f"{how}: {errors!r}")
-            same(child.wait(SECONDS), 0, f"{how}: the status")
-            with open(export, "rb") as file:
-                same((file.read(), os.listdir(folder)), (b"{}\n", ["e"]), f"{how}: the export")
+    """The reader goes away behind the first answer, there is none, or no room: the node's input ends at once, and what
+    it still answers is read, up to its export."""
+    code = 'os.write(1, 30000 * b"front 0\\n" + b"{}\\n")'
+    with open("/dev/full", "wb") as full:
+        for why, how in ((errno.EPIPE, {}), (errno.EBADF, closes(1)), (errno.ENOSPC, {"stdout": full})):
+            with tempfile.TemporaryDirectory() as folder:
+                child = started(["--stay", "--export", os.path.join(folder, "e")], code, ANSWERS, **how)
+                if not how:
+                    same(line_of(child.stdout), LINE, "the first answer")
+                    child.stdout.close()
+                    child.stdin.write(LINE)
+                same(end_of(child), (3, [not_taken(why), KEEP]), f"{how}: the end")
+                same((contents(folder, "e"), os.listdir(folder)), (b"{}\n", ["e"]), f"{how}: the export")
+
+
+def limits_files(length):
+    """Has no file take more than that, as a full disk does."""
+    return {"preexec_fn": lambda: resource.setrlimit(resource.RLIMIT_FSIZE, (length, length))}
+
+
+def elsewhere(export, why, place):
+    """What is said of an export that its file didn't take."""
+    told = f"payd: the export can't be written to {export}: {os.strerror(why)}; it is on {place}"
+    return [told, f"payd: to do: the export is whole on {place}: keep that, and audit it like any other"]
+
+
+# More than one piece in all, and as much as the file is to take.
+LONG, TAKEN = b"{" + 100_000 * b"a" + b"}\n", 70_000
+WRITES_LONG = 'os.write(1, b"{" + 100_000 * b"a" + b"}\\n")'
+
+
+@test
+def export_that_its_file_does_not_take():
+    """It goes to standard output, with what the file took of it."""
+    with tempfile.TemporaryDirectory() as folder:
+        export = os.path.join(folder, "e")
+        child = held(["--export", export], WRITES_LONG, **limits_files(TAKEN))
+        output, errors = child.communicate(timeout=SECONDS)
+        said = elsewhere(export, errno.EFBIG, "standard output")
+        same((child.returncode, output, errors.decode().splitlines()), (3, LONG, said), "the end")
+        same((os.listdir(folder), contents(folder, "e.part")), (["e.part"], LONG[:TAKEN]), "what the file took")
+
+
+@test
+def export_that_nothing_else_takes():
+    """It goes to standard error where standard output takes nothing, or only a part."""
+    with tempfile.TemporaryDirectory() as folder, open(os.path.join(folder, "answers"), "wb") as answers:
+        export = os.path.join(folder, "e")
+        said = elsewhere(export, errno.EFBIG, "standard error")
+        for stdout, told in ((closes(1), [not_taken(errno.EBADF)]), ({"stdout": answers}, [])):
+            child = started(["--export", export], WRITES_LONG, **{**limits_files(TAKEN), **stdout_of(stdout, TAKEN)})
+            _, errors = child.communicate(timeout=SECONDS)
+            wanted = [*told, LONG.decode().strip(), *said]
+            same((child.returncode, errors.decode().splitlines()), (3, wanted), f"{stdout}: the end")
+            os.unlink(f"{export}.part")
+        same(contents(folder, "answers"), (LINE + LONG)[:TAKEN], "what standard output took")
+
+
+def stdout_of(how, length):
+    """The same with a limit of the length of files, whatever else is done before a program is run."""
+    first, limit = how.get("preexec_fn", lambda: None), limits_files(length)["preexec_fn"]
+    return {**how, "preexec_fn": lambda: (first(), limit())}
+
+
+@test
+def export_whose_name_is_taken():
+    """By a folder, which something else made meanwhile."""
+    with tempfile.TemporaryDirectory() as folder:
+        export = os.path.join(folder, "e")
+        child = held(["--export", export], f"os.mkdir({export!r}); {WRITES_LONG}")
+        output, errors = child.communicate(timeout=SECONDS)
+        said = elsewhere(export, errno.EISDIR, "standard output")
+        same((child.returncode, output, errors.decode().splitlines()), (3, LONG, said), "the end")
+        same(contents(folder, "e.part"), LONG, "what was written first")
+
+
+@test
+def part_of_an_export_elsewhere():
+    """The node was killed while it wrote what its file didn't take."""
+    with tempfile.TemporaryDirectory() as folder:
+        export = os.path.join(folder, "e")
+        child = held(["--export", export], 'os.write(1, b"{abc"); os.kill(os.getpid(), 9)', **limits_files(2))
+        output, errors = child.communicate(timeout=SECONDS)
+        told = f"payd: the export can't be written to {export}: {os.strerror(errno.EFBIG)}; "
+        said = [f"{told}what there is of it is on standard output", LOST]
+        same((child.returncode, output, errors.decode().splitlines()), (137, b"{abc", said), "the end")
 
 
 @test
@@ -431,6 +556,9 @@ def keys_that_others_may_read():
         status, output, errors = group.start(0).stop()
         said = "payd: others may read the keys in keys-0: chmod 600 keys-0\n"
         same((status, output, errors), (0, export_text(0, [7], [[]], [0], [7]), said), "keys with mode 640")
+        words = [HOLD, "/bin/true", "--keys=keys-0"]
+        done = subprocess.run(words, input=b"", capture_output=True, cwd=group.place.name, timeout=SECONDS)
+        same((done.returncode, done.stderr.decode()), (0, said), "the same named in one word")
 
 
 def pair_keys(folder, *words):
