@@ -621,8 +621,11 @@ def random_story(seeded, size):
 # ---- the example
 
 
+FOUR_NODES = os.path.join(TOP, "examples", "four-nodes")
+
+
 def example(*words):
-    done = subprocess.run([os.path.join(TOP, "examples", "four-nodes"), *words], capture_output=True, timeout=SECONDS)
+    done = subprocess.run([FOUR_NODES, *words], capture_output=True, timeout=SECONDS)
     return done.returncode, done.stdout.decode(), done.stderr.decode()
 
 
@@ -637,6 +640,22 @@ def example_of_four_nodes():
             status, output, errors = example(name)
             same((status, output), (1, ""), "a port that is taken")
             same(f"port {ports[2]} is taken" in errors, True, f"{errors!r} says which port")
+
+
+@test
+def example_of_four_nodes_to_nobody():
+    with tempfile.TemporaryDirectory() as folder:
+        write_json(folder, "ports", {"ports": free_ports(4)})
+        words = [FOUR_NODES, os.path.join(folder, "ports")]
+        source, closed = os.pipe()
+        os.close(source)
+        full = os.open("/dev/full", os.O_WRONLY)
+        for sink, why in ((closed, "[Errno 32] Broken pipe"), (full, "[Errno 28] No space left on device")):
+            done = subprocess.run(words, stdout=sink, stderr=subprocess.PIPE, timeout=SECONDS)
+            os.close(sink)
+            # (above it stands what ./payd says of a program that isn't proved)
+            said = [it for it in done.stderr.decode().splitlines() if not it.startswith("payd: not proved")]
+            same((done.returncode, said), (1, [f"examples/four-nodes: {why}"]), f"four nodes: {why}")
 
 
 EXAMPLE = """\
