@@ -86,7 +86,7 @@ def agrees(page, given):
         page.said("figcaption"),
         [
             f"account {row[0]}: {row[1]} to {row[4]}, at most {most}"
-            for row, most in zip(accounts, heights(page, given), strict=True)
+            for row, most in zip(accounts, heights(page, given))
         ],
         f"the curves of {given}",
     )
