@@ -6,7 +6,7 @@ import subprocess
 import tempfile
 import xml.etree.ElementTree as xml
 
-from runs import SECONDS, TOP, same, test
+from runs import SECONDS, TOP, UNWRITTEN, run_to_nobody, same, test
 
 DRAW = os.path.join(TOP, "tools", "draw")
 EXAMPLES = os.path.join(TOP, "examples")
@@ -103,13 +103,8 @@ def pictures_to_nobody():
         with open(short, "w", encoding="ascii") as file:
             file.write('{"members": 1, "faults": 0, "opening": [7], "liars": []}\n')
         for script in (short, os.path.join(EXAMPLES, "honest-day.txt")):
-            source, closed = os.pipe()
-            os.close(source)
-            full = os.open("/dev/full", os.O_WRONLY)
-            for sink, why in ((closed, "[Errno 32] Broken pipe"), (full, "[Errno 28] No space left on device")):
-                done = subprocess.run([DRAW, script], stdout=sink, stderr=subprocess.PIPE, timeout=SECONDS)
-                os.close(sink)
-                same((done.returncode, done.stderr.decode()), (1, f"tools/draw: {why}\n"), f"{script}")
+            wanted = [(1, f"tools/draw: {why}\n") for why in UNWRITTEN]
+            same([*run_to_nobody([DRAW, script])], wanted, f"a picture of {script} to nobody")
 
 
 @test

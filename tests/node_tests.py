@@ -13,7 +13,8 @@ from frames import ECHO, READY, SEND, WANT, frame, payment
 from model import Member
 from nodes import PATIENCE, Group, advised, audited, compact, export_text, free_ports, until, write_json
 from peers import Cuts, Hostile, Liar, Strangers, connected, received
-from runs import GENESIS, GENESIS_ROWS, KEYS_ROWS, PAYD, SECONDS, TOP, key_texts, run, same, shows, test, with_files
+from runs import GENESIS, GENESIS_ROWS, KEYS_ROWS, PAYD, SECONDS, TOP, UNWRITTEN
+from runs import key_texts, run, run_to_nobody, same, shows, test, with_files
 
 OPENING = GENESIS["opening"]
 A, B = payment(payee=0, amount=5), payment(payee=1, amount=5)
@@ -647,15 +648,10 @@ def example_of_four_nodes_to_nobody():
     with tempfile.TemporaryDirectory() as folder:
         write_json(folder, "ports", {"ports": free_ports(4)})
         words = [FOUR_NODES, os.path.join(folder, "ports")]
-        source, closed = os.pipe()
-        os.close(source)
-        full = os.open("/dev/full", os.O_WRONLY)
-        for sink, why in ((closed, "[Errno 32] Broken pipe"), (full, "[Errno 28] No space left on device")):
-            done = subprocess.run(words, stdout=sink, stderr=subprocess.PIPE, timeout=SECONDS)
-            os.close(sink)
+        for (status, errors), why in zip(run_to_nobody(words), UNWRITTEN):
             # (above it stands what ./payd says of a program that isn't proved)
-            said = [it for it in done.stderr.decode().splitlines() if not it.startswith("payd: not proved")]
-            same((done.returncode, said), (1, [f"examples/four-nodes: {why}"]), f"four nodes: {why}")
+            said = [it for it in errors.splitlines() if not it.startswith("payd: not proved")]
+            same((status, said), (1, [f"examples/four-nodes: {why}"]), "four nodes to nobody")
 
 
 EXAMPLE = """\
