@@ -9,6 +9,8 @@ sys.dont_write_bytecode = True
 from collected import is_proved, needs_program  # noqa: E402
 import runs  # noqa: E402
 
+runs.heed_signals()
+
 
 def pytest_pycollect_makeitem(collector, name, obj):
     """A test where this file marks one, and nothing else, whatever its name is."""

@@ -109,6 +109,6 @@ def pictures_to_nobody():
 
 @test
 def picture_of_no_script():
-    for words in ([], ["nowhere"], [os.path.join(EXAMPLES, "genesis.json")]):
+    for words, status in (([], 2), (["nowhere"], 1), ([os.path.join(EXAMPLES, "genesis.json")], 1)):
         done = subprocess.run([DRAW, *words], capture_output=True, text=True, timeout=SECONDS)
-        same((done.returncode, done.stdout, done.stderr != ""), (1, "", True), f"{words}")
+        same((done.returncode, done.stdout, done.stderr != ""), (status, "", True), f"{words}")

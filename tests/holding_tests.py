@@ -1,7 +1,10 @@
 """Black-box tests of how a node is told to end, and of where its export goes."""
 
+import itertools
 import json
 import os
+import re
+import select
 import signal
 import stat
 import subprocess
@@ -10,15 +13,16 @@ import tempfile
 import time
 
 from frames import payment
-from nodes import Group, audited, export_text, until
+from nodes import Group, audited, export_text, until, write_json
 from runs import GENESIS, PAYD, SECONDS, TOP, run, same, test
 
 OPENING = GENESIS["opening"]
 HOLD = os.path.join(TOP, "tools", "hold-node")
 PAIR_KEYS = os.path.join(TOP, "tools", "pair-keys")
 
-# Stands in for the program: reads its lines to their end, then does this.
-STAND_IN = "import sys, time, os; sys.stdin.buffer.read(); "
+# Stands in for the program: answers a line, reads all others to their end, then does this.
+STAND_IN = "import sys, time, os; os.write(1, sys.stdin.buffer.readline()); sys.stdin.buffer.read(); "
+LINE = b"a line\n"
 NEWLINE = b"\n"
 
 
@@ -55,27 +59,124 @@ def signals_come_to_the_script_alone():
         same(os.getpgid(node.program()) == os.getpgid(node.child.pid), False, "the same group of processes")
 
 
-def held(words, code):
-    """A stand-in for a node, held by the script."""
+def started(words, code, **how):
+    """A stand-in for a node, held by the script, which is given a line."""
     pipe = subprocess.PIPE
-    command = [HOLD, *words, sys.executable, "-c", STAND_IN + code]
-    child = subprocess.Popen(command, stdin=pipe, stdout=pipe, stderr=pipe)
-    # it takes signals once it reads lines
-    child.stdin.write(b"a line\n")
-    child.stdin.flush()
-    time.sleep(0.5)
+    how = {"stdin": pipe, "stdout": pipe, "stderr": pipe, "bufsize": 0, **how}
+    child = subprocess.Popen([HOLD, *words, sys.executable, "-c", STAND_IN + code], **how)
+    if child.stdin is not None:
+        child.stdin.write(LINE)
     return child
+
+
+def held(words, code, **how):
+    """The same, once the stand-in has answered, from when on the script takes signals."""
+    child = started(words, code, **how)
+    same(line_of(child.stdout), LINE, "the answer of the stand-in")
+    return child
+
+
+def line_of(stream):
+    """The next line of a pipe that isn't buffered."""
+    line = b""
+    while not line.endswith(NEWLINE):
+        same(select.select([stream], [], [], SECONDS)[0], [stream], f"what comes behind {line!r}")
+        piece = os.read(stream.fileno(), 1)
+        if piece == b"":
+            break
+        line += piece
+    return line
 
 
 @test
 def third_signal_ends_a_node():
-    child = held([], "time.sleep(60)")
-    for _ in range(3):
-        child.send_signal(signal.SIGTERM)
-        time.sleep(0.3)
-    output, errors = child.communicate(timeout=SECONDS)
+    child = held([], 'os.write(1, b"the input has ended\\n"); time.sleep(600)')
+    child.send_signal(signal.SIGTERM)
+    same(line_of(child.stdout), b"the input has ended\n", "the first signal")
+    child.send_signal(signal.SIGTERM)
+    said = line_of(child.stderr)
+    same(b"account is lost" in said, True, f"the second one says what would be lost: {said!r}")
+    child.send_signal(signal.SIGTERM)
+    output, _ = child.communicate(timeout=SECONDS)
     same((child.returncode, output), (128 + signal.SIGTERM, b""), "the third signal")
-    same("account is lost" in errors.decode(), True, f"the second one says what would be lost: {errors!r}")
+
+
+@test
+def ignored_signal_stays_ignored():
+    """As a hangup is by nohup."""
+    child = held([], "", preexec_fn=lambda: signal.signal(signal.SIGHUP, signal.SIG_IGN))
+    with open(f"/proc/{child.pid}/status", encoding="ascii") as lines:
+        ignored = next(int(line.split()[1], 16) for line in lines if line.startswith("SigIgn:"))
+    same(ignored >> (signal.SIGHUP - 1) & 1, 1, "a hangup is ignored")
+    child.send_signal(signal.SIGHUP)
+    child.send_signal(signal.SIGTERM)
+    output, errors = child.communicate(timeout=SECONDS)
+    same((child.returncode, output, errors), (0, b"", b""), "SIGTERM is the first that counts")
+
+
+# Makes a signal come while the script starts the node.
+SIGNALLED = """
+import os, runpy, signal, subprocess, sys
+
+class Started(subprocess.Popen):
+    def __init__(self, *words, **how):
+        os.kill(os.getpid(), signal.SIGTERM)
+        super().__init__(*words, **how)
+
+subprocess.Popen = Started
+sys.argv = sys.argv[1:]
+runpy.run_path(sys.argv[0], run_name="__main__")
+"""
+
+
+@test
+def signal_while_the_node_is_started():
+    """The node is there, and its input ends at once."""
+    with tempfile.TemporaryDirectory() as folder:
+        export = os.path.join(folder, "e")
+        node = [sys.executable, "-c", 'import sys; print(f"{{{len(sys.stdin.read())}}}")']
+        words = [sys.executable, "-c", SIGNALLED, HOLD, "--export", export, *node]
+        child = subprocess.Popen(words, stdin=subprocess.PIPE, stdout=subprocess.PIPE, stderr=subprocess.PIPE)
+        same(child.wait(SECONDS), 0, "the status")
+        output, errors = child.communicate()
+        same((output, errors), (b"", b""), "what it says")
+        with open(export, "rb") as file:
+            same(file.read(), b"{0}\n", "the export, of a node that read nothing")
+
+
+def full_pipe():
+    """A pipe that takes nothing until it is read."""
+    source, sink = os.pipe()
+    os.set_blocking(sink, False)
+    try:
+        while True:
+            os.write(sink, NEWLINE)
+    except BlockingIOError:
+        os.set_blocking(sink, True)
+    return source, sink
+
+
+@test
+def signal_before_the_node_is_started():
+    """The script has begun its file, and waits to say something of the keys: no node is started then."""
+    for number in (signal.SIGINT, signal.SIGTERM, signal.SIGHUP):
+        with tempfile.TemporaryDirectory() as folder:
+            export, keys = (os.path.join(folder, name) for name in "ek")
+            write_json(folder, "k", {})
+            os.chmod(keys, 0o644)
+            source, sink = full_pipe()
+            words = [HOLD, "--export", export, "/bin/echo", "--keys", keys]
+            child = subprocess.Popen(words, stdin=subprocess.DEVNULL, stdout=subprocess.PIPE, stderr=sink)
+            os.close(sink)
+            until(lambda: sorted(os.listdir(folder)), ["e.part", "k"], of="the file that was begun")
+            child.send_signal(number)
+            with open(source, "rb") as said:
+                errors = said.read().strip().decode().splitlines()
+            same((child.wait(SECONDS), child.stdout.read()), (128 + number, b""), f"{number}: {errors}")
+            child.stdout.close()
+            told = ["payd: a signal came before the node was started", "payd: to do: nothing was started: "]
+            same([it[: len(one)] for it, one in zip(errors[1:], told)], told, f"{number}")
+            same(os.listdir(folder), ["k"], f"{number}: what is left")
 
 
 # What a node says last, its status, and words of the advice behind that.
@@ -163,6 +264,58 @@ def export_goes_to_its_file():
 
 
 @test
+def file_that_was_begun_is_there():
+    """By a node that still runs, or one that was killed: it is left as it is."""
+    with tempfile.TemporaryDirectory() as folder:
+        export = os.path.join(folder, "e")
+        with open(f"{export}.part", "wb") as file:
+            file.write(b"{")
+        done = subprocess.run([HOLD, "--export", export, "/bin/echo"], input=b"", capture_output=True, timeout=SECONDS)
+        same((done.returncode, done.stdout), (2, b""), "a file that was begun is there")
+        told, to_do = done.stderr.decode().splitlines()
+        same(told.startswith(f"payd: {export}.part is there already: "), True, told)
+        same(to_do, "payd: to do: nothing was started: where no node writes it, move it away", "what to do")
+        with open(f"{export}.part", "rb") as file:
+            same((file.read(), os.listdir(folder)), (b"{", ["e.part"]), "what is there")
+
+
+@test
+def program_that_is_not_there():
+    with tempfile.TemporaryDirectory() as folder:
+        words = [HOLD, "--export", os.path.join(folder, "e"), "./none", "node"]
+        done = subprocess.run(words, input=b"", capture_output=True, cwd=folder, timeout=SECONDS)
+        told = done.stderr.decode().splitlines()[0]
+        same((done.returncode, told), (2, "payd: file ./none: No such file or directory"), "no program")
+        same(os.listdir(folder), [], "what is left")
+
+
+def closes(stream):
+    return {"preexec_fn": lambda: os.close(stream)}
+
+
+NOT_TAKEN = re.compile("payd: the answers can't be written: [A-Z][a-z ]+; the node goes on without them\n")
+
+
+@test
+def nobody_takes_the_answers():
+    """The reader goes away behind the first answer, or there is none: the export is written all the same."""
+    code = 'os.write(1, b"1\\n2\\n3\\n{}\\n")'
+    for how in ({}, closes(1)):
+        with tempfile.TemporaryDirectory() as folder:
+            export = os.path.join(folder, "e")
+            child = started(["--export", export], code, **how)
+            if not how:
+                same(line_of(child.stdout), LINE, "the first answer")
+            child.stdout.close()
+            child.stdin.close()
+            errors = child.stderr.read().decode()
+            same(NOT_TAKEN.fullmatch(errors) is not None, True, f"{how}: {errors!r}")
+            same(child.wait(SECONDS), 0, f"{how}: the status")
+            with open(export, "rb") as file:
+                same((file.read(), os.listdir(folder)), (b"{}\n", ["e"]), f"{how}: the export")
+
+
+@test
 def export_that_is_not_whole():
     rows = (
         ('os.write(1, b"refused 1 BadLine\\n")', 0, b"refused 1 BadLine\n", "wrote no export", None),
@@ -203,6 +356,61 @@ def lines_from_a_named_pipe():
         same((status, json.loads(output)["front"], errors), (0, [0, 0, 0, 2], ""), "its end")
 
 
+# What a stand-in makes of its input: it tells of one that it can't read, as the program does.
+ECHOES = """
+import os, sys
+try:
+    sys.stdout.write(f"{sys.argv[1:]} {os.read(0, 99)}\\n")
+except OSError as error:
+    sys.exit(f"payd: {error.strerror}")
+"""
+
+
+def unreadable():
+    """Standard inputs that nothing can be read from: one that is closed, one to write to, and a folder."""
+    yield closes(0)
+    with open(os.devnull, "wb") as sink:
+        yield {"stdin": sink}
+    folder = os.open(TOP, os.O_RDONLY)
+    yield {"stdin": folder}
+    os.close(folder)
+
+
+@test
+def input_that_cannot_be_read():
+    """The program tells of it, and knows nothing of the script's own words; with lines from a file none is needed."""
+    with tempfile.TemporaryDirectory() as folder:
+        with open(os.path.join(folder, "lines"), "wb") as file:
+            file.write(LINE)
+        # (on a folder Python doesn't start: the scripts that call this one see to that)
+        for place, how in enumerate(itertools.islice(unreadable(), 2)):
+            how = {**how, "cwd": folder, "capture_output": True, "timeout": SECONDS}
+            words = [sys.executable, "-c", ECHOES, "node"]
+            for options in ([], ["--export", "e"], ["--stay"]):
+                done = subprocess.run([HOLD, *words, *options], **how)
+                was = done.returncode, done.stdout, done.stderr
+                same(was, (1, b"", b"payd: Bad file descriptor\n"), f"input {place}, {options}")
+            done = subprocess.run([HOLD, *words, "--lines", "lines"], **how)
+            was = done.returncode, done.stdout.decode(), done.stderr
+            same(was, (0, f"['node'] {LINE}\n", b""), f"input {place}: lines from a file")
+        same(os.listdir(folder), ["lines"], "what is left")
+
+
+@test
+def held_by_each_script():
+    """Whatever standard input is: words that are the script's own come to no program."""
+    with Group([7], running=[]) as group:
+        with open(os.path.join(group.place.name, "lines"), "wb") as file:
+            file.write(b"FRONT\n")
+        for place, how in enumerate(unreadable()):
+            words = [PAYD, "node", "--genesis", "genesis", "--keys", "keys-0", "--ports", "ports", "--lines", "lines"]
+            how = {**how, "cwd": group.place.name, "capture_output": True, "timeout": SECONDS}
+            done = subprocess.run([*words, "--export", f"e{place}"], **how)
+            same((done.returncode, done.stdout, done.stderr), (0, b"front 0\n", b""), f"input {place}")
+            done = subprocess.run(words[:-2], **how)
+            same((done.returncode, done.stdout, done.stderr), (3, b"", b"payd: engine 2 Read\n"), f"input {place}")
+
+
 @test
 def node_that_stays():
     with Group([7], running=[]) as group:
@@ -229,35 +437,44 @@ def pair_keys(folder, *words):
     return subprocess.run([PAIR_KEYS, *words], cwd=folder, capture_output=True, text=True, timeout=SECONDS)
 
 
+def make_pairs(folder, members):
+    """Has each two members make and take their key, in a file of keys each: k0, k1 .."""
+    for own in range(members):
+        words = ("new", f"k{own}", "--own", f"{own}", "--members", f"{members}")
+        same(pair_keys(folder, *words).returncode, 0, f"{own} begins")
+    for other, one in itertools.combinations(range(members), 2):
+        same(pair_keys(folder, "make", f"k{one}", f"{other}", "pair").returncode, 0, f"{one} makes")
+        same(pair_keys(folder, "take", f"k{other}", f"{one}", "pair").returncode, 0, f"{other} takes")
+        os.unlink(os.path.join(folder, "pair"))
+
+
 @test
 def keys_made_by_pairs():
-    members = 3
+    members = range(3)
     with tempfile.TemporaryDirectory() as folder:
-        for own in range(members):
-            same(pair_keys(folder, "new", f"k{own}", "--own", f"{own}", "--members", f"{members}").returncode, 0, "new")
-        for one in range(members):
-            for other in range(one):
-                same(pair_keys(folder, "make", f"k{one}", f"{other}", "pair").returncode, 0, f"{one} makes")
-                same(pair_keys(folder, "take", f"k{other}", f"{one}", "pair").returncode, 0, f"{other} takes")
-                os.unlink(os.path.join(folder, "pair"))
-        files = {}
-        for own in range(members):
+        make_pairs(folder, len(members))
+        write_json(folder, "g", {"members": 3, "faults": 0, "opening": [0, 0, 0]})
+        files = []
+        for own in members:
             name = os.path.join(folder, f"k{own}")
             same(stat.S_IMODE(os.stat(name).st_mode), 0o600, "who may read it")
+            words = ["check", "--genesis", os.path.join(folder, "g"), "--keys", name]
+            same(run(words), (0, "", ""), f"the file of {own}")
             with open(name, encoding="ascii") as file:
-                files[own] = json.load(file)
-        shared = {(one, other): files[one]["keys"][other] for one in files for other in files}
+                files.append(json.load(file)["keys"])
+        shared = {(one, other): files[one][other] for one in members for other in members}
         same(all(shared[pair] == shared[pair[::-1]] for pair in shared), True, "keys of pairs")
         same(len(set(shared.values())), 4, "three keys, and nothing at the own places")
-        for own in files:
-            with open(os.path.join(folder, "g"), "w", encoding="ascii") as file:
-                json.dump({"members": members, "faults": 0, "opening": [0, 0, 0]}, file)
-            paths = [os.path.join(folder, name) for name in ("g", f"k{own}")]
-            same(run(["check", "--genesis", paths[0], "--keys", paths[1]]), (0, "", ""), f"the file of {own}")
-        # nothing is overwritten, and what isn't a key isn't taken
+
+
+@test
+def nothing_is_overwritten_by_pairs():
+    """And what isn't a key isn't taken."""
+    with tempfile.TemporaryDirectory() as folder:
+        make_pairs(folder, 3)
         with open(os.path.join(folder, "pair"), "w", encoding="ascii") as file:
             file.write(63 * "0")
-        rows = (
+        for words in (
             ("new", "k0", "--own", "0", "--members", "3"),
             ("make", "k0", "1", "other"),
             ("make", "k0", "0", "other"),
@@ -265,11 +482,10 @@ def keys_made_by_pairs():
             ("take", "k0", "1", "pair"),
             ("take", "k0", "1", "missing"),
             ("new", "k9", "--own", "3", "--members", "3"),
-        )
-        for words in rows:
+        ):
             done = pair_keys(folder, *words)
             same((done.returncode, done.stdout, done.stderr != ""), (1, "", True), f"{words}")
-        same(sorted(os.listdir(folder)), ["g", "k0", "k1", "k2", "pair"], "the files")
+        same(sorted(os.listdir(folder)), ["k0", "k1", "k2", "pair"], "the files")
 
 
 @test

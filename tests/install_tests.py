@@ -31,6 +31,11 @@ def installed_program_stands_alone():
         write_json(folder, "p", {"ports": free_ports(1)})
         words = [payd, "node", "--genesis", "g", "--keys", "k", "--ports", "p", "--export", "e"]
         same(run_in(folder, words, b"FRONT\n"), (0, "front 0\n", ""), "a node")
+        with open(os.path.join(folder, "lines"), "w", encoding="ascii") as lines:
+            lines.write("FRONT\n")
+        for place, given in enumerate(("<&-", "</")):
+            words = f"prefix/bin/payd node --genesis g --keys k --ports p --export e{place} --lines lines {given}"
+            same(run_in(folder, ["sh", "-c", words]), (0, "front 0\n", ""), f"{words}")
         with open(os.path.join(folder, "e"), encoding="ascii") as export:
             same(export.read(), export_text(0, [7], [[]], [0], [7]), "its export")
         with open(os.path.join(folder, "prefix", "lib", "payd", "proved"), encoding="ascii") as proved:
@@ -47,8 +52,16 @@ def manual_and_completions():
         for command in ("CHECK", "SIM", "DESK", "NODE", "AUDIT", "STATEMENT", "JOURNAL"):
             same(text.count(f".SH {command}\n"), 1, f"the manual page on {command}")
         script = os.path.join(prefix, "share", "bash-completion", "completions", "payd")
-        ask = f"source {script}; COMP_WORDS=(payd node --e); COMP_CWORD=2; _payd; echo ${{COMPREPLY[*]}}"
-        same(run_in(folder, ["bash", "-c", ask]), (0, "--export\n", ""), "a completion")
+        write_json(folder, "my keys.json", {})
+        for words, found in (
+            ("--e", "<--export>"),
+            ("--dials a", "<always>"),
+            ("--keys my", "<my keys.json>"),
+            ("--keys none", "<>"),
+        ):
+            ask = f"source '{script}'; COMP_WORDS=(payd node {words}); COMP_CWORD=$((${{#COMP_WORDS[@]}} - 1)); _payd"
+            told = run_in(folder, ["bash", "-c", f"{ask}; printf '<%s>' \"${{COMPREPLY[@]}}\""])
+            same(told, (0, found, ""), f"completions of {words}")
 
 
 COMPLETIONS = {
@@ -94,6 +107,6 @@ def fish_completes_a_node():
 def words_of_install():
     for words in ([], ["one", "two"]):
         done = subprocess.run([INSTALL, *words], capture_output=True, text=True, timeout=SECONDS)
-        same((done.returncode, done.stdout, "usage: tools/install" in done.stderr), (1, "", True), f"{words}")
+        same((done.returncode, done.stdout, "usage: tools/install" in done.stderr), (2, "", True), f"{words}")
     done = subprocess.run([INSTALL, "--help"], capture_output=True, text=True, timeout=SECONDS)
     same((done.returncode, "usage: tools/install" in done.stdout, done.stderr), (0, True, ""), "--help")

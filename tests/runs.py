@@ -2,6 +2,7 @@
 
 import json
 import os
+import signal
 import subprocess
 import sys
 import tempfile
@@ -44,6 +45,14 @@ def run_to_nobody(words):
         done = subprocess.run(words, stdout=sink, stderr=subprocess.PIPE, env=BUFFERED, timeout=SECONDS)
         os.close(sink)
         yield done.returncode, done.stderr.decode()
+
+
+def heed_signals():
+    """Has children take each signal as usual. Run in the background or by nohup this process ignores some, and its
+    children would too, but for those that it takes itself."""
+    for number in (signal.SIGINT, signal.SIGHUP):
+        if signal.getsignal(number) is signal.SIG_IGN:
+            signal.signal(number, lambda *_: None)
 
 
 def run(words, stream=b""):

@@ -11,6 +11,7 @@ import collections
 import contextlib
 import fcntl
 import hashlib
+import io
 import os
 import shutil
 import signal
@@ -27,6 +28,7 @@ PROVED, UNPROVED, REFUSED = "proved", "unproved", "refused"
 MADE = os.path.join(TOP, "crates", PROGRAM, "out", PROGRAM)
 # The status of ./payd and of ./payd-prove where there is no program to run.
 NO_PROGRAM = 70
+STANDARD_ERROR = 2
 # How old a change has to be, in nanoseconds, so that a later one can't show the same time: file systems count time in
 # steps of up to two seconds.
 SETTLED = 2_000_000_000
@@ -51,8 +53,38 @@ class Damaged(Exception):
     """A kept program isn't the one that was kept."""
 
 
+class Errors(io.TextIOBase):
+    """Standard error as it may be: full, or with nobody to read it. What can't be said stops nothing.
+
+    (Python's own fails where it is flushed, at the end too, when it gives the script another status.)
+    """
+
+    def write(self, text):
+        rest = text.encode(errors="backslashreplace")
+        with contextlib.suppress(OSError):
+            while rest:
+                rest = rest[os.write(STANDARD_ERROR, rest) :]
+        return len(text)
+
+    def fileno(self):
+        return STANDARD_ERROR
+
+    def isatty(self):
+        return os.isatty(STANDARD_ERROR)
+
+
+def keep_open():
+    """Opens each standard stream that is closed, so that no other file gets its number and what is for it."""
+    for stream in range(STANDARD_ERROR + 1):
+        try:
+            os.fstat(stream)
+        except OSError:
+            os.open(os.devnull, os.O_RDWR)
+
+
 def say(text):
-    print(f"payd: {text}", file=sys.stderr, flush=True)
+    sys.stderr.write(f"payd: {text}\n")
+    sys.stderr.flush()
 
 
 def named(of, made_by):
@@ -73,6 +105,8 @@ def stop(number, _):
 
 def run_script(main):
     """Ends with the status that the script's main returns, or that its error has."""
+    keep_open()
+    sys.stderr = Errors()
     for number in (signal.SIGINT, signal.SIGTERM, signal.SIGHUP):
         if signal.getsignal(number) is not signal.SIG_IGN:
             signal.signal(number, stop)

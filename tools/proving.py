@@ -98,7 +98,7 @@ def build_library(crate, jobs, progress):
     """Proves and builds a crate whose libraries are built, and returns why it can't be."""
     progress.begin(crate)
     # what most others wait for comes first, and gets the processors of those that come after it and are short
-    jobs = max(jobs, min(MOST_JOBS, (os.cpu_count() or 1) // len(progress.running)))
+    jobs = max(jobs, min(MOST_JOBS, len(os.sched_getaffinity(0)) // len(progress.running)))
     with tempfile.TemporaryFile("w+", errors="replace") as crate.out:
         status = crate.build_rlib(["--jobs", str(jobs)], anew=False)
         crate.out.seek(0)
