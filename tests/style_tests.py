@@ -17,7 +17,9 @@ LONGEST = 120
 # The oldest Python that the program's scripts run with; of what it doesn't have, what is likely to be called; and the
 # scripts, with what they import of tests/.
 OLDEST = (3, 8)
-NEWER = re.compile(r"\.remove(?:prefix|suffix)\(|\bfunctools\.cache\b|, strict=|\.(?:randbytes|waitstatus_to_exitcode)\(")
+NEWER = re.compile(
+    r"\.(?:removeprefix|removesuffix|randbytes|waitstatus_to_exitcode)\(|\bfunctools\.cache\b|, strict="
+)
 OF_PROGRAM = ("examples/", "payd-prove", "tests/audits.py", "tests/model.py", "tests/runs.py", "tools/")
 
 
