@@ -323,8 +323,9 @@ def exports_in(world, lines):
     """What correct members export behind a script that ends with `show`: what is shown, and the model's lists."""
     status, output, errors = run(["sim"], "".join(f"{line}\n" for line in lines).encode("ascii"))
     same((status, errors), (0, ""), f"{lines}")
-    exports = []
-    for (number, member), line in zip(world.members.items(), output.splitlines()[-len(world.members) :], strict=True):
+    exports, shown_lines = [], output.splitlines()[-len(world.members) :]
+    same(len(shown_lines), len(world.members), f"the members shown of {lines}")
+    for (number, member), line in zip(world.members.items(), shown_lines):
         name, shown, fronts, *words = line.split(" ")
         same((name, shown, fronts, words[world.count]), ("member", f"{number}", "fronts", "balances"), line)
         lists = [[value.hex() for value in values] for values in member.lists()]

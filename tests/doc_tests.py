@@ -165,7 +165,7 @@ def wrong_clause_is_told_of():
 @test
 def named_calls_stand():
     names = names_of_the_tree()
-    for page in "README.md", *(f"docs/{it}.md" for it in OF_NAMES):
+    for page in ("README.md", *(f"docs/{it}.md" for it in OF_NAMES)):
         called = {part for it in CALL.findall(read_file(f"{TOP}/{page}")) for part in it.split("::")}
         unknown = {it for it in called - names - OF_THE_BOOK if not it[0].isdigit()}
         same(sorted(unknown), [], f"{page}: names that nothing has")

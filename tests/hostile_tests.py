@@ -147,7 +147,8 @@ def each_growth_of_a_desk_refused(library):
             same("".join(f"{it}\n" for it in ample).startswith(text), True, f"growth {place}: a prefix")
             continue
         answers = text.splitlines()
-        differ = [it for it, (answer, wanted) in enumerate(zip(answers, ample, strict=True)) if answer != wanted]
+        same(len(answers), len(ample), f"growth {place}: the lines answered")
+        differ = [it for it, (answer, wanted) in enumerate(zip(answers, ample)) if answer != wanted]
         same((status, errors, len(differ) <= 1), (0, "", True), f"growth {place}: lines {differ}")
         for it in differ:
             same(answers[it], "refused 0 Memory", f"growth {place}: {lines[it]}")

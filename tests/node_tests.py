@@ -13,7 +13,8 @@ from frames import ECHO, READY, SEND, WANT, frame, payment
 from model import Member
 from nodes import PATIENCE, Group, advised, audited, compact, export_text, free_ports, until, write_json
 from peers import Cuts, Hostile, Liar, Strangers, connected, received
-from runs import GENESIS, GENESIS_ROWS, KEYS_ROWS, PAYD, SECONDS, TOP, key_texts, run, same, shows, test, with_files
+from runs import GENESIS, GENESIS_ROWS, KEYS_ROWS, PAYD, SECONDS, TOP, UNWRITTEN
+from runs import key_texts, run, run_to_nobody, same, shows, test, with_files
 
 OPENING = GENESIS["opening"]
 A, B = payment(payee=0, amount=5), payment(payee=1, amount=5)
@@ -621,8 +622,11 @@ def random_story(seeded, size):
 # ---- the example
 
 
+FOUR_NODES = os.path.join(TOP, "examples", "four-nodes")
+
+
 def example(*words):
-    done = subprocess.run([os.path.join(TOP, "examples", "four-nodes"), *words], capture_output=True, timeout=SECONDS)
+    done = subprocess.run([FOUR_NODES, *words], capture_output=True, timeout=SECONDS)
     return done.returncode, done.stdout.decode(), done.stderr.decode()
 
 
@@ -637,6 +641,17 @@ def example_of_four_nodes():
             status, output, errors = example(name)
             same((status, output), (1, ""), "a port that is taken")
             same(f"port {ports[2]} is taken" in errors, True, f"{errors!r} says which port")
+
+
+@test
+def example_of_four_nodes_to_nobody():
+    with tempfile.TemporaryDirectory() as folder:
+        write_json(folder, "ports", {"ports": free_ports(4)})
+        words = [FOUR_NODES, os.path.join(folder, "ports")]
+        for (status, errors), why in zip(run_to_nobody(words), UNWRITTEN):
+            # (above it stands what ./payd says of a program that isn't proved)
+            said = [it for it in errors.splitlines() if not it.startswith("payd: not proved")]
+            same((status, said), (1, [f"examples/four-nodes: {why}"]), "four nodes to nobody")
 
 
 EXAMPLE = """\

@@ -12,7 +12,7 @@ import xml.etree.ElementTree as xml
 import audits
 from audits import FORKED, FRESH, PAID, PAID_ON, TWO_ENTRIES, WORKED
 from frames import payment, payments
-from runs import SECONDS, TOP, same, test
+from runs import SECONDS, TOP, UNWRITTEN, run_to_nobody, same, test
 
 REPORT = os.path.join(TOP, "tools", "report")
 MOST_BYTES = 2_000_000
@@ -86,7 +86,7 @@ def agrees(page, given):
         page.said("figcaption"),
         [
             f"account {row[0]}: {row[1]} to {row[4]}, at most {most}"
-            for row, most in zip(accounts, heights(page, given), strict=True)
+            for row, most in zip(accounts, heights(page, given))
         ],
         f"the curves of {given}",
     )
@@ -168,6 +168,18 @@ def large_pages():
         same(("48 accounts more" in page.said("summary")), members == 64, "folded")
         drawn = "400 of 5001 balances are drawn" if members == 4 else None
         same(any("are drawn" in it for it in page.said("figcaption")), drawn is not None, "sampled")
+
+
+@test
+def pages_to_nobody():
+    """One line says that a page can't be written, be it long or short."""
+    with tempfile.TemporaryDirectory() as folder:
+        for name, lists in (("short", [[]]), ("long", [200 * [payment(payee=0, amount=1).hex()]])):
+            file = os.path.join(folder, name)
+            with open(file, "w", encoding="ascii") as text:
+                json.dump(audits.export([7], lists, [len(lists[0])], [7]), text)
+            wanted = [(1, f"tools/report: {why}\n") for why in UNWRITTEN]
+            same([*run_to_nobody([REPORT, file])], wanted, f"a {name} page to nobody")
 
 
 @test

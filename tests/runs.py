@@ -17,6 +17,9 @@ from frames import test_key  # noqa: E402
 PAYD = os.path.join(TOP, "payd")
 SECONDS = 60
 
+# What is said of an output that can't be written, by a pipe that nobody reads and by a full disk.
+UNWRITTEN = ("[Errno 32] Broken pipe", "[Errno 28] No space left on device")
+
 # Files of keys are made that nobody else may read: a node says so where others may.
 os.umask(0o077)
 
@@ -29,6 +32,19 @@ def test(function):
 
 
 # ---- runs
+
+# The surroundings of a script whose output waits in a buffer, as it does unless Python is told otherwise.
+BUFFERED = {name: value for name, value in os.environ.items() if name != "PYTHONUNBUFFERED"}
+
+
+def run_to_nobody(words):
+    """Of a script whose output can't be written its status and errors, to a pipe that nobody reads and a full disk."""
+    source, closed = os.pipe()
+    os.close(source)
+    for sink in (closed, os.open("/dev/full", os.O_WRONLY)):
+        done = subprocess.run(words, stdout=sink, stderr=subprocess.PIPE, env=BUFFERED, timeout=SECONDS)
+        os.close(sink)
+        yield done.returncode, done.stderr.decode()
 
 
 def heed_signals():

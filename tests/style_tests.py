@@ -1,6 +1,8 @@
 """Whether the Python files keep to the rules in pyproject.toml, as far as what is at hand can tell."""
 
+import ast
 import os
+import re
 import shutil
 import subprocess
 
@@ -11,6 +13,14 @@ NEEDS_PROGRAM = False
 # changed there has all wrong bodies tried anew)
 FOLDERS = ("bench", "examples", "tests", "tools", ".")
 LONGEST = 120
+
+# The oldest Python that the program's scripts run with; of what it doesn't have, what is likely to be called; and the
+# scripts, with what they import of tests/.
+OLDEST = (3, 8)
+NEWER = re.compile(
+    r"\.(?:removeprefix|removesuffix|randbytes|waitstatus_to_exitcode)\(|\bfunctools\.cache\b|, strict="
+)
+OF_PROGRAM = ("examples/", "payd-prove", "tests/audits.py", "tests/model.py", "tests/runs.py", "tools/")
 
 
 def is_python(path):
@@ -39,6 +49,19 @@ def faults_of(path):
 @test
 def lines_keep_their_length():
     same([it for path in python_files() for it in faults_of(path)], [], f"lines longer than {LONGEST}, tabs, spaces")
+
+
+@test
+def oldest_python_reads_all_files():
+    for path in python_files():
+        with open(path, encoding="utf-8") as file:
+            text, name = file.read(), os.path.relpath(path, TOP)
+        try:
+            ast.parse(text, feature_version=OLDEST)
+        except SyntaxError as error:
+            raise AssertionError(f"{name}:{error.lineno}: {error.msg}") from error
+        if name.startswith(OF_PROGRAM):
+            same(NEWER.findall(text), [], f"{name}: what Python {OLDEST} doesn't have")
 
 
 @test

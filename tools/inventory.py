@@ -102,7 +102,7 @@ def container_of(line):
     begun = re.match(r"impl(<)?", line)
     if not begun:
         return None
-    head = line.removeprefix("impl").partition(" where ")[0].partition("{")[0]
+    head = line[len("impl") :].partition(" where ")[0].partition("{")[0]
     before, is_for, behind = without_brackets(head).partition(" for ")
     if not is_for:
         return Container(owner=last_name(before))
@@ -146,7 +146,7 @@ def read_clauses(lines, function):
 def read_functions(folder):
     """The functions of a crate's sources, in their order."""
     for path in files_below(f"{folder}/src", ".rt"):
-        module = path.removesuffix(".rt").replace("/", "::")
+        module = os.path.splitext(path)[0].replace("/", "::")
         yield from functions_of(read_file(f"{folder}/src/{path}"), "" if module in ("lib", "main") else module)
 
 
@@ -180,7 +180,7 @@ def read_bodies(folder):
         for path in files_below(f"{folder}/{kind}", ".edit"):
             text = read_file(f"{folder}/{kind}/{path}")
             marked = {it: re.findall(rf"(?m)^{it}: (.*\S)", text) for it in ("function", "promise", "control")}
-            name = path.removesuffix(".edit")
+            name = os.path.splitext(path)[0]
             yield WrongBody(name, marked["function"], marked["promise"], "".join(marked["control"]))
 
 
@@ -188,7 +188,7 @@ def read_crate(name, stands_on):
     folder = f"{TOP}/crates/{name}"
     root = next(it for it in ("lib.rt", "main.rt") if os.path.isfile(f"{folder}/src/{it}"))
     head = re.match(r"(?://!.*\n)*", read_file(f"{folder}/src/{root}"))[0]
-    about = first_sentence([it.removeprefix("//!") for it in head.partition("\n//!\n")[0].splitlines()])
+    about = first_sentence([it[len("//!") :] for it in head.partition("\n//!\n")[0].splitlines()])
     functions, bodies = list(read_functions(folder)), list(read_bodies(folder))
     return Crate(name, stands_on, about, functions, bodies)
 
