@@ -11,7 +11,6 @@ use pay_peers::{Ahead, Asking, Dial, Dialed, Dials, run_readers};
 use std::alloc::Global;
 use std::sync::Wait;
 use std::sync::atomic::{AtomicBool, Ordering};
-use std::test::Fail;
 use std::thread;
 use std::thread::Threads;
 use std::time::{Clock, Duration};
@@ -108,24 +107,54 @@ fn are_told(seats: &[Seat], held: u16, repeats: bool) -> bool {
     })
 }
 
-// Two workers, of which one is held, with a frame that is a repeat or isn't: whether it was let go in time, and both
-// frames were answered.
-fn overlaps<R: Threads + Wait + Clock + Sync>(
+// The peer whose frames come from a seat.
+fn peer_of(seat: &Seat) -> u16 {
+    if seat.stamp() == 0 { 0 } else { 2 }
+}
+
+// Brings its one frame from the held seat before any worker does, and says whether it was taken.
+fn takes_first<R: Wait>(
     rt: &R,
     alloc: Global,
+    node: &Tried,
+    seats: &mut [Seat],
     held: u16,
-    repeats: bool,
-) -> Result<bool, Fail> {
-    let (node, seats) = node_of(alloc, FOUR).ok_or("no such node")?;
+) -> bool {
+    match seats.get_mut(usize::from(held)) {
+        Some(seat) => {
+            let frame = frame_of(peer_of(seat));
+            takes(rt, alloc, node, seat, frame)
+        }
+        None => false,
+    }
+}
+
+// Each seat with its peer.
+fn pairs_of(alloc: Global, seats: Vec<Seat>) -> Option<Vec<(u16, Asking)>> {
     let mut pairs = Vec::new(alloc);
     for seat in seats {
-        let mut seat = seat;
-        let peer = if seat.stamp() == 0 { 0 } else { 2 };
-        if repeats && seat.stamp() == held && !takes(rt, alloc, &node, &mut seat, frame_of(peer)) {
-            return Ok(false);
-        }
-        pairs.push((peer, Asking::new(seat)))?;
+        pairs.push((peer_of(&seat), Asking::new(seat))).ok()?;
     }
+    Some(pairs)
+}
+
+fn seats_of(alloc: Global, pairs: Vec<(u16, Asking)>) -> Option<Vec<Seat>> {
+    let mut seats = Vec::new(alloc);
+    for (_, asking) in pairs {
+        let Asking { seat, window: _ } = asking;
+        seats.push(seat).ok()?;
+    }
+    Some(seats)
+}
+
+// Runs the workers, of which one is held, and says whether that was let go in time.
+fn run<R: Threads + Wait + Clock + Sync>(
+    rt: &R,
+    alloc: Global,
+    node: &Tried,
+    held: u16,
+    pairs: &mut [(u16, Asking)],
+) -> bool {
     let gate = Held {
         clock: rt,
         stamp: held,
@@ -141,33 +170,56 @@ fn overlaps<R: Threads + Wait + Clock + Sync>(
     run_readers(
         rt,
         alloc,
-        &node,
+        node,
         &HmacSha256,
         &gate,
         &dial,
         &told,
         Dials::Usual,
         Ahead::most(),
-        pairs.as_mut_slice(),
+        pairs,
     );
-    let mut seats: Vec<Seat> = Vec::new(alloc);
-    for (_, asking) in pairs {
-        let Asking { seat, window: _ } = asking;
-        seats.push(seat)?;
-    }
+    !gate.gave_up.load(Ordering::SeqCst) && told.counts() == (2, 0, 0)
+}
+
+// The seats behind two workers of which one was held, if that was let go in time.
+fn held_seats<R: Threads + Wait + Clock + Sync>(
+    rt: &R,
+    alloc: Global,
+    node: &Tried,
+    held: u16,
+    seats: Vec<Seat>,
+) -> Option<Vec<Seat>> {
+    let mut pairs = pairs_of(alloc, seats)?;
+    let in_time = run(rt, alloc, node, held, pairs.as_mut_slice());
+    let seats = seats_of(alloc, pairs)?;
+    in_time.then_some(seats)
+}
+
+// Two workers, of which one is held, with a frame that is a repeat or isn't: whether it was let go in time, and both
+// frames were answered.
+fn overlaps<R: Threads + Wait + Clock + Sync>(
+    rt: &R,
+    alloc: Global,
+    held: u16,
+    repeats: bool,
+) -> Option<bool> {
+    let (node, mut seats) = node_of(alloc, FOUR)?;
+    let is_ready = !repeats || takes_first(rt, alloc, &node, seats.as_mut_slice(), held);
+    let seats = held_seats(rt, alloc, &node, held, seats)?;
     let answered = are_told(seats.as_slice(), held, repeats);
     let closed = node.close(alloc, seats.as_slice()).is_ok();
-    let in_time = !gate.gave_up.load(Ordering::SeqCst);
-    Ok(in_time && answered && closed && told.counts() == (2, 0, 0))
+    Some(is_ready && answered && closed)
 }
 
 #[test]
-fn one_worker_waits_for_no_other(rt: HostRuntime) -> Result<(), Fail> {
+fn one_worker_waits_for_no_other(rt: HostRuntime) {
     for (held, repeats) in [(0, false), (1, false), (0, true), (1, true)] {
-        assert!(rt;
-            overlaps(&rt, rt.alloc(), held, repeats)?,
+        let overlap = overlaps(&rt, rt.alloc(), held, repeats);
+        assert_eq!(rt;
+            overlap,
+            Some(true),
             "worker {held} held, its frame a repeat: {repeats}"
         );
     }
-    Ok(())
 }
