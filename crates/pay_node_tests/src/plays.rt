@@ -37,9 +37,17 @@ fn unmet_in<R: Wait>(
     None
 }
 
+// A node and its seats, tried once more where memory is refused.
+fn fresh(alloc: Global, group: Group) -> Option<(Tried, Vec<Seat>)> {
+    match node_of(alloc, group) {
+        None => node_of(alloc, group),
+        made => made,
+    }
+}
+
 // The same from the first seat of a row's fresh node, or behind the calls the node's closing.
 fn unmet<R: Wait>(rt: &R, alloc: Global, row: &Row) -> Option<usize> {
-    let Some((node, mut seats)) = node_of(alloc, row.group) else {
+    let Some((node, mut seats)) = fresh(alloc, row.group) else {
         return Some(0);
     };
     let unmet = match seats.first_mut() {
