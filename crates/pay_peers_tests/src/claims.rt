@@ -254,7 +254,7 @@ fn came_of<R: Wait>(
 }
 
 // The same of a fresh node.
-fn came<R: Wait>(rt: &R, alloc: Global, row: &Row) -> Option<Came> {
+fn outcome<R: Wait>(rt: &R, alloc: Global, row: &Row) -> Option<Came> {
     let (node, mut seats) = node_of(alloc, Group { seats: 3, ..FOUR })?;
     came_of(rt, alloc, &node, &mut seats, row)
 }
@@ -262,6 +262,10 @@ fn came<R: Wait>(rt: &R, alloc: Global, row: &Row) -> Option<Came> {
 #[test]
 fn each_want_is_answered_from_its_senders_seat(rt: HostRuntime) {
     for (place, row) in ROWS.iter().enumerate() {
-        assert_eq!(rt; came(&rt, rt.alloc(), row), Some(row.came), "row {place}");
+        assert_eq!(rt;
+            outcome(&rt, rt.alloc(), row),
+            Some(row.came),
+            "row {place}"
+        );
     }
 }
