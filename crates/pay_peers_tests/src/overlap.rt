@@ -16,7 +16,7 @@ use std::thread::Threads;
 use std::time::{Clock, Duration};
 
 /// How often a held worker looks whether the other one was answered, a millisecond apart.
-const TURNS: u32 = 60_000;
+const TURNS: u32 = 20_000;
 
 /// The place of a frame's kind, which is 1 of a SEND.
 const KIND: usize = 3;
