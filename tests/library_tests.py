@@ -13,8 +13,6 @@ from runs import SECONDS, TOP, same
 
 # What ends a test where memory is refused to what it sets up.
 SET_UP = re.compile("error: (Memory|OutOfMemory|AllocError|AllocFailed .*)\nthe test failed: .*\n")
-# A call, by its place among those that a test makes, that isn't answered as with ample memory.
-UNMET = re.compile(r"assertion `left == right` failed\n  left: Some\((\d+)\)\n right: None\n")
 
 
 def each(library, crate, name):
@@ -36,23 +34,17 @@ def each(library, crate, name):
 
 @hostile
 def each_growth_of_a_call_refused_once(library):
-    """A call that was refused memory has the answer with ample memory when it is made again."""
-    for name in ("replays::histories_are_replayed", "runs::events_are_run", "streams::repeated_frame_cut_anywhere"):
-        runs = each(library, "pay_library_tests", name)
+    """A call that was refused memory has the answer with ample memory when it is made again.
+
+    A node is made again too, and of a call at it that was refused no receipt is left.
+    """
+    calls = ["replays::histories_are_replayed", "runs::events_are_run", "streams::repeated_frame_cut_anywhere"]
+    tests = [*(("pay_library_tests", name) for name in calls), ("pay_node_tests", "plays::calls_leave_receipts")]
+    for crate, name in tests:
+        runs = each(library, crate, name)
         for place, (status, errors) in enumerate(runs, 1):
             is_right = (status, errors) == (0, "") or (status == 101 and SET_UP.fullmatch(errors) is not None)
             same(is_right, True, f"{name}, growth {place}: {status} {errors}")
         again = sum(status == 0 for status, _ in runs)
         same(again > 30 or not runs, True, f"{name}: {again} calls made again")
         print(f"{name}: growths refused: {len(runs)}, calls made again: {again}")
-
-
-@hostile
-def each_growth_of_a_nodes_calls_refused(library):
-    """The first call that isn't answered is the one whose growth it was, so calls before and their receipts stay."""
-    runs = each(library, "pay_node_tests", "plays::calls_leave_receipts")
-    unmet = [UNMET.match(errors) for _, errors in runs]
-    same(None in unmet, False, f"{[errors for (_, errors), one in zip(runs, unmet) if one is None][:1]}")
-    places = [int(one[1]) for one in unmet]
-    same((places, len({*places}) > 5 or not runs), (sorted(places), True), "calls in their order")
-    print(f"a node's calls: growths refused: {len(runs)}, in {len({*places})} calls and what is round them")

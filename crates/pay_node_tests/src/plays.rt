@@ -1,15 +1,21 @@
 //! Calls at a node, and seats held against its history.
 
-use crate::rows::{ALONE, CALLS, FOUR, HANDED};
-use crate::step::{Group, Step, Whose};
+use crate::rows::{FOUR, HANDED, PAYMENT, ROWS};
+use crate::step::{Group, Row, Step, Whose};
 use crate::trial::{Tried, meets, node_of};
 use pay_node::{CloseFault, Seat};
 use std::alloc::Global;
 use std::sync::Wait;
 
-// What closing a node answers with these seats; nothing, where they agree.
+// What closing a node answers with these seats, once more where memory is refused; nothing, where they agree.
 fn fault_at_closing(alloc: Global, node: Tried, seats: &[Seat]) -> Option<CloseFault> {
-    match node.close(alloc, seats) {
+    let Err((fault, stopped)) = node.close(alloc, seats) else {
+        return None;
+    };
+    if fault != CloseFault::Memory {
+        return Some(fault);
+    }
+    match stopped.close(alloc, seats) {
         Ok(_) => None,
         Err((fault, _)) => Some(fault),
     }
@@ -31,22 +37,33 @@ fn unmet_in<R: Wait>(
     None
 }
 
-// The same from the seat of a lone member's fresh node, or behind the calls the node's closing.
-fn unmet<R: Wait>(rt: &R, alloc: Global, steps: &[Step]) -> Option<usize> {
-    let Some((node, mut seats)) = node_of(alloc, ALONE) else {
+// A node and its seats, tried once more where memory is refused.
+fn fresh(alloc: Global, group: Group) -> Option<(Tried, Vec<Seat>)> {
+    match node_of(alloc, group) {
+        None => node_of(alloc, group),
+        made => made,
+    }
+}
+
+// The same from the first seat of a row's fresh node, or behind the calls the node's closing.
+fn unmet<R: Wait>(rt: &R, alloc: Global, row: &Row) -> Option<usize> {
+    let Some((node, mut seats)) = fresh(alloc, row.group) else {
         return Some(0);
     };
     let unmet = match seats.first_mut() {
-        Some(seat) => unmet_in(rt, alloc, &node, seat, steps),
+        Some(seat) => unmet_in(rt, alloc, &node, seat, row.steps),
         None => Some(0),
     };
     let fault = fault_at_closing(alloc, node, seats.as_slice());
-    unmet.or(fault.is_some().then_some(steps.len()))
+    unmet.or(fault.is_some().then_some(row.steps.len()))
 }
 
 #[test]
 fn calls_leave_receipts(rt: HostRuntime) {
-    assert_eq!(rt; unmet(&rt, rt.alloc(), &CALLS), None);
+    for row in &ROWS {
+        let name = row.name;
+        assert_eq!(rt; unmet(&rt, rt.alloc(), row), None, "{name}");
+    }
 }
 
 fn seat_of(seats: &mut Vec<Seat>, stamp: usize) -> Option<Seat> {
@@ -118,4 +135,30 @@ fn seats_agree_or_not(rt: HostRuntime) {
         let fault = fault_of(&rt, rt.alloc(), handed.seats);
         assert_eq!(rt; fault, Some(handed.answer), "{name}");
     }
+}
+
+// A node that asked is closed with the seats of another one, starts again, asks once more, and is closed with its own
+// seats: both faults, if both asks were answered.
+fn started_again<R: Wait>(
+    rt: &R,
+    alloc: Global,
+) -> Option<(Option<CloseFault>, Option<CloseFault>)> {
+    let others = others(alloc)?;
+    let (node, mut seats) = asked(rt, alloc)?;
+    let Err((fault, stopped)) = node.close(alloc, others.as_slice()) else {
+        return None;
+    };
+    let node = stopped.start();
+    let asks = match seats.first_mut() {
+        Some(seat) => meets(rt, alloc, &node, seat, &Step::Ask(PAYMENT, Ok(1))),
+        None => false,
+    };
+    let again = fault_at_closing(alloc, node, seats.as_slice());
+    asks.then_some((Some(fault), again))
+}
+
+#[test]
+fn a_stopped_node_starts_again(rt: HostRuntime) {
+    let faults = started_again(&rt, rt.alloc());
+    assert_eq!(rt; faults, Some((Some(CloseFault::Mismatch(0)), None)));
 }

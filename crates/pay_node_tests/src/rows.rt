@@ -1,14 +1,17 @@
 //! The rows.
 
-use crate::step::{Group, Handed, Said, Step, Whose};
+use crate::step::{Group, Handed, Row, Said, Step, Whose};
+use pay_book::Line;
 use pay_frame::Kind;
+use pay_link::LinkFault;
+use pay_member::{Outcome, PaymentState, QueryFault, Told, Took};
 use pay_node::CloseFault;
 
 /// A payment of 5 to account 0.
-const PAYMENT: &[u8] = &[1, 0, 0, 0, 0, 0, 0, 0, 0, 0, 5];
+pub(crate) const PAYMENT: &[u8] = &[1, 0, 0, 0, 0, 0, 0, 0, 0, 0, 5];
 
 /// A member alone, with one seat.
-pub(crate) const ALONE: Group = Group {
+const ALONE: Group = Group {
     faults: 0,
     opening: &[7],
     own: 0,
@@ -22,6 +25,19 @@ pub(crate) const FOUR: Group = Group {
     own: 1,
     seats: 2,
 };
+
+/// A SEND of member 0 to member 1, number 0, about its first broadcast, with an empty value. Another program tagged it.
+const SEND: [u8; 56] = [
+    0, 54, 1, 1, 0, 0, 0, 1, 0, 0, 0, 0, 0, 0, 0, 0, 0, 0, 0, 0, 0, 0, 0, 0, 95, 18, 216, 156, 232,
+    199, 171, 234, 104, 63, 10, 5, 239, 51, 203, 236, 225, 46, 12, 222, 29, 67, 48, 187, 155, 99,
+    95, 28, 6, 226, 59, 98,
+];
+
+/// The same with a tag of zeros.
+const WRONG_TAG: [u8; 56] = [
+    0, 54, 1, 1, 0, 0, 0, 1, 0, 0, 0, 0, 0, 0, 0, 0, 0, 0, 0, 0, 0, 0, 0, 0, 0, 0, 0, 0, 0, 0, 0,
+    0, 0, 0, 0, 0, 0, 0, 0, 0, 0, 0, 0, 0, 0, 0, 0, 0, 0, 0, 0, 0, 0, 0, 0, 0,
+];
 
 /// What a lone member sends of a payment to itself, which moves nothing.
 const LONE: [Said; 3] = [
@@ -45,25 +61,74 @@ const LONE: [Said; 3] = [
     },
 ];
 
-/// Calls from a lone member's seat: each has a receipt, but for a body that was fetched once before.
-pub(crate) const CALLS: [Step; 17] = [
-    Step::FetchOnce(2, &[]),
-    Step::Ask(PAYMENT, Ok(0)),
-    Step::Receipts(2, 1),
-    Step::FetchOnce(2, &LONE),
-    Step::FetchOnce(0, &LONE),
-    Step::Receipts(4, 1),
-    Step::FetchOnce(2, &LONE),
-    Step::FetchOnce(0, &LONE),
-    Step::FetchOnce(2, &LONE),
-    Step::Receipts(4, 1),
-    Step::FetchOnce(usize::MAX, &LONE),
-    Step::FetchOnce(3, &LONE),
-    Step::Fetch(0, 16, &LONE),
-    Step::Receipts(7, 1),
-    Step::FetchOnce(1, &LONE),
-    Step::FetchOnce(0, &LONE),
-    Step::Receipts(8, 1),
+/// Calls from a seat: each has a receipt, but for a body that was fetched once before, and for bytes that don't open.
+pub(crate) const ROWS: [Row; 3] = [
+    Row {
+        name: "a member alone",
+        group: ALONE,
+        steps: &[
+            Step::State(0, 0, PaymentState::Unknown),
+            Step::Ask(PAYMENT, Ok(0)),
+            Step::Query(
+                0,
+                Ok(Told {
+                    balance: 7,
+                    front: 1,
+                    listed: 1,
+                }),
+            ),
+            Step::Query(1, Err(QueryFault::NoAccount)),
+            Step::Fetch(0, 16, &LONE),
+            Step::State(0, 0, PaymentState::Settled),
+            Step::State(0, 1, PaymentState::Unknown),
+            Step::Statement(0, &[Line::Void { seq: 0 }], 7),
+            Step::Fronts(&[1]),
+            Step::Receipts(9, 2),
+        ],
+    },
+    Row {
+        name: "bodies are fetched once",
+        group: ALONE,
+        steps: &[
+            Step::FetchOnce(2, &[]),
+            Step::Ask(PAYMENT, Ok(0)),
+            Step::Receipts(2, 1),
+            Step::FetchOnce(2, &LONE),
+            Step::FetchOnce(0, &LONE),
+            Step::Receipts(4, 1),
+            Step::FetchOnce(2, &LONE),
+            Step::FetchOnce(0, &LONE),
+            Step::FetchOnce(2, &LONE),
+            Step::Receipts(4, 1),
+            Step::FetchOnce(usize::MAX, &LONE),
+            Step::FetchOnce(3, &LONE),
+            Step::Fetch(0, 16, &LONE),
+            Step::Receipts(7, 1),
+            Step::FetchOnce(1, &LONE),
+            Step::FetchOnce(0, &LONE),
+            Step::Receipts(8, 1),
+        ],
+    },
+    Row {
+        name: "frames are brought",
+        group: FOUR,
+        steps: &[
+            Step::Bring(&WRONG_TAG, Outcome::Link(LinkFault::BadTag), false),
+            Step::Receipts(0, 0),
+            Step::Bring(
+                &SEND,
+                Outcome::Took(Took {
+                    echo: true,
+                    ready: false,
+                    deliver: false,
+                    settled: 0,
+                }),
+                true,
+            ),
+            Step::Bring(&SEND, Outcome::Link(LinkFault::Repeat(1)), true),
+            Step::Receipts(2, 1),
+        ],
+    },
 ];
 
 /// Seats of a node with two, whose first asked once; another node has eight, from which nobody called.

@@ -4,9 +4,10 @@ use crate::step::{Group, Said, Step};
 use pay_book::PlainBook;
 use pay_echo::MaskInstance;
 use pay_frame::{Body, Bytes};
+use pay_hmac::HmacSha256;
 use pay_link::{Genesis, test_keys};
-use pay_member::Member;
-use pay_node::{Call, MOST_SEATS, Node, Receipt, Seat};
+use pay_member::{AskFault, Member, Outcome, QueryFault};
+use pay_node::{Call, MOST_SEATS, Node, OpenGate, Receipt, Seat};
 use std::alloc::Global;
 use std::sync::Wait;
 
@@ -24,7 +25,7 @@ pub(crate) fn node_of(alloc: Global, group: Group) -> Option<(Tried, Vec<Seat>)>
     Node::new(alloc, member, group.seats).ok()
 }
 
-/// Takes a step, and says whether the answer is the one expected. It isn't where memory is refused.
+/// Takes a step, once more where memory is refused, and says whether the answer is the one expected.
 pub(crate) fn meets<R: Wait>(
     rt: &R,
     alloc: Global,
@@ -32,23 +33,80 @@ pub(crate) fn meets<R: Wait>(
     seat: &mut Seat,
     step: &Step,
 ) -> bool {
+    match is_met(rt, alloc, node, seat, step) {
+        Some(is_met) => is_met,
+        None => is_met(rt, alloc, node, seat, step) == Some(true),
+    }
+}
+
+// Whether the answer to a step is the one expected; nothing, where memory is refused.
+fn is_met<R: Wait>(
+    rt: &R,
+    alloc: Global,
+    node: &Tried,
+    seat: &mut Seat,
+    step: &Step,
+) -> Option<bool> {
     match *step {
-        Step::Ask(value, answer) => match Bytes::from_slice(alloc, value) {
-            Ok(value) => node.ask(rt, alloc, seat, value) == answer,
-            Err(_) => false,
-        },
-        Step::Fetch(from, max, said) => match node.fetch(rt, alloc, seat, from, max) {
-            Ok(bodies) => are_said(bodies.as_slice(), said),
-            Err(_) => false,
-        },
-        Step::FetchOnce(number, said) => match node.fetch_once(rt, alloc, seat, number) {
-            Ok(Some(body)) => said.get(number).is_some_and(|said| is_said(&body, said)),
-            Ok(None) => said.get(number).is_none(),
-            Err(_) => false,
-        },
-        Step::Receipts(all, with_entry) => {
-            seat.receipts().len() == all && entries_in(seat.receipts()) == with_entry
+        Step::Bring(bytes, outcome, wants) => {
+            brings(rt, alloc, node, seat, bytes, outcome, wants)
         }
+        Step::Ask(value, answer) => {
+            let value = Bytes::from_slice(alloc, value).ok()?;
+            let found = node.ask(rt, alloc, seat, value);
+            (found != Err(AskFault::Memory)).then_some(found == answer)
+        }
+        Step::Query(account, answer) => {
+            let found = node.query(rt, alloc, seat, account);
+            (found != Err(QueryFault::Memory)).then_some(found == answer)
+        }
+        Step::State(owner, seq, state) => {
+            let found = node.state(rt, alloc, seat, owner, seq);
+            (found != Err(QueryFault::Memory)).then_some(found == Ok(state))
+        }
+        Step::Statement(account, lines, balance) => {
+            let found = node.statement(rt, alloc, seat, account).ok()?;
+            Some(found.lines() == lines && found.balance() == balance)
+        }
+        Step::Fronts(fronts) => {
+            let found = node.fronts(rt, alloc, seat).ok()?;
+            Some(found.as_slice() == fronts)
+        }
+        Step::Fetch(from, max, said) => {
+            let bodies = node.fetch(rt, alloc, seat, from, max).ok()?;
+            Some(are_said(bodies.as_slice(), said))
+        }
+        Step::FetchOnce(number, said) => {
+            let found = node.fetch_once(rt, alloc, seat, number).ok()?;
+            Some(is_fetched(found, said.get(number)))
+        }
+        Step::Receipts(all, with_entry) => {
+            let receipts = seat.receipts();
+            Some(receipts.len() == all && entries_in(receipts) == with_entry)
+        }
+    }
+}
+
+fn brings<R: Wait>(
+    rt: &R,
+    alloc: Global,
+    node: &Tried,
+    seat: &mut Seat,
+    bytes: &[u8],
+    outcome: Outcome,
+    wants: bool,
+) -> Option<bool> {
+    let brought = node
+        .bring(rt, alloc, seat, &HmacSha256, &OpenGate, bytes)
+        .ok()?;
+    Some(brought.outcome == outcome && brought.want.is_some() == wants)
+}
+
+fn is_fetched(found: Option<Body>, said: Option<&Said>) -> bool {
+    match (found, said) {
+        (Some(body), Some(said)) => is_said(&body, said),
+        (None, None) => true,
+        _ => false,
     }
 }
 

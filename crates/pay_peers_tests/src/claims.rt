@@ -1,7 +1,7 @@
-//! Whose a connection is: told once, when its first WANT opens; and what becomes of the WANTs behind that.
+//! Whose a connection is: told once, when its first WANT opens; and what becomes of the WANTs that come on it.
 
 use crate::rows::{FOUR, PAYMENT, SEND, WANT, WANT_FROM_2, WANT_OF_0, WANT_OF_2};
-use crate::trial::{Group, node_of};
+use crate::trial::{Group, Tried, node_of};
 use pay_frame::Bytes;
 use pay_hmac::HmacSha256;
 use pay_io::{Output, Reader, Writer};
@@ -10,7 +10,6 @@ use pay_peers::{Claim, write_peer};
 use std::alloc::Global;
 use std::sync::atomic::{AtomicBool, AtomicU64, Ordering};
 use std::sync::{Mutex, Wait};
-use std::test::Fail;
 
 /// Counts how often a connection was claimed, for whom last, and lets it go on or not.
 #[derive(Drop)]
@@ -46,130 +45,227 @@ impl Claim for Claims {
     }
 }
 
-/// What came of a connection: how many bytes were written in how many calls, and how many receipts are left in the
-/// seats of members 0 and 2.
+/// What comes on a connection to member 1 of four, and what comes of it.
+struct Row {
+    frames: &'static [&'static [u8]],
+    goes_on: bool,
+    came: Came,
+}
+
+/// How often a connection was claimed, and for whom last; how many bytes were written in how many calls; and how many
+/// receipts are left in the seats of members 0 and 2.
 #[derive(Clone, Copy, Debug, PartialEq, Eq)]
-struct Written {
+struct Came {
+    claimed: (u64, u64),
     bytes: usize,
     calls: u64,
     receipts: (usize, usize),
 }
 
-// What member 1 of four writes where these frames come.
-fn answered<R: Wait>(
+/// The length of each reply, a frame with a payment.
+const REPLY: usize = 67;
+
+/// Nobody claimed it, and nothing was written.
+const NOTHING: Came = Came {
+    claimed: (0, u64::MAX),
+    bytes: 0,
+    calls: 0,
+    receipts: (0, 0),
+};
+
+// Replies behind the first go out together, and a repeated WANT leaves no receipt.
+const ROWS: [Row; 10] = [
+    Row {
+        frames: &[&SEND],
+        goes_on: true,
+        came: NOTHING,
+    },
+    Row {
+        frames: &[&WANT, &WANT],
+        goes_on: false,
+        came: Came {
+            claimed: (1, 0),
+            ..NOTHING
+        },
+    },
+    Row {
+        frames: &[&SEND, &WANT],
+        goes_on: true,
+        came: Came {
+            claimed: (1, 0),
+            bytes: REPLY,
+            calls: 1,
+            receipts: (1, 0),
+        },
+    },
+    Row {
+        frames: &[&SEND, &WANT, &WANT],
+        goes_on: true,
+        came: Came {
+            claimed: (1, 0),
+            bytes: 2 * REPLY,
+            calls: 2,
+            receipts: (1, 0),
+        },
+    },
+    Row {
+        frames: &[&WANT, &WANT_OF_0],
+        goes_on: true,
+        came: Came {
+            claimed: (1, 0),
+            bytes: 2 * REPLY,
+            calls: 2,
+            receipts: (2, 0),
+        },
+    },
+    Row {
+        frames: &[&WANT, &WANT_OF_2, &SEND, &WANT_OF_0],
+        goes_on: true,
+        came: Came {
+            claimed: (1, 0),
+            bytes: 3 * REPLY,
+            calls: 2,
+            receipts: (3, 0),
+        },
+    },
+    Row {
+        frames: &[&WANT, &WANT, &WANT_OF_0, &WANT, &WANT_OF_0],
+        goes_on: true,
+        came: Came {
+            claimed: (1, 0),
+            bytes: 5 * REPLY,
+            calls: 2,
+            receipts: (2, 0),
+        },
+    },
+    Row {
+        frames: &[&WANT_FROM_2],
+        goes_on: true,
+        came: Came {
+            claimed: (1, 2),
+            bytes: REPLY,
+            calls: 1,
+            receipts: (0, 1),
+        },
+    },
+    Row {
+        frames: &[&WANT, &WANT_OF_0, &WANT_FROM_2],
+        goes_on: true,
+        came: Came {
+            claimed: (1, 0),
+            bytes: 3 * REPLY,
+            calls: 2,
+            receipts: (2, 1),
+        },
+    },
+    Row {
+        frames: &[&WANT_FROM_2, &WANT_OF_0],
+        goes_on: true,
+        came: Came {
+            claimed: (1, 2),
+            bytes: 2 * REPLY,
+            calls: 2,
+            receipts: (1, 1),
+        },
+    },
+];
+
+// These frames, one behind the other.
+fn joined(alloc: Global, frames: &[&[u8]]) -> Option<Vec<u8>> {
+    let mut all = Vec::new(alloc);
+    for frame in frames {
+        all.extend_from_slice(frame).ok()?;
+    }
+    Some(all)
+}
+
+// Whether a node is asked for two payments.
+fn asks_twice<R: Wait>(rt: &R, alloc: Global, node: &Tried, seat: &mut Seat) -> bool {
+    for _ in 0..2 {
+        let Ok(value) = Bytes::from_slice(alloc, PAYMENT) else {
+            return false;
+        };
+        if node.ask(rt, alloc, seat, value).is_err() {
+            return false;
+        }
+    }
+    true
+}
+
+// The number of bytes that a node writes for those that come, and in how many calls.
+fn written<R: Wait>(
     rt: &R,
     alloc: Global,
+    node: &Tried,
+    seats: &[(u16, Mutex<Seat>)],
     claims: &Claims,
     frames: &[u8],
-) -> Result<Written, Fail> {
-    let group = Group { seats: 3, ..FOUR };
-    let (node, mut seats) = node_of(alloc, group).ok_or("no such node")?;
-    let mut asking = seats.pop().ok_or("no seat")?;
-    for _ in 0..2 {
-        let value = Bytes::from_slice(alloc, PAYMENT)?;
-        node.ask(rt, alloc, &mut asking, value)
-            .ok()
-            .ok_or("not asked")?;
-    }
-    let mut writing: Vec<(u16, Mutex<Seat>)> = Vec::new(alloc);
-    for peer in [2, 0] {
-        writing.push((peer, Mutex::new(seats.pop().ok_or("no seat")?)))?;
-    }
-    let stop = AtomicBool::new(false);
+) -> Option<(usize, u64)> {
     let mut reader = Reader::new(frames);
     let mut writer: Writer<Vec<u8>> = Writer::new(Vec::new(alloc));
-    write_peer(
+    let stop = AtomicBool::new(false);
+    let ended = write_peer(
         rt,
         alloc,
-        &node,
-        writing.as_slice(),
+        node,
+        seats,
         &HmacSha256,
         &stop,
         claims,
         &mut reader,
         &mut writer,
-    )
-    .ok()
-    .ok_or("a fault")?;
+    );
     let calls = writer.calls();
-    let (_, of_0) = writing.pop().ok_or("no seat")?;
-    let (_, of_2) = writing.pop().ok_or("no seat")?;
-    Ok(Written {
-        bytes: writer.into_inner().len(),
+    ended.is_ok().then_some((writer.into_inner().len(), calls))
+}
+
+// How many receipts a peer's seat has.
+fn receipts_in<R: Wait>(rt: &R, seat: &Mutex<Seat>) -> usize {
+    seat.lock(rt).receipts().len()
+}
+
+// What comes of a connection to a node, from whose last seat two payments are asked for.
+fn came_of<R: Wait>(
+    rt: &R,
+    alloc: Global,
+    node: &Tried,
+    seats: &mut Vec<Seat>,
+    row: &Row,
+) -> Option<Came> {
+    let frames = joined(alloc, row.frames)?;
+    let mut asking = seats.pop()?;
+    let of_2 = seats.pop()?;
+    let of_0 = seats.pop()?;
+    if !asks_twice(rt, alloc, node, &mut asking) {
+        return None;
+    }
+    let writing = [(2, Mutex::new(of_2)), (0, Mutex::new(of_0))];
+    let claims = Claims::new(row.goes_on);
+    let (bytes, calls) = written(rt, alloc, node, &writing, &claims, frames.as_slice())?;
+    Some(Came {
+        claimed: claims.told(),
+        bytes,
         calls,
         receipts: (
-            of_0.into_inner().receipts().len(),
-            of_2.into_inner().receipts().len(),
+            receipts_in(rt, &writing[1].1),
+            receipts_in(rt, &writing[0].1),
         ),
     })
 }
 
-// These frames, one behind the other.
-fn joined(alloc: Global, frames: &[&[u8]]) -> Result<Vec<u8>, Fail> {
-    let mut all = Vec::new(alloc);
-    for frame in frames {
-        all.extend_from_slice(frame)?;
+// The same of a fresh node.
+fn outcome<R: Wait>(rt: &R, alloc: Global, row: &Row) -> Option<Came> {
+    let (node, mut seats) = node_of(alloc, Group { seats: 3, ..FOUR })?;
+    came_of(rt, alloc, &node, &mut seats, row)
+}
+
+#[test]
+fn each_want_is_answered_from_its_senders_seat(rt: HostRuntime) {
+    for (place, row) in ROWS.iter().enumerate() {
+        assert_eq!(rt;
+            outcome(&rt, rt.alloc(), row),
+            Some(row.came),
+            "row {place}"
+        );
     }
-    Ok(all)
-}
-
-#[test]
-fn a_connection_is_claimed_at_its_first_want(rt: HostRuntime) -> Result<(), Fail> {
-    let alloc = rt.alloc();
-    let none = joined(alloc, &[&SEND])?;
-    let one = joined(alloc, &[&SEND, &WANT])?;
-    let two = joined(alloc, &[&SEND, &WANT, &WANT])?;
-    let claims = Claims::new(true);
-    assert_eq!(rt; answered(&rt, alloc, &claims, none.as_slice())?.bytes, 0);
-    assert_eq!(rt; claims.told(), (0, u64::MAX));
-    let length = answered(&rt, alloc, &claims, one.as_slice())?.bytes;
-    assert!(rt; length > 0);
-    assert_eq!(rt; claims.told(), (1, 0));
-    let both = answered(&rt, alloc, &claims, two.as_slice())?.bytes;
-    assert!(rt; both > length && both - length == length);
-    assert_eq!(rt; claims.told(), (2, 0));
-    Ok(())
-}
-
-#[test]
-fn a_connection_that_may_not_go_on_ends_unanswered(rt: HostRuntime) -> Result<(), Fail> {
-    let alloc = rt.alloc();
-    let two = joined(alloc, &[&WANT, &WANT])?;
-    let claims = Claims::new(false);
-    assert_eq!(rt; answered(&rt, alloc, &claims, two.as_slice())?.bytes, 0);
-    assert_eq!(rt; claims.told(), (1, 0));
-    Ok(())
-}
-
-#[test]
-fn replies_go_out_together_and_repeats_leave_no_receipt(rt: HostRuntime) -> Result<(), Fail> {
-    let alloc = rt.alloc();
-    let rows: [(&[&[u8]], u64, usize); 4] = [
-        (&[&WANT], 1, 1),
-        (&[&WANT, &WANT_OF_0], 2, 2),
-        (&[&WANT, &WANT_OF_2, &SEND, &WANT_OF_0], 2, 3),
-        (&[&WANT, &WANT, &WANT_OF_0, &WANT, &WANT_OF_0], 2, 2),
-    ];
-    for (frames, calls, receipts) in rows {
-        let sent = joined(alloc, frames)?;
-        let came = answered(&rt, alloc, &Claims::new(true), sent.as_slice())?;
-        assert_eq!(rt; (came.calls, came.receipts), (calls, (receipts, 0)));
-    }
-    Ok(())
-}
-
-#[test]
-fn each_want_is_answered_from_its_senders_seat(rt: HostRuntime) -> Result<(), Fail> {
-    let alloc = rt.alloc();
-    let rows: [(&[&[u8]], (usize, usize)); 3] = [
-        (&[&WANT_FROM_2], (0, 1)),
-        (&[&WANT, &WANT_OF_0, &WANT_FROM_2], (2, 1)),
-        (&[&WANT_FROM_2, &WANT_OF_0], (1, 1)),
-    ];
-    for (frames, receipts) in rows {
-        let sent = joined(alloc, frames)?;
-        let came = answered(&rt, alloc, &Claims::new(true), sent.as_slice())?;
-        assert_eq!(rt; came.receipts, receipts);
-    }
-    Ok(())
 }

@@ -1,8 +1,10 @@
-//! Tests of `pay_peers`: whose a connection is, and two workers of whom neither waits for the other.
+//! Tests of `pay_peers`: whose a connection is, how a node is fed, and two workers of whom neither waits for the other.
 #![tactic(auto)]
 
 #[cfg(test)]
 mod claims;
+#[cfg(test)]
+mod feeding;
 #[cfg(test)]
 mod overlap;
 #[cfg(test)]

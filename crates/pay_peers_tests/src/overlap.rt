@@ -1,9 +1,9 @@
-//! Two workers at one node: while one is held at the gate, the other one's frame is taken.
+//! Two workers at one node: while one is held as its frame is opened, or before the lock, the other one's frame is taken.
 
 use crate::rows::{FOUR, SEND, SEND_OF_2};
 use crate::told::Told;
 use crate::trial::{Tried, node_of};
-use pay_hmac::HmacSha256;
+use pay_hmac::{HmacSha256, Tagger};
 use pay_io::{Reader, Writer};
 use pay_member::{MemberFault, Outcome};
 use pay_node::{Call, Gate, OpenGate, Seat};
@@ -11,28 +11,29 @@ use pay_peers::{Ahead, Asking, Dial, Dialed, Dials, run_readers};
 use std::alloc::Global;
 use std::sync::Wait;
 use std::sync::atomic::{AtomicBool, Ordering};
-use std::test::Fail;
 use std::thread;
 use std::thread::Threads;
 use std::time::{Clock, Duration};
 
 /// How often a held worker looks whether the other one was answered, a millisecond apart.
-const TURNS: u32 = 60_000;
+const TURNS: u32 = 20_000;
 
-/// Holds the calls of one stamp until those of another were answered.
+/// The place of a frame's kind, which is 1 of a SEND.
+const KIND: usize = 3;
+
+/// Holds the worker of one stamp until the other one was answered: as its frame's tag is made, or behind that, before
+/// the lock is taken.
 #[derive(Drop)]
 struct Held<'a, C> {
     clock: &'a C,
     stamp: u16,
+    at_tag: bool,
     other_answered: AtomicBool,
     gave_up: AtomicBool,
 }
 
-impl<C: Clock> Gate for Held<'_, C> {
-    fn pass(&self, stamp: u16) {
-        if stamp != self.stamp {
-            return;
-        }
+impl<C: Clock> Held<'_, C> {
+    fn hold(&self) {
         for _ in 0..TURNS {
             if self.other_answered.load(Ordering::SeqCst) {
                 return;
@@ -41,11 +42,30 @@ impl<C: Clock> Gate for Held<'_, C> {
         }
         self.gave_up.store(true, Ordering::SeqCst);
     }
+}
+
+impl<C: Clock> Gate for Held<'_, C> {
+    fn pass(&self, stamp: u16) {
+        if stamp == self.stamp && !self.at_tag {
+            self.hold();
+        }
+    }
 
     fn answered(&self, stamp: u16) {
         if stamp != self.stamp {
             self.other_answered.store(true, Ordering::SeqCst);
         }
+    }
+}
+
+impl<C: Clock> Tagger for Held<'_, C> {
+    fn tag(&self, key: &[u8; 32], head: &[u8], rest: &[u8]) -> [u8; 32] {
+        // the test key of members 0 and 1 ends with 1, that of members 1 and 2 with 2
+        let stamp = if key[31] == 1 { 0 } else { 1 };
+        if stamp == self.stamp && self.at_tag && head.get(KIND) == Some(&1) {
+            self.hold();
+        }
+        HmacSha256.tag(key, head, rest)
     }
 }
 
@@ -108,27 +128,59 @@ fn are_told(seats: &[Seat], held: u16, repeats: bool) -> bool {
     })
 }
 
-// Two workers, of which one is held, with a frame that is a repeat or isn't: whether it was let go in time, and both
-// frames were answered.
-fn overlaps<R: Threads + Wait + Clock + Sync>(
+// The peer whose frames come from a seat.
+fn peer_of(seat: &Seat) -> u16 {
+    if seat.stamp() == 0 { 0 } else { 2 }
+}
+
+// Brings its one frame from the held seat before any worker does, and says whether it was taken.
+fn takes_first<R: Wait>(
     rt: &R,
     alloc: Global,
+    node: &Tried,
+    seats: &mut [Seat],
     held: u16,
-    repeats: bool,
-) -> Result<bool, Fail> {
-    let (node, seats) = node_of(alloc, FOUR).ok_or("no such node")?;
+) -> bool {
+    match seats.get_mut(usize::from(held)) {
+        Some(seat) => {
+            let frame = frame_of(peer_of(seat));
+            takes(rt, alloc, node, seat, frame)
+        }
+        None => false,
+    }
+}
+
+// Each seat with its peer.
+fn pairs_of(alloc: Global, seats: Vec<Seat>) -> Option<Vec<(u16, Asking)>> {
     let mut pairs = Vec::new(alloc);
     for seat in seats {
-        let mut seat = seat;
-        let peer = if seat.stamp() == 0 { 0 } else { 2 };
-        if repeats && seat.stamp() == held && !takes(rt, alloc, &node, &mut seat, frame_of(peer)) {
-            return Ok(false);
-        }
-        pairs.push((peer, Asking::new(seat)))?;
+        pairs.push((peer_of(&seat), Asking::new(seat))).ok()?;
     }
+    Some(pairs)
+}
+
+fn seats_of(alloc: Global, pairs: Vec<(u16, Asking)>) -> Option<Vec<Seat>> {
+    let mut seats = Vec::new(alloc);
+    for (_, asking) in pairs {
+        let Asking { seat, window: _ } = asking;
+        seats.push(seat).ok()?;
+    }
+    Some(seats)
+}
+
+// Runs the workers, of which one is held, and says whether that was let go in time.
+fn run<R: Threads + Wait + Clock + Sync>(
+    rt: &R,
+    alloc: Global,
+    node: &Tried,
+    held: u16,
+    at_tag: bool,
+    pairs: &mut [(u16, Asking)],
+) -> bool {
     let gate = Held {
         clock: rt,
         stamp: held,
+        at_tag,
         other_answered: AtomicBool::new(false),
         gave_up: AtomicBool::new(false),
     };
@@ -141,33 +193,87 @@ fn overlaps<R: Threads + Wait + Clock + Sync>(
     run_readers(
         rt,
         alloc,
-        &node,
-        &HmacSha256,
+        node,
+        &gate,
         &gate,
         &dial,
         &told,
         Dials::Usual,
         Ahead::most(),
-        pairs.as_mut_slice(),
+        pairs,
     );
-    let mut seats: Vec<Seat> = Vec::new(alloc);
-    for (_, asking) in pairs {
-        let Asking { seat, window: _ } = asking;
-        seats.push(seat)?;
-    }
-    let answered = are_told(seats.as_slice(), held, repeats);
+    !gate.gave_up.load(Ordering::SeqCst) && told.counts() == (2, 0, 0)
+}
+
+// The seats behind two workers of which one was held, if that was let go in time.
+fn held_seats<R: Threads + Wait + Clock + Sync>(
+    rt: &R,
+    alloc: Global,
+    node: &Tried,
+    held: u16,
+    at_tag: bool,
+    seats: Vec<Seat>,
+) -> Option<Vec<Seat>> {
+    let mut pairs = pairs_of(alloc, seats)?;
+    let in_time = run(rt, alloc, node, held, at_tag, pairs.as_mut_slice());
+    let seats = seats_of(alloc, pairs)?;
+    in_time.then_some(seats)
+}
+
+/// Two workers, of which one is held where its frame's tag is made or behind that, and whether that frame is a repeat.
+#[derive(Clone, Copy, Debug)]
+struct Row {
+    held: u16,
+    at_tag: bool,
+    repeats: bool,
+}
+
+const ROWS: [Row; 6] = [
+    Row {
+        held: 0,
+        at_tag: false,
+        repeats: false,
+    },
+    Row {
+        held: 1,
+        at_tag: false,
+        repeats: false,
+    },
+    Row {
+        held: 0,
+        at_tag: false,
+        repeats: true,
+    },
+    Row {
+        held: 1,
+        at_tag: false,
+        repeats: true,
+    },
+    Row {
+        held: 0,
+        at_tag: true,
+        repeats: false,
+    },
+    Row {
+        held: 1,
+        at_tag: true,
+        repeats: false,
+    },
+];
+
+// Whether the held worker was let go in time, and both frames were answered.
+fn overlaps<R: Threads + Wait + Clock + Sync>(rt: &R, alloc: Global, row: Row) -> Option<bool> {
+    let (node, mut seats) = node_of(alloc, FOUR)?;
+    let is_ready = !row.repeats || takes_first(rt, alloc, &node, seats.as_mut_slice(), row.held);
+    let seats = held_seats(rt, alloc, &node, row.held, row.at_tag, seats)?;
+    let answered = are_told(seats.as_slice(), row.held, row.repeats);
     let closed = node.close(alloc, seats.as_slice()).is_ok();
-    let in_time = !gate.gave_up.load(Ordering::SeqCst);
-    Ok(in_time && answered && closed && told.counts() == (2, 0, 0))
+    Some(is_ready && answered && closed)
 }
 
 #[test]
-fn one_worker_waits_for_no_other(rt: HostRuntime) -> Result<(), Fail> {
-    for (held, repeats) in [(0, false), (1, false), (0, true), (1, true)] {
-        assert!(rt;
-            overlaps(&rt, rt.alloc(), held, repeats)?,
-            "worker {held} held, its frame a repeat: {repeats}"
-        );
+fn one_worker_waits_for_no_other(rt: HostRuntime) {
+    for row in ROWS {
+        assert_eq!(rt; overlaps(&rt, rt.alloc(), row), Some(true), "{row:?}");
     }
-    Ok(())
 }
