@@ -481,6 +481,14 @@ impl<I: Instance + Drop, B: Settle + Drop> Member<I, B> {
         self.ledger.sent(place as usize)
     }
 
+    /// How many bodies the member sent to all.
+    pub fn sent_len(&self) -> u64
+        ensures { result ≡ length (out (group_in self.now.genesis self.now.keys.own)
+            (events self.now.history)) }
+    {
+        self.ledger.sent_len() as u64
+    }
+
     /// Copies of the bodies that the member sent to all, from a place on: at most `max`, and at
     /// most 16.
     pub fn fetch(&self, alloc: Global, from: usize, max: usize) -> Result<Vec<Body>, AllocError>
