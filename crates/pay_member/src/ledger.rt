@@ -155,6 +155,7 @@ impl<I: Instance + Drop, B: Settle + Drop> Ledger<I, B> {
         Ok(fronts)
     }
 
+    /// An account's balance, in the unit of the genesis's opening balances.
     pub fn balance(&self, account: u16) -> u64
         requires { account < length self.now.book.opening }
         ensures { result ≡ slice_index self.now.book.balances account }

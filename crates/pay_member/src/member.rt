@@ -449,6 +449,7 @@ impl<I: Instance + Drop, B: Settle + Drop> Member<I, B> {
         &self.genesis
     }
 
+    /// The member's own number, and the keys that it shares with its peers.
     pub fn keys(&self) -> &Keys
         ensures value { result.now ≡ self.now.keys }
         ensures limits { IsKeysOf self.now.genesis self.now.keys }
@@ -529,6 +530,7 @@ impl<I: Instance + Drop, B: Settle + Drop> Member<I, B> {
         self.ledger.fronts(alloc, self.genesis.members())
     }
 
+    /// An account's balance, in the unit of the genesis's opening balances.
     pub fn balance(&self, account: u16) -> u64
         requires { account < self.now.genesis.members }
         ensures { result
