@@ -27,8 +27,9 @@ impl<I: Instance + Drop, B: Settle + Drop> Teller for OneMember<I, B> {
         match self.member.ask(alloc, self.stamp, value) {
             Ok(seq) => Ok(seq),
             Err(AskFault::Spent) => Err(TellerFault::Spent),
-            // never `TooLong`, by what the call requires
-            Err(AskFault::Memory | AskFault::TooLong) => Err(TellerFault::Memory),
+            Err(AskFault::Memory) => Err(TellerFault::Memory),
+            // the value is short enough, by what the call requires
+            Err(AskFault::TooLong) => unreachable!(),
         }
     }
 

@@ -6,6 +6,8 @@ use crate::reply::Reply;
 pub struct HistoryEntry {
     /// Who handed the event in; it means nothing to the member.
     pub stamp: u16,
+    /// What was handed in.
     pub event: Event,
+    /// What the member replied: a refused event has no entry.
     pub reply: Reply,
 }

@@ -40,12 +40,14 @@ impl MemberFault {
         }
     }
 
+    /// The fault's number among all refusals of a member, from 0 on.
     pub fn number(self) -> u8
         ensures value { result ≡ member_fault_number self }
     {
         self.entry().0
     }
 
+    /// The fault's name, without the number that it gives.
     pub fn name(self) -> &'static str
         ensures value { result.now ≡ member_fault_name self }
     {

@@ -90,6 +90,13 @@ impl<I: Instance + Drop, B: Settle + Drop> Ledger<I, B> {
         self.channel.sent(place)
     }
 
+    /// How many bodies the member sent to all.
+    pub fn sent_len(&self) -> usize
+        ensures { result ≡ length self.now.channel.sent }
+    {
+        self.channel.sent_len()
+    }
+
     /// Copies of the bodies that the member sent to all, from a place on: at most so many.
     pub fn fetch(&self, alloc: Global, from: usize, most: usize) -> Result<Vec<Body>, AllocError>
         ensures { IfOk result (λ bodies. bodies.items
@@ -148,6 +155,7 @@ impl<I: Instance + Drop, B: Settle + Drop> Ledger<I, B> {
         Ok(fronts)
     }
 
+    /// An account's balance, in the unit of the genesis's opening balances.
     pub fn balance(&self, account: u16) -> u64
         requires { account < length self.now.book.opening }
         ensures { result ≡ slice_index self.now.book.balances account }

@@ -449,6 +449,7 @@ impl<I: Instance + Drop, B: Settle + Drop> Member<I, B> {
         &self.genesis
     }
 
+    /// The member's own number, and the keys that it shares with its peers.
     pub fn keys(&self) -> &Keys
         ensures value { result.now ≡ self.now.keys }
         ensures limits { IsKeysOf self.now.genesis self.now.keys }
@@ -479,6 +480,14 @@ impl<I: Instance + Drop, B: Settle + Drop> Member<I, B> {
             (events self.now.history)) place }
     {
         self.ledger.sent(place as usize)
+    }
+
+    /// How many bodies the member sent to all.
+    pub fn sent_len(&self) -> u64
+        ensures { result ≡ length (out (group_in self.now.genesis self.now.keys.own)
+            (events self.now.history)) }
+    {
+        self.ledger.sent_len() as u64
     }
 
     /// Copies of the bodies that the member sent to all, from a place on: at most `max`, and at
@@ -521,6 +530,7 @@ impl<I: Instance + Drop, B: Settle + Drop> Member<I, B> {
         self.ledger.fronts(alloc, self.genesis.members())
     }
 
+    /// An account's balance, in the unit of the genesis's opening balances.
     pub fn balance(&self, account: u16) -> u64
         requires { account < self.now.genesis.members }
         ensures { result

@@ -6,6 +6,8 @@ use crate::took::Took;
 pub enum Reply {
     /// The number that a value of its own got.
     Asked(u32),
+    /// What followed from a frame.
     Took(Took),
+    /// The state of an account.
     Told(Told),
 }

@@ -7,5 +7,6 @@ pub enum PaymentState {
     Asked,
     /// It is delivered in order, and waits for money or for the payments before it.
     Waiting,
+    /// All entries of its value are settled.
     Settled,
 }

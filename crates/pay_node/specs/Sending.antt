@@ -1,5 +1,5 @@
--- What a member sent to all, and whether an answer tells that it sent more.
-use Rattle.std.specs.Prelude.{ℕ, ◌<◌, ◌↔◌, Bool, IsTrue, List, length, Result, Ok, Err}
+-- What a member sent to all, how many that are, and whether an answer tells that it sent more.
+use Rattle.std.specs.Prelude.{◌≡◌, ℕ, ◌<◌, ◌↔◌, Bool, IsTrue, List, length, Result, Ok, Err}
 use Rattle.pay_frame.specs.Frame.{BodyFields}
 use Rattle.pay_channel.specs.History.{out}
 use Rattle.pay_link.specs.Checked.{CheckedFields}
@@ -12,10 +12,19 @@ use Rattle.pay_member.specs.declared.took.Took.{Took}
 use Rattle.pay_member.specs.Answer.{IsAnswer, taken}
 use Rattle.pay_member.specs.Events.{events}
 use Rattle.pay_member.specs.Group.{group_in}
+use Rattle.pay_member.specs.Legal.{Legal}
 use Rattle.pay_member.specs.Member.{MemberFields, with_entry}
+use Rattle.pay_node.specs.Nodes.{IsOwn, NodeFields}
 
 abbrev pub sent_by : MemberFields → List BodyFields
 sent_by m = out (group_in m.genesis m.keys.own) (events m.history)
+
+-- The node's member, with some legal history, sent so many bodies to all.
+pub record IsCountSent (n : NodeFields) (count : ℕ) : Type 0 where
+  pub member : MemberFields
+  pub own : IsOwn n member
+  pub legal : Legal member.genesis member.keys member.history
+  pub is : count ≡ length (sent_by member)
 
 -- the member behind an event, which is unchanged where it refused that
 abbrev pub behind : MemberFields → ℕ → Event → Result Reply MemberFault → MemberFields

@@ -15,6 +15,7 @@ pub enum CloseFault {
 }
 
 impl CloseFault {
+    /// The fault's number among those of closing, from 0 on.
     pub fn number(self) -> u8
         ensures value { result ≡ close_fault_number self }
     {
@@ -24,6 +25,7 @@ impl CloseFault {
         }
     }
 
+    /// The fault's name, without a stamp.
     pub fn name(self) -> &'static str
         ensures value { result.now ≡ close_fault_name self }
     {

@@ -19,6 +19,7 @@ impl Model for Marks {
 }
 
 impl Marks {
+    /// No place is marked.
     pub(crate) fn new(alloc: Global) -> Marks
         ensures { result ≡ [] }
     {

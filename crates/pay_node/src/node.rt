@@ -10,7 +10,7 @@ ghost use Rattle.pay_member.specs.Legal.{Legal};
 ghost use Rattle.std.specs.Sync.Mutex.{mutex_guard_value};
 ghost use Rattle.pay_node.specs.Closing.{AllSettled, IsFault};
 ghost use Rattle.pay_node.specs.Keeping.{IsFetched};
-ghost use Rattle.pay_node.specs.Sending.{HasSent};
+ghost use Rattle.pay_node.specs.Sending.{HasSent, IsCountSent};
 ghost use Rattle.pay_node.specs.Nodes.{AreFresh, IsAnswered, IsAnsweredAs, IsBrought, IsOwn};
 ghost use Rattle.pay_node.specs.Nodes.{IsShown, IsTaken, outcome_of, want_of};
 
@@ -18,7 +18,7 @@ use crate::close_fault::CloseFault;
 use crate::gate::Gate;
 use crate::question::Question;
 use crate::seat::Seat;
-use crate::showing::{copy_of_statement, sent_count, state_of, statement_of};
+use crate::showing::{copy_of_statement, state_of, statement_of};
 use crate::shown::{Bodies, SettledCounts, Shown, Statement};
 use crate::stopped::Stopped;
 use pay_book::Settle;
@@ -84,6 +84,7 @@ impl<I: Instance + Drop, B: Settle + Drop> Node<I, B> {
         }
     }
 
+    /// A node whose lock holds this member. No call answers where the genesis or the keys aren't the member's.
     pub(crate) fn of_parts(
         member: Member<I, B>,
         genesis: Genesis,
@@ -110,8 +111,8 @@ impl<I: Instance + Drop, B: Settle + Drop> Node<I, B> {
 
     /// Reads and opens bytes, and hands the frame that they are to the member.
     ///
-    /// Bytes that don't open, and a WANT, are answered at once, whatever memory there is: no lock is taken, and no receipt
-    /// is left.
+    /// Bytes that don't open, and a WANT, are answered at once, whatever memory there is: no lock is taken, and no
+    /// receipt is left.
     pub fn bring<R: Wait, T: Tagger, G: Gate>(
         &self,
         rt: &R,
@@ -223,8 +224,8 @@ impl<I: Instance + Drop, B: Settle + Drop> Node<I, B> {
         Ok(bodies.into_vec())
     }
 
-    /// A copy of the body that the member sent at a place of all, if it is there. However often it is fetched from a seat,
-    /// one receipt is kept of it.
+    /// A copy of the body that the member sent at a place of all, if it is there. However often it is fetched from a
+    /// seat, one receipt is kept of it.
     pub fn fetch_once<R: Wait>(
         &self,
         rt: &R,
@@ -309,11 +310,14 @@ impl<I: Instance + Drop, B: Settle + Drop> Node<I, B> {
         Ok(fronts.into_vec())
     }
 
-    /// How many bodies the member sent to all by now. No clause can say so, for none says what a
-    /// lock keeps.
-    pub fn sent_len<R: Wait>(&self, rt: &R) -> u64 {
-        let member = self.member.lock(rt);
-        sent_count(&*member)
+    /// How many bodies the member sent to all by now. No receipt is left, so closing doesn't judge this answer.
+    pub fn sent_len<R: Wait>(&self, rt: &R) -> u64
+        ensures { IsCountSent self.now result }
+    {
+        let member = self.locked(rt);
+        // for its clause alone: the history is legal
+        let _history = member.history();
+        member.sent_len()
     }
 
     /// Waits until the member sent a body at a place, or until told to stop. Answers whether it did.
@@ -355,6 +359,7 @@ impl<I: Instance + Drop, B: Settle + Drop> Node<I, B> {
         ensures legal { Legal result.member.genesis result.member.keys result.member.history }
     {
         let member = self.member.into_inner();
+        // for its clause alone: the history is legal
         let _history = member.history();
         Stopped {
             member,

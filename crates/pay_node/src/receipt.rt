@@ -27,6 +27,7 @@ pub enum Call {
 pub struct Receipt {
     /// How many entries the history had before the call. It is the place of the call's own entry, if it has one.
     pub seen: usize,
+    /// What the call was, with its answer.
     pub call: Call,
 }
 

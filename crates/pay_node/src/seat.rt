@@ -19,8 +19,8 @@ use pay_member::{AskFault, Event, Member, MemberFault, QueryFault, Reply, TakeFa
 use std::alloc::{AllocError, Global};
 use std::marker::Model;
 
-/// From where calls are made, one at a time: a stamp, a receipt of each call that was answered, and which of them is of a
-/// body that was fetched once.
+/// From where calls are made, one at a time: a stamp, a receipt of each call that was answered, and which of them is
+/// of a body that was fetched once.
 #[derive(Drop)]
 pub struct Seat {
     stamp: u16,
@@ -41,6 +41,7 @@ impl Model for Seat {
 }
 
 impl Seat {
+    /// A seat from which nothing was called.
     pub(crate) fn new(alloc: Global, stamp: u16) -> Seat
         ensures { result ≡ record { stamp = stamp; receipts = []; marks = [] } }
     {
@@ -51,6 +52,7 @@ impl Seat {
         }
     }
 
+    /// The seat's number among its node's, under which the history keeps what is handed in from here.
     pub fn stamp(&self) -> u16
         ensures { result ≡ self.now.stamp }
     {

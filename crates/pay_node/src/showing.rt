@@ -1,8 +1,7 @@
 //! What a member shows to each question.
 
-ghost use Rattle.std.specs.Prelude.{◌≡◌, ◌≤◌, IfOk, length};
+ghost use Rattle.std.specs.Prelude.{◌≡◌, IfOk};
 ghost use Rattle.pay_node.specs.Receipts.{shown_of, state_shown, statement_shown};
-ghost use Rattle.pay_node.specs.Sending.{sent_by};
 
 use crate::question::Question;
 use crate::shown::{Bodies, SettledCounts, Shown, Statement};
@@ -60,22 +59,6 @@ pub(crate) fn statement_of<I: Instance + Drop, B: Settle + Drop>(
     } else {
         Ok(Err(QueryFault::NoAccount))
     }
-}
-
-/// How many bodies a member sent to all, found by halving.
-pub(crate) fn sent_count<I: Instance + Drop, B: Settle + Drop>(member: &Member<I, B>) -> u64
-    ensures { result ≤ length (sent_by member.now) }
-{
-    let mut count: u64 = 0;
-    let mut ahead = u64::MAX / 2;
-    for _ in 0..u64::BITS {
-        let place = count.saturating_add(ahead);
-        if member.sent(place).is_some() {
-            count = place.saturating_add(1);
-        }
-        ahead /= 2;
-    }
-    count
 }
 
 /// An equal answer.

@@ -9,9 +9,13 @@ use std::marker::Model;
 /// The answer to a question.
 #[derive(Drop)]
 pub enum Shown {
+    /// Those that stand from the place on that was asked about.
     Sent(Bodies),
+    /// How far the payment has come; `NoAccount` where there is no such account.
     State(Result<PaymentState, QueryFault>),
+    /// The account's lines and its balance; `NoAccount` where there is no such account.
     Statement(Result<Statement, QueryFault>),
+    /// By account, from 0 on.
     Fronts(SettledCounts),
 }
 
@@ -31,6 +35,7 @@ impl Model for Bodies {
 }
 
 impl Bodies {
+    /// Bodies in the order in which they were sent.
     pub fn new(bodies: Vec<Body>) -> Bodies
         ensures { result ≡ bodies.items }
     {
@@ -46,18 +51,21 @@ impl Bodies {
         Ok(Bodies { bodies })
     }
 
+    /// The bodies, in the order in which they were sent.
     pub fn as_slice(&self) -> &[Body]
         ensures { result.now ≡ self.now }
     {
         self.bodies.as_slice()
     }
 
+    /// The same bodies, given out.
     pub fn into_vec(self) -> Vec<Body>
         ensures { result.items ≡ self }
     {
         self.bodies
     }
 
+    /// Equal bodies, unless memory is refused.
     pub fn copy(&self, alloc: Global) -> Result<Bodies, AllocError>
         ensures { IfOk result (λ copy. copy ≡ self.now) }
     {
@@ -85,24 +93,28 @@ impl Model for Statement {
 }
 
 impl Statement {
+    /// Of lines in the order in which `pay_book::statement` gives them, and the account's balance.
     pub fn new(lines: Vec<Line>, balance: u64) -> Statement
         ensures { result ≡ record { lines = lines.items; balance = balance } }
     {
         Statement { lines, balance }
     }
 
+    /// The account's own settled entries, then the payments to it, by owner.
     pub fn lines(&self) -> &[Line]
         ensures { result.now ≡ self.now.lines }
     {
         self.lines.as_slice()
     }
 
+    /// The account's balance, in the unit of the genesis's opening balances.
     pub fn balance(&self) -> u64
         ensures { result ≡ self.now.balance }
     {
         self.balance
     }
 
+    /// The lines and the balance, given out.
     pub fn into_parts(self) -> (Vec<Line>, u64)
         ensures lines { result.0.items ≡ self.lines }
         ensures balance { result.1 ≡ self.balance }
@@ -110,6 +122,7 @@ impl Statement {
         (self.lines, self.balance)
     }
 
+    /// An equal statement, unless memory is refused.
     pub fn copy(&self, alloc: Global) -> Result<Statement, AllocError>
         ensures { IfOk result (λ copy. copy ≡ self.now) }
     {
@@ -136,24 +149,28 @@ impl Model for SettledCounts {
 }
 
 impl SettledCounts {
+    /// One count for each account, from account 0 on.
     pub fn new(counts: Vec<u32>) -> SettledCounts
         ensures { result ≡ counts.items }
     {
         SettledCounts { counts }
     }
 
+    /// The counts, from account 0 on.
     pub fn as_slice(&self) -> &[u32]
         ensures { result.now ≡ self.now }
     {
         self.counts.as_slice()
     }
 
+    /// The same counts, given out.
     pub fn into_vec(self) -> Vec<u32>
         ensures { result.items ≡ self }
     {
         self.counts
     }
 
+    /// Equal counts, unless memory is refused.
     pub fn copy(&self, alloc: Global) -> Result<SettledCounts, AllocError>
         ensures { IfOk result (λ copy. copy ≡ self.now) }
     {

@@ -35,6 +35,7 @@ impl<I: Instance + Drop, B: Settle + Drop> Model for Stopped<I, B> {
 }
 
 impl<I: Instance + Drop, B: Settle + Drop> Stopped<I, B> {
+    /// The member as the last call left it.
     pub fn member(&self) -> &Member<I, B>
         ensures { result.now ≡ self.now.member }
     {

@@ -7,11 +7,14 @@ use pay_node::Seat;
 /// The seat from which a peer's frames are brought, and which of them are asked for on its connection.
 #[derive(Drop)]
 pub struct Asking {
+    /// Whose receipts are of the peer's frames.
     pub seat: Seat,
+    /// Begins anew with each connection.
     pub window: Window,
 }
 
 impl Asking {
+    /// Before the first connection.
     pub fn new(seat: Seat) -> Asking
         ensures { result ≡ record { seat = seat; window = first_window } }
     {

@@ -21,13 +21,16 @@ use std::time::{Clock, Duration};
 
 /// How a worker gets its streams.
 pub trait Dial<In, Out> {
+    /// Tries once to reach a peer, whose number among the members this is.
     fn dial(&self, peer: u16) -> Dialed<In, Out>;
 }
 
 /// What came of dialing.
 #[derive(Drop)]
 pub enum Dialed<In, Out> {
+    /// A connection: what comes from the peer, and what goes to it.
     Streams(In, Out),
+    /// There is none; the worker may dial again.
     Failed,
     /// The worker has to end.
     Stop,

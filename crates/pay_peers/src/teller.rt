@@ -28,12 +28,14 @@ impl<'a, R, I: Instance + Drop, B: Settle + Drop> Model for NodeTeller<'a, R, I,
 }
 
 impl<'a, R, I: Instance + Drop, B: Settle + Drop> NodeTeller<'a, R, I, B> {
+    /// A teller that keeps the receipts of its calls at this seat of the node.
     pub fn new(rt: &'a R, node: &'a Node<I, B>, seat: Seat) -> NodeTeller<'a, R, I, B>
         ensures { result ≡ record { node = node.now; seat = seat } }
     {
         NodeTeller { rt, node, seat }
     }
 
+    /// The seat with all its receipts, for the node's closing.
     pub fn into_seat(self) -> Seat
         ensures { result ≡ self.entry.seat }
     {
@@ -50,8 +52,9 @@ impl<R: Wait, I: Instance + Drop, B: Settle + Drop> Teller for NodeTeller<'_, R,
         match self.node.ask(self.rt, alloc, &mut self.seat, value) {
             Ok(seq) => Ok(seq),
             Err(AskFault::Spent) => Err(TellerFault::Spent),
-            // never `TooLong`, by what the call requires
-            Err(AskFault::Memory | AskFault::TooLong) => Err(TellerFault::Memory),
+            Err(AskFault::Memory) => Err(TellerFault::Memory),
+            // the value is short enough, by what the call requires
+            Err(AskFault::TooLong) => unreachable!(),
         }
     }
 

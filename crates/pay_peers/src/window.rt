@@ -12,7 +12,7 @@ const MOST_WANTS: u64 = 2;
 #[derive(Clone, Copy, Debug, PartialEq, Eq)]
 pub struct Ahead {
     pub count: u64,
-    ghost some: { 0 < count },
+    ghost within: { CanAskAhead count },
 }
 
 impl Ahead {
@@ -40,7 +40,9 @@ impl Ahead {
 /// the next one to ask for.
 #[derive(Clone, Copy, Debug, PartialEq, Eq)]
 pub struct Window {
+    /// The number of the frame that comes next.
     pub due: u64,
+    /// The least number that wasn't asked for yet.
     pub asked: u64,
 }
 
