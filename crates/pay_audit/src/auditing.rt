@@ -1,8 +1,6 @@
 ghost use Rattle.std.specs.Prelude.{◌≡◌, ◌+◌, ◌^◌, ◌<◌, length, IfOk};
-ghost use Rattle.std.specs.Str.{bytes_eq};
-ghost use Rattle.pay_link.specs.Genesis.{IsGenesis};
 ghost use Rattle.pay_audit.specs.Verdict.{book_of, first_from, fork_between, fork_from, fork_place};
-ghost use Rattle.pay_audit.specs.Verdict.{other_genesis, other_genesis_at, same_genesis};
+ghost use Rattle.pay_audit.specs.Verdict.{other_genesis, other_genesis_at};
 ghost use Rattle.pay_audit.specs.Verdict.{verdict_of, wrong_balance_of, wrong_book, wrong_front_of};
 
 use crate::auditor::Auditor;
@@ -35,33 +33,23 @@ fn other_than(genesis: &Genesis, exports: &[Export]) -> Option<Verdict>
     ensures { result ≡ first_from (other_genesis_at genesis.now) 0 exports.now }
 {
     for (place, export) in exports.iter().enumerate() {
-        if !is_same_genesis(genesis, &export.genesis) {
-            return Some(Verdict::OtherGenesis { export: place });
+        let other = other_genesis_at(genesis, place, export);
+        if other.is_some() {
+            return other;
         }
     }
     None
 }
 
-pub(crate) fn is_same_genesis(one: &Genesis, other: &Genesis) -> bool
-    ensures { result ≡ same_genesis one.now other.now }
+// This export, if it begins with another genesis.
+pub(crate) fn other_genesis_at(genesis: &Genesis, place: usize, export: &Export) -> Option<Verdict>
+    ensures { result ≡ other_genesis_at genesis.now place export.now }
 {
-    one.members() == other.members()
-        && one.faults() == other.faults()
-        && has_same_opening(one, other)
-}
-
-fn has_same_opening(one: &Genesis, other: &Genesis) -> bool
-    requires same_members { one.now.members ≡ other.now.members }
-    requires one { IsGenesis one.now }
-    requires other { IsGenesis other.now }
-    ensures { result ≡ bytes_eq one.now.opening other.now.opening }
-{
-    for account in 0..one.members() {
-        if one.opening(account) != other.opening(account) {
-            return false;
-        }
+    if genesis.is_same(&export.genesis) {
+        None
+    } else {
+        Some(Verdict::OtherGenesis { export: place })
     }
-    true
 }
 
 // The first front that isn't what its export's lists allow, or else the first balance.

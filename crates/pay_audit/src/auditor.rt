@@ -24,6 +24,7 @@ pub struct Auditor {
 }
 
 impl Auditor {
+    /// One that has taken no exports.
     pub fn new(alloc: Global) -> Auditor
         ensures taken { HasTaken [] result }
         ensures count { taken_by result ≡ 0 }

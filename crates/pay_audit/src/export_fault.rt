@@ -30,12 +30,14 @@ impl ExportFault {
         }
     }
 
+    /// The number under which the fault is printed.
     pub fn number(self) -> u8
         ensures value { result ≡ export_fault_number self }
     {
         self.entry().0
     }
 
+    /// The name beside that number.
     pub fn name(self) -> &'static str
         ensures value { result.now ≡ export_fault_name self }
     {

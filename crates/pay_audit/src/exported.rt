@@ -39,6 +39,7 @@ impl Model for Export {
 }
 
 impl Export {
+    /// The genesis that it begins with.
     pub fn genesis(&self) -> &Genesis
         ensures { result.now ≡ self.now.genesis }
     {

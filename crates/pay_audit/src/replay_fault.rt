@@ -24,12 +24,14 @@ impl ReplayFault {
         }
     }
 
+    /// The number under which the fault is printed.
     pub fn number(self) -> u8
         ensures value { result ≡ replay_fault_number self }
     {
         self.entry().0
     }
 
+    /// The name beside that number.
     pub fn name(self) -> &'static str
         ensures value { result.now ≡ replay_fault_name self }
     {

@@ -3,7 +3,7 @@ ghost use Rattle.std.specs.Option.{option_or};
 ghost use Rattle.pay_audit.specs.Auditor.{IsNothing, other_genesis_than};
 ghost use Rattle.pay_audit.specs.Verdict.{wrong_balance_at, wrong_front_at};
 
-use crate::auditing::{is_same_genesis, wrong_balance_of, wrong_front_of};
+use crate::auditing::{other_genesis_at, wrong_balance_of, wrong_front_of};
 use crate::exported::Export;
 use crate::judged_export::JudgedExport;
 use crate::settling::settled;
@@ -12,8 +12,9 @@ use pay_link::Genesis;
 use pay_pending::WaitingBook;
 use std::alloc::{AllocError, Global};
 
-/// The first export with another genesis, the first wrong front and the first wrong balance. Behind one of these those
-/// that follow it here aren't looked for any more.
+/// The first export with another genesis, the first wrong front and the first wrong balance. `with` doesn't look any
+/// more for those that follow here behind one that there is, since a verdict names only the first of the three;
+/// `with_judged`, which settles nothing, keeps all.
 #[derive(Clone, Copy, Debug)]
 pub(crate) struct Wrong {
     pub(crate) genesis: Option<Verdict>,
@@ -129,9 +130,7 @@ fn other_genesis_than(genesis: &Option<Genesis>, place: usize, export: &Export) 
     ensures { result ≡ other_genesis_than genesis.now place export.now }
 {
     match genesis {
-        Some(genesis) if !is_same_genesis(genesis, &export.genesis) => {
-            Some(Verdict::OtherGenesis { export: place })
-        }
-        _ => None,
+        Some(genesis) => other_genesis_at(genesis, place, export),
+        None => None,
     }
 }

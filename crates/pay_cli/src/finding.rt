@@ -36,6 +36,7 @@ impl Model for Findings {
 }
 
 impl Findings {
+    /// None.
     pub fn new(alloc: Global) -> Findings
         ensures { result ≡ [] }
     {
@@ -44,12 +45,14 @@ impl Findings {
         }
     }
 
+    /// All of them, in order.
     pub fn as_slice(&self) -> &[Finding]
         ensures { result.now ≡ self.now }
     {
         self.findings.as_slice()
     }
 
+    /// One more. Where memory is refused there are those as before.
     pub fn push(&mut self, finding: Finding) -> Result<(), AllocError>
         ensures pushed { OnOk result (self.new ≡ self.old ++ finding ∷ []) }
         ensures err { OnErr result (self.new ≡ self.old) }

@@ -115,7 +115,7 @@ fn push_words<T: Tagger>(
     // a law that the proof stands on: the call does nothing
     laws::opened();
     match open(t, keys, frame) {
-        Ok(opened) => push_opened(words, opened.frame()),
+        Ok(opened) => push_opened_words(words, opened.frame()),
         Err(fault) => {
             push_refused(words, fault)?;
             Ok(None)
@@ -124,7 +124,7 @@ fn push_words<T: Tagger>(
 }
 
 /// Writes the words of a frame that opened.
-fn push_opened(words: &mut Vec<u8>, frame: &FrameRef) -> Result<Option<Turn>, AllocError>
+fn push_opened_words(words: &mut Vec<u8>, frame: &FrameRef) -> Result<Option<Turn>, AllocError>
     ensures words { let f = fields_of frame.now in OnOk result (words.new.items
         ≡ words.old.items ++ opened_words f f.body.kind) }
     ensures turn { let f = fields_of frame.now in

@@ -10,6 +10,8 @@ use pay_link::LinkFault;
 use pay_text::{push_number, push_word};
 use std::alloc::AllocError;
 
+/// The words of a frame that is taken: its kind, sender, number, owner, sequence number and value's
+/// length.
 pub fn push_ok(out: &mut Vec<u8>, frame: &FrameRef) -> Result<(), AllocError>
     ensures { OnOk result (out.new.items ≡ out.old.items ++ ok_words (fields_of frame.now)) }
 {
@@ -25,6 +27,7 @@ pub fn push_ok(out: &mut Vec<u8>, frame: &FrameRef) -> Result<(), AllocError>
     push_number(out, frame.value().len() as u64)
 }
 
+/// The words of a WANT: its sender, and the number that it asks from.
 pub fn push_want(out: &mut Vec<u8>, frame: &FrameRef) -> Result<(), AllocError>
     ensures { OnOk result (out.new.items ≡ out.old.items ++ want_words (fields_of frame.now)) }
 {
@@ -34,6 +37,8 @@ pub fn push_want(out: &mut Vec<u8>, frame: &FrameRef) -> Result<(), AllocError>
     push_number(out, frame.number())
 }
 
+/// The words of a frame that isn't taken: the fault's number and name, and for a repeat or a gap the
+/// next number from its sender.
 pub fn push_refused(out: &mut Vec<u8>, fault: LinkFault) -> Result<(), AllocError>
     ensures { OnOk result (out.new.items ≡ out.old.items ++ refused_words fault) }
 {
@@ -47,6 +52,8 @@ pub fn push_refused(out: &mut Vec<u8>, fault: LinkFault) -> Result<(), AllocErro
     }
 }
 
+/// The last line of a stream with bytes that are no frame: its number, and the fault's number and
+/// name.
 pub fn push_fault(out: &mut Vec<u8>, line: u64, fault: FrameFault) -> Result<(), AllocError>
     ensures { OnOk result (out.new.items ≡ out.old.items ++ fault_line line fault) }
 {

@@ -21,6 +21,7 @@ pub struct Progress {
 }
 
 impl Progress {
+    /// Before the first line: number 0 is the next from each member.
     pub fn new(alloc: Global, members: u16) -> Result<Progress, AllocError>
         ensures start { IfOk result (λ p.
             p ≡ record { fronts = replicate members 0; line = 1 }) }

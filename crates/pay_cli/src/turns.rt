@@ -29,18 +29,14 @@ pub fn push_parts(
 {
     let mut rest = parts;
     while let Some((judged, others)) = rest.split_first() {
-        push_judged(out, progress, judged)?;
+        push_part(out, progress, judged)?;
         rest = others;
     }
     Ok(())
 }
 
-/// Writes the lines of frames that were judged.
-fn push_judged(
-    out: &mut Vec<u8>,
-    progress: &mut Progress,
-    judged: &Judged,
-) -> Result<(), AllocError>
+/// Writes the lines of frames that were judged in one part.
+fn push_part(out: &mut Vec<u8>, progress: &mut Progress, judged: &Judged) -> Result<(), AllocError>
     requires room { (k : KeyFields) × (fs : List FrameFields) × IsJudged k fs judged.now
         × HasRoom k progress.old (length fs) }
     ensures pushes { (k : KeyFields) (fs : List FrameFields) → IsJudged k fs judged.now
@@ -52,15 +48,15 @@ fn push_judged(
     let mut words = judged.words.as_slice();
     while let Some((finding, others)) = findings.split_first() {
         let (own, rest) = words.split_at(finding.size);
-        push_line(out, progress, finding.turn, own)?;
+        push_finding(out, progress, finding.turn, own)?;
         findings = others;
         words = rest;
     }
     Ok(())
 }
 
-/// Writes the line of a frame. Where memory is refused the frame was counted, or nothing changed.
-fn push_line(
+/// Writes the line of a frame that was judged. Where memory is refused the frame was counted, or nothing changed.
+fn push_finding(
     out: &mut Vec<u8>,
     progress: &mut Progress,
     turn: Option<Turn>,

@@ -1,4 +1,7 @@
-//! Sizes and limits. Clauses and definitions cite them, so each number stands here alone.
+//! Sizes and limits, which clauses and definitions cite.
+//!
+//! The version, the kinds' codes and the places of a head's fields stand in `writing` and `reading`,
+//! where some clauses and types also spell `HEAD_LEN` as 24 and `TAG_LEN` as 32.
 
 /// The size in bytes of a frame's head, which is everything before its value.
 pub const HEAD_LEN: usize = 24;
@@ -15,7 +18,7 @@ pub const GREATEST_VALUE: u16 = 1024;
 /// The size of the longest frame in bytes, its length field included.
 pub const GREATEST_FRAME: usize = 1080;
 
-/// How many bytes a `Cutter` buffers at most.
+/// How many bytes a `Cutter` buffers at most, and the least that an engine's read buffer holds.
 pub const CUTTER_ROOM: usize = 4096;
 
 /// How many sequence numbers an owner has, counted from 0.

@@ -62,6 +62,7 @@ fn push_account<B: Settle>(
     ensures { OnOk result (out.new.items ≡ out.old.items ++ statement_in export.now account) }
 {
     let lines = lines_of(alloc, export, book, account)?;
+    // the limits of a genesis, on which the proof stands: the call does nothing
     export.genesis().members();
     push_statement(out, account, lines.as_slice(), book.balance(account))
 }

@@ -49,18 +49,28 @@ impl Connections {
     /// Shuts the connection at a place, and gives the place back.
     pub(crate) fn shut<R: Wait>(&self, rt: &R, place: usize) {
         let mut places = self.places.lock(rt);
-        if let Some(kept) = places.get_mut(place) {
-            if let Some(stream) = kept.take() {
-                let _ = stream.shutdown(Shutdown::Both);
-            }
-        }
+        shut(places.as_mut_slice(), place);
     }
 
     /// Shuts all that stand. They keep their places.
     pub(crate) fn shut_all<R: Wait>(&self, rt: &R) {
         let places = self.places.lock(rt);
-        for stream in places.iter().flatten() {
+        shut_all(places.as_slice());
+    }
+}
+
+/// Shuts the connection at a place, if one is kept there, and keeps it no more.
+pub(crate) fn shut(kept: &mut [Option<TcpStream>], place: usize) {
+    if let Some(kept) = kept.get_mut(place) {
+        if let Some(stream) = kept.take() {
             let _ = stream.shutdown(Shutdown::Both);
         }
+    }
+}
+
+/// Shuts all connections that are kept, and keeps them.
+pub(crate) fn shut_all(kept: &[Option<TcpStream>]) {
+    for stream in kept.iter().flatten() {
+        let _ = stream.shutdown(Shutdown::Both);
     }
 }

@@ -1,3 +1,4 @@
+use crate::connections::{shut, shut_all};
 use crate::guest_list::GuestList;
 use pay_book::Settle;
 use pay_echo::Instance;
@@ -120,19 +121,13 @@ impl Guests {
     pub(crate) fn shut<R: Wait>(&self, rt: &R, place: usize) {
         let mut room = self.room.lock(rt);
         room.list.leave(place);
-        if let Some(kept) = room.streams.get_mut(place) {
-            if let Some(stream) = kept.take() {
-                let _ = stream.shutdown(Shutdown::Both);
-            }
-        }
+        shut(room.streams.as_mut_slice(), place);
     }
 
     /// Shuts all that are answered. They keep their places.
     pub(crate) fn shut_all<R: Wait>(&self, rt: &R) {
         let room = self.room.lock(rt);
-        for stream in room.streams.iter().flatten() {
-            let _ = stream.shutdown(Shutdown::Both);
-        }
+        shut_all(room.streams.as_slice());
     }
 
     // Ends whatever the thread of a connection waits for that stands no more: then it gives the place back.

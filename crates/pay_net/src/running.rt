@@ -367,13 +367,23 @@ fn gathered(seats: Seats) -> Result<Vec<Seat>, AllocError>
         left,
     } = seats;
     let mut all = left;
+    gather_readers(&mut all, readers)?;
+    gather_writers(&mut all, writers)?;
+    all.push(desk)?;
+    Ok(all)
+}
+
+fn gather_readers(all: &mut Vec<Seat>, readers: Vec<(u16, Asking)>) -> Result<(), AllocError> {
     for (_, asking) in readers {
         let Asking { seat, window: _ } = asking;
         all.push(seat)?;
     }
+    Ok(())
+}
+
+fn gather_writers(all: &mut Vec<Seat>, writers: Vec<(u16, Mutex<Seat>)>) -> Result<(), AllocError> {
     for (_, seat) in writers {
         all.push(seat.into_inner())?;
     }
-    all.push(desk)?;
-    Ok(all)
+    Ok(())
 }

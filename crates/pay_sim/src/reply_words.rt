@@ -121,6 +121,7 @@ fn push_next(out: &mut Vec<u8>, fault: LinkFault) -> Result<(), AllocError>
     push_number(out, next)
 }
 
+/// Who or what refused it (`at`: a member, a frame or a link), and the fault's number and name.
 #[tactic(auto, unfolding(crate::specs::Words::refused_words))]
 pub fn push_refused(out: &mut Vec<u8>, at: &str, number: u8, name: &str) -> Result<(), AllocError>
     ensures { OnOk result (out.new.items ≡ out.old.items ++ refused_words at.now number name.now) }

@@ -1,32 +1,46 @@
--- A frame that a correct member sent another: it is for that one, and it isn't forged.
-use Rattle.std.proofs.Common.{◌≡◌, ℕ, ◌<◌, false, List, [], ◌++◌, length, slice_get, Option, None, Some, is_some, option_and_then, MatchOption, refl, sym, ap, ◌∙◌, subst, arith}
+-- A frame that a correct member sent another: it is for that one, it isn't forged, and what comes of it there.
+use Rattle.std.proofs.Common.{◌≡◌, ◌≢◌, ◌⊎◌, inl, inr, ℕ, ◌<◌, Bool, true, false, cond, eqb, ltb, List, [], ◌++◌, length, slice_get, Option, None, Some, is_some, option_and_then, option_map, MatchOption, Result, Ok, Err, refl, sym, ap, ◌∙◌, subst, arith, append-nil, eqb-true}
+use Rattle.std.specs.Bool.{⊤}
 use Rattle.std.specs.List.{All}
 use Rattle.std.specs.Option.{option_map_or}
+use Rattle.std.proofs.lemmas.Bool.{and_right, cases_eq, cond-false}
 use Rattle.std.proofs.lemmas.List.Elements.{All-get_or}
 use Rattle.std.proofs.lemmas.Option.{get_or_from_slice_get, same_Some, slice_get_within}
+use Rattle.pay_frame.specs.declared.kind.Kind.{Kind}
+use Rattle.pay_frame.specs.declared.kind.Kind.TheVariants.{Send, Echo, Ready, Want}
 use Rattle.pay_frame.specs.Frame.{BodyFields, FrameFields, IsFrame, frame_bytes}
 use Rattle.pay_frame.specs.OneFrame.{IsOneFrame}
 use Rattle.pay_channel.specs.History.{Event, From, IsEvent, out}
 use Rattle.pay_channel.specs.Prefix.{IsPrefix}
 use Rattle.pay_channel.specs.SentLaws.{SentMayCome}
+use Rattle.pay_channel.specs.Taken.{next}
 use Rattle.pay_hmac.specs.Mac.{mac}
 use Rattle.pay_link.specs.Checked.{CheckedFields, IsFor}
-use Rattle.pay_link.specs.Keys.{IsPeer, key_for}
-use Rattle.pay_link.specs.Opening.{Opens}
+use Rattle.pay_link.specs.Fronts.{turn}
+use Rattle.pay_link.specs.Keys.{IsPeer, KeyFields, key_for}
+use Rattle.pay_link.specs.Opening.{Opens, judgement, opened_fields}
 use Rattle.pay_link.specs.Sealing.{sealed, tagged_bytes}
-use Rattle.pay_member.specs.Bringing.{opened_in}
+use Rattle.pay_link.specs.declared.link_fault.LinkFault.{LinkFault}
+use Rattle.pay_link.specs.declared.link_fault.LinkFault.TheVariants.{Gap, Repeat}
+use Rattle.pay_member.specs.Bringing.{IsOutcome, answer_to, answered, event_in, is_want, judged, opened_in, opening, outcome_of, with_brought}
 use Rattle.pay_member.specs.Events.{events}
 use Rattle.pay_member.specs.Group.{group_in}
-use Rattle.pay_member.specs.Laws.{OpenedIn}
+use Rattle.pay_member.specs.Laws.{EventIn, OpenedIn}
 use Rattle.pay_member.specs.Member.{MemberFields}
-use Rattle.pay_world.specs.Answer.{brought_to, is_forged_at}
-use Rattle.pay_world.specs.Deeds.{Deed}
+use Rattle.pay_member.specs.declared.outcome.Outcome.TheVariants.{Link}
+use Rattle.pay_world.specs.declared.event.WorldEvent.{WorldEvent}
+use Rattle.pay_world.specs.declared.reply.WorldReply.{WorldReply}
+use Rattle.pay_world.specs.declared.reply.WorldReply.TheVariants.{Brought}
+use Rattle.pay_world.specs.Answer.{Answers, IsReplyFrom, IsTakenBy, brought_to, is_forged_at, member_after}
+use Rattle.pay_world.specs.Deeds.{Deed, adds, counts, member_of}
+use Rattle.pay_world.specs.Deeds as deeds
 use Rattle.pay_world.specs.DeedLaws.{CorrectIsTold, ForgedIsTold}
 use Rattle.pay_world.specs.Genuine.{IsGenuineIn, is_forged_in}
 use Rattle.pay_world.specs.Passing.{MayPass, Sends, frame_by, frame_of, passing}
-use Rattle.pay_world.specs.Setting.{IsCorrect, group_at}
+use Rattle.pay_world.specs.Setting.{IsCorrect, Setting, group_at}
 use Rattle.pay_world.specs.World.{WorldFields, IsWorld, history_in, member_at, member_in, setting_in}
 use Rattle.pay_world.proofs.Forging.{deed_opened}
+use Rattle.pay_world.proofs.Taking.{adds-elsewhere, adds-uncounted}
 use Rattle.pay_world.proofs.WorldLemmas.{place_of}
 
 -- a member that is there has a number below the count of them
@@ -43,6 +57,50 @@ pub place_is_for :
 place_is_for members i None c here mine = tt
 place_is_for members i (Some m) c here mine = mine m (ap (option_and_then (λ x. x)) here)
 
+-- ---- turns
+
+ok_err : (x : ⊤) (fault : LinkFault) → ◌≡◌ {A = Result ⊤ LinkFault} (Ok x) (Err fault) → ⊥
+ok_err x fault same = cc
+
+nothing_there : {A : Type 0} (x : A) → None ≡ Some x → ⊥
+nothing_there x same = cc
+
+if_err : (b : Bool) (r : Result ⊤ LinkFault) (fault : LinkFault) → cond b (Ok tt) r ≡ Err fault → b ≡ false
+if_err true r fault is = absurd (ok_err tt fault is)
+if_err false r fault is = refl
+
+if_ok : (b c : Bool) (x y : LinkFault) (z : ⊤) → cond b (Ok tt) (cond c (Err x) (Err y)) ≡ Ok z → b ≡ true
+if_ok true c x y z is = refl
+if_ok false true x y z is = absurd (ok_err z x (sym is))
+if_ok false false x y z is = absurd (ok_err z y (sym is))
+
+out_of_turn : (n number : ℕ) (fault : LinkFault) → turn n number ≡ Err fault → eqb number n ≡ false
+out_of_turn n number fault is = if_err (eqb number n) (cond (ltb number n) (Err (Repeat n)) (Err (Gap n))) fault is
+
+in_turn : (n number : ℕ) (z : ⊤) → turn n number ≡ Ok z → number ≡ n
+in_turn n number z is = eqb-true number n (if_ok (eqb number n) (ltb number n) (Repeat n) (Gap n) z is)
+
+not_want : (kind : Kind) → kind ≢ Want → is_want kind ≡ false
+not_want Send other = refl
+not_want Echo other = refl
+not_want Ready other = refl
+not_want Want other = absurd (other refl)
+
+adds_nothing :
+    (s : Setting) (histories : ℕ → List Event) (i : ℕ) (d : Deed) → counts s (histories (member_of d)) d ≡ false → adds s i (histories i) d ≡ []
+adds_nothing s histories i d ignored = go (cases_eq i (member_of d)) where
+  go : ((i ≡ member_of d) ⊎ (i ≢ member_of d)) → adds s i (histories i) d ≡ []
+  go (inl same) = adds-uncounted s i (histories i) d (ap (λ j. counts s (histories j) d) same ∙ ignored)
+  go (inr differs) = adds-elsewhere s i (histories i) d differs
+
+-- the law, of what is sealed for one that has the same key
+abbrev pub SealedOpens : Type 0
+SealedOpens =
+    (a b : KeyFields) (number : ℕ) (body : BodyFields) → IsPeer b a.own → key_for a b.own ≡ key_for b a.own → body.owner < length b.keys
+    → judgement b (sealed a b.own number body) ≡ Ok (opened_fields b (sealed a b.own number body))
+
+-- ---- what is sent
+
 -- what is sent is what stands there
 pub sends_this :
     (w : WorldFields) (from to number : ℕ) (may : MayPass w from to number) (x : MemberFields) (b : BodyFields) → member_in w from ≡ Some x
@@ -57,8 +115,17 @@ sends_this w from to number may x b gives sent =
       shared = subst (λ (y : MemberFields). key_for y.keys to ≡ key_for may.taker.keys from) same may.sends.shared;
     }
 
+-- and its taker who is there
+pub sends_these :
+    (w : WorldFields) (from to number : ℕ) (may : MayPass w from to number) (x y : MemberFields) (b : BodyFields)
+    → member_in w from ≡ Some x → slice_get (out (group_in x.genesis x.keys.own) (events x.history)) number ≡ Some b → member_in w to ≡ Some y
+    → Sends w from to number x y b
+sends_these w from to number may x y b gives sent takes =
+    subst (λ (z : MemberFields). Sends w from to number x z b) (same_Some may.taker y (sym may.sends.takes ∙ takes))
+    (sends_this w from to number may x b gives sent)
+
 module _ (w : WorldFields) (from to number : ℕ) (giver taker : MemberFields) (body : BodyFields) (is : IsWorld w) (sends : Sends w from to number giver taker body) where
-  giver_own : giver.keys.own ≡ from
+  pub giver_own : giver.keys.own ≡ from
   giver_own = (is.each from giver sends.gives).own
 
   taker_own : taker.keys.own ≡ to
@@ -121,24 +188,104 @@ module _ (w : WorldFields) (from to number : ℕ) (giver taker : MemberFields) (
         key = sends.shared ∙ ap (key_for taker.keys) (sym giver_own);
       }
 
-  -- and its bytes are no forged frame
-  pub passing_unforged :
-      CorrectIsTold → ForgedIsTold → SentMayCome → OpenedIn → IsFrame (sealed giver.keys to number body)
-      → is_forged_at w (passing w from to number) ≡ false
-  passing_unforged correct told may_come opened fits =
+  -- its bytes are the frame, which opens there
+  passing_one : IsFrame (sealed giver.keys to number body) → IsOneFrame (frame_of w from to number) (sealed giver.keys to number body)
+  passing_one fits = record { is = fits; spelled = sym frame_is }
+
+  passing_opens :
+      CorrectIsTold → SentMayCome → OpenedIn → IsFrame (sealed giver.keys to number body)
+      → opened_in taker.keys (frame_of w from to number) ≡ Some (sealed giver.keys to number body)
+  passing_opens correct may_come opened fits =
       let f : FrameFields = sealed giver.keys to number body in
-      let bytes = frame_of w from to number in
       let mine = is_for correct may_come in
       let event = comes correct may_come in
-      let one : IsOneFrame bytes f = record { is = fits; spelled = sym frame_is } in
       let opens : Opens taker.keys f = record {
         for_me = mine.receiver;
         sender = mine.sender;
         owner = mine.owner;
         tagged = ap (λ key. mac key (tagged_bytes giver.keys.own to number body)) mine.key;
       } in
-      let some : opened_in taker.keys bytes ≡ Some f = (opened taker.keys bytes f).1 (one, opens, event.3) in
+      (opened taker.keys (frame_of w from to number) f).1 (passing_one fits, opens, event.3)
+
+  -- and its bytes are no forged frame
+  pub passing_unforged :
+      CorrectIsTold → ForgedIsTold → SentMayCome → OpenedIn → IsFrame (sealed giver.keys to number body)
+      → is_forged_at w (passing w from to number) ≡ false
+  passing_unforged correct told may_come opened fits =
+      let f : FrameFields = sealed giver.keys to number body in
       let genuine : IsGenuineIn (setting_in w) (history_in w) (brought_to to f) =
       λ _ _. subst (λ i. slice_get (out (group_at (setting_in w) i) (history_in w i)) number ≡ Some body) (sym giver_own) sent_at in
-      ap (λ (o : Option Deed). option_map_or (is_forged_in (setting_in w) (history_in w)) o false) (deed_opened w to bytes taker f sends.takes some)
+      ap (λ (o : Option Deed). option_map_or (is_forged_in (setting_in w) (history_in w)) o false)
+      (deed_opened w to (frame_of w from to number) taker f sends.takes (passing_opens correct may_come opened fits))
       ∙ (told (setting_in w) (history_in w) (brought_to to f)).1 genuine
+
+  -- ---- in its turn there, or not
+
+  heard_is : events taker.history ≡ history_in w to
+  heard_is = sym (ap (λ (o : Option MemberFields). option_map_or (λ (y : MemberFields). events y.history) o []) sends.takes)
+
+  -- the next one is taken
+  pub passing_taken :
+      CorrectIsTold → SentMayCome → OpenedIn → EventIn → IsFrame (sealed giver.keys to number body)
+      → (z : ⊤) → turn (next from (events taker.history)) number ≡ Ok z → IsTakenBy (passing w from to number) (member_in w to)
+  passing_taken correct may_come opened event fits z is =
+      let f : FrameFields = sealed giver.keys to number body in
+      let here : number ≡ next giver.keys.own (events taker.history) =
+      in_turn (next from (events taker.history)) number z is ∙ ap (λ i. next i (events taker.history)) (sym giver_own) in
+      let some : event_in taker.keys (events taker.history) (frame_of w from to number) ≡ Some (From giver.keys.own body) =
+      (event taker.keys (events taker.history) (frame_of w from to number) (From giver.keys.own body)).1
+      (f, passing_opens correct may_come opened fits, here, refl) in
+      subst (IsTakenBy (passing w from to number)) (sym sends.takes) (λ none. nothing_there (From giver.keys.own body) (sym none ∙ some))
+
+  -- what comes of another
+  passed_outcome :
+      CorrectIsTold → SentMayCome → SealedOpens → IsFrame (sealed giver.keys to number body)
+      → (fault : LinkFault) → turn (next from (events taker.history)) number ≡ Err fault
+      → IsOutcome taker.genesis taker.keys (events taker.history) (frame_of w from to number) (Link fault)
+  unfolding opening answer_to
+  passed_outcome correct may_come opens fits fault is =
+      let f : FrameFields = sealed giver.keys to number body in
+      let mine = is_for correct may_come in
+      let before = events taker.history in
+      let Judged : ℕ → Type 0 = λ t. judgement taker.keys (sealed giver.keys t number body) ≡ Ok (opened_fields taker.keys (sealed giver.keys t number body)) in
+      let judges : Judged to =
+      subst Judged taker_own
+      (opens giver.keys taker.keys number body mine.sender (ap (key_for giver.keys) taker_own ∙ mine.key) mine.owner) in
+      let opened : opening taker.keys (Ok f) ≡ Ok (opened_fields taker.keys f) =
+      ap judged judges ∙ cond-false _ _ _ (not_want body.kind (comes correct may_come).3) in
+      let turned : turn (next giver.keys.own before) number ≡ Err fault = ap (λ i. turn (next i before) number) giver_own ∙ is in
+      record {
+        reading = Ok f;
+        reads = passing_one fits;
+        is = sym (ap (outcome_of taker.genesis taker.keys.own before) opened ∙ ap (answered taker.genesis taker.keys.own before f) turned);
+      }
+
+  -- and it changes nothing
+  pub passed_over :
+      CorrectIsTold → SentMayCome → OpenedIn → SealedOpens → IsFrame (sealed giver.keys to number body)
+      → (fault : LinkFault) → turn (next from (events taker.history)) number ≡ Err fault
+      → Answers w w (passing w from to number) (Brought (Link fault))
+  passed_over correct may_come opened opens fits fault is =
+      let f : FrameFields = sealed giver.keys to number body in
+      let e : WorldEvent = passing w from to number in
+      let reply : WorldReply = Brought (Link fault) in
+      let some = passing_opens correct may_come opened fits in
+      let outcome = passed_outcome correct may_come opens fits fault is in
+      let stays : member_after e reply taker ≡ taker = ap (with_brought taker 0 (Link fault)) some in
+      let ignored : counts (setting_in w) (history_in w to) (brought_to to f) ≡ false =
+      and_right (deeds.may_come (setting_in w) to giver.keys.own body) (eqb number (next giver.keys.own (history_in w to)))
+      ((λ j. eqb number (next (giver_own j) (sym heard_is j))) ∙ out_of_turn (next from (events taker.history)) number fault is) in
+      let nothing : (i : ℕ) → adds (setting_in w) i (history_in w i) (brought_to to f) ≡ [] =
+      λ i. adds_nothing (setting_in w) (history_in w) i (brought_to to f) ignored in
+      record {
+        genesis = refl;
+        liars = refl;
+        said = subst (λ (o : Option MemberFields). IsReplyFrom o e reply) (sym sends.takes) outcome;
+        here = sends.takes ∙ ap Some (sym stays) ∙ sym (ap (option_map (member_after e reply)) sends.takes);
+        others = λ i differs. refl;
+        histories = λ i.
+            sym (append-nil (history_in w i))
+            ∙ sym (ap (λ (l : List Event). history_in w i ++ l)
+            (ap (λ (x : Option Deed). option_map_or (adds (setting_in w) i (history_in w i)) x []) (deed_opened w to (frame_of w from to number) taker f sends.takes some)
+            ∙ nothing i));
+      }

@@ -26,12 +26,14 @@ impl WorldFault {
         }
     }
 
+    /// The number under which the fault is printed.
     pub fn number(self) -> u8
         ensures value { result ≡ world_fault_number self }
     {
         self.entry().0
     }
 
+    /// The name beside that number.
     pub fn name(self) -> &'static str
         ensures value { result.now ≡ world_fault_name self }
     {

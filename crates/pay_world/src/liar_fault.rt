@@ -31,12 +31,14 @@ impl LiarFault {
         }
     }
 
+    /// The number under which the fault is printed.
     pub fn number(self) -> u8
         ensures value { result ≡ liar_fault_number self }
     {
         self.entry().0
     }
 
+    /// The name beside that number.
     pub fn name(self) -> &'static str
         ensures value { result.now ≡ liar_fault_name self }
     {

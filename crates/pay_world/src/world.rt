@@ -1,5 +1,5 @@
 ghost use Rattle.std.specs.Prelude.{◌≡◌, ◌↔◌, ℕ, slice_get, Some, false, IfOk};
-ghost use Rattle.std.specs.Prelude.{IsOkUnless, IsTrue, MatchOption, OnOk, OnErr};
+ghost use Rattle.std.specs.Prelude.{IfNone, IfSome, IsOkUnless, IsTrue, MatchOption, OnOk, OnErr};
 ghost use Rattle.std.specs.Option.{option_copied, option_map};
 ghost use Rattle.pay_frame.specs.Frame.{FrameFields};
 ghost use Rattle.pay_frame.specs.Lent.{fields_of};
@@ -7,6 +7,7 @@ ghost use Rattle.pay_frame.specs.OneFrame.{IsOneFrame};
 ghost use Rattle.pay_channel.specs.History.{out};
 ghost use Rattle.pay_channel.specs.Prefix.{IsPrefix};
 ghost use Rattle.pay_link.specs.Checked.{IsFor, bytes_of};
+ghost use Rattle.pay_link.specs.Fronts.{turn};
 ghost use Rattle.pay_link.specs.Keys.{IsKeysOf, IsPeer, key_for};
 ghost use Rattle.pay_member.specs.Group.{group_in};
 ghost use Rattle.pay_member.specs.Events.{events};
@@ -30,9 +31,11 @@ use pay_echo::Instance;
 use pay_echo::laws::sizes_of_sets;
 use pay_frame::{Body, Bytes, FrameRef, one_answer, read_one};
 use pay_hmac::Tagger;
-use pay_link::{Checked, Genesis, Keys, sealed};
+use pay_hmac::laws::tag_length;
+use pay_link::laws::sealed_opens;
+use pay_link::{Checked, Genesis, Keys, LinkFault, sealed};
 use pay_member::laws::{events_in_order, what_is_brought, what_opens};
-use pay_member::{AskFault, Member};
+use pay_member::{AskFault, Member, Outcome};
 use std::alloc::{AllocError, Global};
 use std::marker::Model;
 
@@ -248,7 +251,7 @@ impl<I: Instance + Drop, B: Settle + Drop> World<I, B> {
     /// place of its list, sealed for the other. What it does is what bringing the frame's bytes to
     /// the other would, but they aren't encoded, and its tag is computed once.
     ///
-    /// A frame that was sent is never refused.
+    /// A frame that was sent is never refused, and memory only where the other takes it.
     pub fn pass<T: Tagger>(
         &mut self,
         alloc: Global,
@@ -262,6 +265,8 @@ impl<I: Instance + Drop, B: Settle + Drop> World<I, B> {
             (IsOkUnless result WorldFault.Memory)
             (λ fault. result ≡ Err fault) }
         ensures passed { IsOkUnless result WorldFault.Memory }
+        ensures memory { result ≡ Err WorldFault.Memory
+            → IsTakenBy (passing self.old from to number) (member_in self.old to) }
         ensures answers { IfOk result
             (Answers self.old self.new (passing self.old from to number)) }
         ensures count { OnOk result (self.new.answered ≡ one_more self.old.answered) }
@@ -286,6 +291,8 @@ impl<I: Instance + Drop, B: Settle + Drop> World<I, B> {
         requires { MayPass self.old from to number }
         ensures unforged { is_forged_at self.old (passing self.old from to number) ≡ false }
         ensures passed { IsOkUnless result WorldFault.Memory }
+        ensures memory { result ≡ Err WorldFault.Memory
+            → IsTakenBy (passing self.old from to number) (member_in self.old to) }
         ensures answers { IfOk result
             (Answers self.old self.new (passing self.old from to number)) }
         ensures count { self.new.answered ≡ self.old.answered }
@@ -295,8 +302,37 @@ impl<I: Instance + Drop, B: Settle + Drop> World<I, B> {
         sizes_of_sets();
         correct_members_stand();
         forged_is_told();
+        if let Some(reply) = self.out_of_turn(from, to, number) {
+            return Ok(reply);
+        }
         let checked = self.sealed(alloc, tagger, from, to, number)?;
         pass_place(&mut self.members[usize::from(to)], alloc, checked)
+    }
+
+    // What the other answers, if the frame isn't the next that it takes from its sender: a repeat or
+    // a gap, whatever the tag, so nothing is sealed.
+    fn out_of_turn(&self, from: u16, to: u16, number: u64) -> Option<WorldReply>
+        requires { MayPass self.now from to number }
+        ensures unforged { is_forged_at self.now (passing self.now from to number) ≡ false }
+        ensures answers { IfSome result
+            (Answers self.now self.now (passing self.now from to number)) }
+        ensures taken { IfNone result
+            (IsTakenBy (passing self.now from to number) (member_in self.now to)) }
+    {
+        what_is_brought();
+        what_is_sent();
+        forged_is_told();
+        sealed_opens();
+        tag_length();
+        let giver = self.member(from).unwrap();
+        let body = giver.sent(number).unwrap();
+        // a body's limits, on which the proof stands: the call does nothing
+        body.value();
+        let taker = self.member(to).unwrap();
+        match turn(taker.next(from), number) {
+            Ok(()) => None,
+            Err(fault) => Some(WorldReply::Brought(Outcome::Link(fault))),
+        }
     }
 
     // The frame at a place of all that a correct member sent, sealed for another.
@@ -313,9 +349,7 @@ impl<I: Instance + Drop, B: Settle + Drop> World<I, B> {
             bytes_of checked ≡ frame_of self.now from to number) }
         ensures mine { IfOk result (λ checked. (taker : MemberFields)
             → member_in self.now to ≡ Some taker → IsFor taker.keys checked) }
-        ensures unforged { is_forged_at self.now (passing self.now from to number) ≡ false }
     {
-        what_is_brought();
         what_is_sent();
         forged_is_told();
         let giver = self.member(from).unwrap();
@@ -352,6 +386,19 @@ fn share_key(one: &Keys, other: &Keys) -> bool
     one.is_peer(other.own())
         && other.is_peer(one.own())
         && one.key(other.own()) == other.key(one.own())
+}
+
+// Whether a number is the next one, as a member judges it.
+fn turn(next: u64, number: u64) -> Result<(), LinkFault>
+    ensures { result ≡ turn next number }
+{
+    if number == next {
+        Ok(())
+    } else if number < next {
+        Err(LinkFault::Repeat(next))
+    } else {
+        Err(LinkFault::Gap(next))
+    }
 }
 
 // Asks the member at a place, if there is one, to broadcast a value.

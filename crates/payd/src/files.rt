@@ -1,4 +1,5 @@
-//! The files that words name, each judged before the next is read.
+//! The files that words name. Each is judged before the next is read, but for the exports of an audit with several
+//! jobs: of these `batches` reads and judges as many side by side.
 
 ghost use Rattle.std.specs.Prelude.{◌≡◌, ◌+◌, ◌≤◌, ℕ, List, IfErr, IfOk, IfSome, map, take};
 ghost use Rattle.std.specs.Option.{option_map};

@@ -109,7 +109,7 @@ Output: the answer to each line.
   front F0 F1 ..
   refused C NAME                  1 BadLine, 2 NoAccount, 3 ZeroOrSelf, 4 IdUsed, 5 Spent, 0 Memory
 
-The member meets no peer: a payment settles only where it is the only one of its group.
+The member meets no peer: a payment settles only where the member is the only one of its group.
 
 Status: 0 at the input's end, 2 for words or a file that can't be read, 3 where memory, a read or a
 write fails, or after 1,000,000 reads.

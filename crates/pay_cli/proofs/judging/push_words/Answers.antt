@@ -12,7 +12,7 @@ returns-in-Ok-clause-words g c =
     let judged : judgement c.args.keys.now f ≡ Ok c.in-Ok.opened = sym c.in-Ok.ensures in
     let told = (c.opened.ensures c.args.keys.now f c.in-Ok.opened).0 judged in
     let same : fields_of c.frame.result.now ≡ f = c.frame.ensures.value ∙ ap (λ (o : OpenedFields). o.frame) told.1 in
-    rw judged (subst (λ (h : FrameFields). OnOk c.push_opened.result (c.push_opened.new.words.items ≡ c.args.words.now.items ++ opened_words h h.body.kind)) same c.push_opened.ensures.words)
+    rw judged (subst (λ (h : FrameFields). OnOk c.push_opened_words.result (c.push_opened_words.new.words.items ≡ c.args.words.now.items ++ opened_words h h.body.kind)) same c.push_opened_words.ensures.words)
 
 pub returns-in-Ok-clause-turn : goal.returns-in-Ok-clause-turn
 returns-in-Ok-clause-turn g c =
@@ -20,4 +20,4 @@ returns-in-Ok-clause-turn g c =
     let judged : judgement c.args.keys.now f ≡ Ok c.in-Ok.opened = sym c.in-Ok.ensures in
     let told = (c.opened.ensures c.args.keys.now f c.in-Ok.opened).0 judged in
     let same : fields_of c.frame.result.now ≡ f = c.frame.ensures.value ∙ ap (λ (o : OpenedFields). o.frame) told.1 in
-    rw judged (subst (λ (h : FrameFields). IfOk c.push_opened.result (λ turn. turn ≡ opened_turn h h.body.kind)) same c.push_opened.ensures.turn)
+    rw judged (subst (λ (h : FrameFields). IfOk c.push_opened_words.result (λ turn. turn ≡ opened_turn h h.body.kind)) same c.push_opened_words.ensures.turn)

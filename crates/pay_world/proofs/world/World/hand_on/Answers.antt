@@ -43,7 +43,7 @@ invariant_of-self g c =
     let unforged : is_forged_at w (Bring i bytes) ≡ false =
     subst (λ n. is_forged_at w (Bring n bytes) ≡ false) (sym c.from.ensures)
     (subst (λ (x : WorldFields). is_forged_at x (Bring c.args.to bytes) ≡ false) (sym c.self.view_is)
-    (subst (λ (l : List ℕ). is_forged_at c.args.self.now (Bring c.args.to l) ≡ false) (sym c.in_ok-checked.ensures.bytes) c.in_ok-checked.ensures.unforged)) in
+    (subst (λ (l : List ℕ). is_forged_at c.args.self.now (Bring c.args.to l) ≡ false) (sym c.in_ok-checked.ensures.bytes) c.out_of_turn.ensures.unforged)) in
     (bring_any c.what_opens.ensures c.forged_is_told.ensures.forged c.correct_members_stand.ensures.deed w i bytes c.index_mut.result.now c.pass_place.new.place c.pass_place.result
     c.self.invariant few here unforged c.pass_place.ensures.reply c.pass_place.ensures.after c.pass_place.ensures.grown c.pass_place.ensures.err).world
 
@@ -59,7 +59,7 @@ returns-clause-answers g c =
     let unforged : is_forged_at w (Bring i bytes) ≡ false =
     subst (λ n. is_forged_at w (Bring n bytes) ≡ false) (sym c.from.ensures)
     (subst (λ (x : WorldFields). is_forged_at x (Bring c.args.to bytes) ≡ false) (sym c.self.view_is)
-    (subst (λ (l : List ℕ). is_forged_at c.args.self.now (Bring c.args.to l) ≡ false) (sym c.in_ok-checked.ensures.bytes) c.in_ok-checked.ensures.unforged)) in
+    (subst (λ (l : List ℕ). is_forged_at c.args.self.now (Bring c.args.to l) ≡ false) (sym c.in_ok-checked.ensures.bytes) c.out_of_turn.ensures.unforged)) in
     let any = bring_any c.what_opens.ensures c.forged_is_told.ensures.forged c.correct_members_stand.ensures.deed w i bytes c.index_mut.result.now c.pass_place.new.place c.pass_place.result
     c.self.invariant few here unforged c.pass_place.ensures.reply c.pass_place.ensures.after c.pass_place.ensures.grown c.pass_place.ensures.err in
     let p = c.pass_place.new.place in
@@ -79,7 +79,7 @@ returns-clause-err g c =
     let unforged : is_forged_at w (Bring i bytes) ≡ false =
     subst (λ n. is_forged_at w (Bring n bytes) ≡ false) (sym c.from.ensures)
     (subst (λ (x : WorldFields). is_forged_at x (Bring c.args.to bytes) ≡ false) (sym c.self.view_is)
-    (subst (λ (l : List ℕ). is_forged_at c.args.self.now (Bring c.args.to l) ≡ false) (sym c.in_ok-checked.ensures.bytes) c.in_ok-checked.ensures.unforged)) in
+    (subst (λ (l : List ℕ). is_forged_at c.args.self.now (Bring c.args.to l) ≡ false) (sym c.in_ok-checked.ensures.bytes) c.out_of_turn.ensures.unforged)) in
     let any = bring_any c.what_opens.ensures c.forged_is_told.ensures.forged c.correct_members_stand.ensures.deed w i bytes c.index_mut.result.now c.pass_place.new.place c.pass_place.result
     c.self.invariant few here unforged c.pass_place.ensures.reply c.pass_place.ensures.after c.pass_place.ensures.grown c.pass_place.ensures.err in
     subst (λ (x : WorldFields). OnErr c.pass_place.result (with_place w i c.pass_place.new.place ≡ x)) c.self.view_is any.err

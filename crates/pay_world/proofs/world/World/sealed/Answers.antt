@@ -1,12 +1,12 @@
 use Rattle.std.proofs.Common.{◌≡◌, ap, sym, ◌∙◌, subst}
 use Rattle.std.specs.Option.{option_copied}
 use Rattle.std.proofs.lemmas.Option.{same_Some}
-use Rattle.pay_frame.specs.Frame.{IsFrame, frame_bytes}
+use Rattle.pay_frame.specs.Frame.{frame_bytes}
 use Rattle.pay_link.specs.Checked.{IsFor, bytes_of}
 use Rattle.pay_link.specs.Keys.{KeyFields, key_for}
 use Rattle.pay_link.specs.Sealing.{sealed}
 use Rattle.pay_member.specs.Member.{MemberFields}
-use Rattle.pay_world.proofs.Passing.{comes, frame_is, is_for, passing_unforged, sends_this}
+use Rattle.pay_world.proofs.Passing.{comes, frame_is, is_for, sends_this}
 use Rattle.pay_world.proofs.world.World.sealed.Goals as goal
 
 pub sealed-requires-clause-kind : goal.sealed-requires-clause-kind
@@ -38,23 +38,3 @@ returns-clause-mine g c = λ taker takes.
     subst (λ (m : MemberFields). IsFor m.keys c.in_ok-checked.checked)
     (same_Some c.requires.taker taker (sym c.requires.sends.takes ∙ takes))
     (subst (IsFor c.requires.taker.keys) (sym value) mine)
-
-pub returns-in_err-checked-clause-unforged : goal.returns-in_err-checked-clause-unforged
-returns-in_err-checked-clause-unforged g c =
-    let giver = c.unwrap-giver.result.now in
-    let body = c.unwrap-body.result.now in
-    let sends = sends_this c.args.self.now c.args.from c.args.to c.args.number c.requires giver body (sym c.member.ensures.value ∙ ap option_copied c.unwrap-giver.ensures) (sym c.sent.ensures ∙ ap option_copied c.unwrap-body.ensures) in
-    let Is : KeyFields → Type 0 = λ k. IsFrame (sealed k c.args.to c.args.number body) in
-    let fits : Is giver.keys = subst Is c.keys.ensures.value c.sealed.ensures.frame in
-    passing_unforged c.args.self.now c.args.from c.args.to c.args.number giver c.requires.taker body c.member.ensures.limits sends
-    c.forged_is_told.ensures.correct c.forged_is_told.ensures.forged c.what_is_sent.ensures.may_come c.what_is_brought.ensures.opened fits
-
-pub returns-clause-unforged : goal.returns-clause-unforged
-returns-clause-unforged g c =
-    let giver = c.unwrap-giver.result.now in
-    let body = c.unwrap-body.result.now in
-    let sends = sends_this c.args.self.now c.args.from c.args.to c.args.number c.requires giver body (sym c.member.ensures.value ∙ ap option_copied c.unwrap-giver.ensures) (sym c.sent.ensures ∙ ap option_copied c.unwrap-body.ensures) in
-    let Is : KeyFields → Type 0 = λ k. IsFrame (sealed k c.args.to c.args.number body) in
-    let fits : Is giver.keys = subst Is c.keys.ensures.value c.sealed.ensures.frame in
-    passing_unforged c.args.self.now c.args.from c.args.to c.args.number giver c.requires.taker body c.member.ensures.limits sends
-    c.forged_is_told.ensures.correct c.forged_is_told.ensures.forged c.what_is_sent.ensures.may_come c.what_is_brought.ensures.opened fits

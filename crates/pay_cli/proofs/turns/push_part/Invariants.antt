@@ -3,7 +3,7 @@ use Rattle.pay_frame.specs.Frame.{FrameFields}
 use Rattle.pay_link.specs.Keys.{KeyFields}
 use Rattle.pay_cli.specs.Findings.{IsJudged}
 use Rattle.pay_cli.proofs.Findings.{AmongLines, RoomLeft}
-use Rattle.pay_cli.proofs.turns.push_judged.Given as goal
+use Rattle.pay_cli.proofs.turns.push_part.Given as goal
 
 abbrev pub invariant-loop-finding : goal.invariant-loop-finding
 invariant-loop-finding l = record {
