@@ -37,7 +37,12 @@ def each(library, crate, name):
 @hostile
 def each_growth_of_a_call_refused_once(library):
     """A call that was refused memory has the answer with ample memory when it is made again."""
-    for name in ("replays::histories_are_replayed", "runs::events_are_run", "streams::repeated_frame_cut_anywhere"):
+    for name in (
+        "members::members_answer_and_export",
+        "replays::histories_are_replayed",
+        "runs::events_are_run",
+        "streams::frames_cut_anywhere",
+    ):
         runs = each(library, "pay_library_tests", name)
         for place, (status, errors) in enumerate(runs, 1):
             is_right = (status, errors) == (0, "") or (status == 101 and SET_UP.fullmatch(errors) is not None)

@@ -62,9 +62,19 @@ const SETTLED_2: Took = Took {
     ..SETTLED_1
 };
 
+const READY_AND_DELIVERED: Took = Took {
+    deliver: true,
+    ..READY
+};
+
 const READY_AND_SETTLED_1: Took = Took {
-    ready: true,
-    ..SETTLED_1
+    settled: 1,
+    ..READY_AND_DELIVERED
+};
+
+const READY_AND_SETTLED_2: Took = Took {
+    settled: 2,
+    ..READY_AND_DELIVERED
 };
 
 /// Member 0 sends member 1 its first frame, thirty to account 1.
@@ -75,8 +85,8 @@ const SENT: &str =
 const NEXT: &str =
     "003601040001000000000000000000010000000000000000abc08308999c120482dbcf8386bff193850732924e3bacd9ac0a94968a840db3";
 
-/// What is brought to one member, and payments of which some wait.
-const ALONE: [Row; 2] = [
+/// What is brought to one member, payments of which some wait, and values in another order.
+const ALONE: [Row; 3] = [
     Row {
         name: "brought bytes",
         own: 1,
@@ -85,6 +95,16 @@ const ALONE: [Row; 2] = [
             Step::Bring(
                 "0036010100000001000000000000000000000000000000000000000000000000000000000000000000000000000000000000000000000000",
                 Outcome::Link(LinkFault::BadTag),
+                "",
+            ),
+            Step::Bring(
+                "0036010100010001000000000000000000000000000000000000000000000000000000000000000000000000000000000000000000000000",
+                Outcome::Link(LinkFault::UnknownSender),
+                "",
+            ),
+            Step::Bring(
+                "0036010100000001000000000000000000040000000000000000000000000000000000000000000000000000000000000000000000000000",
+                Outcome::Link(LinkFault::UnknownOwner),
                 "",
             ),
             Step::Bring(SENT, Outcome::Took(ECHO), NEXT),
@@ -156,6 +176,36 @@ const ALONE: [Row; 2] = [
             Step::Show(PaymentState::Waiting, 3),
         ],
         export: r#"{"balances":[10,40,50,50],"faults":1,"front":[3,1,0,0],"lists":[["02040001000000000000001e000200000000000000320001000000000000002800020000000000000014"],["010000000000000000001e"],[],[]],"member":0,"members":4,"opening":[100,0,0,50]}"#,
+    },
+    // READYs of two about number 1 of account 3, then about its number 0, and a SEND of another than its owner
+    Row {
+        name: "a number before the one that the list waits for",
+        own: 0,
+        steps: &[
+            Step::Take(
+                "00370103000100000000000000000000000300000001000158b9053514a6ad1cb35112cdac6bf7b8388eea6897ac725b621df822f0c381ca72",
+                NOTHING,
+            ),
+            Step::Take(
+                "003701030002000000000000000000000003000000010001581fbf0cd1fa5537b2a6040bf0bd943b77788d58887337df30b5097a51801390ba",
+                READY_AND_DELIVERED,
+            ),
+            Step::Take(
+                "0037010300010000000000000000000100030000000000015932f91cc09c111c8fbeb77b4e0d5f5ac7136367a011d35f0c717272835e715dfe",
+                NOTHING,
+            ),
+            Step::Take(
+                "003701030002000000000000000000010003000000000001592f32e57f05b2d45c72eb3f785f6db3374fa222cee48cbc70faef94bc92b9d7a9",
+                READY_AND_SETTLED_2,
+            ),
+            Step::Take(
+                "003701010001000000000000000000020003000000000001590898928d3ba9b8e8590ed402597256593dae374cf144a37e9e12e84657d48acb",
+                NOTHING,
+            ),
+            Step::Ask("41", 0),
+            Step::Show(PaymentState::Asked, 0),
+        ],
+        export: r#"{"balances":[100,0,0,50],"faults":1,"front":[0,0,0,2],"lists":[[],[],[],["59","58"]],"member":0,"members":4,"opening":[100,0,0,50]}"#,
     },
 ];
 
@@ -391,7 +441,7 @@ fn verdict_of(rt: &(impl Abort + AllocGlobal), rows: &[Row]) -> Result<Verdict, 
 }
 
 #[test]
-fn exports_of_members_are_clean(rt: HostRuntime) -> Result<(), Fail> {
+fn members_answer_and_export(rt: HostRuntime) -> Result<(), Fail> {
     assert_eq!(rt; verdict_of(&rt, &ALONE)?, Verdict::Clean);
     assert_eq!(rt; verdict_of(&rt, &SPLIT)?, Verdict::Clean);
     Ok(())
