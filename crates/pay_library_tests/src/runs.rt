@@ -72,8 +72,8 @@ const FOUR: Group = (1, &[100, 0, 0, 50], &[3]);
 
 const ALONE: Group = (0, &[7], &[]);
 
-/// The balance of account 0 at member 0, whether its first frame may be passed on to member 1, and whether each took all
-/// that the others sent.
+/// The balance of account 0 at member 0, whether its first frame may be passed on to member 1, and whether each took
+/// all that the others sent.
 type Shown = (u64, bool, bool);
 
 /// Events, those behind them, and what comes of all.
