@@ -11,6 +11,12 @@ import subprocess
 from hostile_tests import MOST_CALLS, hostile
 from runs import SECONDS, TOP, same
 
+CALLS = (
+    "members::members_answer_and_export",
+    "replays::histories_are_replayed",
+    "runs::events_are_run",
+    "streams::frames_cut_anywhere",
+)
 # What ends a test where memory is refused to what it sets up.
 SET_UP = re.compile("error: (Memory|OutOfMemory|AllocError|AllocFailed .*)\nthe test failed: .*\n")
 
@@ -38,8 +44,7 @@ def each_growth_of_a_call_refused_once(library):
 
     A node is made again too, and of a call at it that was refused no receipt is left.
     """
-    calls = ["replays::histories_are_replayed", "runs::events_are_run", "streams::repeated_frame_cut_anywhere"]
-    tests = [*(("pay_library_tests", name) for name in calls), ("pay_node_tests", "plays::calls_leave_receipts")]
+    tests = [*(("pay_library_tests", name) for name in CALLS), ("pay_node_tests", "plays::calls_leave_receipts")]
     for crate, name in tests:
         runs = each(library, crate, name)
         for place, (status, errors) in enumerate(runs, 1):

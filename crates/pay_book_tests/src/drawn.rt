@@ -1,5 +1,6 @@
 //! Both books over values that are drawn.
 
+use crate::both::added_alike;
 use crate::draws::Draws;
 use crate::ledger::Ledger;
 use pay_book::PlainBook;
@@ -26,7 +27,7 @@ fn value_of(alloc: Global, draws: &mut Draws) -> Result<Vec<u8>, AllocError> {
 
 /// Puts a drawn value on the same list of both, and says how many entries settled; nothing where they answered
 /// differently or came to stand elsewhere.
-fn added_alike(
+fn drawn_alike(
     alloc: Global,
     draws: &mut Draws,
     plain: &mut Ledger<PlainBook>,
@@ -34,12 +35,7 @@ fn added_alike(
 ) -> Option<u32> {
     let owner = u16::from(draws.below(4));
     let value = value_of(alloc, draws).ok()?;
-    let again = value.as_slice().to_vec(alloc).ok()?;
-    let answer = plain.add(owner, value).ok()?;
-    if waiting.add(owner, again) != Ok(answer) || !waiting.stands_as(plain) {
-        return None;
-    }
-    Some(answer.unwrap_or(0))
+    added_alike(alloc, owner, value, plain, waiting)
 }
 
 fn all_added_alike(
@@ -50,7 +46,7 @@ fn all_added_alike(
 ) -> Option<u32> {
     let mut settled: u32 = 0;
     for _value in 0..10 {
-        settled = settled.saturating_add(added_alike(alloc, draws, plain, waiting)?);
+        settled = settled.saturating_add(drawn_alike(alloc, draws, plain, waiting)?);
     }
     Some(settled)
 }

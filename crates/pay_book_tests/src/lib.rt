@@ -1,6 +1,8 @@
-//! Tests of books over lists held in memory: worked examples on the plain one, drawn lists on both.
+//! Tests of books over lists held in memory: worked examples on the plain one, a row of debts and drawn lists on both.
 #![tactic(auto)]
 
+#[cfg(test)]
+mod both;
 #[cfg(test)]
 mod drawn;
 #[cfg(test)]

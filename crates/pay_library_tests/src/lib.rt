@@ -7,6 +7,8 @@ mod audits;
 #[cfg(test)]
 mod cuts;
 #[cfg(test)]
+mod members;
+#[cfg(test)]
 mod replays;
 #[cfg(test)]
 mod runs;

@@ -1,11 +1,11 @@
-//! Lists of events that are run in one go, among four members of whom the last lies.
+//! Lists of events that are run in one go.
 
 use pay_book::PlainBook;
 use pay_echo::PlainInstance;
 use pay_frame::Bytes;
 use pay_hmac::HmacSha256;
 use pay_link::Genesis;
-use pay_world::{Liars, World, WorldEvent, WorldFault, group_test_keys, run_world};
+use pay_world::{Liars, World, WorldEvent, WorldFault, all_taken, group_test_keys, run_world};
 use std::alloc::Global;
 use std::test::Fail;
 
@@ -49,50 +49,121 @@ const READY_OF_1: &str =
 const READY_OF_2: &str =
     "00410103000200000000000000000001000000000000000b010001000000000000001e74d9788a58c78b168535d16940c50254532ae5914d9807f85b7b2446d2395ae5";
 
+const READY_TO_1: &str =
+    "00410103000000010000000000000002000000000000000b010001000000000000001e576e418ca6107839d6962e563ac370e8cab15a855191d307cabe51a226daa645";
+
+const READY_TO_2: &str =
+    "00410103000000020000000000000002000000000000000b010001000000000000001ed2e9ff33071bde572d961e2f138458bb6d5ec2bbe2a60c4dd2d70bcb83d566c5";
+
+const READY_OF_1_TO_2: &str =
+    "00410103000100020000000000000001000000000000000b010001000000000000001e223b40d2d2f62ba2f55e7640c647744e084b04a39672a911dbca7b7ac30a9f55";
+
+const READY_OF_2_TO_1: &str =
+    "00410103000200010000000000000001000000000000000b010001000000000000001eb44b23365fef8d318fad8e1a6daf218103fab6dfe045c909f20b1883724c911a";
+
 /// The first of these with another value.
 const FORGED: &str =
     "00410101000000010000000000000000000000000000000b01000100000000000000058643996fc18999da55019d655c08f11781f283d872b6c6fd90bd23d2ce561cdd";
 
-/// Events, and what comes of them: the balance of account 0 at member 0, and whether its first frame may be passed on.
-type Row = (&'static [Deed], Result<(u64, bool), WorldFault>);
+/// How many may lie, the opening balances, and who lies.
+type Group = (u64, &'static [u64], &'static [u16]);
 
-const ROWS: [Row; 4] = [
-    (&[], Ok((100, false))),
-    (
-        &[Deed::Ask(0), Deed::Bring(1, SENT), Deed::Bring(1, "05")],
-        Ok((100, true)),
-    ),
-    (
-        &[
-            Deed::Ask(0),
-            Deed::Bring(1, SENT),
-            Deed::Bring(1, FORGED),
-            Deed::Bring(1, FORGED),
-        ],
-        Err(WorldFault::Forged(2)),
-    ),
-    // the last two are the others' READYs, with which member 0 has three
-    (
-        &[
-            Deed::Ask(0),
-            Deed::Bring(1, SENT),
-            Deed::Bring(1, ECHOED),
-            Deed::Bring(2, SENT_TO_2),
-            Deed::Bring(2, ECHOED_TO_2),
-            Deed::Bring(2, ECHO_OF_1_TO_2),
-            Deed::Bring(0, ECHO_OF_1),
-            Deed::Bring(1, ECHO_OF_2_TO_1),
-            Deed::Bring(0, ECHO_OF_2),
-            Deed::Bring(0, READY_OF_1),
-            Deed::Bring(0, READY_OF_2),
-        ],
-        Ok((70, true)),
-    ),
+const FOUR: Group = (1, &[100, 0, 0, 50], &[3]);
+
+const ALONE: Group = (0, &[7], &[]);
+
+/// The balance of account 0 at member 0, whether its first frame may be passed on to member 1, and whether each took
+/// all that the others sent.
+type Shown = (u64, bool, bool);
+
+/// Events, those behind them, and what comes of all.
+struct Row {
+    group: Group,
+    deeds: &'static [Deed],
+    more: &'static [Deed],
+    shown: Result<Shown, WorldFault>,
+}
+
+/// All that is said of the payment but the READY of member 2 to member 1.
+const ALL_BUT_ONE: &[Deed] = &[
+    Deed::Ask(0),
+    Deed::Bring(1, SENT),
+    Deed::Bring(1, ECHOED),
+    Deed::Bring(2, SENT_TO_2),
+    Deed::Bring(2, ECHOED_TO_2),
+    Deed::Bring(2, ECHO_OF_1_TO_2),
+    Deed::Bring(0, ECHO_OF_1),
+    Deed::Bring(1, ECHO_OF_2_TO_1),
+    Deed::Bring(0, ECHO_OF_2),
+    Deed::Bring(0, READY_OF_1),
+    // with this one member 0 has three READYs
+    Deed::Bring(0, READY_OF_2),
+    Deed::Bring(1, READY_TO_1),
+    Deed::Bring(2, READY_TO_2),
+    Deed::Bring(2, READY_OF_1_TO_2),
 ];
 
-fn events_of(alloc: Global, deeds: &[Deed]) -> Result<Vec<WorldEvent>, Fail> {
+const ROWS: [Row; 9] = [
+    Row {
+        group: FOUR,
+        deeds: &[],
+        more: &[],
+        shown: Ok((100, false, true)),
+    },
+    Row {
+        group: FOUR,
+        deeds: &[Deed::Ask(0)],
+        more: &[],
+        shown: Ok((100, true, false)),
+    },
+    Row {
+        group: FOUR,
+        deeds: &[Deed::Ask(0), Deed::Bring(1, SENT), Deed::Bring(1, "05")],
+        more: &[],
+        shown: Ok((100, true, false)),
+    },
+    Row {
+        group: FOUR,
+        deeds: &[Deed::Ask(0), Deed::Bring(1, SENT)],
+        more: &[Deed::Bring(1, FORGED), Deed::Bring(1, FORGED)],
+        shown: Err(WorldFault::Forged(2)),
+    },
+    Row {
+        group: FOUR,
+        deeds: ALL_BUT_ONE,
+        more: &[],
+        shown: Ok((70, true, false)),
+    },
+    Row {
+        group: FOUR,
+        deeds: ALL_BUT_ONE,
+        more: &[Deed::Bring(1, READY_OF_2_TO_1)],
+        shown: Ok((70, true, true)),
+    },
+    Row {
+        group: FOUR,
+        deeds: ALL_BUT_ONE,
+        more: &[Deed::Bring(1, READY_OF_2_TO_1), Deed::Ask(0)],
+        shown: Ok((70, true, false)),
+    },
+    Row {
+        group: ALONE,
+        deeds: &[],
+        more: &[],
+        shown: Ok((7, false, true)),
+    },
+    // its payment is void: there is no account 1
+    Row {
+        group: ALONE,
+        deeds: &[Deed::Ask(0)],
+        more: &[],
+        shown: Ok((7, false, true)),
+    },
+];
+
+fn events_of(alloc: Global, row: &Row) -> Result<Vec<WorldEvent>, Fail> {
     let mut events = Vec::new(alloc);
-    for deed in deeds {
+    for deed in row.deeds.iter().chain(row.more) {
         let (member, text) = match deed {
             Deed::Ask(member) => (*member, "010001000000000000001e"),
             Deed::Bring(member, text) => (*member, *text),
@@ -106,20 +177,21 @@ fn events_of(alloc: Global, deeds: &[Deed]) -> Result<Vec<WorldEvent>, Fail> {
     Ok(events)
 }
 
-fn shown(world: &World<PlainInstance, PlainBook>) -> (u64, bool) {
+fn shown(world: &World<PlainInstance, PlainBook>) -> Shown {
     let balance = match world.member(0) {
         Some(member) if member.genesis().members() > 0 => member.balance(0),
         _ => 0,
     };
-    (balance, world.may_pass(0, 1, 0))
+    (balance, world.may_pass(0, 1, 0), all_taken(world))
 }
 
 /// What comes of these. Where memory is refused to the run, it is made once more.
-fn run(alloc: Global, deeds: &[Deed]) -> Result<Result<(u64, bool), WorldFault>, Fail> {
-    let (events, again) = (events_of(alloc, deeds)?, events_of(alloc, deeds)?);
-    let genesis = Genesis::new(alloc, 4, 1, &[100, 0, 0, 50])?;
+fn run(alloc: Global, row: &Row) -> Result<Result<Shown, WorldFault>, Fail> {
+    let (events, again) = (events_of(alloc, row)?, events_of(alloc, row)?);
+    let (faults, opening, liars) = row.group;
+    let genesis = Genesis::new(alloc, opening.len() as u64, faults, opening)?;
     let keys = group_test_keys(alloc, &genesis)?;
-    let liars = Liars::new(alloc, &genesis, &[3])?;
+    let liars = Liars::new(alloc, &genesis, liars)?;
     let first = run_world(
         alloc,
         &HmacSha256,
@@ -147,8 +219,8 @@ fn run(alloc: Global, deeds: &[Deed]) -> Result<Result<(u64, bool), WorldFault>,
 
 #[test]
 fn events_are_run(rt: HostRuntime) -> Result<(), Fail> {
-    for (deeds, shown) in &ROWS {
-        assert_eq!(rt; run(rt.alloc(), deeds)?, *shown, "{} events", deeds.len());
+    for (place, row) in ROWS.iter().enumerate() {
+        assert_eq!(rt; run(rt.alloc(), row)?, row.shown, "row {place}");
     }
     Ok(())
 }

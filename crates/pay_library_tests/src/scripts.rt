@@ -1,17 +1,242 @@
-//! Scripts whose votes split: they have the same text, whichever way an instance keeps its votes. The texts are those of
-//! a slow model in Python.
+//! Scripts print the same, whichever way an instance keeps its votes. The texts are those of a slow model in Python.
 
 use pay_book::PlainBook;
 use pay_echo::{Instance, MaskInstance, PlainInstance};
 use pay_io::{Reader, Writer};
 use pay_sim::{SimEnd, run_sim};
-use std::alloc::Global;
+use std::alloc::{AllocError, Global};
 use std::test::Fail;
 
-/// A script, and what it prints.
-type Row = (&'static str, &'static str);
+/// A script, with a star for each value of 1,024 bytes, what it prints, and how it ends.
+type Row = (&'static str, &'static str, SimEnd);
 
-const ROWS: [Row; 3] = [
+const ROWS: [Row; 15] = [
+    (
+        r#"{"faults":1,"liars":[3],"members":4,"opening":[100,0,0,50]}
+ask 0 1 30
+all
+show
+"#,
+        "asked 0 seq 0
+brought 14
+converged
+member 0 fronts 1 0 0 0 balances 70 30 0 50
+member 1 fronts 1 0 0 0 balances 70 30 0 50
+member 2 fronts 1 0 0 0 balances 70 30 0 50
+",
+        SimEnd::Done,
+    ),
+    (
+        r#"{"faults":1,"liars":[3],"members":4,"opening":[100,0,0,50]}
+lie 3 0 next send 3 0 0100010000000000000005
+lie 3 1 next send 3 0 0100020000000000000005
+all
+show
+"#,
+        "took echo
+took echo
+brought 4
+converged
+member 0 fronts 0 0 0 0 balances 100 0 0 50
+member 1 fronts 0 0 0 0 balances 100 0 0 50
+member 2 fronts 0 0 0 0 balances 100 0 0 50
+",
+        SimEnd::Done,
+    ),
+    (
+        r#"{"faults": 1, "liars": [], "members": 4, "opening": [0, 0, 0, 50]}
+ask 0 1 10
+ask 1 0 10
+all
+show
+ask 3 0 10
+all
+show
+"#,
+        "asked 0 seq 0
+asked 1 seq 0
+brought 54
+converged
+member 0 fronts 0 0 0 0 balances 0 0 0 50
+member 1 fronts 0 0 0 0 balances 0 0 0 50
+member 2 fronts 0 0 0 0 balances 0 0 0 50
+member 3 fronts 0 0 0 0 balances 0 0 0 50
+asked 3 seq 0
+brought 27
+converged
+member 0 fronts 1 1 0 1 balances 10 0 0 40
+member 1 fronts 1 1 0 1 balances 10 0 0 40
+member 2 fronts 1 1 0 1 balances 10 0 0 40
+member 3 fronts 1 1 0 1 balances 10 0 0 40
+",
+        SimEnd::Done,
+    ),
+    (
+        r#"{"faults": 1, "liars": [], "members": 4, "opening": [100, 0, 0, 50]}
+ask 0 1 150
+ask 0 1 10
+all
+show
+ask 3 0 50
+all
+show
+"#,
+        "asked 0 seq 0
+asked 0 seq 1
+brought 54
+converged
+member 0 fronts 0 0 0 0 balances 100 0 0 50
+member 1 fronts 0 0 0 0 balances 100 0 0 50
+member 2 fronts 0 0 0 0 balances 100 0 0 50
+member 3 fronts 0 0 0 0 balances 100 0 0 50
+asked 3 seq 0
+brought 27
+converged
+member 0 fronts 1 0 0 1 balances 0 150 0 0
+member 1 fronts 1 0 0 1 balances 0 150 0 0
+member 2 fronts 1 0 0 1 balances 0 150 0 0
+member 3 fronts 1 0 0 1 balances 0 150 0 0
+",
+        SimEnd::Done,
+    ),
+    (
+        r#"{"faults":1,"liars":[3],"members":4,"opening":[100,0,0,50]}
+ask 0 1 30
+ask 0 2 10
+bring 0 1 0
+bring 0 1 0
+bring 0 1 2
+bring 0 1 1
+bring 0 1 4
+"#,
+        "asked 0 seq 0
+asked 0 seq 1
+took echo
+refused link 5 Repeat next 1
+refused link 6 Gap next 1
+took
+absent
+",
+        SimEnd::Done,
+    ),
+    (
+        r#"{"faults":1,"liars":[3],"members":4,"opening":[100,0,0,50]}
+raw 1 0036010100000001000000000000000000000000000000000000000000000000000000000000000000000000000000000000000000000000
+lie 0 0 0 send 0 0 -
+lie 0 1 next send 0 0 -
+"#,
+        "refused link 4 BadTag
+refused link 2 UnknownSender
+forged 2
+",
+        SimEnd::Forged,
+    ),
+    (
+        r#"{"faults":1,"liars":[3],"members":4,"opening":[100,0,0,50]}
+ask 0 1 30
+lie 0 1 next send 0 0 010001000000000000001e
+"#,
+        "asked 0 seq 0
+took echo
+",
+        SimEnd::Done,
+    ),
+    (
+        r#"{"faults":1,"liars":[3],"members":4,"opening":[100,0,0,50]}
+lie 3 0 next send 3 0 ff
+lie 3 1 next send 3 0 ff
+lie 3 2 next send 3 0 ff
+lie 3 0 next send 3 1 0100010000000000000005
+lie 3 1 next send 3 1 0100010000000000000005
+lie 3 2 next send 3 1 0100010000000000000005
+all
+show
+"#,
+        "took echo
+took echo
+took echo
+took echo
+took echo
+took echo
+brought 24
+converged
+member 0 fronts 0 0 0 2 balances 100 5 0 45
+member 1 fronts 0 0 0 2 balances 100 5 0 45
+member 2 fronts 0 0 0 2 balances 100 5 0 45
+",
+        SimEnd::Done,
+    ),
+    (
+        r#"{"faults":1,"liars":[3],"members":4,"opening":[100,0,0,50]}
+lie 3 0 next send 3 0 *
+lie 3 1 next send 3 0 *
+lie 3 2 next send 3 0 *
+lie 3 0 next send 3 1 0100010000000000000005
+lie 3 1 next send 3 1 0100010000000000000005
+lie 3 2 next send 3 1 0100010000000000000005
+all
+show
+"#,
+        "took echo
+took echo
+took echo
+took echo
+took echo
+took echo
+brought 24
+converged
+member 0 fronts 0 0 0 2 balances 100 5 0 45
+member 1 fronts 0 0 0 2 balances 100 5 0 45
+member 2 fronts 0 0 0 2 balances 100 5 0 45
+",
+        SimEnd::Done,
+    ),
+    (
+        r#"{"faults":0,"liars":[],"members":1,"opening":[7]}
+ask 0 0 5
+show
+all
+"#,
+        "asked 0 seq 0
+member 0 fronts 1 balances 7
+brought 0
+converged
+",
+        SimEnd::Done,
+    ),
+    (
+        r#"{"faults":1,"liars":[3],"members":4,"opening":[100,0,0,50]}
+ask 0 1 18446744073709551615
+ask 0 1 1
+all
+show
+"#,
+        "asked 0 seq 0
+asked 0 seq 1
+brought 28
+converged
+member 0 fronts 0 0 0 0 balances 100 0 0 50
+member 1 fronts 0 0 0 0 balances 100 0 0 50
+member 2 fronts 0 0 0 0 balances 100 0 0 50
+",
+        SimEnd::Done,
+    ),
+    (
+        r#"{"faults": 1, "liars": [], "members": 4, "opening": [9223372036854775807, 0, 0, 0]}
+ask 0 1 9223372036854775807
+all
+show
+"#,
+        "asked 0 seq 0
+brought 27
+converged
+member 0 fronts 1 0 0 0 balances 0 9223372036854775807 0 0
+member 1 fronts 1 0 0 0 balances 0 9223372036854775807 0 0
+member 2 fronts 1 0 0 0 balances 0 9223372036854775807 0 0
+member 3 fronts 1 0 0 0 balances 0 9223372036854775807 0 0
+",
+        SimEnd::Done,
+    ),
     (
         r#"{"faults":1,"liars":[3],"members":4,"opening":[100,0,0,50]}
 lie 3 0 next send 3 0 0100010000000000000005
@@ -33,6 +258,7 @@ member 0 fronts 0 0 0 1 balances 100 5 0 45
 member 1 fronts 0 0 0 1 balances 100 5 0 45
 member 2 fronts 0 0 0 1 balances 100 5 0 45
 ",
+        SimEnd::Done,
     ),
     // the second ECHO and the second READY of member 3 count for nothing
     (
@@ -62,6 +288,7 @@ member 0 fronts 0 0 0 0 balances 100 0 0 50
 member 1 fronts 0 0 0 0 balances 100 0 0 50
 member 2 fronts 0 0 0 0 balances 100 0 0 50
 ",
+        SimEnd::Done,
     ),
     (
         r#"{"faults":2,"liars":[5,6],"members":7,"opening":[7,0,0,0,0,9,0]}
@@ -96,37 +323,45 @@ member 2 fronts 0 0 0 0 0 1 0 balances 7 5 0 0 0 4 0
 member 3 fronts 0 0 0 0 0 1 0 balances 7 5 0 0 0 4 0
 member 4 fronts 0 0 0 0 0 1 0 balances 7 5 0 0 0 4 0
 ",
+        SimEnd::Done,
     ),
 ];
 
-// What a script prints among members of this form, and how it ends.
-fn printed<I: Instance + Drop>(alloc: Global, script: &str) -> Result<(Vec<u8>, SimEnd), Fail> {
-    let mut reader = Reader::new(script.as_bytes());
+fn spelled(alloc: Global, script: &str) -> Result<Vec<u8>, AllocError> {
+    let mut bytes = Vec::new(alloc);
+    for byte in script.as_bytes() {
+        if *byte == b'*' {
+            bytes.extend_from_slice(&[b'f'; 2048])?;
+        } else {
+            bytes.push(*byte)?;
+        }
+    }
+    Ok(bytes)
+}
+
+// Whether a script prints this among members of this form, and how it ends.
+fn printed<I: Instance + Drop>(
+    alloc: Global,
+    script: &[u8],
+    text: &str,
+) -> Result<(bool, SimEnd), Fail> {
+    let mut reader = Reader::new(script);
     let mut writer: Writer<Vec<u8>> = Writer::new(Vec::new(alloc));
     let ended = run_sim::<I, PlainBook, _, _>(alloc, &mut reader, &mut writer)
         .ok()
         .ok_or("a fault")?;
-    Ok((writer.into_inner(), ended))
+    let bytes = writer.into_inner();
+    Ok((bytes.as_slice() == text.as_bytes(), ended))
 }
 
 #[test]
 fn scripts_print_the_same_in_either_form(rt: HostRuntime) -> Result<(), Fail> {
-    for (place, (script, text)) in ROWS.iter().enumerate() {
-        let (masks, masks_end) = printed::<MaskInstance>(rt.alloc(), script)?;
-        let (lists, lists_end) = printed::<PlainInstance>(rt.alloc(), script)?;
-        assert_eq!(rt;
-            (masks_end, lists_end),
-            (SimEnd::Done, SimEnd::Done),
-            "row {place}"
-        );
-        assert!(rt;
-            masks.as_slice() == text.as_bytes(),
-            "row {place}, by masks"
-        );
-        assert!(rt;
-            lists.as_slice() == text.as_bytes(),
-            "row {place}, by lists"
-        );
+    for (place, (script, text, end)) in ROWS.iter().enumerate() {
+        let script = spelled(rt.alloc(), script)?;
+        let by_masks = printed::<MaskInstance>(rt.alloc(), script.as_slice(), text)?;
+        assert_eq!(rt; by_masks, (true, *end), "row {place}, by masks");
+        let by_lists = printed::<PlainInstance>(rt.alloc(), script.as_slice(), text)?;
+        assert_eq!(rt; by_lists, (true, *end), "row {place}, by lists");
     }
     Ok(())
 }

@@ -9,6 +9,7 @@ use pay_io::{Reader, Writer};
 use pay_link::{Genesis, Keys};
 use pay_member::{Member, serve};
 use std::alloc::Global;
+use std::process::Abort;
 use std::test::Fail;
 
 /// The length of a frame with no value, and so of a WANT.
@@ -17,6 +18,10 @@ const FRAME: usize = 56;
 /// A frame of member 0, as another program makes it with its test key, twice.
 const TWICE: &str =
     "0036010100000001000000000000000000000000000000005f12d89ce8c7abea683f0a05ef33cbece12e0cde1d4330bb9b635f1c06e23b620036010100000001000000000000000000000000000000005f12d89ce8c7abea683f0a05ef33cbece12e0cde1d4330bb9b635f1c06e23b62";
+
+/// A frame under a tag of zeros, which doesn't open.
+const MISTAGGED: &str =
+    "0036010100000001000000000000000000000000000000000000000000000000000000000000000000000000000000000000000000000000";
 
 /// What member 1 asks of member 0, as another program tags it: its frame 0, and then twice its frame 1.
 const WANTS: &str =
@@ -54,20 +59,34 @@ fn served_at_last(alloc: Global, bytes: &[u8]) -> Result<(Vec<u8>, Result<(), En
     }
 }
 
-#[test]
-fn repeated_frame_cut_anywhere(rt: HostRuntime) -> Result<(), Fail> {
-    let stream = hex::decode(rt.alloc(), TWICE)?;
+/// Of so many frames each one that is whole is answered, if they open, behind the first WANT.
+fn cut_anywhere(
+    rt: &(impl Abort + AllocGlobal),
+    stream: &[u8],
+    frames: u8,
+    opens: bool,
+) -> Result<(), Fail> {
     let wants = hex::decode(rt.alloc(), WANTS)?;
-    for cut in 0..=2 * FRAME {
+    for cut in 0..=usize::from(frames) * FRAME {
         let part = stream.get(..cut).ok_or("a short stream")?;
         let (text, ended) = served_at_last(rt.alloc(), part)?;
-        let wanted = wants.get(..FRAME + cut / FRAME * FRAME);
+        let answered = if opens { cut / FRAME } else { 0 };
+        let wanted = wants.get(..FRAME + answered * FRAME);
         let end = if cut % FRAME == 0 {
             Ok(())
         } else {
             Err(EngineFault::Frame(FrameFault::Truncated))
         };
         assert!(rt; wanted == Some(text.as_slice()) && ended == end, "at {cut}");
+    }
+    Ok(())
+}
+
+#[test]
+fn frames_cut_anywhere(rt: HostRuntime) -> Result<(), Fail> {
+    for (frames, opens, stream) in [(2, true, TWICE), (1, false, MISTAGGED)] {
+        let stream = hex::decode(rt.alloc(), stream)?;
+        cut_anywhere(&rt, stream.as_slice(), frames, opens)?;
     }
     Ok(())
 }

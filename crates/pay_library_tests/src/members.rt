@@ -1,0 +1,448 @@
+//! Members of four, of whom the last lies: what comes of the frames that reach one, what it exports then, and what its
+//! history is replayed to. Frames and exports are those of a slow model in Python.
+
+use pay_audit::{Export, ReplayFault, Verdict, audit, export_text, read_export, replay};
+use pay_book::PlainBook;
+use pay_echo::MaskInstance;
+use pay_frame::{Bytes, FrameFault};
+use pay_hmac::HmacSha256;
+use pay_link::{Genesis, LinkFault, test_keys};
+use pay_member::{AskFault, Brought, HistoryEntry, Member, Outcome, PaymentState, Reply, Took};
+use std::alloc::{AllocError, Global};
+use std::process::Abort;
+use std::test::Fail;
+
+type Tried = Member<MaskInstance, PlainBook>;
+
+/// What is done to a member, or looked at, with what comes of it. Bytes are in hexadecimal.
+enum Step {
+    /// It is asked for this value, which gets this number.
+    Ask(&'static str, u32),
+    /// These bytes are brought, and the WANT is answered; none, where that is empty.
+    Bring(&'static str, Outcome, &'static str),
+    /// They are brought and taken, and this follows.
+    Take(&'static str, Took),
+    /// How far the first value of account 0 has come, and how many entries of that account are settled.
+    Show(PaymentState, u32),
+}
+
+/// The steps of a new member, and what it exports behind them.
+struct Row {
+    name: &'static str,
+    own: u16,
+    steps: &'static [Step],
+    export: &'static str,
+}
+
+const NOTHING: Took = Took {
+    echo: false,
+    ready: false,
+    deliver: false,
+    settled: 0,
+};
+
+const ECHO: Took = Took {
+    echo: true,
+    ..NOTHING
+};
+
+const READY: Took = Took {
+    ready: true,
+    ..NOTHING
+};
+
+const SETTLED_1: Took = Took {
+    deliver: true,
+    settled: 1,
+    ..NOTHING
+};
+
+const SETTLED_2: Took = Took {
+    settled: 2,
+    ..SETTLED_1
+};
+
+const READY_AND_DELIVERED: Took = Took {
+    deliver: true,
+    ..READY
+};
+
+const READY_AND_SETTLED_1: Took = Took {
+    settled: 1,
+    ..READY_AND_DELIVERED
+};
+
+const READY_AND_SETTLED_2: Took = Took {
+    settled: 2,
+    ..READY_AND_DELIVERED
+};
+
+/// Member 0 sends member 1 its first frame, thirty to account 1.
+const SENT: &str =
+    "00410101000000010000000000000000000000000000000b010001000000000000001e9888b9a5c22950ec29a47418b007b031883ea7bb3dd6a937b2ca073fb102952a";
+
+/// Member 1 asks member 0 for its frame 1.
+const NEXT: &str =
+    "003601040001000000000000000000010000000000000000abc08308999c120482dbcf8386bff193850732924e3bacd9ac0a94968a840db3";
+
+/// What is brought to one member, payments of which some wait, and values in another order.
+const ALONE: [Row; 3] = [
+    Row {
+        name: "brought bytes",
+        own: 1,
+        steps: &[
+            Step::Bring("", Outcome::Frame(FrameFault::Truncated), ""),
+            Step::Bring(
+                "0036010100000001000000000000000000000000000000000000000000000000000000000000000000000000000000000000000000000000",
+                Outcome::Link(LinkFault::BadTag),
+                "",
+            ),
+            Step::Bring(
+                "0036010100010001000000000000000000000000000000000000000000000000000000000000000000000000000000000000000000000000",
+                Outcome::Link(LinkFault::UnknownSender),
+                "",
+            ),
+            Step::Bring(
+                "0036010100000001000000000000000000040000000000000000000000000000000000000000000000000000000000000000000000000000",
+                Outcome::Link(LinkFault::UnknownOwner),
+                "",
+            ),
+            Step::Bring(SENT, Outcome::Took(ECHO), NEXT),
+            Step::Bring(SENT, Outcome::Link(LinkFault::Repeat(1)), NEXT),
+            Step::Bring(
+                "00410103000000010000000000000002000000000000000b010001000000000000001e576e418ca6107839d6962e563ac370e8cab15a855191d307cabe51a226daa645",
+                Outcome::Link(LinkFault::Gap(1)),
+                NEXT,
+            ),
+            Step::Bring(
+                "00410102000000020000000000000001000000000000000b010001000000000000001e3307818b049d40a8a1b0dbedd7c124a766e80519cd0dd30088f2c2832f6f61ed",
+                Outcome::Link(LinkFault::NotForMe),
+                "",
+            ),
+            Step::Bring(
+                "003601040000000100000000000000070000000000000000578fc38a412f4ab6ccb33ab4c477b49e380906d5fbf8bc23134812a6eca52720",
+                Outcome::Wanted { from: 0, number: 7 },
+                "",
+            ),
+        ],
+        export: r#"{"balances":[100,0,0,50],"faults":1,"front":[0,0,0,0],"lists":[[],[],[],[]],"member":1,"members":4,"opening":[100,0,0,50]}"#,
+    },
+    Row {
+        name: "four payments in one, their payer",
+        own: 0,
+        steps: &[
+            Step::Ask(
+                "02040001000000000000001e000200000000000000320001000000000000002800020000000000000014",
+                0,
+            ),
+            Step::Show(PaymentState::Asked, 0),
+            Step::Take(
+                "00600102000100000000000000000000000000000000002a02040001000000000000001e0002000000000000003200010000000000000028000200000000000000147351e9fada35d695838c534898e32f56450ff88847d3f586fbbf00cb768dd6e4",
+                NOTHING,
+            ),
+            Step::Take(
+                "00600102000200000000000000000000000000000000002a02040001000000000000001e000200000000000000320001000000000000002800020000000000000014810a7b6535a70fb31e6acc933282e2ecd89e08494308b03158a80d458ec14151",
+                READY,
+            ),
+            Step::Take(
+                "00600103000200000000000000000001000000000000002a02040001000000000000001e000200000000000000320001000000000000002800020000000000000014c54f32878e72a0ba14b091c8dce882f028fcf2d18d79ee279deb53345298afa4",
+                NOTHING,
+            ),
+            Step::Take(
+                "00600103000100000000000000000001000000000000002a02040001000000000000001e0002000000000000003200010000000000000028000200000000000000146d95bbb4f703509ab3a1e7c0ed5356e4f7092bcabde0797c2722f675f2e96581",
+                SETTLED_2,
+            ),
+            Step::Show(PaymentState::Waiting, 2),
+            Step::Take(
+                "00410101000100000000000000000002000100000000000b010000000000000000001e90ce186c87bb25e515116b1d2aa08fe9cb543cedba0097328bb06dd265efff72",
+                ECHO,
+            ),
+            Step::Take(
+                "00410102000100000000000000000003000100000000000b010000000000000000001e3129373455ac72722b089e27698ce02364172aedb50cfcccece3e0384842c1c9",
+                NOTHING,
+            ),
+            Step::Take(
+                "00410102000200000000000000000002000100000000000b010000000000000000001e32429354499497e19c44fe6a2699d9988cf197c2e84bf03fbba4e76cbc6b57e5",
+                READY,
+            ),
+            Step::Take(
+                "00410103000200000000000000000003000100000000000b010000000000000000001e9d451546d26f3e6e6204f66ae7ab657fc2116b4388a49ca9ee7c56c0c8f143bf",
+                NOTHING,
+            ),
+            Step::Take(
+                "00410103000100000000000000000004000100000000000b010000000000000000001e58ebfb2a188ebaf33bd77bf19745049e3a35eee9df28a2502927c52c3c3f74d1",
+                SETTLED_2,
+            ),
+            Step::Show(PaymentState::Waiting, 3),
+        ],
+        export: r#"{"balances":[10,40,50,50],"faults":1,"front":[3,1,0,0],"lists":[["02040001000000000000001e000200000000000000320001000000000000002800020000000000000014"],["010000000000000000001e"],[],[]],"member":0,"members":4,"opening":[100,0,0,50]}"#,
+    },
+    // READYs of two about number 1 of account 3, then about its number 0, and a SEND of another than its owner
+    Row {
+        name: "a number before the one that the list waits for",
+        own: 0,
+        steps: &[
+            Step::Take(
+                "00370103000100000000000000000000000300000001000158b9053514a6ad1cb35112cdac6bf7b8388eea6897ac725b621df822f0c381ca72",
+                NOTHING,
+            ),
+            Step::Take(
+                "003701030002000000000000000000000003000000010001581fbf0cd1fa5537b2a6040bf0bd943b77788d58887337df30b5097a51801390ba",
+                READY_AND_DELIVERED,
+            ),
+            Step::Take(
+                "0037010300010000000000000000000100030000000000015932f91cc09c111c8fbeb77b4e0d5f5ac7136367a011d35f0c717272835e715dfe",
+                NOTHING,
+            ),
+            Step::Take(
+                "003701030002000000000000000000010003000000000001592f32e57f05b2d45c72eb3f785f6db3374fa222cee48cbc70faef94bc92b9d7a9",
+                READY_AND_SETTLED_2,
+            ),
+            Step::Take(
+                "003701010001000000000000000000020003000000000001590898928d3ba9b8e8590ed402597256593dae374cf144a37e9e12e84657d48acb",
+                NOTHING,
+            ),
+            Step::Ask("41", 0),
+            Step::Show(PaymentState::Asked, 0),
+        ],
+        export: r#"{"balances":[100,0,0,50],"faults":1,"front":[0,0,0,2],"lists":[[],[],[],["59","58"]],"member":0,"members":4,"opening":[100,0,0,50]}"#,
+    },
+];
+
+/// Of the liar, who sent member 2 another value than the others, all three come to have one.
+const SPLIT: [Row; 3] = [
+    Row {
+        name: "a split vote settles, member 0",
+        own: 0,
+        steps: &[
+            Step::Take(
+                "00410101000300000000000000000000000300000000000b0100010000000000000005134af4abe81ae8aa450f3ce32628e4dce642bb5a504f6fd70454ab80418271ab",
+                ECHO,
+            ),
+            Step::Take(
+                "00410102000300000000000000000001000300000000000b01000100000000000000055497a0c5f1469c54d4a4a7d7f1dce31e97c11baca7749491757c7a684ebafee0",
+                NOTHING,
+            ),
+            Step::Take(
+                "00410102000100000000000000000000000300000000000b010001000000000000000506ad7af0bba4343092b8d7eb830340cb8f5171dc4a6b4e82d69c05a42d4a9693",
+                READY,
+            ),
+            Step::Take(
+                "00410102000200000000000000000000000300000000000b01000200000000000000053a39a52c39b91ce2c5dfeff9efc4f271d6bf804546b7975041dad3eeff84a752",
+                NOTHING,
+            ),
+            Step::Take(
+                "00410103000100000000000000000001000300000000000b01000100000000000000050e51df10a18f9f277d62f7dd6e6b93194647a74c2ef325af2e20626e336d11f6",
+                NOTHING,
+            ),
+            Step::Take(
+                "00410103000200000000000000000001000300000000000b0100010000000000000005d7a5cc03c5802dbae64f0852cb0cc35a2dc43ceef0b5c0c6297a627172b3547c",
+                SETTLED_1,
+            ),
+        ],
+        export: r#"{"balances":[100,5,0,45],"faults":1,"front":[0,0,0,1],"lists":[[],[],[],["0100010000000000000005"]],"member":0,"members":4,"opening":[100,0,0,50]}"#,
+    },
+    Row {
+        name: "a split vote settles, member 1",
+        own: 1,
+        steps: &[
+            Step::Take(
+                "00410101000300010000000000000000000300000000000b0100010000000000000005c993490d527470b75cf6b54310c1f37ba9bdaa3405b07d49d987bb2d42cef1ea",
+                ECHO,
+            ),
+            Step::Take(
+                "00410103000300010000000000000001000300000000000b01000100000000000000054525faacf420b398f812c5d0d88cec2f9c3472eae26876b46089070c53751696",
+                NOTHING,
+            ),
+            Step::Take(
+                "00410102000000010000000000000000000300000000000b0100010000000000000005b649e0c8f1a5bcc6ba59a6460c80342ec4e0b3241c9c2c1444d27591609f3989",
+                NOTHING,
+            ),
+            Step::Take(
+                "00410103000000010000000000000001000300000000000b010001000000000000000595ce2343aaf8d927b9bc59b3577046445a0a5b35a1d9416c4f708f5f5a019d6c",
+                READY_AND_SETTLED_1,
+            ),
+            Step::Take(
+                "00410102000200010000000000000000000300000000000b010002000000000000000549e7522149a37fa8fc27fc94d8ba0ea0e0ff1a081a4dbbc7fd68e5a0da8198fb",
+                NOTHING,
+            ),
+            Step::Take(
+                "00410103000200010000000000000001000300000000000b0100010000000000000005cf232f0332069c6d4d28254b16f545bf83eb3de9a4d57e375480529111286260",
+                NOTHING,
+            ),
+        ],
+        export: r#"{"balances":[100,5,0,45],"faults":1,"front":[0,0,0,1],"lists":[[],[],[],["0100010000000000000005"]],"member":1,"members":4,"opening":[100,0,0,50]}"#,
+    },
+    Row {
+        name: "a split vote settles, member 2",
+        own: 2,
+        steps: &[
+            Step::Take(
+                "00410101000300020000000000000000000300000000000b0100020000000000000005dd6bb37ab0fd3d2af818f23b58195418b8059542aec43a5eee56cdbecddb68ac",
+                ECHO,
+            ),
+            Step::Take(
+                "00410102000000020000000000000000000300000000000b0100010000000000000005ed1a401a7dde2d24e97d6aafae7a7ab57cdf58cef59e44c58999f630491d4e81",
+                NOTHING,
+            ),
+            Step::Take(
+                "00410103000000020000000000000001000300000000000b0100010000000000000005b4ef951d9f95effcd09df5ce13d718676c7583140270ee55490e54570b5d5f4a",
+                NOTHING,
+            ),
+            Step::Take(
+                "00410102000100020000000000000000000300000000000b0100010000000000000005daa7662b0e51592387c4c15c96d20d6a6bd4451ec8a7b99d5da00da7a08fae56",
+                NOTHING,
+            ),
+            Step::Take(
+                "00410103000100020000000000000001000300000000000b01000100000000000000057e8bb98a25084b97d0f415e029d7b9b7a7cc94a51139ce0b31c05785a6e124b8",
+                READY_AND_SETTLED_1,
+            ),
+        ],
+        export: r#"{"balances":[100,5,0,45],"faults":1,"front":[0,0,0,1],"lists":[[],[],[],["0100010000000000000005"]],"member":2,"members":4,"opening":[100,0,0,50]}"#,
+    },
+];
+
+fn fresh(alloc: Global, own: u16) -> Result<Tried, Fail> {
+    let genesis = Genesis::new(alloc, 4, 1, &[100, 0, 0, 50])?;
+    if own >= genesis.members() {
+        return Err(Fail::new("no such member"));
+    }
+    let keys = test_keys(alloc, &genesis, own)?;
+    Ok(Member::new(alloc, genesis, keys)?)
+}
+
+/// The number that a value gets, which is asked for once more where memory is refused.
+fn asked(alloc: Global, member: &mut Tried, value: &str) -> Result<u32, Fail> {
+    let again = Bytes::new(hex::decode(alloc, value)?);
+    match member.ask(alloc, 0, Bytes::new(hex::decode(alloc, value)?)) {
+        Err(AskFault::Memory) => Ok(member.ask(alloc, 0, again)?),
+        first => Ok(first?),
+    }
+}
+
+/// What comes of bytes, which are brought once more where memory is refused.
+fn brought(alloc: Global, member: &mut Tried, bytes: &str) -> Result<Brought, Fail> {
+    let bytes = hex::decode(alloc, bytes)?;
+    match member.bring(alloc, 0, &HmacSha256, bytes.as_slice()) {
+        Ok(brought) => Ok(brought),
+        Err(_) => Ok(member.bring(alloc, 0, &HmacSha256, bytes.as_slice())?),
+    }
+}
+
+/// Whether an answer has this WANT, or none where that is empty.
+fn is_wanted(alloc: Global, brought: &Brought, want: &str) -> Result<bool, Fail> {
+    let want = hex::decode(alloc, want)?;
+    Ok(match &brought.want {
+        Some(bytes) => bytes.as_slice() == want.as_slice(),
+        None => want.is_empty(),
+    })
+}
+
+impl Step {
+    /// Takes the step, and says whether that came of it.
+    fn is_met(&self, alloc: Global, member: &mut Tried) -> Result<bool, Fail> {
+        match self {
+            Step::Ask(value, seq) => Ok(asked(alloc, member, value)? == *seq),
+            Step::Bring(bytes, outcome, want) => {
+                let brought = brought(alloc, member, bytes)?;
+                Ok(brought.outcome == *outcome && is_wanted(alloc, &brought, want)?)
+            }
+            Step::Take(bytes, took) => {
+                Ok(brought(alloc, member, bytes)?.outcome == Outcome::Took(*took))
+            }
+            Step::Show(state, front) => Ok(
+                member.genesis().members() > 0
+                    && member.state(0, 0) == *state
+                    && member.front(0) == *front,
+            ),
+        }
+    }
+}
+
+/// The text of a member's export, which is made once more where memory is refused.
+fn text_of(alloc: Global, member: &Tried) -> Result<String, AllocError> {
+    match export_text(alloc, member) {
+        Ok(text) => Ok(text),
+        Err(_) => export_text(alloc, member),
+    }
+}
+
+/// The text of the member that a history of this one is replayed to, once more where memory is refused.
+fn replayed(
+    alloc: Global,
+    member: &Tried,
+    history: &[HistoryEntry],
+) -> Result<String, ReplayFault> {
+    let first: Result<Tried, ReplayFault> = replay(alloc, member.genesis(), member.keys(), history);
+    let last = match first {
+        Err(ReplayFault::Memory) => replay(alloc, member.genesis(), member.keys(), history),
+        first => first,
+    };
+    Ok(text_of(alloc, &last?)?)
+}
+
+/// A history that says otherwise what followed from its first entry.
+fn with_another_reply(
+    alloc: Global,
+    history: &[HistoryEntry],
+) -> Result<Vec<HistoryEntry>, AllocError> {
+    let mut changed = Vec::new(alloc);
+    for (place, entry) in history.iter().enumerate() {
+        let reply = match entry.reply {
+            Reply::Took(took) if place == 0 => Reply::Took(Took {
+                echo: !took.echo,
+                ..took
+            }),
+            Reply::Asked(_) if place == 0 => Reply::Asked(7),
+            reply => reply,
+        };
+        changed.push(HistoryEntry {
+            stamp: entry.stamp,
+            event: entry.event.copy(alloc)?,
+            reply,
+        })?;
+    }
+    Ok(changed)
+}
+
+/// The row's export, if it is the member's and that of whom its history is replayed to.
+fn export_of(rt: &(impl Abort + AllocGlobal), row: &Row, member: &Tried) -> Result<Export, Fail> {
+    let (alloc, name) = (rt.alloc(), row.name);
+    assert!(rt; text_of(alloc, member)?.as_str() == row.export, "{name}");
+    let again = replayed(alloc, member, member.history())?;
+    assert!(rt; again.as_str() == row.export, "{name}, replayed");
+    let changed = with_another_reply(alloc, member.history())?;
+    assert_eq!(rt;
+        replayed(alloc, member, changed.as_slice()).err(),
+        Some(ReplayFault::Illegal(0)),
+        "{name}"
+    );
+    Ok(read_export(alloc, row.export.as_bytes())?)
+}
+
+fn played(rt: &(impl Abort + AllocGlobal), row: &Row) -> Result<Export, Fail> {
+    let mut member = fresh(rt.alloc(), row.own)?;
+    for (place, step) in row.steps.iter().enumerate() {
+        let name = row.name;
+        assert!(rt;
+            step.is_met(rt.alloc(), &mut member)?,
+            "{name}, step {place}"
+        );
+    }
+    export_of(rt, row, &member)
+}
+
+fn verdict_of(rt: &(impl Abort + AllocGlobal), rows: &[Row]) -> Result<Verdict, Fail> {
+    let mut exports = Vec::new(rt.alloc());
+    for row in rows {
+        exports.push(played(rt, row)?)?;
+    }
+    Ok(audit(rt.alloc(), exports.as_slice())?)
+}
+
+#[test]
+fn members_answer_and_export(rt: HostRuntime) -> Result<(), Fail> {
+    assert_eq!(rt; verdict_of(&rt, &ALONE)?, Verdict::Clean);
+    assert_eq!(rt; verdict_of(&rt, &SPLIT)?, Verdict::Clean);
+    Ok(())
+}
