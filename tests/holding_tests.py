@@ -10,7 +10,6 @@ import stat
 import subprocess
 import sys
 import tempfile
-import time
 
 from frames import payment
 from nodes import Group, audited, export_text, until, write_json
@@ -88,6 +87,12 @@ def line_of(stream):
     return line
 
 
+def of_process(child, name):
+    """What the system has of a running script by this name."""
+    with open(f"/proc/{child.pid}/status", encoding="ascii") as lines:
+        return next(line.split()[1] for line in lines if line.startswith(f"{name}:"))
+
+
 @test
 def third_signal_ends_a_node():
     child = held([], 'os.write(1, b"the input has ended\\n"); time.sleep(600)')
@@ -105,8 +110,7 @@ def third_signal_ends_a_node():
 def ignored_signal_stays_ignored():
     """As a hangup is by nohup."""
     child = held([], "", preexec_fn=lambda: signal.signal(signal.SIGHUP, signal.SIG_IGN))
-    with open(f"/proc/{child.pid}/status", encoding="ascii") as lines:
-        ignored = next(int(line.split()[1], 16) for line in lines if line.startswith("SigIgn:"))
+    ignored = int(of_process(child, "SigIgn"), 16)
     same(ignored >> (signal.SIGHUP - 1) & 1, 1, "a hangup is ignored")
     child.send_signal(signal.SIGHUP)
     child.send_signal(signal.SIGTERM)
@@ -433,9 +437,11 @@ def held_by_each_script():
 def node_that_stays():
     with Group([7], running=[]) as group:
         node = group.start(0, options=("--stay",))
+        same(node.front(), [0], "a line before the end")
+        same(of_process(node.child, "Threads"), "3", "one hands lines on, and one hands on what the node says")
         node.child.stdin.close()
         node.child.stdin = None
-        time.sleep(0.5)
+        until(lambda: of_process(node.child, "Threads"), "2", of="the end of the lines is met")
         same(node.child.poll(), None, "an end without a signal")
         node.child.terminate()
         same(node.end(), (0, export_text(0, [7], [[]], [0], [7]), ""), "its end")
