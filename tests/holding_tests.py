@@ -10,7 +10,6 @@ import stat
 import subprocess
 import sys
 import tempfile
-import time
 
 from frames import payment
 from held import HOLD, INSIDE, KEEP, LINE, LOST, NEWLINE, closes, contents, end_of, full_pipe, held, line_of, started
@@ -54,6 +53,12 @@ def signals_come_to_the_script_alone():
         same(os.getpgid(node.program()) == os.getpgid(node.child.pid), False, "the same group of processes")
 
 
+def of_process(child, name):
+    """What the system has of a running script by this name."""
+    with open(f"/proc/{child.pid}/status", encoding="ascii") as lines:
+        return next(line.split()[1] for line in lines if line.startswith(f"{name}:"))
+
+
 @test
 def third_signal_ends_a_node():
     child = held([], 'os.write(1, b"the input has ended\\n"); time.sleep(600)')
@@ -71,8 +76,7 @@ def third_signal_ends_a_node():
 def ignored_signal_stays_ignored():
     """As a hangup is by nohup."""
     child = held([], "", preexec_fn=lambda: signal.signal(signal.SIGHUP, signal.SIG_IGN))
-    with open(f"/proc/{child.pid}/status", encoding="ascii") as lines:
-        ignored = next(int(line.split()[1], 16) for line in lines if line.startswith("SigIgn:"))
+    ignored = int(of_process(child, "SigIgn"), 16)
     same(ignored >> (signal.SIGHUP - 1) & 1, 1, "a hangup is ignored")
     child.send_signal(signal.SIGHUP)
     child.send_signal(signal.SIGTERM)
@@ -452,7 +456,7 @@ def export_that_is_not_whole():
             export = os.path.join(folder, "e")
             child = held(["--export", export], code)
             output, errors = child.communicate(timeout=SECONDS)
-            wanted = (status or (3 if said else 0), answers, said in errors.decode())
+            wanted = (status or (3 if said else 0), answers, True)
             same((child.returncode, output, said in errors.decode()), wanted, f"{code}: {errors!r}")
             same(os.path.exists(export), said == "", f"{code}: an export")
             if part is not None:
@@ -481,68 +485,89 @@ def lines_from_a_named_pipe():
         same((status, json.loads(output)["front"], errors), (0, [0, 0, 0, 2], ""), "its end")
 
 
-# What a stand-in makes of its input: it tells of one that it can't read, as the program does.
-ECHOES = """
+# A stand-in that tells of its words and its input, or of one that it can't read, as the program does.
+ECHO = [
+    sys.executable,
+    "-c",
+    """
 import os, sys
 try:
     sys.stdout.write(f"{sys.argv[1:]} {os.read(0, 99)}\\n")
 except OSError as error:
     sys.exit(f"payd: {error.strerror}")
-"""
+""",
+    "node",
+]
+NO_LINES = b"payd: the lines can't be read: Bad file descriptor"
 
 
-def unreadable():
-    """Standard inputs that nothing can be read from: one that is closed, one to write to, and a folder."""
-    yield closes(0)
-    with open(os.devnull, "wb") as sink:
-        yield {"stdin": sink}
-    folder = os.open(TOP, os.O_RDONLY)
-    yield {"stdin": folder}
-    os.close(folder)
+@test
+def input_that_is_closed():
+    """The program tells of it, and knows nothing of the script's own words."""
+    for options in ([], ["--export", "e"]):
+        with tempfile.TemporaryDirectory() as folder:
+            words = [HOLD, *ECHO, *options]
+            done = subprocess.run(words, cwd=folder, capture_output=True, timeout=SECONDS, **closes(0))
+            was = done.returncode, done.stdout, done.stderr
+            same(was, (1, b"", b"payd: Bad file descriptor\n"), f"{options}")
+            same(os.listdir(folder), [], "what is left")
 
 
 @test
 def input_that_cannot_be_read():
-    """The program tells of it, and knows nothing of the script's own words; with lines from a file none is needed."""
-    with tempfile.TemporaryDirectory() as folder:
+    """As nohup's, which is one to write to: the node's input ends at once with status 3, or with --stay at a signal."""
+    with open(os.devnull, "wb") as sink:
+        done = subprocess.run([HOLD, *ECHO], stdin=sink, capture_output=True, timeout=SECONDS)
+        errors = NO_LINES + f"; the node's input ends here\n{KEEP}\n".encode()
+        same((done.returncode, done.stdout, done.stderr), (3, b"['node'] b''\n", errors), "the end")
+        for how in ({"stdin": sink}, closes(0)):
+            pipe = subprocess.PIPE
+            child = subprocess.Popen([HOLD, *ECHO, "--stay"], stdout=pipe, stderr=pipe, bufsize=0, **how)
+            same(line_of(child.stderr), NO_LINES + NEWLINE, f"{how}: what is said")
+            same(child.poll(), None, f"{how}: an end without a signal")
+            child.terminate()
+            output, errors = child.communicate(timeout=SECONDS)
+            same((child.returncode, output, errors), (0, b"['node'] b''\n", b""), f"{how}: the end")
+
+
+@test
+def no_input_where_lines_come_from_a_file():
+    with tempfile.TemporaryDirectory() as folder, open(os.devnull, "wb") as sink:
         with open(os.path.join(folder, "lines"), "wb") as file:
             file.write(LINE)
-        # (on a folder Python doesn't start: the scripts that call this one see to that)
-        for place, how in enumerate(itertools.islice(unreadable(), 2)):
-            how = {**how, "cwd": folder, "capture_output": True, "timeout": SECONDS}
-            words = [sys.executable, "-c", ECHOES, "node"]
-            for options in ([], ["--export", "e"], ["--stay"]):
-                done = subprocess.run([HOLD, *words, *options], **how)
-                was = done.returncode, done.stdout, done.stderr
-                same(was, (1, b"", b"payd: Bad file descriptor\n"), f"input {place}, {options}")
-            done = subprocess.run([HOLD, *words, "--lines", "lines"], **how)
+        for how in ({"stdin": sink}, closes(0)):
+            words = [HOLD, *ECHO, "--lines", "lines"]
+            done = subprocess.run(words, cwd=folder, capture_output=True, timeout=SECONDS, **how)
             was = done.returncode, done.stdout.decode(), done.stderr
-            same(was, (0, f"['node'] {LINE}\n", b""), f"input {place}: lines from a file")
-        same(os.listdir(folder), ["lines"], "what is left")
+            same(was, (0, f"['node'] {LINE}\n", b""), f"{how}")
 
 
 @test
 def held_by_each_script():
-    """Whatever standard input is: words that are the script's own come to no program."""
+    """Where standard input is closed or a folder, too: words that are the script's own come to no program."""
+    folder = os.open(TOP, os.O_RDONLY)
     with Group([7], running=[]) as group:
         with open(os.path.join(group.place.name, "lines"), "wb") as file:
             file.write(b"FRONT\n")
-        for place, how in enumerate(unreadable()):
-            words = [PAYD, "node", "--genesis", "genesis", "--keys", "keys-0", "--ports", "ports", "--lines", "lines"]
+        for place, how in enumerate((closes(0), {"stdin": folder})):
+            words = [PAYD, "node", "--genesis", "genesis", "--keys", "keys-0", "--ports", "ports"]
             how = {**how, "cwd": group.place.name, "capture_output": True, "timeout": SECONDS}
-            done = subprocess.run([*words, "--export", f"e{place}"], **how)
-            same((done.returncode, done.stdout, done.stderr), (0, b"front 0\n", b""), f"input {place}")
-            done = subprocess.run(words[:-2], **how)
-            same((done.returncode, done.stdout, done.stderr), (3, b"", b"payd: engine 2 Read\n"), f"input {place}")
+            done = subprocess.run([*words, "--export", f"e{place}", "--lines", "lines"], **how)
+            same((done.returncode, done.stdout, done.stderr), (0, b"front 0\n", b""), f"{how}: lines from a file")
+            done = subprocess.run([*words, "--export", "other"], **how)
+            same((done.returncode, done.stdout, done.stderr), (3, b"", b"payd: engine 2 Read\n"), f"{how}")
+    os.close(folder)
 
 
 @test
 def node_that_stays():
     with Group([7], running=[]) as group:
         node = group.start(0, options=("--stay",))
+        same(node.front(), [0], "a line before the end")
+        same(of_process(node.child, "Threads"), "3", "one hands lines on, and one hands on what the node says")
         node.child.stdin.close()
         node.child.stdin = None
-        time.sleep(0.5)
+        until(lambda: of_process(node.child, "Threads"), "2", of="the end of the lines is met")
         same(node.child.poll(), None, "an end without a signal")
         node.child.terminate()
         same(node.end(), (0, export_text(0, [7], [[]], [0], [7]), ""), "its end")

@@ -61,6 +61,7 @@ class Lines:
         # why they end before their own end
         self.why = None
         self.can_be_read = True
+        self.is_at_bound = False
 
     def pieces(self):
         """Yields them in pieces, as many as the desk can read."""
@@ -70,6 +71,7 @@ class Lines:
             length += len(piece)
             # each read takes all that waits or a whole DESK_PIECE: so often at most the desk has read
             if count + length // DESK_PIECE >= MOST_READS - SPARE_READS:
+                self.is_at_bound = True
                 self.why = f"the node reads {MOST_READS:,} times at most: its input ends before that"
                 return
 
@@ -99,7 +101,7 @@ class Lines:
                 select.select([self.stream], [], [])
             except OSError as error:
                 self.can_be_read = False
-                self.why = f"the lines can't be read: {error.strerror}; the node's input ends here"
+                self.why = f"the lines can't be read: {error.strerror}"
                 return b""
 
 

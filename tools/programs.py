@@ -74,12 +74,13 @@ class Errors(io.TextIOBase):
 
 
 def keep_open():
-    """Opens each standard stream that is closed, so that no other file gets its number and what is for it."""
+    """Opens each standard stream that is closed, so that no other file gets its number and what is for it, here and in
+    what is started."""
     for stream in range(STANDARD_ERROR + 1):
         try:
             os.fstat(stream)
         except OSError:
-            os.open(os.devnull, os.O_RDWR)
+            os.set_inheritable(os.open(os.devnull, os.O_RDWR), True)
 
 
 def say(text):
