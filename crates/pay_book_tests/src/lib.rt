@@ -1,4 +1,4 @@
-//! Tests of books over lists held in memory: worked examples on the plain one, a row of debts and drawn lists on both.
+//! Tests of books over lists held in memory: worked examples, a row of debts and drawn lists, each on both.
 #![tactic(auto)]
 
 #[cfg(test)]
