@@ -1,4 +1,4 @@
-//! Two workers at one node: while one is held as its frame is opened, or before the lock, the other one's frame is taken.
+//! Two workers at one node: while one is held as its frame is opened, or then, the other one's frame is taken.
 
 use crate::rows::{FOUR, SEND, SEND_OF_2};
 use crate::told::Told;
