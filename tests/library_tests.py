@@ -40,16 +40,22 @@ def each(library, crate, name):
 
 @hostile
 def each_growth_of_a_call_refused_once(library):
-    """A call that was refused memory has the answer with ample memory when it is made again.
-
-    A node is made again too, and of a call at it that was refused no receipt is left.
-    """
-    tests = [*(("pay_library_tests", name) for name in CALLS), ("pay_node_tests", "plays::calls_leave_receipts")]
-    for crate, name in tests:
-        runs = each(library, crate, name)
+    """A call that was refused memory has the answer with ample memory when it is made again."""
+    for name in CALLS:
+        runs = each(library, "pay_library_tests", name)
         for place, (status, errors) in enumerate(runs, 1):
             is_right = (status, errors) == (0, "") or (status == 101 and SET_UP.fullmatch(errors) is not None)
             same(is_right, True, f"{name}, growth {place}: {status} {errors}")
         again = sum(status == 0 for status, _ in runs)
         same(again > 30 or not runs, True, f"{name}: {again} calls made again")
         print(f"{name}: growths refused: {len(runs)}, calls made again: {again}")
+
+
+@hostile
+def each_growth_of_a_nodes_calls_refused_once(library):
+    """So has a call at a node, of which no receipt is left where it was refused, and the node's making and closing."""
+    runs = each(library, "pay_node_tests", "plays::calls_leave_receipts")
+    for place, run in enumerate(runs, 1):
+        same(run, (0, ""), f"growth {place}")
+    same(len(runs) > 30 or not runs, True, f"{len(runs)} growths")
+    print(f"a node's calls: growths refused: {len(runs)}, each call made again")

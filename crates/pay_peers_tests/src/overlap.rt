@@ -18,24 +18,34 @@ use std::time::{Clock, Duration};
 /// How often a held worker looks whether the other one was answered, a millisecond apart.
 const TURNS: u32 = 20_000;
 
-/// The place of a frame's kind, which is 1 of a SEND.
+/// The place of a frame's kind, and those of a SEND and a WANT.
 const KIND: usize = 3;
 
+const SENT: u8 = 1;
+
+const WANTED: u8 = 4;
+
 /// Holds the worker of one stamp until the other one was answered: as its frame's tag is made, or behind that, before
-/// the lock is taken.
+/// the lock is taken. The other one asks for no frame before that.
 #[derive(Drop)]
 struct Held<'a, C> {
     clock: &'a C,
     stamp: u16,
     at_tag: bool,
+    is_held: AtomicBool,
     other_answered: AtomicBool,
     gave_up: AtomicBool,
 }
 
 impl<C: Clock> Held<'_, C> {
     fn hold(&self) {
+        self.is_held.store(true, Ordering::SeqCst);
+        self.wait_for(&self.other_answered);
+    }
+
+    fn wait_for(&self, flag: &AtomicBool) {
         for _ in 0..TURNS {
-            if self.other_answered.load(Ordering::SeqCst) {
+            if flag.load(Ordering::SeqCst) {
                 return;
             }
             thread::sleep(self.clock, Duration::from_millis(1));
@@ -62,8 +72,12 @@ impl<C: Clock> Tagger for Held<'_, C> {
     fn tag(&self, key: &[u8; 32], head: &[u8], rest: &[u8]) -> [u8; 32] {
         // the test key of members 0 and 1 ends with 1, that of members 1 and 2 with 2
         let stamp = if key[31] == 1 { 0 } else { 1 };
-        if stamp == self.stamp && self.at_tag && head.get(KIND) == Some(&1) {
+        let kind = head.get(KIND).copied();
+        if stamp == self.stamp && self.at_tag && kind == Some(SENT) {
             self.hold();
+        }
+        if stamp != self.stamp && kind == Some(WANTED) {
+            self.wait_for(&self.is_held);
         }
         HmacSha256.tag(key, head, rest)
     }
@@ -181,6 +195,7 @@ fn run<R: Threads + Wait + Clock + Sync>(
         clock: rt,
         stamp: held,
         at_tag,
+        is_held: AtomicBool::new(false),
         other_answered: AtomicBool::new(false),
         gave_up: AtomicBool::new(false),
     };
