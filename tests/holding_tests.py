@@ -10,7 +10,6 @@ import stat
 import subprocess
 import sys
 import tempfile
-import time
 
 from frames import payment
 from held import HOLD, INSIDE, KEEP, LINE, LOST, NEWLINE, closes, contents, end_of, full_pipe, held, line_of, started
@@ -536,16 +535,28 @@ def held_by_each_script():
             same((done.returncode, done.stdout, done.stderr), (3, b"", b"payd: engine 2 Read\n"), f"input {place}")
 
 
+def threads_of(child):
+    with open(f"/proc/{child.pid}/status", encoding="ascii") as lines:
+        return next(int(line.split()[1]) for line in lines if line.startswith("Threads:"))
+
+
+def files_of(child):
+    """What the script has open, as the system names it."""
+    folder = f"/proc/{child.pid}/fd"
+    return [os.readlink(os.path.join(folder, it)) for it in os.listdir(folder)]
+
+
 @test
 def node_that_stays():
-    with Group([7], running=[]) as group:
-        node = group.start(0, options=("--stay",))
-        node.child.stdin.close()
-        node.child.stdin = None
-        time.sleep(0.5)
-        same(node.child.poll(), None, "an end without a signal")
-        node.child.terminate()
-        same(node.end(), (0, export_text(0, [7], [[]], [0], [7]), ""), "its end")
+    """The script goes on to hold its input behind the end of the lines, at which the thread that reads these ends."""
+    child = held(["--stay"], 'os.write(1, b"{}\\n")')
+    with open(f"/proc/{child.pid}/task/{child.pid}/children", encoding="ascii") as numbers:
+        node = int(numbers.read())
+    child.stdin.close()
+    until(lambda: threads_of(child), 2, of="how many threads the script has")
+    same(os.readlink(f"/proc/{node}/fd/0") in files_of(child), True, "whether the node's input is held")
+    child.terminate()
+    same((end_of(child), child.stdout.read()), ((0, []), b"{}\n"), "the end")
 
 
 @test
