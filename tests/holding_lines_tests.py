@@ -82,8 +82,8 @@ def desk_does_not_come_to_its_bound():
                 same(line_of(child.stdout), NEWLINE, f"answer {place}")
             same(end_of(child), (0, [AT_ITS_BOUND]), f"{options}: the end")
             same(contents(folder, "e"), b"{8}\n", f"{options}: the export")
-    # 4 lines of 1,000 bytes are a piece, or 585 of 7, or 4,096 bytes of a longer line than the desk takes; by lengths
-    # k of the first two are k and k - 1 reads, and k of the last 2 k, so at least 8 are made by 5, 5 and 4
+    # 4 lines of 1,000 bytes are a piece, or 585 of 7, or 4,096 bytes of a longer line than the desk takes; k pieces of
+    # the first two count as k and k - 1 reads, and of the last as 2 k, so 8 are reached by 5, 5 and 4 of them
     for text, lines in ((100 * (999 * b"a" + NEWLINE), 20), (10_000 * LINE, 2925), (100_000 * b"a", 0)):
         with tempfile.TemporaryDirectory() as folder:
             write_bytes(folder, "lines", text)

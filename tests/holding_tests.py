@@ -559,18 +559,23 @@ def held_by_each_script():
     os.close(folder)
 
 
+def files_of(child):
+    """What the script has open, as the system names it."""
+    folder = f"/proc/{child.pid}/fd"
+    return [os.readlink(os.path.join(folder, it)) for it in os.listdir(folder)]
+
+
 @test
 def node_that_stays():
-    with Group([7], running=[]) as group:
-        node = group.start(0, options=("--stay",))
-        same(node.front(), [0], "a line before the end")
-        same(of_process(node.child, "Threads"), "3", "one hands lines on, and one hands on what the node says")
-        node.child.stdin.close()
-        node.child.stdin = None
-        until(lambda: of_process(node.child, "Threads"), "2", of="the end of the lines is met")
-        same(node.child.poll(), None, "an end without a signal")
-        node.child.terminate()
-        same(node.end(), (0, export_text(0, [7], [[]], [0], [7]), ""), "its end")
+    """The script goes on to hold its input behind the end of the lines, at which the thread that reads these ends."""
+    child = held(["--stay"], 'os.write(1, b"{}\\n")')
+    with open(f"/proc/{child.pid}/task/{child.pid}/children", encoding="ascii") as numbers:
+        node = int(numbers.read())
+    child.stdin.close()
+    until(lambda: of_process(child, "Threads"), "2", of="how many threads the script has")
+    same(os.readlink(f"/proc/{node}/fd/0") in files_of(child), True, "whether the node's input is held")
+    child.terminate()
+    same((end_of(child), child.stdout.read()), ((0, []), b"{}\n"), "the end")
 
 
 @test
