@@ -1,7 +1,7 @@
 //! A node that is given steps from one of its seats.
 
 use crate::step::{Group, Said, Step};
-use pay_book::PlainBook;
+use pay_book::{Line, PlainBook};
 use pay_echo::MaskInstance;
 use pay_frame::{Body, Bytes};
 use pay_hmac::HmacSha256;
@@ -51,11 +51,7 @@ fn is_met<R: Wait>(
         Step::Bring(bytes, outcome, wants) => {
             brings(rt, alloc, node, seat, bytes, outcome, wants)
         }
-        Step::Ask(value, answer) => {
-            let value = Bytes::from_slice(alloc, value).ok()?;
-            let found = node.ask(rt, alloc, seat, value);
-            (found != Err(AskFault::Memory)).then_some(found == answer)
-        }
+        Step::Ask(value, answer) => asks(rt, alloc, node, seat, value, answer),
         Step::Query(account, answer) => {
             let found = node.query(rt, alloc, seat, account);
             (found != Err(QueryFault::Memory)).then_some(found == answer)
@@ -65,13 +61,9 @@ fn is_met<R: Wait>(
             (found != Err(QueryFault::Memory)).then_some(found == Ok(state))
         }
         Step::Statement(account, lines, balance) => {
-            let found = node.statement(rt, alloc, seat, account).ok()?;
-            Some(found.lines() == lines && found.balance() == balance)
+            states(rt, alloc, node, seat, account, lines, balance)
         }
-        Step::Fronts(fronts) => {
-            let found = node.fronts(rt, alloc, seat).ok()?;
-            Some(found.as_slice() == fronts)
-        }
+        Step::Fronts(fronts) => settles(rt, alloc, node, seat, fronts),
         Step::Fetch(from, max, said) => {
             let bodies = node.fetch(rt, alloc, seat, from, max).ok()?;
             Some(are_said(bodies.as_slice(), said))
@@ -100,6 +92,43 @@ fn brings<R: Wait>(
         .bring(rt, alloc, seat, &HmacSha256, &OpenGate, bytes)
         .ok()?;
     Some(brought.outcome == outcome && brought.want.is_some() == wants)
+}
+
+fn asks<R: Wait>(
+    rt: &R,
+    alloc: Global,
+    node: &Tried,
+    seat: &mut Seat,
+    value: &[u8],
+    answer: Result<u32, AskFault>,
+) -> Option<bool> {
+    let value = Bytes::from_slice(alloc, value).ok()?;
+    let found = node.ask(rt, alloc, seat, value);
+    (found != Err(AskFault::Memory)).then_some(found == answer)
+}
+
+fn states<R: Wait>(
+    rt: &R,
+    alloc: Global,
+    node: &Tried,
+    seat: &mut Seat,
+    account: u16,
+    lines: &[Line],
+    balance: u64,
+) -> Option<bool> {
+    let found = node.statement(rt, alloc, seat, account).ok()?;
+    Some(found.lines() == lines && found.balance() == balance)
+}
+
+fn settles<R: Wait>(
+    rt: &R,
+    alloc: Global,
+    node: &Tried,
+    seat: &mut Seat,
+    fronts: &[u32],
+) -> Option<bool> {
+    let found = node.fronts(rt, alloc, seat).ok()?;
+    Some(found.as_slice() == fronts)
 }
 
 fn is_fetched(found: Option<Body>, said: Option<&Said>) -> bool {
