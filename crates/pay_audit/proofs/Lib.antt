@@ -11,7 +11,6 @@ mod ExportText
 mod Gathering
 mod Items
 mod Judging
-mod Numbers
 mod Pushing
 mod Rows
 mod Saying
