@@ -67,42 +67,39 @@ fn main(rt: HostRuntime) -> ExitCode {
         }
     }
     match job_of(rt.alloc(), given.as_slice()) {
-        Ok(job) => status_of_job(rt.alloc(), &rt, job),
-        Err(answer) => status_of_answer(&rt, &answer),
-    }
-}
-
-/// Does a job, and says how it ended.
-fn status_of_job<R>(alloc: Global, rt: &R, job: Job) -> ExitCode
-where
-    R: Files + Input + Print + Eprint + Threads + Wait + Clock + Sync,
-    R: Net<Listener = TcpListener, Stream = TcpStream>,
-{
-    match job {
-        Job::Check {
-            genesis,
-            keys,
-            jobs,
-        } => status_of(rt, check(alloc, rt, genesis, keys, jobs)),
-        Job::Desk { genesis, keys } => status_of(rt, serve_desk(alloc, rt, genesis, keys)),
-        Job::Node {
-            genesis,
-            keys,
-            ports,
-            dials,
-            ahead,
-        } => status_of(
-            rt,
-            serve_node(alloc, rt, genesis, keys, ports, dials, ahead),
+        Ok(
+            Job::Check {
+                genesis,
+                keys,
+                jobs,
+            },
+        ) => status_of(&rt, check(rt.alloc(), &rt, genesis, keys, jobs)),
+        Ok(Job::Desk { genesis, keys }) => {
+            status_of(&rt, serve_desk(rt.alloc(), &rt, genesis, keys))
+        }
+        Ok(
+            Job::Node {
+                genesis,
+                keys,
+                ports,
+                dials,
+                ahead,
+            },
+        ) => status_of(
+            &rt,
+            serve_node(rt.alloc(), &rt, genesis, keys, ports, dials, ahead),
         ),
-        Job::Audit { files, jobs } => {
-            status_of_audit(rt, audit(alloc, rt, rt, files.as_slice(), jobs))
+        Ok(Job::Audit { files, jobs }) => {
+            status_of_audit(&rt, audit(rt.alloc(), &rt, &rt, files.as_slice(), jobs))
         }
-        Job::Statement { export, account } => {
-            status_of(rt, statement(alloc, rt, export, account))
+        Ok(Job::Statement { export, account }) => {
+            status_of(&rt, statement(rt.alloc(), &rt, export, account))
         }
-        Job::Journal { export, date } => status_of(rt, journal(alloc, rt, export, date)),
-        Job::Sim => status_of_sim(rt, sim(alloc, rt)),
+        Ok(Job::Journal { export, date }) => {
+            status_of(&rt, journal(rt.alloc(), &rt, export, date))
+        }
+        Ok(Job::Sim) => status_of_sim(&rt, sim(rt.alloc(), &rt)),
+        Err(answer) => status_of_answer(&rt, &answer),
     }
 }
 
