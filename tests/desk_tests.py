@@ -239,19 +239,20 @@ def what_make_keys_refuses():
     """Each fault is named, and what stands isn't written over."""
     make = os.path.join(TOP, "examples", "make-keys")
 
-    def refuses(fault, *words):
+    def refuses(status, fault, *words):
         done = subprocess.run([make, *words], capture_output=True, text=True, timeout=SECONDS)
-        same((done.returncode, done.stdout, done.stderr.startswith(fault)), (1, "", True), f"{words}: {done.stderr}")
+        was = done.returncode, done.stdout, done.stderr.startswith(fault)
+        same(was, (status, "", True), f"{words}: {done.stderr}")
 
     with tempfile.TemporaryDirectory() as folder:
         subprocess.run([make, "128", folder], check=True, timeout=SECONDS)
         same(sorted(os.listdir(folder)), sorted(f"keys-{own}.json" for own in range(128)), "the files of 128")
         for words in (["0", folder], ["129", folder], ["four", folder], ["-1", folder], ["4"], [], ["4", folder, "x"]):
-            refuses("Makes files of keys", *words)
+            refuses(2, "Makes files of keys", *words)
         first, third = (os.path.join(folder, f"keys-{own}.json") for own in (0, 2))
         for own in (0, 1):
             os.unlink(os.path.join(folder, f"keys-{own}.json"))
-        refuses(f"examples/make-keys: {third} is there already\n", "4", folder)
+        refuses(1, f"examples/make-keys: {third} is there already\n", "4", folder)
         same(os.path.exists(first), False, "a file beside one that was there")
         below = os.path.join(third, "keys")
-        refuses(f"examples/make-keys: {below}: Not a directory\n", "4", below)
+        refuses(1, f"examples/make-keys: {below}: Not a directory\n", "4", below)
