@@ -123,7 +123,7 @@ def lines_in_pieces():
 
 @test
 def lines_that_cannot_be_read():
-    """A folder is refused; where a read fails later the node's input ends, though it was to stay."""
+    """A folder is refused; where a read fails later the node's input ends, unless it is to stay."""
     with tempfile.TemporaryDirectory() as folder:
         words = [HOLD, "--export", os.path.join(folder, "e"), "--lines", folder, "/bin/echo"]
         done = subprocess.run(words, stdin=subprocess.DEVNULL, capture_output=True, timeout=SECONDS)
@@ -133,11 +133,16 @@ def lines_that_cannot_be_read():
         same(was, (2, b"", said, []), "a folder")
         # (there is nothing at its beginning)
         options = ["--lines", "/proc/self/mem"]
-        said = f"payd: the lines can't be read: {os.strerror(errno.EIO)}; the node's input ends here"
-        for more, output in ((["--export", os.path.join(folder, "e"), "--stay"], b""), ([], b"{}\n")):
+        why = f"payd: the lines can't be read: {os.strerror(errno.EIO)}"
+        said = [f"{why}; the node's input ends here", KEEP]
+        for more, output in ((["--export", os.path.join(folder, "e")], b""), ([], b"{}\n")):
             child = started([*options, *more], 'os.write(1, b"{}\\n")', stdin=None)
-            same((end_of(child), child.stdout.read()), ((3, [said, KEEP]), output), f"{more}: the end")
+            same((end_of(child), child.stdout.read()), ((3, said), output), f"{more}: the end")
         same(contents(folder, "e"), b"{}\n", "the export")
+        child = started([*options, "--stay"], 'os.write(1, b"{}\\n")', stdin=None)
+        same(line_of(child.stderr), f"{why}\n".encode(), "what is said of it")
+        child.terminate()
+        same((end_of(child), child.stdout.read()), ((0, []), b"{}\n"), "the end of one that stays")
 
 
 @test
