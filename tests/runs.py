@@ -50,7 +50,8 @@ def run_to_nobody(words):
 def heed_signals():
     """Has children take each signal as usual. Run in the background or by nohup this process ignores some, and its
     children would too, but for those that it takes itself."""
-    for number in (signal.SIGINT, signal.SIGHUP):
+    # (two of them Python ignores itself, and gives its children as usual)
+    for number in signal.valid_signals() - {signal.SIGPIPE, signal.SIGXFSZ}:
         if signal.getsignal(number) is signal.SIG_IGN:
             signal.signal(number, lambda *_: None)
 
