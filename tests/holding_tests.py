@@ -75,13 +75,13 @@ def third_signal_ends_a_node():
 @test
 def ignored_signal_stays_ignored():
     """As a hangup is by nohup."""
-    child = held([], "", preexec_fn=lambda: signal.signal(signal.SIGHUP, signal.SIG_IGN))
+    child = held([], 'os.write(1, b"{}\\n")', preexec_fn=lambda: signal.signal(signal.SIGHUP, signal.SIG_IGN))
     ignored = int(of_process(child, "SigIgn"), 16)
     same(ignored >> (signal.SIGHUP - 1) & 1, 1, "a hangup is ignored")
     child.send_signal(signal.SIGHUP)
     child.send_signal(signal.SIGTERM)
     output, errors = child.communicate(timeout=SECONDS)
-    same((child.returncode, output, errors), (0, b"", b""), "SIGTERM is the first that counts")
+    same((child.returncode, output, errors), (0, b"{}\n", b""), "SIGTERM is the first that counts")
 
 
 # Makes a signal come while the script starts the node.
@@ -212,7 +212,6 @@ FAULTS = (
     ("payd: dials x: neither a count from 1 on nor always", 2, "nothing was started: payd node --help"),
     ("error: unexpected argument\n\nFor more information, try '--help'.", 2, "nothing was started: payd node --help"),
     ("payd: port 11000", 3, "nothing was started: end what has this port"),
-    ("payd: peer 2 met\npayd: close 0 Memory", 3, "the export is whole: keep it"),
     ("payd: close 1 Mismatch", 1, "keep all files, trust no answer"),
     ("payd: engine 0 Memory", 3, "this member's history is lost: never start it again"),
     ("payd: engine 2 Read", 3, "this member's history is lost: never start it again"),
@@ -234,9 +233,9 @@ def each_fault_has_advice():
 @test
 def no_advice_without_a_fault():
     for said in (b"", b"payd: peer 1 met\n"):
-        child = held([], f"os.write(2, {said!r})")
+        child = held([], f'os.write(2, {said!r}); os.write(1, b"{{}}\\n")')
         output, errors = child.communicate(timeout=SECONDS)
-        same((child.returncode, output, errors), (0, b"", said), f"behind {said!r}")
+        same((child.returncode, output, errors), (0, b"{}\n", said), f"behind {said!r}")
 
 
 @test
@@ -249,20 +248,23 @@ def killed_node_has_advice():
 
 
 @test
-def advice_goes_by_the_file_of_the_export():
+def advice_goes_by_the_export():
+    """By what there is of it in its file, or on standard output."""
+    refused = 'os.write(2, b"payd: close 0 Memory\\n"); sys.exit(3)'
     rows = (
-        ('os.write(1, b"{}\\n"); os.kill(os.getpid(), 9)', 137, "the export is whole: keep it\n"),
-        ('os.write(1, b"{}\\n"); os.write(2, b"payd: close 0 Memory\\n"); sys.exit(3)', 3, "the export is whole"),
-        ('os.write(1, b"{}"); os.kill(os.getpid(), 9)', 137, "this member's history is lost"),
-        ('os.write(2, b"payd: close 0 Memory\\n"); sys.exit(3)', 3, "this member's history is lost"),
-        ("", 3, "this member's history is lost"),
+        ('os.write(1, b"{}\\n"); os.kill(os.getpid(), 9)', 137, b"{}\n", "the export is whole: keep it\n"),
+        (f'os.write(1, b"{{}}\\n"); {refused}', 3, b"{}\n", "the export is whole: keep it; only the answers"),
+        ('os.write(1, b"{}"); os.kill(os.getpid(), 9)', 137, b"{}", "this member's history is lost"),
+        (refused, 3, b"", "this member's history is lost"),
+        ("", 3, b"", "this member's history is lost"),
     )
-    for code, status, advice in rows:
+    for code, status, export, advice in rows:
         with tempfile.TemporaryDirectory() as folder:
-            child = held(["--export", os.path.join(folder, "e")], code)
-            output, errors = child.communicate(timeout=SECONDS)
-            told = f"payd: to do: {advice}" in errors.decode()
-            same((child.returncode, output, told), (status, b"", True), f"{code}: {errors!r}")
+            for words, wanted in ((["--export", os.path.join(folder, "e")], b""), ([], export)):
+                child = held(words, code)
+                output, errors = child.communicate(timeout=SECONDS)
+                told = f"payd: to do: {advice}" in errors.decode()
+                same((child.returncode, output, told), (status, wanted, True), f"{code}, {words}: {errors!r}")
 
 
 @test
@@ -354,21 +356,35 @@ def not_taken(why):
     return f"payd: the answers can't be written: {os.strerror(why)}; the node's input ends here"
 
 
-@test
-def nobody_takes_the_answers():
-    """The reader goes away behind the first answer, there is none, or no room: the node's input ends at once, and what
-    it still answers is read, up to its export."""
-    code = 'os.write(1, 30000 * b"front 0\\n" + b"{}\\n")'
+def unread_ends(words):
+    """The ends of nodes that have more to answer, and then their export, when the reader goes away behind the first
+    answer, there is none, or no room, each behind why. Their input ends at once."""
     with open("/dev/full", "wb") as full:
         for why, how in ((errno.EPIPE, {}), (errno.EBADF, closes(1)), (errno.ENOSPC, {"stdout": full})):
-            with tempfile.TemporaryDirectory() as folder:
-                child = started(["--stay", "--export", os.path.join(folder, "e")], code, ANSWERS, **how)
-                if not how:
-                    same(line_of(child.stdout), LINE, "the first answer")
-                    child.stdout.close()
-                    child.stdin.write(LINE)
-                same(end_of(child), (3, [not_taken(why), KEEP]), f"{how}: the end")
-                same((contents(folder, "e"), os.listdir(folder)), (b"{}\n", ["e"]), f"{how}: the export")
+            child = started(words, 'os.write(1, 30000 * b"front 0\\n" + b"{}\\n")', ANSWERS, **how)
+            if not how:
+                same(line_of(child.stdout), LINE, "the first answer")
+                child.stdout.close()
+                child.stdin.write(LINE)
+            yield why, end_of(child)
+
+
+@test
+def nobody_takes_the_answers():
+    """What the node still answers is read, up to its export."""
+    with tempfile.TemporaryDirectory() as folder:
+        export = os.path.join(folder, "e")
+        for why, end in unread_ends(["--stay", "--export", export]):
+            same(end, (3, [not_taken(why), KEEP]), f"{why}: the end")
+            same((contents(export), os.listdir(folder)), (b"{}\n", ["e"]), f"{why}: the export")
+            os.unlink(export)
+
+
+@test
+def nobody_takes_the_answers_nor_the_export():
+    """Which then is on standard error."""
+    for why, end in unread_ends(["--stay"]):
+        same(end, (3, [not_taken(why), "{}", *elsewhere("standard output", why, "standard error")]), f"{why}: the end")
 
 
 def limits_files(length):
@@ -418,6 +434,35 @@ def stdout_of(how, length):
     """The same with a limit of the length of files, whatever else is done before a program is run."""
     first, limit = how.get("preexec_fn", lambda: None), limits_files(length)["preexec_fn"]
     return {**how, "preexec_fn": lambda: (first(), limit())}
+
+
+# Has the script make no file that has no name.
+NO_FILE = INSIDE.format("""
+import tempfile
+def none():
+    raise OSError(28, "no space")
+tempfile.TemporaryFile = none
+""")
+
+
+@test
+def export_without_a_file():
+    """It is on standard output once it is there, also where what keeps it until then takes a part of it, or nothing."""
+    for holder, how in (([], {}), ([], limits_files(TAKEN)), ([sys.executable, "-c", NO_FILE], {})):
+        child = started([], WRITES_LONG, holder=[*holder, HOLD], **how)
+        output, errors = child.communicate(timeout=SECONDS)
+        same((child.returncode, output, errors), (0, LINE + LONG, b""), f"{holder} {how}: the end")
+
+
+@test
+def export_that_standard_output_does_not_take():
+    """It is on standard error, all of it."""
+    with tempfile.TemporaryDirectory() as folder, open(os.path.join(folder, "answers"), "wb") as answers:
+        child = started([], WRITES_LONG, **{**limits_files(TAKEN), "stdout": answers})
+        _, errors = child.communicate(timeout=SECONDS)
+        said = [LONG.decode().strip(), *elsewhere("standard output", errno.EFBIG, "standard error")]
+        same((child.returncode, errors.decode().splitlines()), (3, said), "the end")
+        same((os.listdir(folder), contents(folder, "answers")), (["answers"], (LINE + LONG)[:TAKEN]), "what is left")
 
 
 @test
@@ -485,14 +530,15 @@ def lines_from_a_named_pipe():
         same((status, json.loads(output)["front"], errors), (0, [0, 0, 0, 2], ""), "its end")
 
 
-# A stand-in that tells of its words and its input, or of one that it can't read, as the program does.
+# A stand-in whose export tells of its words and its input, or that says of one that it can't read it, as the program
+# does.
 ECHO = [
     sys.executable,
     "-c",
     """
 import os, sys
 try:
-    sys.stdout.write(f"{sys.argv[1:]} {os.read(0, 99)}\\n")
+    sys.stdout.write(f"{{{sys.argv[1:]} {os.read(0, 99)}}}\\n")
 except OSError as error:
     sys.exit(f"payd: {error.strerror}")
 """,
@@ -519,7 +565,7 @@ def input_that_cannot_be_read():
     with open(os.devnull, "wb") as sink:
         done = subprocess.run([HOLD, *ECHO], stdin=sink, capture_output=True, timeout=SECONDS)
         errors = NO_LINES + f"; the node's input ends here\n{KEEP}\n".encode()
-        same((done.returncode, done.stdout, done.stderr), (3, b"['node'] b''\n", errors), "the end")
+        same((done.returncode, done.stdout, done.stderr), (3, b"{['node'] b''}\n", errors), "the end")
         for how in ({"stdin": sink}, closes(0)):
             pipe = subprocess.PIPE
             child = subprocess.Popen([HOLD, *ECHO, "--stay"], stdout=pipe, stderr=pipe, bufsize=0, **how)
@@ -527,7 +573,7 @@ def input_that_cannot_be_read():
             same(child.poll(), None, f"{how}: an end without a signal")
             child.terminate()
             output, errors = child.communicate(timeout=SECONDS)
-            same((child.returncode, output, errors), (0, b"['node'] b''\n", b""), f"{how}: the end")
+            same((child.returncode, output, errors), (0, b"{['node'] b''}\n", b""), f"{how}: the end")
 
 
 @test
@@ -539,7 +585,7 @@ def no_input_where_lines_come_from_a_file():
             words = [HOLD, *ECHO, "--lines", "lines"]
             done = subprocess.run(words, cwd=folder, capture_output=True, timeout=SECONDS, **how)
             was = done.returncode, done.stdout.decode(), done.stderr
-            same(was, (0, f"['node'] {LINE}\n", b""), f"{how}")
+            same(was, (0, f"{{['node'] {LINE}}}\n", b""), f"{how}")
 
 
 @test
@@ -586,7 +632,7 @@ def keys_that_others_may_read():
         status, output, errors = group.start(0).stop()
         said = "payd: others may read the keys in keys-0: chmod 600 keys-0\n"
         same((status, output, errors), (0, export_text(0, [7], [[]], [0], [7]), said), "keys with mode 640")
-        words = [HOLD, "/bin/true", "--keys=keys-0"]
+        words = [HOLD, "/bin/echo", "{}", "--keys=keys-0"]
         done = subprocess.run(words, input=b"", capture_output=True, cwd=group.place.name, timeout=SECONDS)
         same((done.returncode, done.stderr.decode()), (0, said), "the same named in one word")
 

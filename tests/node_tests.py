@@ -1,5 +1,6 @@
 """Black-box tests of running nodes: real processes, and sockets of the loopback."""
 
+import errno
 import json
 import os
 import random
@@ -10,6 +11,7 @@ import tempfile
 
 import desks
 from frames import ECHO, READY, SEND, WANT, frame, payment
+from memory_tests import program
 from model import Member
 from nodes import PATIENCE, Group, advised, audited, compact, export_text, free_ports, until, write_json
 from peers import Cuts, Hostile, Liar, Strangers, connected, received
@@ -186,14 +188,21 @@ def end_of_input_while_others_are_silent():
 
 @test
 def devices_of_a_node():
+    """On a disk that is full the program loses its export, and a held one has it on standard error."""
+    why = os.strerror(errno.ENOSPC)
+    export = export_text(0, OPENING, FRESH, [0, 0, 0, 0], OPENING)
+    export += f"payd: the export can't be written to standard output: {why}; it is on standard error\n"
+    unread = f"payd: the answers can't be written: {why}; the node's input ends here\n"
     with Group(OPENING, running=[]) as group:
         words = [PAYD, "node", "--genesis", "genesis", "--keys", "keys-0", "--ports", "ports"]
         given = {"cwd": group.place.name, "stderr": subprocess.PIPE, "timeout": SECONDS}
-        for text in (b"FRONT\n", b""):
+        for text, said in ((b"FRONT\n", unread + export), (b"", export)):
             with open("/dev/full", "wb") as sink:
-                done = subprocess.run(words, input=text, stdout=sink, **given)
-            was = advised((done.returncode, "", done.stderr.decode()))
-            same(was, (3, "", "payd: engine 3 Write\n"), f"a full disk, {text}")
+                alone = subprocess.run([program(), *words[1:]], input=text, stdout=sink, **given)
+                held = subprocess.run(words, input=text, stdout=sink, **given)
+            same((alone.returncode, alone.stderr), (3, b"payd: engine 3 Write\n"), f"a full disk, {text}")
+            was = advised((held.returncode, "", held.stderr.decode()))
+            same(was, (3, "", said), f"a full disk and a held node, {text}")
         folder = os.open(TOP, os.O_RDONLY)
         done = subprocess.run(words, stdin=folder, stdout=subprocess.PIPE, **given)
         os.close(folder)

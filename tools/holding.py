@@ -5,6 +5,7 @@ import errno
 import os
 import select
 import stat
+import tempfile
 
 STANDARD_INPUT, STANDARD_OUTPUT, STANDARD_ERROR = range(3)
 # As the program says that its words or a file can't be read, that it couldn't do its work.
@@ -118,28 +119,30 @@ def opened(name):
 
 
 class Export:
-    """The file that an export goes to: whole, or not there. Where that fails the export goes to a standard stream."""
+    """An export that goes to standard output, or to standard error if need be, once all of it has come.
+
+    Until then it is in a file, which here has no name, and in memory what that doesn't take."""
 
     STREAMS = ((STANDARD_OUTPUT, "standard output"), (STANDARD_ERROR, "standard error"))
+    name = STREAMS[0][1]
 
-    def __init__(self, name):
-        self.name = name
-        self.part = f"{name}.part"
-        # why the file can't be written, and what came from then on
+    def __init__(self):
+        # why the file takes no more, and what came from then on
         self.fault = None
         self.rest = []
         self.is_begun = False
         self.is_whole = False
-        if os.path.lexists(name):
-            raise Failure(f"{name} is there already: an export is never written over another")
+        # why the answers couldn't be written
+        self.output_fault = None
         try:
-            # made at once: what can't be written is said before a payment is made
-            self.file = os.open(self.part, os.O_RDWR | os.O_CREAT | os.O_EXCL, 0o600)
-        except FileExistsError as error:
-            why = "a node that runs writes it, or one that was killed left it"
-            raise Failure(f"{self.part} is there already: {why}", "where no node writes it, move it away") from error
+            self.file = self.made()
         except OSError as error:
-            raise Failure(f"file {self.part}: {error.strerror}") from error
+            self.file, self.fault = None, error.strerror or str(error)
+
+    def made(self):
+        # (it is there as long as this object of Python's)
+        self.unnamed = tempfile.TemporaryFile()
+        return self.unnamed.fileno()
 
     def write(self, piece):
         self.is_begun = True
@@ -154,10 +157,75 @@ class Export:
 
     def close(self):
         """Where the export is whole: in its file, which is named, on a standard stream, or nowhere, which is told."""
+        self.fault = None
+        return self.bring_out("") if self.is_begun else None
+
+    def bring_out(self, else_it):
+        """Writes the export to the first standard stream that takes it; where none does, this is added to why."""
+        for stream, place in self.STREAMS:
+            why = self.why_not(stream)
+            if why is None:
+                self.tell(place)
+                return place if self.is_whole else None
+            self.fault = self.fault or why
+        say(f"the export can't be written to {self.name}: {self.fault}{else_it}")
+        return None
+
+    def tell(self, place):
+        """Says what is on this standard stream, unless it is the whole export and was to go there."""
+        if self.fault is not None:
+            what = "it is" if self.is_whole else "what there is of it is"
+            say(f"the export can't be written to {self.name}: {self.fault}; {what} on {place}")
+        elif not self.is_whole:
+            say(f"the export isn't whole; what there is of it is on {place}")
+
+    def why_not(self, stream):
+        """Why a standard stream doesn't take all that there is of the export, if so."""
+        if stream == STANDARD_OUTPUT and self.output_fault is not None:
+            return self.output_fault
+        try:
+            return next((why for piece in self.pieces() if (why := put(stream, piece)) is not None), None)
+        except OSError as error:
+            # what was written to the file can't be read
+            return error.strerror
+
+    def pieces(self):
+        """What there is of the export: what the file took, and the rest."""
+        place = 0
+        while self.file is not None and (piece := os.pread(self.file, PIECE, place)) != b"":
+            place += len(piece)
+            yield piece
+        yield from self.rest
+
+    def drop(self):
+        """Leaves nothing behind, where nothing was written."""
+
+
+class ExportFile(Export):
+    """An export that goes to a file: whole, or not there. Where that fails it goes to a standard stream."""
+
+    def __init__(self, name):
+        self.name = name
+        self.part = f"{name}.part"
+        if os.path.lexists(name):
+            raise Failure(f"{name} is there already: an export is never written over another")
+        super().__init__()
+        if self.fault is not None:
+            raise Failure(f"file {self.part}: {self.fault}")
+
+    def made(self):
+        # at once: what can't be written is said before a payment is made
+        try:
+            return os.open(self.part, os.O_RDWR | os.O_CREAT | os.O_EXCL, 0o600)
+        except FileExistsError as error:
+            why = "a node that runs writes it, or one that was killed left it"
+            raise Failure(f"{self.part} is there already: {why}", "where no node writes it, move it away") from error
+
+    def close(self):
         if self.is_whole and self.fault is None:
             self.keep()
         if self.fault is not None:
-            return self.bring_out()
+            return self.bring_out(f"; what there is of it is in {self.part}")
         if self.is_whole:
             return self.name
         if self.is_begun:
@@ -176,33 +244,7 @@ class Export:
         except OSError as error:
             self.fault = error.strerror
 
-    def bring_out(self):
-        """Writes the export to the first standard stream that takes it, as the file doesn't."""
-        what = "it is" if self.is_whole else "what there is of it is"
-        for stream, place in self.STREAMS:
-            if self.is_taken_by(stream):
-                say(f"the export can't be written to {self.name}: {self.fault}; {what} on {place}")
-                return place if self.is_whole else None
-        say(f"the export can't be written to {self.name}: {self.fault}; what there is of it is in {self.part}")
-        return None
-
-    def is_taken_by(self, stream):
-        try:
-            return all(put(stream, piece) is None for piece in self.pieces())
-        except OSError:
-            # what was written to the file can't be read
-            return False
-
-    def pieces(self):
-        """What there is of the export: what the file took, and the rest."""
-        place = 0
-        while (piece := os.pread(self.file, PIECE, place)) != b"":
-            place += len(piece)
-            yield piece
-        yield from self.rest
-
     def drop(self):
-        """Leaves nothing behind, where nothing was written."""
         with contextlib.suppress(OSError):
             os.unlink(self.part)
 
