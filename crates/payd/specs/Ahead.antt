@@ -18,24 +18,7 @@ abbrev pub ahead_in : Option (List ℕ) → Option ℕ
 ahead_in None = Some MOST_AHEAD
 ahead_in (Some word) = ahead_by word
 
--- the program stops for this word
-abbrev pub Names : List ℕ → Stop → Type 0
-Names word (stop.Ahead named) = named.now ≡ word
-Names word (stop.Dials named) = ⊥
-Names word (stop.Jobs named) = ⊥
-Names word (stop.Date named) = ⊥
-Names word stop.Clock = ⊥
-Names word (stop.File name) = ⊥
-Names word (stop.Engine fault) = ⊥
-Names word (stop.Genesis fault) = ⊥
-Names word (stop.Keys fault) = ⊥
-Names word (stop.Ports fault) = ⊥
-Names word (stop.Export fault) = ⊥
-Names word (stop.Close fault) = ⊥
-Names word (stop.Port port) = ⊥
-Names word (stop.Account account) = ⊥
-
 -- the program stops because a word says no such number
 abbrev pub IsAheadStop : Option (List ℕ) → Stop → Type 0
-IsAheadStop None s = ⊥
-IsAheadStop (Some word) s = (ahead_by word ≡ None) × Names word s
+IsAheadStop word (stop.Ahead named) = (word ≡ Some named.now) × (ahead_by named.now ≡ None)
+IsAheadStop word _ = ⊥

@@ -16,14 +16,4 @@ abbrev pub IsDateStop : Option (List ℕ) → Stop → Type 0
 IsDateStop word (stop.Date named) = (word ≡ Some named.now) × ((date : Date) → ¬ (IsDateWord named.now date))
 IsDateStop word stop.Clock = word ≡ None
 IsDateStop word (stop.Engine fault) = fault ≡ engine.Memory
-IsDateStop word (stop.Genesis fault) = ⊥
-IsDateStop word (stop.Keys fault) = ⊥
-IsDateStop word (stop.Ports fault) = ⊥
-IsDateStop word (stop.Export fault) = ⊥
-IsDateStop word (stop.Close fault) = ⊥
-IsDateStop word (stop.Port port) = ⊥
-IsDateStop word (stop.File name) = ⊥
-IsDateStop word (stop.Dials named) = ⊥
-IsDateStop word (stop.Ahead named) = ⊥
-IsDateStop word (stop.Jobs named) = ⊥
-IsDateStop word (stop.Account account) = ⊥
+IsDateStop word _ = ⊥

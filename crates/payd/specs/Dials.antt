@@ -20,24 +20,7 @@ abbrev pub dials_in : Option (List ℕ) → Option Dials
 dials_in None = Some Usual
 dials_in (Some word) = dials_by word
 
--- the program stops for this word
-abbrev pub Names : List ℕ → Stop → Type 0
-Names word (stop.Dials named) = named.now ≡ word
-Names word (stop.File name) = ⊥
-Names word (stop.Engine fault) = ⊥
-Names word (stop.Genesis fault) = ⊥
-Names word (stop.Keys fault) = ⊥
-Names word (stop.Ports fault) = ⊥
-Names word (stop.Export fault) = ⊥
-Names word (stop.Close fault) = ⊥
-Names word (stop.Port port) = ⊥
-Names word (stop.Ahead named) = ⊥
-Names word (stop.Jobs named) = ⊥
-Names word (stop.Account account) = ⊥
-Names word (stop.Date named) = ⊥
-Names word stop.Clock = ⊥
-
 -- the program stops because a word asks for nothing
 abbrev pub IsDialsStop : Option (List ℕ) → Stop → Type 0
-IsDialsStop None s = ⊥
-IsDialsStop (Some word) s = (dials_by word ≡ None) × Names word s
+IsDialsStop word (stop.Dials named) = (word ≡ Some named.now) × (dials_by named.now ≡ None)
+IsDialsStop word _ = ⊥

@@ -15,7 +15,7 @@ use Rattle.pay_link.specs.declared.keys_fault.KeysFault.TheVariants as keys
 use Rattle.pay_net.specs.Ports.{HasPorts, IsPortsFault}
 use Rattle.pay_net.specs.declared.ports_fault.PortsFault.{PortsFault}
 use Rattle.payd.specs.declared.stop.Stop.{Stop}
-use Rattle.payd.specs.declared.stop.Stop.TheVariants.{Engine, Genesis, Keys, Ports, Export, Close, Port, File, Dials, Ahead, Jobs, Account, Date, Clock}
+use Rattle.payd.specs.declared.stop.Stop.TheVariants.{Engine, Genesis, Keys, Ports, Export, File}
 
 -- bytes that the file may hold are judged so
 abbrev pub IsJudged : {X : Type 0} → (List ℕ → List ℕ → Type 0) → List ℕ → (List ℕ → X) → X → Type 0
@@ -25,18 +25,7 @@ IsJudged holds name judge verdict = (bytes : List ℕ) × holds name bytes × (j
 abbrev pub IsUnread : List ℕ → Stop → Type 0
 IsUnread name (File named) = named.now ≡ name
 IsUnread name (Engine fault) = fault ≡ engine.Memory
-IsUnread name (Genesis fault) = ⊥
-IsUnread name (Keys fault) = ⊥
-IsUnread name (Ports fault) = ⊥
-IsUnread name (Export fault) = ⊥
-IsUnread name (Close fault) = ⊥
-IsUnread name (Port port) = ⊥
-IsUnread name (Dials word) = ⊥
-IsUnread name (Ahead word) = ⊥
-IsUnread name (Jobs word) = ⊥
-IsUnread name (Account word) = ⊥
-IsUnread name (Date word) = ⊥
-IsUnread name Clock = ⊥
+IsUnread name _ = ⊥
 
 -- why a file isn't what it should be: its bytes can't be had, memory was refused, or they have this fault
 abbrev pub IsStop : {X E : Type 0} → (List ℕ → List ℕ → Type 0) → List ℕ → (List ℕ → Result X E) → (E → Stop) → E → Stop → Type 0

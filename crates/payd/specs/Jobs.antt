@@ -13,24 +13,7 @@ within count = if nat_lt 0 count && nat_le count MOST_JOBS then Some count else 
 abbrev pub jobs_by : List ℕ → Option ℕ
 jobs_by word = option_and_then within (number_of word)
 
--- the program stops for this word
-abbrev pub Names : List ℕ → Stop → Type 0
-Names word (stop.Jobs named) = named.now ≡ word
-Names word (stop.Dials named) = ⊥
-Names word (stop.Ahead named) = ⊥
-Names word (stop.Date named) = ⊥
-Names word stop.Clock = ⊥
-Names word (stop.File name) = ⊥
-Names word (stop.Engine fault) = ⊥
-Names word (stop.Genesis fault) = ⊥
-Names word (stop.Keys fault) = ⊥
-Names word (stop.Ports fault) = ⊥
-Names word (stop.Export fault) = ⊥
-Names word (stop.Close fault) = ⊥
-Names word (stop.Port port) = ⊥
-Names word (stop.Account account) = ⊥
-
 -- the program stops because a word says no such count
 abbrev pub IsJobsStop : Option (List ℕ) → Stop → Type 0
-IsJobsStop None s = ⊥
-IsJobsStop (Some word) s = (jobs_by word ≡ None) × Names word s
+IsJobsStop word (stop.Jobs named) = (word ≡ Some named.now) × (jobs_by named.now ≡ None)
+IsJobsStop word _ = ⊥

@@ -4,7 +4,7 @@ use Rattle.pay_audit.specs.Export.{ExportFields}
 use Rattle.pay_engine.specs.declared.engine_fault.EngineFault.TheVariants as engine
 use Rattle.pay_journal.specs.Statements.{account_named, statement_in, statements_in}
 use Rattle.payd.specs.declared.stop.Stop.{Stop}
-use Rattle.payd.specs.declared.stop.Stop.TheVariants.{Engine, Genesis, Keys, Ports, Export, Close, Port, File, Dials, Ahead, Jobs, Account, Date, Clock}
+use Rattle.payd.specs.declared.stop.Stop.TheVariants.{Engine, Account}
 
 -- the statement of the account that a word names, if it names one, or without a word those of all
 abbrev pub statement_said : ExportFields → Option (List ℕ) → Option (List ℕ)
@@ -15,15 +15,4 @@ statement_said e (Some word) = option_map (statement_in e) (account_named e word
 abbrev pub IsStatementStop : ExportFields → Option (List ℕ) → Stop → Type 0
 IsStatementStop e account (Account word) = (account ≡ Some word.now) × (statement_said e account ≡ None)
 IsStatementStop e account (Engine fault) = fault ≡ engine.Memory
-IsStatementStop e account (Genesis fault) = ⊥
-IsStatementStop e account (Keys fault) = ⊥
-IsStatementStop e account (Ports fault) = ⊥
-IsStatementStop e account (Export fault) = ⊥
-IsStatementStop e account (Close fault) = ⊥
-IsStatementStop e account (Port port) = ⊥
-IsStatementStop e account (File name) = ⊥
-IsStatementStop e account (Dials word) = ⊥
-IsStatementStop e account (Ahead word) = ⊥
-IsStatementStop e account (Jobs word) = ⊥
-IsStatementStop e account (Date word) = ⊥
-IsStatementStop e account Clock = ⊥
+IsStatementStop e account _ = ⊥

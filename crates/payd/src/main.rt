@@ -40,10 +40,10 @@ use pay_pending::WaitingBook;
 use pay_sim::{SimEnd, run_sim};
 use ports::ports_of;
 use saying::Saying;
-use std::alloc::{AllocError, Global};
+use std::alloc::{AllocError, AllocGlobal, Global};
 use std::net::{Net, TcpListener, TcpStream};
 use std::process::ExitCode;
-use std::rt::Files;
+use std::rt::{Env, Files};
 use std::sync::Wait;
 use std::thread::Threads;
 use std::time::Clock;
@@ -56,27 +56,20 @@ use words::{Job, NOT_UTF8, job_of};
 type OwnMember = Member<MaskInstance, WaitingBook>;
 
 fn main(rt: HostRuntime) -> ExitCode {
-    let words = match env::args(&rt) {
+    let alloc = rt.alloc();
+    let words = match words_given(&rt) {
         Ok(words) => words,
         Err(error) => return status_without_words(&rt, &error),
     };
-    let mut given = Vec::new(rt.alloc());
-    for word in words {
-        if given.push(word).is_err() {
-            return status_of(&rt, Err(Stop::Engine(EngineFault::Memory)));
-        }
-    }
-    match job_of(rt.alloc(), given.as_slice()) {
+    match job_of(alloc, words.as_slice()) {
         Ok(
             Job::Check {
                 genesis,
                 keys,
                 jobs,
             },
-        ) => status_of(&rt, check(rt.alloc(), &rt, genesis, keys, jobs)),
-        Ok(Job::Desk { genesis, keys }) => {
-            status_of(&rt, serve_desk(rt.alloc(), &rt, genesis, keys))
-        }
+        ) => status_of(&rt, check(alloc, &rt, genesis, keys, jobs)),
+        Ok(Job::Desk { genesis, keys }) => status_of(&rt, serve_desk(alloc, &rt, genesis, keys)),
         Ok(
             Job::Node {
                 genesis,
@@ -87,20 +80,27 @@ fn main(rt: HostRuntime) -> ExitCode {
             },
         ) => status_of(
             &rt,
-            serve_node(rt.alloc(), &rt, genesis, keys, ports, dials, ahead),
+            serve_node(alloc, &rt, genesis, keys, ports, dials, ahead),
         ),
         Ok(Job::Audit { files, jobs }) => {
-            status_of_audit(&rt, audit(rt.alloc(), &rt, &rt, files.as_slice(), jobs))
+            status_of_audit(&rt, audit(alloc, &rt, &rt, files.as_slice(), jobs))
         }
         Ok(Job::Statement { export, account }) => {
-            status_of(&rt, statement(rt.alloc(), &rt, export, account))
+            status_of(&rt, statement(alloc, &rt, export, account))
         }
-        Ok(Job::Journal { export, date }) => {
-            status_of(&rt, journal(rt.alloc(), &rt, export, date))
-        }
-        Ok(Job::Sim) => status_of_sim(&rt, sim(rt.alloc(), &rt)),
+        Ok(Job::Journal { export, date }) => status_of(&rt, journal(alloc, &rt, export, date)),
+        Ok(Job::Sim) => status_of_sim(&rt, sim(alloc, &rt)),
         Err(answer) => status_of_answer(&rt, &answer),
     }
+}
+
+/// The words that the program was called with, its name the first of them.
+fn words_given(rt: &(impl Env + AllocGlobal)) -> io::Result<Vec<String>> {
+    let mut given = Vec::new(rt.alloc());
+    for word in env::args(rt)? {
+        given.push(word)?;
+    }
+    Ok(given)
 }
 
 /// Judges the frames on standard input, once the files are read.
