@@ -1,10 +1,10 @@
 """The record of refused wrong bodies, which says of each in which world it was refused.
 
-A body's sum is over all that its verdict hangs on: the edit; its crate's sources, specs and proofs; of each library
-below what others can know of it, which is its specs and its sources without the bodies of its functions; their lines
-of crates.txt; the toolchain's identity; and the texts of this script. The record of a crate is a file of lines
-'BODY KIND SUM', in their order. A line of another world says nothing and does no harm, so that a merge may keep both
-sides' lines.
+A verdict hangs on a body's sum and on the toolchain. The sum is over the edit; its crate's sources, specs and proofs;
+of each library below what others can know of it, which is its specs and its sources without the bodies of its
+functions; their lines of crates.txt; and the texts of this script. The record of a crate is a file of lines
+'BODY KIND SUM TOOLCHAIN', in their order. A line with another sum says nothing and does no harm, so that a merge may
+keep both sides' lines; one of another toolchain waits for it.
 """
 
 from __future__ import annotations
@@ -41,8 +41,10 @@ def script_sum() -> str:
 
 
 @functools.cache
-def toolchain_sum() -> str:
-    return sum_of(*[read_file(f"{rtlib.KIT}/{it}") for it in ("KIT-ID", "WHAT")])
+def toolchain() -> str:
+    """What it calls itself, and a sum of what it says it is made of."""
+    identity, parts = (read_file(f"{rtlib.KIT}/{it}") for it in ("KIT-ID", "WHAT"))
+    return f"{identity.split()[0]}-{sum_of(identity, parts)[:16]}"
 
 
 @functools.cache
@@ -71,12 +73,12 @@ def known_of(library, has_proofs: bool) -> str:
 
 
 def world_of(crate) -> str:
-    """A sum of all that the verdicts on a crate's wrong bodies hang on, but for the edits."""
+    """A sum of all that the verdicts on a crate's wrong bodies hang on, but for the edits and the toolchain."""
     below = crate.below()
     named = {name for it in [crate, *below] for name in proofs_named(it)}
     known = sorted(known_of(it, it.name in named) for it in below)
     own = sorted(texts_of(crate).items())
-    return sum_of(toolchain_sum(), script_sum(), crate.name, crate.of_kit, [it.name for it in crate.deps], own, known)
+    return sum_of(script_sum(), crate.name, crate.of_kit, [it.name for it in crate.deps], own, known)
 
 
 def commit() -> str:
@@ -94,28 +96,30 @@ def commit() -> str:
 class Record:
     """What is on record of a crate's wrong bodies."""
 
-    LINE = re.compile(r"(\S+) (\S+) ([0-9a-f]{32})")
+    LINE = re.compile(r"(\S+) (\S+) ([0-9a-f]{32}) (\S+)")
 
-    def __init__(self, crate, folder: str = FOLDER):
-        self.path, self.world = f"{folder}/{crate.name}", world_of(crate)
+    def __init__(self, crate, folder: str = FOLDER, made_by: str = ""):
+        self.path, self.world, self.made_by = f"{folder}/{crate.name}", world_of(crate), made_by or toolchain()
         text = read_file(self.path) if os.path.isfile(self.path) else ""
         found = [self.LINE.fullmatch(it) for it in text.splitlines()]
-        self.kinds = {(it[1], it[3]): it[2] for it in found if it and it[2] in WELL}
+        self.kinds = {(it[1], it[3], it[4]): it[2] for it in found if it and it[2] in WELL}
 
     def sum(self, body: Body) -> str:
         return sum_of(self.world, body.name, body.edit)
 
     def kind(self, body: Body) -> str:
-        """Of which kind the refusal of this very body is on record, or ''."""
-        return self.kinds.get((body.name, self.sum(body)), "")
+        """Of which kind this toolchain's refusal of this very body is on record, or ''."""
+        return self.kinds.get((body.name, self.sum(body), self.made_by), "")
 
     def write(self, bodies: list[Body], outcomes: list[Outcome]) -> None:
-        """Writes down the bodies that came as they have to."""
+        """Writes down the bodies that came as they have to, and keeps what other toolchains said of these bodies."""
         came = {it.body: it.verdict for it in outcomes if it.verdict in WELL}
-        lines = sorted(f"{it.name} {came[it.name]} {self.sum(it)}\n" for it in bodies if it.name in came)
+        sums = {it.name: self.sum(it) for it in bodies}
+        kinds = {key: it for key, it in self.kinds.items() if sums.get(key[0]) == key[1] and key[2] != self.made_by}
+        kinds |= {(name, sums[name], self.made_by): came[name] for name in sums if name in came}
         os.makedirs(os.path.dirname(self.path), exist_ok=True)
         with open(self.path, "w", encoding="utf-8") as file:
-            file.writelines(lines)
+            file.writelines(f"{name} {kind} {of} {by}\n" for (name, of, by), kind in sorted(kinds.items()))
 
 
 @dataclass

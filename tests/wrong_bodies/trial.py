@@ -8,9 +8,9 @@ import tempfile
 from . import rtlib
 from .checks import BAD_EDIT, GOAL, LET_THROUGH, MISMATCH, NOT_PROVED, PROVED, WELL
 from .checks import Outcome, Tally, try_bodies, write_files
-from .edits import read_bodies
+from .edits import Body, read_bodies
 from .promises import faults_of_promises, mismatches
-from .record import DRAWN, Record, choose, world_of
+from .record import DRAWN, Choice, Record, choose, world_of
 
 SOURCE = """\
 //! What the trial of wrong bodies tries itself on.
@@ -179,6 +179,7 @@ def try_record(top: str, tally: Tally) -> list[str]:
         said.append("another than the bodies that are not on record is tried as new")
     if {(it.body, it.verdict) for it in choice.kept} - {(it.body, it.verdict) for it in tally.outcomes}:
         said.append("a body is on record as what it isn't")
+    said += try_toolchains(top, bodies, tally, choice)
     drawn = sum(len(choose(crate, bodies, record, str(at)).drawn) for at in range(200))
     if not 0.5 < drawn * DRAWN / (200 * len(refused)) < 2:
         said.append(f"another part than one in {DRAWN} is drawn")
@@ -192,6 +193,25 @@ def try_record(top: str, tally: Tally) -> list[str]:
     crate = fixture(top)
     if choose(crate, bodies, Record(crate, top), "a commit").kept:
         said.append("a body stands on a record of other proofs")
+    return said
+
+
+def try_toolchains(top: str, bodies: list[Body], tally: Tally, choice: Choice) -> list[str]:
+    """Looks at what another toolchain would try, records its outcomes too, and looks at what each tries then. `choice`
+    is this one's so far."""
+    crate, said = fixture(top), []
+    other = Record(crate, top, "another")
+    if len(choose(crate, bodies, other, "a commit").new) != len(bodies):
+        said.append("a body stands on the record of another toolchain")
+    other.write(bodies, tally.outcomes)
+    for made_by in "", "another":
+        if choose(crate, bodies, Record(crate, top, made_by), "a commit") != choice:
+            said.append("what one toolchain's record says is gone with another's")
+    stale = [Body(it.name, it.texts, it.functions, f"{it.edit}# ") for it in bodies]
+    Record(crate, top, "another").write(stale, [])
+    if Record(crate, top, "").kinds:
+        said.append("a line of another edit stays on record")
+    Record(crate, top).write(bodies, tally.outcomes)
     return said
 
 
