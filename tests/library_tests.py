@@ -1,7 +1,7 @@
 """Black-box tests of libraries' calls that the program doesn't make, each growth of memory refused in its turn.
 
-The programs are those that `rt ci` made of the crates of tests; each runs the test that it is given the name of. Where
-one isn't there, its test here says that it is skipped.
+The program is what `rt ci` made of the crate of tests; it runs the test that it is given the name of. Where it isn't
+there, the tests here say that they are skipped.
 """
 
 import os
@@ -11,6 +11,7 @@ import subprocess
 from hostile_tests import MOST_CALLS, hostile
 from runs import SECONDS, TOP, same
 
+TESTS = "pay_library_tests"
 CALLS = (
     "members::members_answer_and_export",
     "replays::histories_are_replayed",
@@ -21,11 +22,11 @@ CALLS = (
 SET_UP = re.compile("error: (Memory|OutOfMemory|AllocError|AllocFailed .*)\nthe test failed: .*\n")
 
 
-def each(library, crate, name):
+def each(library, name):
     """Status and errors of the runs of a test, from the first growth refused to the last."""
-    program = os.path.join(TOP, "crates", crate, "out", f"{crate}_tests")
+    program = os.path.join(TOP, "crates", TESTS, "out", f"{TESTS}_tests")
     if not os.path.isfile(program):
-        print(f"{name} is skipped: rt ci made no tests of {crate}")
+        print(f"{name} is skipped: rt ci made no tests of {TESTS}")
         return []
     found = []
     for place in range(1, MOST_CALLS):
@@ -42,7 +43,7 @@ def each(library, crate, name):
 def each_growth_of_a_call_refused_once(library):
     """A call that was refused memory has the answer with ample memory when it is made again."""
     for name in CALLS:
-        runs = each(library, "pay_library_tests", name)
+        runs = each(library, name)
         for place, (status, errors) in enumerate(runs, 1):
             is_right = (status, errors) == (0, "") or (status == 101 and SET_UP.fullmatch(errors) is not None)
             same(is_right, True, f"{name}, growth {place}: {status} {errors}")
@@ -54,7 +55,7 @@ def each_growth_of_a_call_refused_once(library):
 @hostile
 def each_growth_of_a_nodes_calls_refused_once(library):
     """So has a call at a node, of which no receipt is left where it was refused, and the node's making and closing."""
-    runs = each(library, "pay_node_tests", "plays::calls_leave_receipts")
+    runs = each(library, "node::plays::calls_leave_receipts")
     for place, run in enumerate(runs, 1):
         same(run, (0, ""), f"growth {place}")
     same(len(runs) > 30 or not runs, True, f"{len(runs)} growths")

@@ -21,8 +21,8 @@ from .checks import WELL, Outcome
 from .edits import Body, read_file, statements, without_comments
 
 FOLDER = os.path.join(TOP, "tests", "refused")
-# Of those on record one of so many is tried all the same.
-DRAWN = 20
+# Of those on record one of so many is tried all the same, and at most so many of a crate go together.
+DRAWN, GROUP = 20, 20
 
 
 def sum_of(*parts) -> str:
@@ -122,26 +122,41 @@ class Record:
             file.writelines(f"{name} {kind} {of} {by}\n" for (name, of, by), kind in sorted(kinds.items()))
 
 
+# ---- what a run tries
+
+
 @dataclass
 class Choice:
     """Which of a crate's wrong bodies a run tries."""
 
-    # Those that aren't on record, and those that are and are drawn all the same.
-    new: list[Body] = field(default_factory=list)
+    # Those that aren't on record, those that are, and those that are and are drawn all the same.
+    new: list[Body]
+    kept: list[Body]
     drawn: list[Body] = field(default_factory=list)
-    # What is on record of the others.
-    kept: list[Outcome] = field(default_factory=list)
+
+    def draw(self, bodies: list[Body]) -> None:
+        self.kept = [it for it in self.kept if it not in bodies]
+        self.drawn += bodies
 
 
-def choose(crate, bodies: list[Body], record: Record, by: str) -> Choice:
-    """Draws by a name, such as a commit's. By none all are drawn."""
-    choice = Choice()
-    for body in bodies:
-        kind = record.kind(body)
-        if not kind:
-            choice.new.append(body)
-        elif not by or int(sum_of(by, crate.name, body.name), 16) % DRAWN == 0:
-            choice.drawn.append(body)
-        else:
-            choice.kept.append(Outcome(body.name, kind, "on record"))
-    return choice
+def choose(bodies: list[Body], record: Record) -> Choice:
+    """Tries what isn't on record."""
+    return Choice([it for it in bodies if not record.kind(it)], [it for it in bodies if record.kind(it)])
+
+
+def draw(choices: dict[str, Choice], by: str) -> None:
+    """Draws by a name, such as a commit's, a part of what the crates have on record; by none all of it.
+
+    It takes groups of a crate's bodies. A check first proves all that its bodies call, so that a few together cost
+    little more than one; and each body is about as likely to be drawn as any other."""
+    groups = []
+    for crate, choice in choices.items():
+        bodies = sorted(choice.kept, key=lambda body: sum_of(by, crate, body.name))
+        count = -(-len(bodies) // GROUP)
+        groups += [(crate, bodies[at::count]) for at in range(count)]
+    groups.sort(key=lambda group: sum_of(by, group[0], group[1][0].name, "group"))
+    left = sum(len(bodies) for _, bodies in groups)
+    left = -(-left // DRAWN) if by else left
+    for crate, bodies in groups:
+        choices[crate].draw(bodies[:left])
+        left -= len(bodies[:left])

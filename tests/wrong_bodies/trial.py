@@ -4,13 +4,14 @@ from __future__ import annotations
 
 import os
 import tempfile
+from collections import Counter
 
 from . import rtlib
 from .checks import BAD_EDIT, GOAL, LET_THROUGH, MISMATCH, NOT_PROVED, PROVED, WELL
 from .checks import Outcome, Tally, try_bodies, write_files
 from .edits import Body, read_bodies
 from .promises import faults_of_promises, mismatches
-from .record import DRAWN, Choice, Record, choose, world_of
+from .record import DRAWN, GROUP, Choice, Record, choose, draw, world_of
 
 SOURCE = """\
 //! What the trial of wrong bodies tries itself on.
@@ -174,24 +175,20 @@ def try_record(top: str, tally: Tally) -> list[str]:
     refused = {it.body for it in tally.outcomes if it.verdict in WELL}
     let_through = {it.name for it in bodies} - refused
     record = Record(crate, top)
-    choice = choose(crate, bodies, record, "a commit")
+    choice = choose(bodies, record)
     if {it.name for it in choice.new} != let_through:
         said.append("another than the bodies that are not on record is tried as new")
-    if {(it.body, it.verdict) for it in choice.kept} - {(it.body, it.verdict) for it in tally.outcomes}:
+    if {(it.name, record.kind(it)) for it in choice.kept} - {(it.body, it.verdict) for it in tally.outcomes}:
         said.append("a body is on record as what it isn't")
     said += try_toolchains(top, bodies, tally, choice)
-    drawn = sum(len(choose(crate, bodies, record, str(at)).drawn) for at in range(200))
-    if not 0.5 < drawn * DRAWN / (200 * len(refused)) < 2:
-        said.append(f"another part than one in {DRAWN} is drawn")
-    if len(choose(crate, bodies, record, "").drawn) != len(refused):
-        said.append("without a name not all are drawn")
+    said += try_draws(bodies)
     write_files(top, {"crates/fixture/wrong-bodies/wrong.edit": edit_text("next", "    x + 1", "    x + 1 + 0")})
     changed, _ = read_bodies(crate)
-    if "wrong" not in {it.name for it in choose(crate, changed, record, "a commit").new}:
+    if "wrong" not in {it.name for it in choose(changed, record).new}:
         said.append("a changed edit stands on the record of the former")
     write_files(top, {"crates/fixture/proofs/third/Answers.antt": ANSWERS["third"] + "\n"})
     crate = fixture(top)
-    if choose(crate, bodies, Record(crate, top), "a commit").kept:
+    if choose(bodies, Record(crate, top)).kept:
         said.append("a body stands on a record of other proofs")
     return said
 
@@ -201,11 +198,11 @@ def try_toolchains(top: str, bodies: list[Body], tally: Tally, choice: Choice) -
     is this one's so far."""
     crate, said = fixture(top), []
     other = Record(crate, top, "another")
-    if len(choose(crate, bodies, other, "a commit").new) != len(bodies):
+    if choose(bodies, other).kept:
         said.append("a body stands on the record of another toolchain")
     other.write(bodies, tally.outcomes)
     for made_by in "", "another":
-        if choose(crate, bodies, Record(crate, top, made_by), "a commit") != choice:
+        if choose(bodies, Record(crate, top, made_by)) != choice:
             said.append("what one toolchain's record says is gone with another's")
     stale = [Body(it.name, it.texts, it.functions, f"{it.edit}# ") for it in bodies]
     Record(crate, top, "another").write(stale, [])
@@ -213,6 +210,36 @@ def try_toolchains(top: str, bodies: list[Body], tally: Tally, choice: Choice) -
         said.append("a line of another edit stays on record")
     Record(crate, top).write(bodies, tally.outcomes)
     return said
+
+
+def try_draws(bodies: list[Body]) -> list[str]:
+    """Draws by many names from a large crate and a small one, which have these bodies again and again."""
+    sizes = {"large": GROUP * 5 - 3, "small": GROUP // 2}
+    of = {crate: [Body(f"{at}", *one) for at, one in enumerate(fields(bodies, size))] for crate, size in sizes.items()}
+    number, names, times, said = sum(sizes.values()), 400, Counter(), []
+    most = -(-number // DRAWN)
+    for at in range(names):
+        choices = {crate: Choice([], of[crate]) for crate in of}
+        draw(choices, f"{at}")
+        drawn = [(crate, it.name) for crate in of for it in choices[crate].drawn]
+        times.update(drawn)
+        if len(drawn) != most or len({crate for crate, _ in drawn}) != 1:
+            said.append(f"by {at} {drawn} are drawn, and not {most} of one crate")
+        if any(len(it.drawn + it.kept) != sizes[crate] for crate, it in choices.items()):
+            said.append(f"by {at} a body is lost, or drawn and not")
+    wanted = names * most / number
+    if len(times) != number or any(not 0.2 < it / wanted < 3 for it in times.values()):
+        said.append(f"of {number} bodies some are drawn far more than others: {sorted(times.values())} times")
+    choices = {crate: Choice([], of[crate]) for crate in of}
+    draw(choices, "")
+    if any(it.kept for it in choices.values()):
+        said.append("without a name not all are drawn")
+    return said
+
+
+def fields(bodies: list[Body], size: int) -> list[tuple]:
+    """As many as this of all that a body has but its name."""
+    return [(it.texts, it.functions, it.edit) for it in (bodies * size)[:size]]
 
 
 def try_worlds(top: str) -> list[str]:

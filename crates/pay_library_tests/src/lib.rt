@@ -1,13 +1,21 @@
-//! Tests of the libraries' calls that the program doesn't make: each succeeds, and gives what was
-//! worked out by hand or by another program.
+//! Tests of the libraries: the plain forms beside those that the program runs, and the calls that it doesn't make. Each
+//! gives what was worked out by hand or by another program.
 #![tactic(auto)]
 
 #[cfg(test)]
 mod audits;
 #[cfg(test)]
+mod book;
+#[cfg(test)]
 mod cuts;
 #[cfg(test)]
+mod echo;
+#[cfg(test)]
 mod members;
+#[cfg(test)]
+mod node;
+#[cfg(test)]
+mod peers;
 #[cfg(test)]
 mod replays;
 #[cfg(test)]

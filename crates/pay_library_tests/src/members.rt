@@ -420,15 +420,17 @@ fn export_of(rt: &(impl Abort + AllocGlobal), row: &Row, member: &Tried) -> Resu
     Ok(read_export(alloc, row.export.as_bytes())?)
 }
 
+fn take_steps(rt: &(impl Abort + AllocGlobal), row: &Row, member: &mut Tried) -> Result<(), Fail> {
+    for (place, step) in row.steps.iter().enumerate() {
+        let (name, is_met) = (row.name, step.is_met(rt.alloc(), member)?);
+        assert!(rt; is_met, "{name}, step {place}");
+    }
+    Ok(())
+}
+
 fn played(rt: &(impl Abort + AllocGlobal), row: &Row) -> Result<Export, Fail> {
     let mut member = fresh(rt.alloc(), row.own)?;
-    for (place, step) in row.steps.iter().enumerate() {
-        let name = row.name;
-        assert!(rt;
-            step.is_met(rt.alloc(), &mut member)?,
-            "{name}, step {place}"
-        );
-    }
+    take_steps(rt, row, &mut member)?;
     export_of(rt, row, &member)
 }
 

@@ -6,7 +6,7 @@ use pay_frame::Bytes;
 use pay_hmac::HmacSha256;
 use pay_link::Genesis;
 use pay_world::{Liars, World, WorldEvent, WorldFault, all_taken, group_test_keys, run_world};
-use std::alloc::Global;
+use std::alloc::{AllocError, Global};
 use std::test::Fail;
 
 /// What happens to a member.
@@ -161,18 +161,22 @@ const ROWS: [Row; 9] = [
     },
 ];
 
+fn event_of(alloc: Global, deed: &Deed) -> Result<WorldEvent, Fail> {
+    Ok(match deed {
+        Deed::Ask(member) => WorldEvent::Ask(*member, bytes_of(alloc, "010001000000000000001e")?),
+        Deed::Bring(member, text) => WorldEvent::Bring(*member, bytes_of(alloc, text)?),
+    })
+}
+
+fn bytes_of(alloc: Global, text: &str) -> Result<Bytes, Fail> {
+    Ok(Bytes::new(hex::decode(alloc, text)?))
+}
+
 fn events_of(alloc: Global, row: &Row) -> Result<Vec<WorldEvent>, Fail> {
     let mut events = Vec::new(alloc);
     for deed in row.deeds.iter().chain(row.more) {
-        let (member, text) = match deed {
-            Deed::Ask(member) => (*member, "010001000000000000001e"),
-            Deed::Bring(member, text) => (*member, *text),
-        };
-        let bytes = Bytes::new(hex::decode(alloc, text)?);
-        events.push(match deed {
-            Deed::Ask(_) => WorldEvent::Ask(member, bytes),
-            Deed::Bring(..) => WorldEvent::Bring(member, bytes),
-        })?;
+        let event = event_of(alloc, deed)?;
+        events.push(event).map_err(AllocError::from)?;
     }
     Ok(events)
 }

@@ -10,6 +10,9 @@ use std::test::Fail;
 /// A script, with a star for each value of 1,024 bytes, what it prints, and how it ends.
 type Row = (&'static str, &'static str, SimEnd);
 
+/// The hexadecimal digits of such a value.
+const LONG: [u8; 2048] = [b'f'; 2048];
+
 const ROWS: [Row; 15] = [
     (
         r#"{"faults":1,"liars":[3],"members":4,"opening":[100,0,0,50]}
@@ -331,9 +334,9 @@ fn spelled(alloc: Global, script: &str) -> Result<Vec<u8>, AllocError> {
     let mut bytes = Vec::new(alloc);
     for byte in script.as_bytes() {
         if *byte == b'*' {
-            bytes.extend_from_slice(&[b'f'; 2048])?;
+            bytes.extend_from_slice(&LONG)?;
         } else {
-            bytes.push(*byte)?;
+            bytes.push(*byte).map_err(AllocError::from)?;
         }
     }
     Ok(bytes)

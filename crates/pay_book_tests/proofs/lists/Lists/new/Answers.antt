@@ -1,5 +1,0 @@
-use Rattle.pay_book_tests.proofs.ListValues.{values_of-empty}
-use Rattle.pay_book_tests.proofs.lists.Lists.new.Goals as goal
-
-pub returns-clause-empty : goal.returns-clause-empty
-returns-clause-empty c = values_of-empty c.loop-owner.values.items c.loop-owner.invariant.1

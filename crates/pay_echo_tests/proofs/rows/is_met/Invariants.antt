@@ -1,5 +1,0 @@
-use Rattle.std.proofs.Common.{◌≡◌}
-use Rattle.pay_echo_tests.proofs.rows.is_met.Given as goal
-
-abbrev pub invariant-loop-vote : goal.invariant-loop-vote
-invariant-loop-vote g l = (g.I.Instance.meaning l.instance).group ≡ l.group

@@ -1,0 +1,9 @@
+//! Books over lists held in memory: worked examples, a row of debts and drawn lists, each on both.
+
+mod both;
+mod drawn;
+mod draws;
+mod ledger;
+mod lists;
+mod rows;
+mod tests;

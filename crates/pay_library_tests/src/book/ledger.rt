@@ -1,0 +1,110 @@
+//! A book over lists of its own, which is settled after each value.
+
+ghost use Rattle.std.specs.Prelude.{◌≡◌, IfOk};
+ghost use Rattle.pay_book.specs.Book.{fresh};
+
+use crate::book::lists::Lists;
+use pay_book::{Line, Settle, laws, statement};
+use pay_link::Genesis;
+use std::alloc::{AllocError, Global};
+use std::marker::Model;
+
+/// A book, and the lists that it settles.
+#[derive(Drop)]
+pub(crate) struct Ledger<B: Settle> {
+    accounts: u16,
+    lists: Lists,
+    book: B,
+}
+
+impl<B: Settle> Model for Ledger<B> {
+    ghost use Rattle.pay_book.specs.Book.{Standing};
+    ghost use Rattle.pay_library_tests.specs.Ledger.{IsLedger};
+    ghost use Rattle.pay_library_tests.specs.Lists.{values_of};
+    ghost use Rattle.std.specs.Prelude.{vec_len};
+
+    ghost Value = { Standing };
+
+    ghost view = { λ ledger. B.shows ledger.book };
+
+    ghost invariant = { λ ledger.
+        IsLedger ledger.accounts (vec_len ledger.lists.values)
+        (values_of ledger.lists.values.items) (B.shows ledger.book) };
+}
+
+impl<B: Settle + Drop> Ledger<B> {
+    /// A fresh book over empty lists.
+    pub(crate) fn new(alloc: Global, genesis: &Genesis) -> Result<Self, AllocError>
+        ensures { IfOk result (λ ledger. ledger ≡ fresh genesis.now.opening) }
+    {
+        laws::fresh_book_is_settled();
+        Ok(Ledger {
+            accounts: genesis.members(),
+            lists: Lists::new(alloc, genesis.members())?,
+            book: B::new(alloc, genesis)?,
+        })
+    }
+
+    /// Puts a value on an owner's list, and says how many entries settled; nothing where there is
+    /// no such owner or no room on its list.
+    pub(crate) fn add(&mut self, owner: u16, value: Vec<u8>) -> Result<Option<u32>, AllocError> {
+        if owner >= self.accounts || !self.lists.has_room(owner) {
+            return Ok(None);
+        }
+        laws::same_lists_stay_settled();
+        laws::grown_list_can_settle();
+        laws::group_lists_are_countable();
+        self.lists.append(owner, value)?;
+        Ok(Some(self.book.settle(&self.lists, owner)))
+    }
+
+    /// Whether each account has this front and this balance.
+    pub(crate) fn shows(&self, fronts: &[u32], balances: &[u64]) -> bool {
+        for account in 0..self.accounts {
+            let place = account as usize;
+            if fronts.get(place) != Some(&self.book.front(account))
+                || balances.get(place) != Some(&self.book.balance(account))
+            {
+                return false;
+            }
+        }
+        true
+    }
+
+    /// Whether each account stands as in another book, at the same front, balance and place.
+    pub(crate) fn stands_as<C: Settle + Drop>(&self, other: &Ledger<C>) -> bool {
+        for account in 0..self.accounts {
+            if account >= other.accounts
+                || self.book.front(account) != other.book.front(account)
+                || self.book.balance(account) != other.book.balance(account)
+                || self.book.place(account) != other.book.place(account)
+            {
+                return false;
+            }
+        }
+        self.accounts == other.accounts
+    }
+
+    /// Where an account stands, if there is one.
+    pub(crate) fn place(&self, account: u16) -> Option<(u32, u8)> {
+        if account < self.accounts {
+            Some(self.book.place(account))
+        } else {
+            None
+        }
+    }
+
+    /// Whether there is this account, with this statement.
+    pub(crate) fn states(
+        &self,
+        alloc: Global,
+        account: u16,
+        lines: &[Line],
+    ) -> Result<bool, AllocError> {
+        if account >= self.accounts {
+            return Ok(false);
+        }
+        let found = statement(alloc, &self.lists, &self.book, self.accounts, account)?;
+        Ok(found.as_slice() == lines)
+    }
+}

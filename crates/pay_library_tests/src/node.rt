@@ -1,0 +1,6 @@
+//! Nodes: calls from one seat, and seats that agree with a history or don't.
+
+mod plays;
+mod rows;
+pub(crate) mod step;
+pub(crate) mod trial;

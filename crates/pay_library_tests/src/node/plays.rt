@@ -1,0 +1,170 @@
+//! Calls at a node, and seats held against its history.
+
+use crate::node::rows::{FOUR, HANDED, PAYMENT, ROWS};
+use crate::node::step::{Group, Row, Step, Whose};
+use crate::node::trial::{Tried, meets, node_of};
+use pay_book::PlainBook;
+use pay_echo::MaskInstance;
+use pay_node::{CloseFault, Seat, Stopped};
+use std::alloc::Global;
+use std::sync::Wait;
+
+type Halted = Stopped<MaskInstance, PlainBook>;
+
+// What closing a node answers with these seats, once more where memory is refused; nothing, where they agree.
+fn fault_at_closing(alloc: Global, node: Tried, seats: &[Seat]) -> Option<CloseFault> {
+    match node.close(alloc, seats) {
+        Ok(_) => None,
+        Err((CloseFault::Memory, stopped)) => fault_at_last(alloc, stopped, seats),
+        Err((fault, _)) => Some(fault),
+    }
+}
+
+fn fault_at_last(alloc: Global, node: Halted, seats: &[Seat]) -> Option<CloseFault> {
+    match node.close(alloc, seats) {
+        Ok(_) => None,
+        Err((fault, _)) => Some(fault),
+    }
+}
+
+// The place of the first call that isn't answered so from this seat, if there is one.
+fn unmet_in<R: Wait>(
+    rt: &R,
+    alloc: Global,
+    node: &Tried,
+    seat: &mut Seat,
+    steps: &[Step],
+) -> Option<usize> {
+    for (place, step) in steps.iter().enumerate() {
+        if !meets(rt, alloc, node, seat, step) {
+            return Some(place);
+        }
+    }
+    None
+}
+
+// A node and its seats, tried once more where memory is refused.
+fn fresh(alloc: Global, group: Group) -> Option<(Tried, Vec<Seat>)> {
+    match node_of(alloc, group) {
+        None => node_of(alloc, group),
+        made => made,
+    }
+}
+
+// The same from the first seat of a row's fresh node, or behind the calls the node's closing.
+fn unmet<R: Wait>(rt: &R, alloc: Global, row: &Row) -> Option<usize> {
+    let Some((node, mut seats)) = fresh(alloc, row.group) else {
+        return Some(0);
+    };
+    let unmet = match seats.first_mut() {
+        Some(seat) => unmet_in(rt, alloc, &node, seat, row.steps),
+        None => Some(0),
+    };
+    let fault = fault_at_closing(alloc, node, seats.as_slice());
+    unmet.or(fault.is_some().then_some(row.steps.len()))
+}
+
+#[test]
+fn calls_leave_receipts(rt: HostRuntime) {
+    for row in &ROWS {
+        let name = row.name;
+        assert_eq!(rt; unmet(&rt, rt.alloc(), row), None, "{name}");
+    }
+}
+
+fn seat_of(seats: &mut Vec<Seat>, stamp: usize) -> Option<Seat> {
+    let place = seats
+        .iter()
+        .position(|seat| usize::from(seat.stamp()) == stamp)?;
+    Some(seats.swap_remove(place))
+}
+
+// The seats that are handed in, taken out of those of two nodes.
+fn seats_in(
+    alloc: Global,
+    handed: &[(Whose, usize)],
+    own: &mut Vec<Seat>,
+    others: &mut Vec<Seat>,
+) -> Option<Vec<Seat>> {
+    let mut seats = Vec::new(alloc);
+    for (whose, stamp) in handed {
+        let seat = match whose {
+            Whose::This => seat_of(own, *stamp),
+            Whose::Another => seat_of(others, *stamp),
+        };
+        seats.push(seat?).ok()?;
+    }
+    Some(seats)
+}
+
+// The seats of another node with eight.
+fn others(alloc: Global) -> Option<Vec<Seat>> {
+    let (_node, seats) = node_of(alloc, Group { seats: 8, ..FOUR })?;
+    Some(seats)
+}
+
+// The same, of a node with these seats and of another one with eight.
+fn seats_handed_in(
+    alloc: Global,
+    handed: &[(Whose, usize)],
+    own: &mut Vec<Seat>,
+) -> Option<Vec<Seat>> {
+    let mut others = others(alloc)?;
+    seats_in(alloc, handed, own, &mut others)
+}
+
+// A node of two seats, whose first one asked.
+fn asked<R: Wait>(rt: &R, alloc: Global) -> Option<(Tried, Vec<Seat>)> {
+    let (node, mut seats) = node_of(alloc, FOUR)?;
+    let asks = match seats.first_mut() {
+        Some(seat) => meets(rt, alloc, &node, seat, &Step::Ask(&[], Ok(0))),
+        None => false,
+    };
+    asks.then_some((node, seats))
+}
+
+// What closing that node answers with these seats, if there are such.
+fn fault_of<R: Wait>(
+    rt: &R,
+    alloc: Global,
+    handed: &[(Whose, usize)],
+) -> Option<Option<CloseFault>> {
+    let (node, mut own) = asked(rt, alloc)?;
+    let seats = seats_handed_in(alloc, handed, &mut own)?;
+    Some(fault_at_closing(alloc, node, seats.as_slice()))
+}
+
+#[test]
+fn seats_agree_or_not(rt: HostRuntime) {
+    for handed in &HANDED {
+        let name = handed.name;
+        let fault = fault_of(&rt, rt.alloc(), handed.seats);
+        assert_eq!(rt; fault, Some(handed.answer), "{name}");
+    }
+}
+
+// A node that asked is closed with the seats of another one, starts again, asks once more, and is closed with its own
+// seats: both faults, if both asks were answered.
+fn started_again<R: Wait>(
+    rt: &R,
+    alloc: Global,
+) -> Option<(Option<CloseFault>, Option<CloseFault>)> {
+    let others = others(alloc)?;
+    let (node, mut seats) = asked(rt, alloc)?;
+    let Err((fault, stopped)) = node.close(alloc, others.as_slice()) else {
+        return None;
+    };
+    let node = stopped.start();
+    let asks = match seats.first_mut() {
+        Some(seat) => meets(rt, alloc, &node, seat, &Step::Ask(PAYMENT, Ok(1))),
+        None => false,
+    };
+    let again = fault_at_closing(alloc, node, seats.as_slice());
+    asks.then_some((Some(fault), again))
+}
+
+#[test]
+fn a_stopped_node_starts_again(rt: HostRuntime) {
+    let faults = started_again(&rt, rt.alloc());
+    assert_eq!(rt; faults, Some((Some(CloseFault::Mismatch(0)), None)));
+}

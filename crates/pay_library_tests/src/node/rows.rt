@@ -1,0 +1,162 @@
+//! The rows.
+
+use crate::node::step::{ECHOED, Group, Handed, Row, Said, Step, Whose};
+use pay_book::Line;
+use pay_frame::Kind;
+use pay_link::LinkFault;
+use pay_member::{Outcome, PaymentState, QueryFault, Told};
+use pay_node::CloseFault;
+
+/// A payment of 5 to account 0.
+pub(crate) const PAYMENT: &[u8] = &[1, 0, 0, 0, 0, 0, 0, 0, 0, 0, 5];
+
+/// A member alone, with one seat.
+const ALONE: Group = Group {
+    faults: 0,
+    opening: &[7],
+    own: 0,
+    seats: 1,
+};
+
+/// Member 1 of four, with two seats.
+pub(crate) const FOUR: Group = Group {
+    faults: 1,
+    opening: &[100, 0, 0, 50],
+    own: 1,
+    seats: 2,
+};
+
+/// A SEND of member 0 to member 1, number 0, about its first broadcast, with an empty value. Another program tagged it.
+const SEND: [u8; 56] = [
+    0, 54, 1, 1, 0, 0, 0, 1, 0, 0, 0, 0, 0, 0, 0, 0, 0, 0, 0, 0, 0, 0, 0, 0, 95, 18, 216, 156, 232,
+    199, 171, 234, 104, 63, 10, 5, 239, 51, 203, 236, 225, 46, 12, 222, 29, 67, 48, 187, 155, 99,
+    95, 28, 6, 226, 59, 98,
+];
+
+/// The same with a tag of zeros.
+const WRONG_TAG: [u8; 56] = [
+    0, 54, 1, 1, 0, 0, 0, 1, 0, 0, 0, 0, 0, 0, 0, 0, 0, 0, 0, 0, 0, 0, 0, 0, 0, 0, 0, 0, 0, 0, 0,
+    0, 0, 0, 0, 0, 0, 0, 0, 0, 0, 0, 0, 0, 0, 0, 0, 0, 0, 0, 0, 0, 0, 0, 0, 0,
+];
+
+/// What a lone member sends of a payment to itself, which moves nothing.
+const LONE: [Said; 3] = [
+    Said {
+        kind: Kind::Send,
+        owner: 0,
+        seq: 0,
+        value: PAYMENT,
+    },
+    Said {
+        kind: Kind::Echo,
+        owner: 0,
+        seq: 0,
+        value: PAYMENT,
+    },
+    Said {
+        kind: Kind::Ready,
+        owner: 0,
+        seq: 0,
+        value: PAYMENT,
+    },
+];
+
+/// Calls from a seat: each has a receipt, but for a body that was fetched once before, and for bytes that don't open.
+pub(crate) const ROWS: [Row; 3] = [
+    Row {
+        name: "a member alone",
+        group: ALONE,
+        steps: &[
+            Step::State(0, 0, PaymentState::Unknown),
+            Step::Ask(PAYMENT, Ok(0)),
+            Step::Query(
+                0,
+                Ok(Told {
+                    balance: 7,
+                    front: 1,
+                    listed: 1,
+                }),
+            ),
+            Step::Query(1, Err(QueryFault::NoAccount)),
+            Step::Fetch(0, 16, &LONE),
+            Step::State(0, 0, PaymentState::Settled),
+            Step::State(0, 1, PaymentState::Unknown),
+            Step::Statement(0, &[Line::Void { seq: 0 }], 7),
+            Step::Fronts(&[1]),
+            Step::Receipts(9, 2),
+        ],
+    },
+    Row {
+        name: "bodies are fetched once",
+        group: ALONE,
+        steps: &[
+            Step::FetchOnce(2, &[]),
+            Step::Ask(PAYMENT, Ok(0)),
+            Step::Receipts(2, 1),
+            Step::FetchOnce(2, &LONE),
+            Step::FetchOnce(0, &LONE),
+            Step::Receipts(4, 1),
+            Step::FetchOnce(2, &LONE),
+            Step::FetchOnce(0, &LONE),
+            Step::FetchOnce(2, &LONE),
+            Step::Receipts(4, 1),
+            Step::FetchOnce(usize::MAX, &LONE),
+            Step::FetchOnce(3, &LONE),
+            Step::Fetch(0, 16, &LONE),
+            Step::Receipts(7, 1),
+            Step::FetchOnce(1, &LONE),
+            Step::FetchOnce(0, &LONE),
+            Step::Receipts(8, 1),
+        ],
+    },
+    Row {
+        name: "frames are brought",
+        group: FOUR,
+        steps: &[
+            Step::Bring(&WRONG_TAG, Outcome::Link(LinkFault::BadTag), false),
+            Step::Receipts(0, 0),
+            Step::Bring(&SEND, ECHOED, true),
+            Step::Bring(&SEND, Outcome::Link(LinkFault::Repeat(1)), true),
+            Step::Receipts(2, 1),
+        ],
+    },
+];
+
+/// Seats of a node with two, whose first asked once; another node has eight, from which nobody called.
+pub(crate) const HANDED: [Handed; 7] = [
+    Handed {
+        name: "its own seats",
+        seats: &[(Whose::This, 0), (Whose::This, 1)],
+        answer: None,
+    },
+    Handed {
+        name: "in another order",
+        seats: &[(Whose::This, 1), (Whose::This, 0)],
+        answer: None,
+    },
+    Handed {
+        name: "seat 7 of another node in place of seat 1",
+        seats: &[(Whose::This, 0), (Whose::Another, 7)],
+        answer: Some(CloseFault::Mismatch(1)),
+    },
+    Handed {
+        name: "and beside it",
+        seats: &[(Whose::This, 0), (Whose::This, 1), (Whose::Another, 7)],
+        answer: Some(CloseFault::Mismatch(7)),
+    },
+    Handed {
+        name: "a doubled seat",
+        seats: &[(Whose::This, 0), (Whose::This, 1), (Whose::Another, 1)],
+        answer: Some(CloseFault::Mismatch(1)),
+    },
+    Handed {
+        name: "a seat that was told nothing in place of one that asked",
+        seats: &[(Whose::Another, 0), (Whose::This, 1)],
+        answer: Some(CloseFault::Mismatch(0)),
+    },
+    Handed {
+        name: "no seat",
+        seats: &[],
+        answer: Some(CloseFault::Mismatch(0)),
+    },
+];

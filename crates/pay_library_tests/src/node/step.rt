@@ -1,0 +1,70 @@
+//! Rows as plain data: what is called from a seat, and what has to be answered.
+
+use pay_book::Line;
+use pay_frame::Kind;
+use pay_member::{AskFault, Outcome, PaymentState, QueryFault, Told, Took};
+use pay_node::CloseFault;
+
+/// What comes of a SEND of its owner.
+pub(crate) const ECHOED: Outcome = Outcome::Took(Took {
+    echo: true,
+    ready: false,
+    deliver: false,
+    settled: 0,
+});
+
+/// The group of a node, its member and how many seats it has.
+#[derive(Clone, Copy)]
+pub(crate) struct Group {
+    pub(crate) faults: u64,
+    pub(crate) opening: &'static [u64],
+    pub(crate) own: u16,
+    pub(crate) seats: u16,
+}
+
+/// A body that a member sent to all.
+#[derive(Clone, Copy)]
+pub(crate) struct Said {
+    pub(crate) kind: Kind,
+    pub(crate) owner: u16,
+    pub(crate) seq: u32,
+    pub(crate) value: &'static [u8],
+}
+
+/// A call, and its answer.
+#[derive(Clone, Copy)]
+pub(crate) enum Step {
+    /// A frame, as its bytes, and whether the answer has a WANT.
+    Bring(&'static [u8], Outcome, bool),
+    Ask(&'static [u8], Result<u32, AskFault>),
+    Query(u16, Result<Told, QueryFault>),
+    State(u16, u32, PaymentState),
+    Statement(u16, &'static [Line], u64),
+    Fronts(&'static [u32]),
+    Fetch(usize, usize, &'static [Said]),
+    /// The body of a number: the one at that place of these, if there is one.
+    FetchOnce(usize, &'static [Said]),
+    /// So many receipts has the seat, of which so many are of calls with an entry.
+    Receipts(usize, usize),
+}
+
+/// What is called from the first seat of a node, which then closes.
+pub(crate) struct Row {
+    pub(crate) name: &'static str,
+    pub(crate) group: Group,
+    pub(crate) steps: &'static [Step],
+}
+
+/// The seats that are handed in, each by its node, which is this one or another with eight seats, and its stamp. An
+/// ask was made at this node from the first seat before.
+pub(crate) struct Handed {
+    pub(crate) name: &'static str,
+    pub(crate) seats: &'static [(Whose, usize)],
+    pub(crate) answer: Option<CloseFault>,
+}
+
+#[derive(Clone, Copy, PartialEq, Eq)]
+pub(crate) enum Whose {
+    This,
+    Another,
+}

@@ -1,0 +1,163 @@
+//! A node that is given steps from one of its seats.
+
+use crate::node::step::{Group, Said, Step};
+use pay_book::{Line, PlainBook};
+use pay_echo::MaskInstance;
+use pay_frame::{Body, Bytes};
+use pay_hmac::HmacSha256;
+use pay_link::{Genesis, test_keys};
+use pay_member::{AskFault, Member, Outcome, QueryFault};
+use pay_node::{Call, MOST_SEATS, Node, OpenGate, Receipt, Seat};
+use std::alloc::Global;
+use std::sync::Wait;
+
+pub(crate) type Tried = Node<MaskInstance, PlainBook>;
+
+/// The node of a group's member, and its seats, if there is such a member and memory isn't refused.
+pub(crate) fn node_of(alloc: Global, group: Group) -> Option<(Tried, Vec<Seat>)> {
+    let members = group.opening.len() as u64;
+    let genesis = Genesis::new(alloc, members, group.faults, group.opening).ok()?;
+    if group.own >= genesis.members() || group.seats > MOST_SEATS {
+        return None;
+    }
+    let keys = test_keys(alloc, &genesis, group.own).ok()?;
+    let member = Member::new(alloc, genesis, keys).ok()?;
+    Node::new(alloc, member, group.seats).ok()
+}
+
+/// Takes a step, once more where memory is refused, and says whether the answer is the one expected.
+pub(crate) fn meets<R: Wait>(
+    rt: &R,
+    alloc: Global,
+    node: &Tried,
+    seat: &mut Seat,
+    step: &Step,
+) -> bool {
+    match is_met(rt, alloc, node, seat, step) {
+        Some(is_met) => is_met,
+        None => is_met(rt, alloc, node, seat, step) == Some(true),
+    }
+}
+
+// Whether the answer to a step is the one expected; nothing, where memory is refused.
+fn is_met<R: Wait>(
+    rt: &R,
+    alloc: Global,
+    node: &Tried,
+    seat: &mut Seat,
+    step: &Step,
+) -> Option<bool> {
+    match *step {
+        Step::Bring(bytes, outcome, wants) => {
+            brings(rt, alloc, node, seat, bytes, outcome, wants)
+        }
+        Step::Ask(value, answer) => asks(rt, alloc, node, seat, value, answer),
+        Step::Query(account, answer) => {
+            let found = node.query(rt, alloc, seat, account);
+            (found != Err(QueryFault::Memory)).then_some(found == answer)
+        }
+        Step::State(owner, seq, state) => {
+            let found = node.state(rt, alloc, seat, owner, seq);
+            (found != Err(QueryFault::Memory)).then_some(found == Ok(state))
+        }
+        Step::Statement(account, lines, balance) => {
+            states(rt, alloc, node, seat, account, lines, balance)
+        }
+        Step::Fronts(fronts) => settles(rt, alloc, node, seat, fronts),
+        Step::Fetch(from, max, said) => {
+            let bodies = node.fetch(rt, alloc, seat, from, max).ok()?;
+            Some(are_said(bodies.as_slice(), said))
+        }
+        Step::FetchOnce(number, said) => {
+            let found = node.fetch_once(rt, alloc, seat, number).ok()?;
+            Some(is_fetched(found, said.get(number)))
+        }
+        Step::Receipts(all, with_entry) => {
+            let receipts = seat.receipts();
+            Some(receipts.len() == all && entries_in(receipts) == with_entry)
+        }
+    }
+}
+
+/// Whether this came of a frame, and whether it is answered with a WANT; nothing, where memory is refused.
+pub(crate) fn brings<R: Wait>(
+    rt: &R,
+    alloc: Global,
+    node: &Tried,
+    seat: &mut Seat,
+    bytes: &[u8],
+    outcome: Outcome,
+    wants: bool,
+) -> Option<bool> {
+    let brought = node
+        .bring(rt, alloc, seat, &HmacSha256, &OpenGate, bytes)
+        .ok()?;
+    Some(brought.outcome == outcome && brought.want.is_some() == wants)
+}
+
+fn asks<R: Wait>(
+    rt: &R,
+    alloc: Global,
+    node: &Tried,
+    seat: &mut Seat,
+    value: &[u8],
+    answer: Result<u32, AskFault>,
+) -> Option<bool> {
+    let value = Bytes::from_slice(alloc, value).ok()?;
+    let found = node.ask(rt, alloc, seat, value);
+    (found != Err(AskFault::Memory)).then_some(found == answer)
+}
+
+fn states<R: Wait>(
+    rt: &R,
+    alloc: Global,
+    node: &Tried,
+    seat: &mut Seat,
+    account: u16,
+    lines: &[Line],
+    balance: u64,
+) -> Option<bool> {
+    let found = node.statement(rt, alloc, seat, account).ok()?;
+    Some(found.lines() == lines && found.balance() == balance)
+}
+
+fn settles<R: Wait>(
+    rt: &R,
+    alloc: Global,
+    node: &Tried,
+    seat: &mut Seat,
+    fronts: &[u32],
+) -> Option<bool> {
+    let found = node.fronts(rt, alloc, seat).ok()?;
+    Some(found.as_slice() == fronts)
+}
+
+fn is_fetched(found: Option<Body>, said: Option<&Said>) -> bool {
+    match (found, said) {
+        (Some(body), Some(said)) => is_said(&body, said),
+        (None, None) => true,
+        _ => false,
+    }
+}
+
+fn entries_in(receipts: &[Receipt]) -> usize {
+    receipts
+        .iter()
+        .filter(|receipt| matches!(receipt.call, Call::Handed { answer: Ok(_), .. }))
+        .count()
+}
+
+fn are_said(bodies: &[Body], said: &[Said]) -> bool {
+    bodies.len() == said.len()
+        && bodies
+            .iter()
+            .zip(said)
+            .all(|(body, said)| is_said(body, said))
+}
+
+fn is_said(body: &Body, said: &Said) -> bool {
+    body.kind() == said.kind
+        && body.owner() == said.owner
+        && body.seq() == said.seq
+        && body.value() == said.value
+}

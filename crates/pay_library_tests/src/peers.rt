@@ -1,0 +1,7 @@
+//! Peers' streams: whose a connection is, how a node is fed, and two workers of whom neither waits for the other.
+
+mod claims;
+mod feeding;
+mod overlap;
+mod rows;
+mod told;
