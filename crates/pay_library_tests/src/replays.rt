@@ -6,7 +6,7 @@ use pay_echo::PlainInstance;
 use pay_frame::Bytes;
 use pay_link::{Genesis, test_keys};
 use pay_member::{Event, HistoryEntry, Member, Reply};
-use std::alloc::{AllocError, Global};
+use std::alloc::Global;
 use std::test::Fail;
 
 /// A payment to oneself, which moves nothing.
@@ -14,13 +14,12 @@ const VALUE: [u8; 11] = [1, 0, 0, 0, 0, 0, 0, 0, 0, 0, 5];
 
 /// An ask for it, which got this number.
 fn history_of(alloc: Global, seq: u32) -> Result<Vec<HistoryEntry>, Fail> {
-    let entry = HistoryEntry {
+    let mut history = Vec::new(alloc);
+    history.push(HistoryEntry {
         stamp: 3,
         event: Event::Ask(Bytes::from_slice(alloc, &VALUE)?),
         reply: Reply::Asked(seq),
-    };
-    let mut history = Vec::new(alloc);
-    history.push(entry).map_err(AllocError::from)?;
+    })?;
     Ok(history)
 }
 

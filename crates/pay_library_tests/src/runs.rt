@@ -6,7 +6,7 @@ use pay_frame::Bytes;
 use pay_hmac::HmacSha256;
 use pay_link::Genesis;
 use pay_world::{Liars, World, WorldEvent, WorldFault, all_taken, group_test_keys, run_world};
-use std::alloc::{AllocError, Global};
+use std::alloc::Global;
 use std::test::Fail;
 
 /// What happens to a member.
@@ -175,8 +175,7 @@ fn bytes_of(alloc: Global, text: &str) -> Result<Bytes, Fail> {
 fn events_of(alloc: Global, row: &Row) -> Result<Vec<WorldEvent>, Fail> {
     let mut events = Vec::new(alloc);
     for deed in row.deeds.iter().chain(row.more) {
-        let event = event_of(alloc, deed)?;
-        events.push(event).map_err(AllocError::from)?;
+        events.push(event_of(alloc, deed)?)?;
     }
     Ok(events)
 }

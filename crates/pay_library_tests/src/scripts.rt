@@ -336,7 +336,7 @@ fn spelled(alloc: Global, script: &str) -> Result<Vec<u8>, AllocError> {
         if *byte == b'*' {
             bytes.extend_from_slice(&LONG)?;
         } else {
-            bytes.push(*byte).map_err(AllocError::from)?;
+            bytes.push(*byte)?;
         }
     }
     Ok(bytes)

@@ -9,8 +9,6 @@ use pay_node::{CloseFault, Seat, Stopped};
 use std::alloc::Global;
 use std::sync::Wait;
 
-type Halted = Stopped<MaskInstance, PlainBook>;
-
 // What closing a node answers with these seats, once more where memory is refused; nothing, where they agree.
 fn fault_at_closing(alloc: Global, node: Tried, seats: &[Seat]) -> Option<CloseFault> {
     match node.close(alloc, seats) {
@@ -20,7 +18,11 @@ fn fault_at_closing(alloc: Global, node: Tried, seats: &[Seat]) -> Option<CloseF
     }
 }
 
-fn fault_at_last(alloc: Global, node: Halted, seats: &[Seat]) -> Option<CloseFault> {
+fn fault_at_last(
+    alloc: Global,
+    node: Stopped<MaskInstance, PlainBook>,
+    seats: &[Seat],
+) -> Option<CloseFault> {
     match node.close(alloc, seats) {
         Ok(_) => None,
         Err((fault, _)) => Some(fault),
