@@ -2,6 +2,7 @@
 
 import contextlib
 import socket
+import statistics
 import subprocess
 import tempfile
 import time
@@ -33,17 +34,26 @@ def dialing(options, wanted):
         write_json(folder, "p", {"ports": ports})
         words = [PAYD, "node", "--genesis", "g", "--keys", "k", "--ports", "p", *options]
         pipe = subprocess.PIPE
-        child = subprocess.Popen(words, cwd=folder, stdin=pipe, stdout=subprocess.DEVNULL, stderr=pipe)
-        try:
-            yield peer
-        finally:
-            errors = child.communicate(timeout=SECONDS)[1].decode()
-        same(told_apart(errors)[0], wanted, f"what is said with {options}")
+        with subprocess.Popen(words, cwd=folder, stdin=pipe, stdout=subprocess.DEVNULL, stderr=pipe) as child:
+            try:
+                yield peer
+            except AssertionError as fault:
+                raise AssertionError(f"{fault}, and standard error has {said_by(child)!r}") from fault
+            same(told_apart(said_by(child))[0], wanted, f"what is said with {options}")
+
+
+def said_by(child):
+    """Ends a node by the end of its input: what it wrote to standard error."""
+    try:
+        return child.communicate(timeout=SECONDS)[1].decode()
+    except subprocess.TimeoutExpired:
+        child.kill()
+        raise
 
 
 def dials(peer, most, silence):
     """When a node dialed: each connection is ended at once, until none comes for so long or so many came."""
-    peer.settimeout(silence)
+    peer.settimeout(PATIENCE)  # a busy machine may take long to start the node
     times = []
     while len(times) < most:
         try:
@@ -51,6 +61,7 @@ def dials(peer, most, silence):
         except socket.timeout:
             break
         times.append(time.monotonic())
+        peer.settimeout(silence)
     return times
 
 
@@ -80,7 +91,7 @@ def a_thousand_dials_unless_said():
     with dialing([], [(1, "given up")]) as peer:
         times = dials(peer, most=1100, silence=3)
         same(len(times), 1000, "dials without the option")
-        same(max(pauses(times)) < 1, True, "no pause grows")
+        same(statistics.median(pauses(times)) < 0.3, True, "no pause grows")
 
 
 # ---- what is said of peers

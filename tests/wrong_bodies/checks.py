@@ -10,7 +10,8 @@ import tempfile
 from dataclasses import dataclass, field
 
 from . import rt, rtlib
-from .edits import Body, Place, alone, cut, in_batches, item, places_of_change, read_file
+from .edits import Body, Place, cut, in_batches, item, place, places_of_change, proof_folders, read_file, write_files
+from .hollow import hollow_out
 
 # A wrong body is refused at a goal that isn't proved, or by a proof file that doesn't fit it. A control is proved.
 GOAL, MISMATCH, PROVED = "goal", "mismatch", "control"
@@ -57,21 +58,31 @@ class Report:
 
 
 def check(crate, batch: list[Place], kept: str) -> Report:
-    """Checks the functions of a batch on a copy of the crate with all its bodies, over the work that is kept."""
-    texts = joined(crate, batch)
+    """Checks the functions of a batch on a copy of the crate with all its bodies, over the work that is kept. All
+    others are hollow there."""
+    texts, tried = joined(crate, batch), {function for it in batch for function in it.functions()}
     with tempfile.TemporaryDirectory(prefix="wrong-bodies-") as room:
         for part in rtlib.PARTS:
             if os.path.isdir(f"{crate.folder}/{part}"):
                 shutil.copytree(f"{crate.folder}/{part}", f"{room}/{part}")
         write_files(room, texts)
+        texts |= hollow_out(crate.name, room, tried)
         for it in batch:
             copy_proofs(crate, it, room)
-        words = crate.words(["--jobs", "1", "--incremental", kept], keeps=False)
-        for function in sorted({function for it in batch for function in it.functions()}):
-            words += ["--only", function]
-        lines, seconds = run(room, [rtlib.RATTLE, "check", *words])
-    has_judged = bool(re.fullmatch(r"only=\d+ proved=\d+", lines[-1]))
+        lines, seconds = check_only(crate, room, tried, kept)
+    has_judged = has_come_to_an_end(lines)
     return Report(lines, texts, has_judged and not any(rt.unread(it, texts) for it in lines), seconds)
+
+
+def check_only(crate, room: str, functions: set[str], kept: str) -> tuple[list[str], float]:
+    """Has the prover check these functions of a crate's copy, and returns what it printed and its processor seconds."""
+    words = crate.words(["--jobs", "1", "--incremental", kept, "--allow-holes"], keeps=False)
+    words += [word for it in sorted(functions) for word in ("--only", it)]
+    return run(room, [rtlib.RATTLE, "check", *words])
+
+
+def has_come_to_an_end(lines: list[str]) -> bool:
+    return bool(re.fullmatch(r"only=\d+ holes=\d+", lines[-1]))
 
 
 def joined(crate, batch: list[Place]) -> dict[str, str]:
@@ -102,19 +113,12 @@ def with_twin(own: list[tuple[str, str]], at: int, body: str, ending: str, behin
 def copy_proofs(crate, place: Place, room: str) -> None:
     """Gives a twin the proof files of its function."""
     for function in place.body.functions if place.ending else []:
-        files = f"{crate.folder}/proofs/{function.replace('::', '/')}"
+        folder = proof_folders(function)[0]
         named = rf"(Rattle\.{crate.name}\.(?:proofs|specs\.contracts)\.{re.escape(function.replace('::', '.'))})\b"
-        for file in os.listdir(files) if os.path.isdir(files) else []:
+        for file in os.listdir(f"{crate.folder}/{folder}") if os.path.isdir(f"{crate.folder}/{folder}") else []:
             if file.endswith(".antt"):
-                text = re.sub(named, rf"\1{place.ending}", read_file(f"{files}/{file}"))
-                write_files(room, {f"proofs/{function.replace('::', '/')}{place.ending}/{file}": text})
-
-
-def write_files(folder: str, texts: dict[str, str]) -> None:
-    for path, text in texts.items():
-        os.makedirs(os.path.dirname(f"{folder}/{path}"), exist_ok=True)
-        with open(f"{folder}/{path}", "w", encoding="utf-8") as file:
-            file.write(text)
+                text = re.sub(named, rf"\1{place.ending}", read_file(f"{crate.folder}/{folder}/{file}"))
+                write_files(room, {f"{folder}{place.ending}/{file}": text})
 
 
 def run(folder: str, words: list[str]) -> tuple[list[str], float]:
@@ -202,9 +206,9 @@ def refusal(crate, place: Place, report: Report) -> tuple[str, str]:
 
 
 def is_proved(crate, place: Place, report: Report) -> bool:
-    """Whether the prover says so of each function of a body, also where it says of one that it may wait."""
+    """Whether each function of a body is proved, given the contracts of the hollow ones."""
     said = [line_of(crate, it, report) for it in place.functions()]
-    return report.has_judged and all(it in ("proved", "proved, may wait") for it in said)
+    return report.has_judged and all(it == "no holes" or it.startswith("depends on a hole in ") for it in said)
 
 
 def verdict_of(crate, place: Place, report: Report, is_last: bool) -> Outcome | None:
@@ -237,7 +241,7 @@ def try_bodies(crate, bodies: list[Body]) -> Tally:
     is open then."""
     tally = Tally(crate.name)
     with tempfile.TemporaryDirectory(prefix="wrong-bodies-") as kept:
-        for ordered in in_batches, in_batches, lambda left: [[alone(it)] for it in left]:
+        for ordered in in_batches, in_batches, lambda left: [[place(it, 0)] for it in left]:
             bodies = [it for batch in ordered(bodies) for it in try_batch(crate, batch, kept, tally)]
     return tally
 

@@ -98,23 +98,36 @@ def item(head: str, name: str) -> str:
 
 def is_of_trait(head: str, name: str) -> bool:
     """Whether the function whose head ends this text stands in a trait or in an impl of one."""
-    if not item(head, name).startswith(" "):
-        return False
+    return item(head, name).startswith(" ") and bool(re.search(r"\btrait\b|\bfor\b", above(head)))
+
+
+def above(head: str) -> str:
+    """The head of the impl or trait that the function stands in whose head ends this text."""
     lines = head.splitlines(True)
-    above = "".join(lines[last_line(lines, r"(pub(\([a-z]+\))? )?(unsafe )?(impl|trait|mod)\b") :]).partition("{")[0]
-    return bool(re.search(r"\btrait\b|\bfor\b", above))
+    first = last_line(lines, r"(pub(\([a-z]+\))? )?(unsafe )?(impl|trait|mod)\b")
+    return "".join(lines[first:]).partition("{")[0]
 
 
 def last_line(lines: list[str], pattern: str) -> int:
     return max(at for at, line in enumerate(lines) if re.match(pattern, line))
 
 
-def statements(source: str) -> str:
-    """A source without the bodies of its functions, but of those that constants may call, and without comments and
-    blank lines: what others can know of it."""
-    parts = cut(source)
-    kept = [text for at, (name, text) in enumerate(parts) if not name or "const fn" in item(parts[at - 1][1], name)]
-    return without_comments("".join(kept), "//")
+def statements(source: str, has_own: bool) -> tuple[str, dict[str, str]]:
+    """What callers can know of a source: all but functions, and by their names the heads of functions. What a trait
+    asks for and what a constant may call is of the first; unless `has_own`, what only its own crate can call of none."""
+    kept, heads, is_dropped = "", {}, False
+    for name, text in cut(source):
+        if not name:
+            kept += text.partition("}\n")[2] if is_dropped else text
+            is_dropped = False
+        elif "const fn" in (head := item(kept, name)):
+            kept += text
+        elif not is_of_trait(kept, name):
+            kept, is_dropped = kept.removesuffix(head), True
+            if has_own or re.search(rf"(?m)^ *pub fn {name}\b", head):
+                of = above(kept) if head.startswith(" ") else ""
+                heads[name] = heads.get(name, "") + of + without_comments(head, "//")
+    return without_comments(kept, "//"), heads
 
 
 def without_comments(text: str, begin: str) -> str:
@@ -122,9 +135,22 @@ def without_comments(text: str, begin: str) -> str:
     return "\n".join(it for it in lines if it.strip() and not it.lstrip().startswith(begin))
 
 
+def proof_folders(function: str) -> tuple[str, str]:
+    """Where the proof files of a function are, and those of its closures."""
+    module, _, name = f"proofs::{function}".replace("::", "/").rpartition("/")
+    return f"{module}/{name}", f"{module}/fn/{name}"
+
+
 def read_file(path: str) -> str:
     with open(path, encoding="utf-8") as file:
         return file.read()
+
+
+def write_files(folder: str, texts: dict[str, str]) -> None:
+    for path, text in texts.items():
+        os.makedirs(os.path.dirname(f"{folder}/{path}"), exist_ok=True)
+        with open(f"{folder}/{path}", "w", encoding="utf-8") as file:
+            file.write(text)
 
 
 # ---- edits
@@ -172,9 +198,9 @@ def can_be_twin(crate, body: Body) -> bool:
             if "#[cycle" in item(head, own[at][0]) or is_of_trait(head, own[at][0]):
                 return False
             named.append(own[at][0])
-    modules = [it.rpartition("::") for it in body.functions]
-    closures = [f"{crate.folder}/proofs/{module.replace('::', '/')}/fn/{name}" for module, _, name in modules]
-    return sorted(named) == sorted(name for _, _, name in modules) and not any(map(os.path.exists, closures))
+    closures = [f"{crate.folder}/{proof_folders(it)[1]}" for it in body.functions]
+    names = [it.rpartition("::")[2] for it in body.functions]
+    return sorted(named) == sorted(names) and not any(map(os.path.exists, closures))
 
 
 def read_bodies(crate) -> tuple[list[Body], dict[str, str]]:
@@ -192,23 +218,23 @@ def read_bodies(crate) -> tuple[list[Body], dict[str, str]]:
 
 
 def in_batches(bodies: list[Body]) -> list[list[Place]]:
-    """Puts each body into the first batch in which it can be judged, those first that can have no twin. A control
-    stands in a twin where it can, so that it speaks for the wrong bodies that do."""
+    """Puts each body into the first batch in which it can be judged, those first that can have no twin."""
     batches: list[list[Place]] = []
     for body in sorted(bodies, key=lambda it: it.can_be_twin):
-        for batch in batches:
-            if body.is_inside and all(it.body.is_inside for it in batch):
-                taken = {name for it in batch if not it.ending for name in it.body.functions}
-                if not taken & {*body.functions} and not (body.is_control and body.can_be_twin):
-                    batch.append(Place(body))
-                    break
-                if body.can_be_twin:
-                    batch.append(Place(body, f"_twin{len(batch)}"))
-                    break
-        else:
-            batches.append([alone(body)])
+        batch = next((it for it in batches if fits(body, it)), [])
+        if not batch:
+            batches.append(batch)
+        batch.append(place(body, len(batch)))
     return batches
 
 
-def alone(body: Body) -> Place:
-    return Place(body, "_twin0" if body.is_control and body.can_be_twin else "")
+def fits(body: Body, batch: list[Place]) -> bool:
+    """Whether a body can stand beside those of a batch."""
+    taken = {name for it in batch if not it.ending for name in it.body.functions}
+    is_free = body.can_be_twin or not taken & {*body.functions}
+    return is_free and body.is_inside and all(it.body.is_inside for it in batch)
+
+
+def place(body: Body, number: int) -> Place:
+    """A body's place in a check, as the one of this number there."""
+    return Place(body, f"_twin{number}" if body.can_be_twin else "")

@@ -1,10 +1,15 @@
 """The record of refused wrong bodies, which says of each in which world it was refused.
 
-A verdict hangs on a body's sum and on the toolchain. The sum is over the edit; its crate's sources, specs and proofs;
-of each library below what others can know of it, which is its specs and its sources without the bodies of its
-functions; their lines of crates.txt; and the texts of this script. The record of a crate is a file of lines
-'BODY KIND SUM TOOLCHAIN', in their order. A line with another sum says nothing and does no harm, so that a merge may
-keep both sides' lines; one of another toolchain waits for it.
+A verdict hangs on a body's sum and on the toolchain. The sum is over
+
+- the edit, and the functions that it changes with their proof files;
+- the contracts of the functions that these name, or that a spec or a lemma cites: a body is judged by contracts alone;
+- its crate's sources without functions, its specs and its lemmas, and of each library below its sources without
+  functions and its specs, but always with what traits ask for; and their lines of crates.txt;
+- what of this script a verdict comes from.
+
+The record of a crate is a file of lines 'BODY KIND SUM TOOLCHAIN', in their order. A line with another sum says nothing
+and does no harm, so that a merge may keep both sides' lines; one of another toolchain waits for it.
 """
 
 from __future__ import annotations
@@ -18,9 +23,11 @@ from dataclasses import dataclass, field
 
 from . import TOP, rtlib
 from .checks import WELL, Outcome
-from .edits import Body, read_file, statements, without_comments
+from .edits import Body, cut, places_of_change, proof_folders, read_file, statements, without_comments
 
 FOLDER = os.path.join(TOP, "tests", "refused")
+# How a spec or a lemma cites a function's contract, or its proof.
+CITING = re.compile(r"\bcontracts\b|\.Met\b|\bproofs\.[\w.]+\.(?:Proof|Statement)\b")
 # Of those on record one of so many is tried all the same, and at most so many of a crate go together.
 DRAWN, GROUP = 20, 20
 
@@ -34,10 +41,9 @@ def sum_of(*parts) -> str:
 
 @functools.cache
 def script_sum() -> str:
-    """Of this script's own texts."""
-    tests = os.path.join(TOP, "tests")
-    parts = sorted(it for it in os.listdir(f"{tests}/wrong_bodies") if it.endswith(".py"))
-    return sum_of(read_file(f"{tests}/wrong-bodies"), *[(it, read_file(f"{tests}/wrong_bodies/{it}")) for it in parts])
+    """Of the texts of this script that verdicts come from, without what they say to a reader."""
+    texts = [read_file(os.path.join(TOP, "tests", "wrong_bodies", it)) for it in ("checks.py", "edits.py", "hollow.py")]
+    return sum_of([without_comments(re.sub(r'(?s)"""(?!\\).*?"""', "", text), "#") for text in texts])
 
 
 @functools.cache
@@ -60,25 +66,71 @@ def proofs_named(crate) -> set[str]:
     return found - {crate.name}
 
 
+@dataclass
+class Known:
+    """What others can know of a crate."""
+
+    # A sum over all but functions.
+    sum: str
+    # Of the functions of a name a sum over their heads.
+    heads: dict[str, str]
+    # What those of its specs name, and of its lemmas where they count, that cite a function.
+    words: set[str]
+
+
 @functools.cache
-def known_of(library, has_proofs: bool) -> str:
-    """A sum of what others can know of a library, and of its proofs where they name these."""
-    found = []
-    for path, text in texts_of(library).items():
+def known_of(crate, has_proofs: bool, has_own: bool) -> Known:
+    found, heads, words = [], {}, set()
+    for path, text in sorted(texts_of(crate).items()):
         if path.startswith("src/"):
-            found.append((path, statements(text)))
-        elif path.startswith("specs/") or has_proofs:
-            found.append((path, without_comments(text, "--")))
-    return sum_of(library.name, library.of_kit, [it.name for it in library.deps], found)
+            kept, of = statements(text, has_own)
+            found.append((path, kept))
+            for name, head in of.items():
+                heads.setdefault(name, []).append((path, head))
+        elif path.startswith("specs/") or has_proofs and not is_of_function(path):
+            kept = without_comments(text, "--")
+            found.append((path, kept))
+            words.update(words_in(kept) if CITING.search(kept) else [])
+    about = sum_of(crate.name, crate.of_kit, [it.name for it in crate.deps], found)
+    return Known(about, {name: sum_of(it) for name, it in heads.items()}, words)
 
 
-def world_of(crate) -> str:
-    """A sum of all that the verdicts on a crate's wrong bodies hang on, but for the edits and the toolchain."""
-    below = crate.below()
+def words_in(text: str) -> set[str]:
+    return {*re.findall(r"\w+", text)}
+
+
+@functools.cache
+def world_of(crate) -> tuple[str, tuple[Known, ...]]:
+    """A sum of what the verdicts on all of a crate's wrong bodies hang on, but for the toolchain and for functions; and
+    what is known of the crate and of those below."""
+    below = sorted(crate.below(), key=lambda it: it.name)
     named = {name for it in [crate, *below] for name in proofs_named(it)}
-    known = sorted(known_of(it, it.name in named) for it in below)
-    own = sorted(texts_of(crate).items())
-    return sum_of(script_sum(), crate.name, crate.of_kit, [it.name for it in crate.deps], own, known)
+    known = known_of(crate, True, True), *[known_of(it, it.name in named, False) for it in below]
+    return sum_of(script_sum(), [it.sum for it in known]), known
+
+
+def is_of_function(path: str) -> bool:
+    """Whether this is a proof file of one function."""
+    return os.path.basename(path) in ("Answers.antt", "Invariants.antt", "Proof.antt")
+
+
+def sum_of_body(crate, body: Body) -> str:
+    """A sum of all that the verdict on a wrong body hangs on, but for the toolchain."""
+    own, (about, known) = changed_by(crate, body), world_of(crate)
+    words = words_in(" ".join([*body.functions, *[text for _, text in own]])).union(*[it.words for it in known])
+    heads = [sorted((name, it.heads[name]) for name in words & {*it.heads}) for it in known]
+    return sum_of(about, body.name, body.edit, own, heads)
+
+
+def changed_by(crate, body: Body) -> list[tuple[str, str]]:
+    """What a body makes of the functions that it changes, and their proof files."""
+    texts, found = texts_of(crate), []
+    for path, text in body.texts.items():
+        places = places_of_change(cut(texts[path]), text) if body.is_inside else []
+        found += [(path, cut(text)[at][1]) for at in places] or [(path, text)]
+    folders = tuple(f"{folder}/" for it in body.functions for folder in proof_folders(it))
+    proofs = [(path, without_comments(text, "--")) for path, text in texts.items() if path.startswith(folders)]
+    return sorted(found) + sorted(proofs)
 
 
 def commit() -> str:
@@ -99,13 +151,13 @@ class Record:
     LINE = re.compile(r"(\S+) (\S+) ([0-9a-f]{32}) (\S+)")
 
     def __init__(self, crate, folder: str = FOLDER, made_by: str = ""):
-        self.path, self.world, self.made_by = f"{folder}/{crate.name}", world_of(crate), made_by or toolchain()
+        self.crate, self.path, self.made_by = crate, f"{folder}/{crate.name}", made_by or toolchain()
         text = read_file(self.path) if os.path.isfile(self.path) else ""
         found = [self.LINE.fullmatch(it) for it in text.splitlines()]
         self.kinds = {(it[1], it[3], it[4]): it[2] for it in found if it and it[2] in WELL}
 
     def sum(self, body: Body) -> str:
-        return sum_of(self.world, body.name, body.edit)
+        return sum_of_body(self.crate, body)
 
     def kind(self, body: Body) -> str:
         """Of which kind this toolchain's refusal of this very body is on record, or ''."""
@@ -147,8 +199,8 @@ def choose(bodies: list[Body], record: Record) -> Choice:
 def draw(choices: dict[str, Choice], by: str) -> None:
     """Draws by a name, such as a commit's, a part of what the crates have on record; by none all of it.
 
-    It takes groups of a crate's bodies. A check first proves all that its bodies call, so that a few together cost
-    little more than one; and each body is about as likely to be drawn as any other."""
+    It takes groups of a crate's bodies, since a check first loads what they stand on; and each body is about as likely
+    to be drawn as any other."""
     groups = []
     for crate, choice in choices.items():
         bodies = sorted(choice.kept, key=lambda body: sum_of(by, crate, body.name))

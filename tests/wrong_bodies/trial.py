@@ -8,10 +8,10 @@ from collections import Counter
 
 from . import rtlib
 from .checks import BAD_EDIT, GOAL, LET_THROUGH, MISMATCH, NOT_PROVED, PROVED, WELL
-from .checks import Outcome, Tally, try_bodies, write_files
-from .edits import Body, read_bodies
+from .checks import Outcome, Tally, try_bodies
+from .edits import Body, read_bodies, write_files
 from .promises import faults_of_promises, mismatches
-from .record import DRAWN, GROUP, Choice, Record, choose, draw, world_of
+from .record import DRAWN, GROUP, Choice, Record, choose, draw
 
 SOURCE = """\
 //! What the trial of wrong bodies tries itself on.
@@ -62,6 +62,41 @@ pub fn patient<R: Wait>(_rt: &R, k: u32) -> u32
     let given = k;
     given
 }
+
+pub fn unproved(k: u32) -> u32
+    ensures { result ≡ k }
+{
+    2 * (k / 2)
+}
+
+pub fn beside_unproved(k: u32) -> u32
+    ensures { result ≡ k }
+{
+    let given = unproved(k);
+    given
+}
+
+pub trait Five {
+    fn five(&self) -> u32
+        ensures { result ≡ 5 };
+}
+
+pub struct Plain;
+
+impl Five for Plain {
+    fn five(&self) -> u32 {
+        2 + 3
+    }
+}
+
+pub struct Asking;
+
+impl Five for Asking {
+    fn five(&self) -> u32 {
+        let answer = Plain.five();
+        answer
+    }
+}
 """
 
 # Proof files: one with a tactic, so that the prover names no goal of the function, and one with the term itself.
@@ -94,6 +129,8 @@ EDITS = {
     "wrong_beside_a_proof": ("third", "next(almost)", "next(almost) - 1", GOAL),
     "wrong_above_wrong": ("third", "next(almost)", "almost", GOAL),
     "wrong_beside_a_term": ("passed_on", "    same(k)", "    same(k) / 2", MISMATCH),
+    "wrong_of_a_trait": ("PlainFive::five", "2 + 3", "2 * 3", GOAL),
+    "harmless_above_wrong_of_a_trait": ("AskingFive::five", "Plain.five();", "(Plain.five());", LET_THROUGH),
 }
 # The same of controls.
 CONTROLS = {
@@ -101,6 +138,7 @@ CONTROLS = {
     "asked_twice": ("passed_on", "    same(k)", "    same(same(k))", NOT_PROVED),
     "in_its_own_place": ("next", "    x + 1", "    1 + x", PROVED),
     "that_may_wait": ("patient", "given = k;", "given = (k);", PROVED),
+    "beside_what_is_not_proved": ("beside_unproved", "given = unproved(k);", "given = (unproved(k));", PROVED),
     "no_control": ("next", "    x + 1", "    x + 3", NOT_PROVED),
 }
 
@@ -186,10 +224,6 @@ def try_record(top: str, tally: Tally) -> list[str]:
     changed, _ = read_bodies(crate)
     if "wrong" not in {it.name for it in choose(changed, record).new}:
         said.append("a changed edit stands on the record of the former")
-    write_files(top, {"crates/fixture/proofs/third/Answers.antt": ANSWERS["third"] + "\n"})
-    crate = fixture(top)
-    if choose(bodies, Record(crate, top)).kept:
-        said.append("a body stands on a record of other proofs")
     return said
 
 
@@ -242,31 +276,94 @@ def fields(bodies: list[Body], size: int) -> list[tuple]:
     return [(it.texts, it.functions, it.edit) for it in (bodies * size)[:size]]
 
 
+# A library below a crate, with a function that only it can call, a trait and an impl of it.
+UNDER = f"""\
+{SOURCE}
+fn hidden(k: u32) -> u32
+    ensures {{ result ≡ k + 7 }}
+{{
+    k + 7
+}}
+
+pub trait Counts {{
+    fn count(&self) -> u32
+        ensures {{ result ≡ 5 }};
+}}
+
+impl Counts for u32 {{
+    fn count(&self) -> u32
+        ensures five {{ result ≡ 5 }}
+    {{
+        hidden(5) - 7
+    }}
+}}
+"""
+OWN, BELOW = "crates/fixture", "crates/under"
+COMMENT = "-- a comment\n"
+# A file, an old and a new text of it, and of which functions a body has to be tried anew then. A spec cites `patient`.
+CHANGES = (
+    (f"{BELOW}/src/lib.rt", "    x + 1\n", "    1 + x\n", ""),
+    (f"{BELOW}/src/lib.rt", "pub fn same", "// a comment\npub fn same", ""),
+    (f"{BELOW}/src/lib.rt", "k + 7 }", "7 + k }", ""),
+    (f"{BELOW}/src/lib.rt", "fn hidden(k: u32)", "pub(crate) fn shown(k: u32)", ""),
+    (f"{BELOW}/src/lib.rt", UNDER[UNDER.index("fn hidden") : UNDER.index("pub trait Counts")], "", ""),
+    (f"{BELOW}/src/lib.rt", "fn hidden", "pub fn hidden", ""),
+    (f"{BELOW}/src/lib.rt", "fn hidden", "fn next", ""),
+    (f"{BELOW}/proofs/Lib.antt", COMMENT, "mod More\n", ""),
+    (f"{BELOW}/src/lib.rt", "x + 1 < 100", "x + 1 < 99", "third"),
+    (f"{BELOW}/src/lib.rt", "x < 100", "x < 99", "next third"),
+    (f"{BELOW}/src/lib.rt", "pub fn patient<R: Wait>(_rt", "pub fn patient<R: Wait>(rt", "next third"),
+    (f"{BELOW}/src/lib.rt", "fn hidden", "pub fn next", "next third"),
+    (f"{BELOW}/src/lib.rt", "fn hidden", "const fn hidden", "next third"),
+    (f"{BELOW}/src/lib.rt", "pub fn same", "pub const MOST: u32 = 4;\n\npub fn same", "next third"),
+    (f"{BELOW}/src/lib.rt", "-> u32\n        ensures {", "-> u32\n        ensures five {", "next third"),
+    (f"{BELOW}/src/lib.rt", "ensures five", "ensures value", "next third"),
+    (f"{BELOW}/specs/Lib.antt", COMMENT, "pub mod More\n", "next third"),
+    (f"{OWN}/src/lib.rt", "    let before = next(x);\n    next(before)\n", "    x + 2\n", ""),
+    (f"{OWN}/src/lib.rt", "pub fn same", "// a comment\npub fn same", ""),
+    (f"{OWN}/src/lib.rt", "pub fn same", "fn hidden() {\n}\n\npub fn same", ""),
+    (f"{OWN}/src/lib.rt", "ensures { result ≡ k }", "ensures { k ≡ result }", ""),
+    (f"{OWN}/src/lib.rt", "    x + 1\n", "    x + 1 + 0\n", "next"),
+    (f"{OWN}/src/lib.rt", "x + 1 < 100", "x + 1 < 99", "third"),
+    (f"{OWN}/src/lib.rt", "x < 100", "x < 99", "next third"),
+    (f"{OWN}/src/lib.rt", "pub fn patient<R: Wait>(_rt", "pub fn patient<R: Wait>(rt", "next third"),
+    (f"{OWN}/src/lib.rt", "pub trait", "pub(crate) trait", "next third"),
+    (f"{OWN}/specs/Lib.antt", COMMENT, "pub mod More\n", "next third"),
+    (f"{OWN}/proofs/Lib.antt", COMMENT, "mod More\n", "next third"),
+    (f"{OWN}/proofs/passed_on/Answers.antt", "c.same.ensures", "search", ""),
+    (f"{OWN}/proofs/third/Answers.antt", "search rules", "search", "third"),
+    (f"{OWN}/proofs/fn/third/call/Answers.antt", COMMENT, "mod More\n", "third"),
+)
+
+
 def try_worlds(top: str) -> list[str]:
-    """Changes a library below a crate, and looks when the crate's world is another."""
-    texts = {"crates.txt": "under:\nfixture: under\n", "crates/under/src/lib.rt": SOURCE}
-    texts |= {"crates/fixture/src/lib.rt": SOURCE, "crates/under/specs/Lib.antt": "-- a comment\n"}
-    texts |= {"crates/under/proofs/Lib.antt": "-- a comment\n"}
+    """Changes a crate and a library below it, and looks which wrong bodies another record is asked for."""
+    texts = {"crates.txt": "under:\nfixture: under\n", f"{BELOW}/src/lib.rt": UNDER, f"{OWN}/src/lib.rt": SOURCE}
+    texts |= {f"{OWN}/proofs/{name}/Answers.antt": text for name, text in ANSWERS.items()}
+    texts |= {path: COMMENT for path, old, _, _ in CHANGES if old == COMMENT}
+    texts |= {f"{OWN}/specs/Citing.antt": "use Rattle.fixture.specs.contracts.patient as asked\n"}
+    texts |= {f"{OWN}/specs/Same.antt": "same : ℕ → ℕ\n"}
     write_files(top, texts)
-    before, said = world_of(fixture(top)), []
-    source = "crates/under/src/lib.rt"
-    for path, text, is_same in (
-        (source, SOURCE.replace("    x + 1\n", "    1 + x\n"), True),
-        (source, SOURCE.replace("pub fn same", "// a comment\npub fn same"), True),
-        ("crates/under/proofs/Lib.antt", "mod More\n", True),
-        (source, SOURCE.replace("x < 100", "x < 99"), False),
-        (source, SOURCE.replace("pub fn same", "pub const MOST: u32 = 4;\n\npub fn same"), False),
-        ("crates/under/specs/Lib.antt", "pub mod More\n", False),
-        ("crates/fixture/src/lib.rt", SOURCE.replace("    x + 1\n", "    1 + x\n"), False),
-    ):
-        write_files(top, {path: text})
-        if (world_of(fixture(top)) == before) != is_same:
-            said.append(f"a change of {path} {'counts that says nothing' if is_same else 'does not count'}")
+    for name, of in ("next", "wrong"), ("third", "wrong_beside_a_proof"):
+        write_files(top, {f"{OWN}/wrong-bodies/{name}.edit": edit_text(*EDITS[of][:3])})
+    before, said = sums(top), []
+    for path, old, new, anew in CHANGES:
+        write_files(top, {path: texts[path].replace(old, new, 1)})
+        found = [name for name, of in sums(top).items() if of != before[name]]
+        if old not in texts[path] or found != anew.split():
+            said.append(f"'{new}' in {path} has {found} tried anew, and not {anew.split()}")
         write_files(top, {path: texts[path]})
     # a proof that others name counts
-    write_files(top, {"crates/fixture/proofs/Lib.antt": "use Rattle.under.proofs.Lib.{lemma}\n"})
-    before = world_of(fixture(top))
-    write_files(top, {"crates/under/proofs/Lib.antt": "mod More\n"})
-    if world_of(fixture(top)) == before:
+    write_files(top, {f"{OWN}/proofs/Lib.antt": "use Rattle.under.proofs.Lib.{lemma}\n"})
+    before = sums(top)
+    write_files(top, {f"{BELOW}/proofs/Lib.antt": "mod More\n"})
+    if any(of == before[name] for name, of in sums(top).items()):
         said.append("a change of a proof that another crate names doesn't count")
     return said
+
+
+def sums(top: str) -> dict[str, str]:
+    """Of each wrong body of the crate the sum that its record has to have."""
+    crate = fixture(top)
+    record = Record(crate, top)
+    return {it.name: record.sum(it) for it in read_bodies(crate)[0]}

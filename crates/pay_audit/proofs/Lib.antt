@@ -10,6 +10,7 @@ mod Forks
 mod ExportText
 mod Gathering
 mod Items
+mod ItemsSaid
 mod Judging
 mod Pushing
 mod Rows

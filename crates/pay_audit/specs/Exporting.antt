@@ -1,9 +1,10 @@
 -- A member's own export, as the value that is written.
 use Rattle.std.specs.Prelude.{ℕ, List, codes, map}
 use Rattle.std.specs.List.{range_with_len}
-use Rattle.serde_json.specs.Data.{Data, unsigned, number, string, array, object, member, no_members}
+use Rattle.serde_json.specs.Data.{Data, unsigned, number, string, array, object, Members, member, no_members}
 use Rattle.serde_json.specs.View.{items_of}
 use Rattle.hex.specs.Hex.{encode_lower}
+use Rattle.pay_link.specs.Genesis.{GenesisFields}
 use Rattle.pay_channel.specs.History.{list_of}
 use Rattle.pay_member.specs.Group.{group_in}
 use Rattle.pay_member.specs.Events.{events}
@@ -42,6 +43,14 @@ list_data values = array (items_of (map value_data values))
 
 abbrev pub lists_data : List (List (List ℕ)) → Data
 lists_data lists = array (items_of (map list_data lists))
+
+-- what an export says of the genesis
+abbrev pub genesis_members : GenesisFields → Members
+genesis_members g =
+    member (codes "faults") (number_data g.faults)
+    (member (codes "members") (number_data g.members)
+    (member (codes "opening") (numbers_data g.opening)
+    no_members))
 
 unfoldable pub export_data : ExportFields → Data
 export_data e =

@@ -1,11 +1,12 @@
 //! A member's own export.
 
-ghost use Rattle.std.specs.Prelude.{◌≡◌, IfOk, Ok};
+ghost use Rattle.std.specs.Prelude.{◌≡◌, [], IfOk, Ok, OnOk};
 ghost use Rattle.std.specs.String.{string_bytes};
-ghost use Rattle.serde_json.specs.View.{view};
+ghost use Rattle.serde_json.specs.Data.{object};
+ghost use Rattle.serde_json.specs.View.{members_view, view};
 ghost use Rattle.serde_json.specs.Written.{compact_text};
 ghost use Rattle.pay_audit.specs.Export.{export_in};
-ghost use Rattle.pay_audit.specs.Exporting.{export_data, exported, list_data};
+ghost use Rattle.pay_audit.specs.Exporting.{export_data, exported, genesis_members, list_data};
 ghost use Rattle.pay_audit.specs.Exporting.{lists_data, numbers_data, value_data};
 
 use crate::laws::export_reads_back;
@@ -17,31 +18,21 @@ use pay_echo::Instance;
 use pay_link::Genesis;
 use pay_member::Member;
 use pay_member::laws::{book_of_events, legal_histories};
-use serde_json::{Value, json};
+use serde_json::{Map, Value, put};
 use std::alloc::{AllocError, Global};
 
 /// What a member shows of its own without its keys: what the ledger began with, each account's list of values in
 /// hexadecimal, how many entries of it are settled, and all balances.
-#[tactic(auto, unfolding(crate::specs::Exporting::export_data))]
 pub fn export<I: Instance + Drop, B: Settle + Drop>(
     alloc: Global,
     member: &Member<I, B>,
 ) -> Result<Value, AllocError>
     ensures { IfOk result (λ value. view value ≡ export_data (exported member.now)) }
 {
-    let genesis = member.genesis();
-    let (front, balances) = standing_of(alloc, member)?;
-    let lists = lists_of(alloc, member)?;
-    let opening = opening_of(alloc, genesis)?;
-    json!(in alloc; {
-        "balances": balances,
-        "faults": u64::from(genesis.faults()),
-        "front": front,
-        "lists": lists,
-        "member": u64::from(member.keys().own()),
-        "members": u64::from(genesis.members()),
-        "opening": opening
-    })
+    let mut parts = Map::new(alloc);
+    put_genesis(alloc, &mut parts, member.genesis())?;
+    put_book(alloc, &mut parts, member)?;
+    Ok(Value::Object(parts))
 }
 
 /// The text of a member's own export, without spaces. `read_export` reads it as that export.
@@ -67,6 +58,37 @@ pub fn export_text<I: Instance + Drop, B: Settle + Drop>(
     Ok(text)
 }
 
+/// Puts what the ledger began with into an object that has nothing yet.
+fn put_genesis(
+    alloc: Global,
+    parts: &mut Map<String, Value>,
+    genesis: &Genesis,
+) -> Result<(), AllocError>
+    requires { parts.old.entries ≡ [] }
+    ensures { OnOk result (members_view parts.new.entries ≡ genesis_members genesis.now) }
+{
+    put(parts, alloc, "faults", Value::from(genesis.faults()))?;
+    put(parts, alloc, "members", Value::from(genesis.members()))?;
+    put(parts, alloc, "opening", opening_of(alloc, genesis)?)
+}
+
+/// Puts whose export it is, and what its book says, into an object that has what the ledger began with.
+#[tactic(auto, unfolding(crate::specs::Exporting::export_data))]
+fn put_book<I: Instance + Drop, B: Settle + Drop>(
+    alloc: Global,
+    parts: &mut Map<String, Value>,
+    member: &Member<I, B>,
+) -> Result<(), AllocError>
+    requires { members_view parts.old.entries ≡ genesis_members member.now.genesis }
+    ensures { OnOk result
+        (object (members_view parts.new.entries) ≡ export_data (exported member.now)) }
+{
+    put(parts, alloc, "balances", balances_of(alloc, member)?)?;
+    put(parts, alloc, "front", front_of(alloc, member)?)?;
+    put(parts, alloc, "lists", lists_of(alloc, member)?)?;
+    put(parts, alloc, "member", Value::from(member.keys().own()))
+}
+
 fn opening_of(alloc: Global, genesis: &Genesis) -> Result<Value, AllocError>
     ensures { IfOk result (λ value. view value ≡ numbers_data genesis.now.opening) }
 {
@@ -77,24 +99,33 @@ fn opening_of(alloc: Global, genesis: &Genesis) -> Result<Value, AllocError>
     Ok(Value::Array(numbers))
 }
 
-/// How many entries are settled of each account, and all balances.
-fn standing_of<I: Instance + Drop, B: Settle + Drop>(
+/// How many entries are settled of each account.
+fn front_of<I: Instance + Drop, B: Settle + Drop>(
     alloc: Global,
     member: &Member<I, B>,
-) -> Result<(Value, Value), AllocError>
-    ensures front { IfOk result (λ standing.
-        view standing.0 ≡ numbers_data (exported member.now).front) }
-    ensures balances { IfOk result (λ standing.
-        view standing.1 ≡ numbers_data (exported member.now).balances) }
+) -> Result<Value, AllocError>
+    ensures { IfOk result (λ value. view value ≡ numbers_data (exported member.now).front) }
 {
     book_of_events();
     let mut front = Vec::new(alloc);
-    let mut balances = Vec::new(alloc);
     for account in 0..member.genesis().members() {
         front.push(Value::from(u64::from(member.front(account))))?;
+    }
+    Ok(Value::Array(front))
+}
+
+fn balances_of<I: Instance + Drop, B: Settle + Drop>(
+    alloc: Global,
+    member: &Member<I, B>,
+) -> Result<Value, AllocError>
+    ensures { IfOk result (λ value. view value ≡ numbers_data (exported member.now).balances) }
+{
+    book_of_events();
+    let mut balances = Vec::new(alloc);
+    for account in 0..member.genesis().members() {
         balances.push(Value::from(member.balance(account)))?;
     }
-    Ok((Value::Array(front), Value::Array(balances)))
+    Ok(Value::Array(balances))
 }
 
 fn lists_of<I: Instance + Drop, B: Settle + Drop>(

@@ -3,7 +3,7 @@
 ghost use Rattle.std.specs.Prelude.{◌≡◌, ◌≤◌, length, IfOk, IfSome, option_and_then, option_map};
 ghost use Rattle.pay_frame.specs.declared.limits.TheConstants.{SEQS};
 ghost use Rattle.serde_json.specs.Find.{as_array};
-ghost use Rattle.serde_json.specs.View.{view};
+ghost use Rattle.serde_json.specs.View.{items_view, view};
 ghost use Rattle.pay_link.specs.Files.{genesis_said};
 ghost use Rattle.pay_audit.specs.Export as export;
 
@@ -115,6 +115,15 @@ fn lists_in(alloc: Global, value: &Value) -> Result<Option<Vec<OwnerList>>, Allo
     let Some(items) = value.get("lists").and_then(Value::as_array) else {
         return Ok(None);
     };
+    lists_said(alloc, items.as_slice())
+}
+
+/// All lists, if each item says one.
+fn lists_said(alloc: Global, items: &[Value]) -> Result<Option<Vec<OwnerList>>, AllocError>
+    ensures value { IfOk result (λ lists.
+        option_map (λ l. l.items) lists ≡ export.lists_said (items_view items.now)) }
+    ensures short { IfOk result (λ lists. IfSome lists (λ l. export.AreShort l.items)) }
+{
     let mut lists = Vec::new(alloc);
     for item in items {
         let Some(list) = list_in(alloc, item)? else {
@@ -147,6 +156,14 @@ fn values_in(alloc: Global, value: &Value) -> Result<Option<Vec<Bytes>>, AllocEr
     let Some(items) = value.as_array() else {
         return Ok(None);
     };
+    values_said(alloc, items.as_slice())
+}
+
+/// All values, if each item says one.
+fn values_said(alloc: Global, items: &[Value]) -> Result<Option<Vec<Bytes>>, AllocError>
+    ensures { IfOk result (λ values.
+        option_map (λ v. v.items) values ≡ export.values_said (items_view items.now)) }
+{
     let mut values = Vec::new(alloc);
     for item in items {
         let Some(value) = value_said(alloc, item)? else {

@@ -1,6 +1,6 @@
 //! A history taken once more, entry by entry.
 
-ghost use Rattle.std.specs.Prelude.{◌≡◌, ◌↔◌, IfErr, IfOk, IsTrue, OnOk};
+ghost use Rattle.std.specs.Prelude.{◌≡◌, ◌↔◌, [], IfErr, IfOk, IsTrue, OnOk};
 ghost use Rattle.std.specs.Bool.{OnTrue};
 ghost use Rattle.pay_link.specs.Keys.{IsKeysOf};
 ghost use Rattle.pay_member.specs.Events.{events};
@@ -29,14 +29,43 @@ pub fn replay<I: Instance + Drop, B: Settle + Drop>(
     ensures legal { OnOk result (Legal genesis.now keys.now history.now) }
     ensures illegal { IfErr result (IsCause genesis.now keys.now history.now) }
 {
+    let mut member = fresh(alloc, genesis, keys)?;
+    take_all_again(alloc, &mut member, history)?;
+    Ok(member)
+}
+
+/// A member that has no history yet.
+fn fresh<I: Instance + Drop, B: Settle + Drop>(
+    alloc: Global,
+    genesis: &Genesis,
+    keys: &Keys,
+) -> Result<Member<I, B>, AllocError>
+    requires { IsKeysOf genesis.now keys.now }
+    ensures { IfOk result (λ member. member
+        ≡ record { genesis = genesis.now; keys = keys.now; history = [] }) }
+{
+    let genesis = genesis.copy(alloc)?;
+    Member::new(alloc, genesis, keys.copy(alloc)?)
+}
+
+/// Takes entries once more, up to the first that isn't the one owed, after which the member isn't to be used further.
+fn take_all_again<I: Instance + Drop, B: Settle + Drop>(
+    alloc: Global,
+    member: &mut Member<I, B>,
+    entries: &[HistoryEntry],
+) -> Result<(), ReplayFault>
+    requires { member.old.history ≡ [] }
+    ensures taken { OnOk result (member.new ≡ record member.old { history = entries.now }) }
+    ensures legal { OnOk result (Legal member.old.genesis member.old.keys entries.now) }
+    ensures illegal { IfErr result (IsCause member.old.genesis member.old.keys entries.now) }
+{
     legal_histories();
-    let mut member = Member::new(alloc, genesis.copy(alloc)?, keys.copy(alloc)?)?;
-    for (place, entry) in history.iter().enumerate() {
-        if !take_again(alloc, &mut member, entry)? {
+    for (place, entry) in entries.iter().enumerate() {
+        if !take_again(alloc, member, entry)? {
             return Err(ReplayFault::Illegal(place));
         }
     }
-    Ok(member)
+    Ok(())
 }
 
 /// Takes an entry once more, and says whether it is the one owed. If it isn't, the member isn't to be used further.

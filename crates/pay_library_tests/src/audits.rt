@@ -1,7 +1,7 @@
 //! Lists of exports that are audited list by list, and each two by themselves.
 
 use pay_audit::{Export, Verdict, audit, audit_by_pairs, read_export};
-use std::alloc::Global;
+use std::alloc::{AllocError, Global};
 use std::test::Fail;
 
 /// Nothing is paid.
@@ -85,20 +85,30 @@ const ROWS: [(&[&str], Verdict); 8] = [
     ),
 ];
 
-fn exports_of(alloc: Global, texts: &[&str]) -> Result<Vec<Export>, Fail> {
-    let mut exports = Vec::new(alloc);
+// Reads these texts, each behind the exports of those before it.
+fn read_each(alloc: Global, texts: &[&str], exports: &mut Vec<Export>) -> Result<(), Fail> {
     for text in texts {
         exports.push(read_export(alloc, text.as_bytes())?)?;
     }
-    Ok(exports)
+    Ok(())
+}
+
+// What is said of exports list by list, and of each two by themselves.
+fn verdicts_on(alloc: Global, exports: &[Export]) -> Result<(Verdict, Verdict), AllocError> {
+    Ok((audit(alloc, exports)?, audit_by_pairs(alloc, exports)?))
+}
+
+// The same of the exports that these texts are.
+fn verdicts(alloc: Global, texts: &[&str]) -> Result<(Verdict, Verdict), Fail> {
+    let mut exports = Vec::new(alloc);
+    read_each(alloc, texts, &mut exports)?;
+    Ok(verdicts_on(alloc, exports.as_slice())?)
 }
 
 #[test]
 fn audited_in_both_ways(rt: HostRuntime) -> Result<(), Fail> {
     for (texts, verdict) in &ROWS {
-        let exports = exports_of(rt.alloc(), texts)?;
-        assert_eq!(rt; audit(rt.alloc(), exports.as_slice())?, *verdict);
-        assert_eq!(rt; audit_by_pairs(rt.alloc(), exports.as_slice())?, *verdict);
+        assert_eq!(rt; verdicts(rt.alloc(), texts)?, (*verdict, *verdict));
     }
     Ok(())
 }

@@ -311,22 +311,33 @@ fn fresh(alloc: Global, own: u16) -> Result<Tried, Fail> {
     Ok(Member::new(alloc, genesis, keys)?)
 }
 
-/// The number that a value gets, which is asked for once more where memory is refused.
-fn asked(alloc: Global, member: &mut Tried, value: &str) -> Result<u32, Fail> {
-    let again = Bytes::new(hex::decode(alloc, value)?);
-    match member.ask(alloc, 0, Bytes::new(hex::decode(alloc, value)?)) {
-        Err(AskFault::Memory) => Ok(member.ask(alloc, 0, again)?),
-        first => Ok(first?),
+/// The number that a value gets, of which one more is asked for where memory is refused.
+fn asked(alloc: Global, member: &mut Tried, value: Bytes, again: Bytes) -> Result<u32, AskFault> {
+    match member.ask(alloc, 0, value) {
+        Err(AskFault::Memory) => member.ask(alloc, 0, again),
+        first => first,
     }
 }
 
+/// The same of a value in hexadecimal.
+fn asked_for(alloc: Global, member: &mut Tried, value: &str) -> Result<u32, Fail> {
+    let again = Bytes::new(hex::decode(alloc, value)?);
+    let value = Bytes::new(hex::decode(alloc, value)?);
+    Ok(asked(alloc, member, value, again)?)
+}
+
 /// What comes of bytes, which are brought once more where memory is refused.
+fn taken(alloc: Global, member: &mut Tried, bytes: &[u8]) -> Result<Brought, AllocError> {
+    match member.bring(alloc, 0, &HmacSha256, bytes) {
+        Ok(brought) => Ok(brought),
+        Err(_) => member.bring(alloc, 0, &HmacSha256, bytes),
+    }
+}
+
+/// The same of bytes in hexadecimal.
 fn brought(alloc: Global, member: &mut Tried, bytes: &str) -> Result<Brought, Fail> {
     let bytes = hex::decode(alloc, bytes)?;
-    match member.bring(alloc, 0, &HmacSha256, bytes.as_slice()) {
-        Ok(brought) => Ok(brought),
-        Err(_) => Ok(member.bring(alloc, 0, &HmacSha256, bytes.as_slice())?),
-    }
+    Ok(taken(alloc, member, bytes.as_slice())?)
 }
 
 /// Whether an answer has this WANT, or none where that is empty.
@@ -342,7 +353,7 @@ impl Step {
     /// Takes the step, and says whether that came of it.
     fn is_met(&self, alloc: Global, member: &mut Tried) -> Result<bool, Fail> {
         match self {
-            Step::Ask(value, seq) => Ok(asked(alloc, member, value)? == *seq),
+            Step::Ask(value, seq) => Ok(asked_for(alloc, member, value)? == *seq),
             Step::Bring(bytes, outcome, want) => {
                 let brought = brought(alloc, member, bytes)?;
                 Ok(brought.outcome == *outcome && is_wanted(alloc, &brought, want)?)
@@ -360,41 +371,56 @@ impl Step {
 }
 
 /// The text of a member's export, which is made once more where memory is refused.
-fn text_of(alloc: Global, member: &Tried) -> Result<String, AllocError> {
+fn text_of(alloc: Global, member: &Tried) -> Result<String, ReplayFault> {
     match export_text(alloc, member) {
         Ok(text) => Ok(text),
-        Err(_) => export_text(alloc, member),
+        Err(_) => Ok(export_text(alloc, member)?),
     }
 }
 
-/// The text of the member that a history of this one is replayed to, once more where memory is refused.
-fn replayed(
+/// The member that a history of this one is replayed to, once more where memory is refused.
+fn replayed(alloc: Global, member: &Tried, history: &[HistoryEntry]) -> Result<Tried, ReplayFault> {
+    match replay(alloc, member.genesis(), member.keys(), history) {
+        Err(ReplayFault::Memory) => replay(alloc, member.genesis(), member.keys(), history),
+        first => first,
+    }
+}
+
+/// That member's text.
+fn replayed_text(
     alloc: Global,
     member: &Tried,
     history: &[HistoryEntry],
 ) -> Result<String, ReplayFault> {
-    let first: Result<Tried, ReplayFault> = replay(alloc, member.genesis(), member.keys(), history);
-    let last = match first {
-        Err(ReplayFault::Memory) => replay(alloc, member.genesis(), member.keys(), history),
-        first => first,
-    };
-    Ok(text_of(alloc, &last?)?)
+    match replayed(alloc, member, history) {
+        Ok(again) => text_of(alloc, &again),
+        Err(fault) => Err(fault),
+    }
 }
 
-/// A history that says otherwise what followed from its first entry.
-fn with_another_reply(
+/// A reply that says otherwise what followed.
+fn another(reply: Reply) -> Reply {
+    match reply {
+        Reply::Took(took) => Reply::Took(Took {
+            echo: !took.echo,
+            ..took
+        }),
+        Reply::Asked(_) => Reply::Asked(7),
+        reply => reply,
+    }
+}
+
+/// Copies a history, with another reply to its first entry.
+fn copy_changed(
     alloc: Global,
     history: &[HistoryEntry],
-) -> Result<Vec<HistoryEntry>, AllocError> {
-    let mut changed = Vec::new(alloc);
+    changed: &mut Vec<HistoryEntry>,
+) -> Result<(), AllocError> {
     for (place, entry) in history.iter().enumerate() {
-        let reply = match entry.reply {
-            Reply::Took(took) if place == 0 => Reply::Took(Took {
-                echo: !took.echo,
-                ..took
-            }),
-            Reply::Asked(_) if place == 0 => Reply::Asked(7),
-            reply => reply,
+        let reply = if place == 0 {
+            another(entry.reply)
+        } else {
+            entry.reply
         };
         changed.push(HistoryEntry {
             stamp: entry.stamp,
@@ -402,18 +428,26 @@ fn with_another_reply(
             reply,
         })?;
     }
-    Ok(changed)
+    Ok(())
+}
+
+/// Why a member's history with that reply isn't replayed, if it isn't.
+fn fault_of_changed(alloc: Global, member: &Tried) -> Result<Option<ReplayFault>, AllocError> {
+    let mut changed = Vec::new(alloc);
+    copy_changed(alloc, member.history(), &mut changed)?;
+    Ok(replayed_text(alloc, member, changed.as_slice()).err())
 }
 
 /// The row's export, if it is the member's and that of whom its history is replayed to.
 fn export_of(rt: &(impl Abort + AllocGlobal), row: &Row, member: &Tried) -> Result<Export, Fail> {
     let (alloc, name) = (rt.alloc(), row.name);
     assert!(rt; text_of(alloc, member)?.as_str() == row.export, "{name}");
-    let again = replayed(alloc, member, member.history())?;
-    assert!(rt; again.as_str() == row.export, "{name}, replayed");
-    let changed = with_another_reply(alloc, member.history())?;
+    assert!(rt;
+        replayed_text(alloc, member, member.history())?.as_str() == row.export,
+        "{name}, replayed"
+    );
     assert_eq!(rt;
-        replayed(alloc, member, changed.as_slice()).err(),
+        fault_of_changed(alloc, member)?,
         Some(ReplayFault::Illegal(0)),
         "{name}"
     );
@@ -428,23 +462,42 @@ fn take_steps(rt: &(impl Abort + AllocGlobal), row: &Row, member: &mut Tried) ->
     Ok(())
 }
 
+fn played_by(
+    rt: &(impl Abort + AllocGlobal),
+    row: &Row,
+    member: &mut Tried,
+) -> Result<Export, Fail> {
+    take_steps(rt, row, member)?;
+    export_of(rt, row, member)
+}
+
 fn played(rt: &(impl Abort + AllocGlobal), row: &Row) -> Result<Export, Fail> {
     let mut member = fresh(rt.alloc(), row.own)?;
-    take_steps(rt, row, &mut member)?;
-    export_of(rt, row, &member)
+    played_by(rt, row, &mut member)
+}
+
+// Plays each row, and puts its export on a list.
+fn play_each(
+    rt: &(impl Abort + AllocGlobal),
+    rows: &[Row],
+    exports: &mut Vec<Export>,
+) -> Result<(), Fail> {
+    for row in rows {
+        exports.push(played(rt, row)?)?;
+    }
+    Ok(())
 }
 
 fn verdict_of(rt: &(impl Abort + AllocGlobal), rows: &[Row]) -> Result<Verdict, Fail> {
     let mut exports = Vec::new(rt.alloc());
-    for row in rows {
-        exports.push(played(rt, row)?)?;
-    }
+    play_each(rt, rows, &mut exports)?;
     Ok(audit(rt.alloc(), exports.as_slice())?)
 }
 
 #[test]
 fn members_answer_and_export(rt: HostRuntime) -> Result<(), Fail> {
-    assert_eq!(rt; verdict_of(&rt, &ALONE)?, Verdict::Clean);
-    assert_eq!(rt; verdict_of(&rt, &SPLIT)?, Verdict::Clean);
+    for rows in [&ALONE, &SPLIT] {
+        assert_eq!(rt; verdict_of(&rt, rows)?, Verdict::Clean);
+    }
     Ok(())
 }

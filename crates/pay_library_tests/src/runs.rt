@@ -1,10 +1,13 @@
 //! Lists of events that are run in one go.
 
+ghost use Rattle.pay_world.specs.Liars.{AreLiarsOf};
+ghost use Rattle.pay_world.specs.World.{AreKeysOf};
+
 use pay_book::PlainBook;
 use pay_echo::PlainInstance;
 use pay_frame::Bytes;
 use pay_hmac::HmacSha256;
-use pay_link::Genesis;
+use pay_link::{Genesis, Keys};
 use pay_world::{Liars, World, WorldEvent, WorldFault, all_taken, group_test_keys, run_world};
 use std::alloc::Global;
 use std::test::Fail;
@@ -172,11 +175,17 @@ fn bytes_of(alloc: Global, text: &str) -> Result<Bytes, Fail> {
     Ok(Bytes::new(hex::decode(alloc, text)?))
 }
 
-fn events_of(alloc: Global, row: &Row) -> Result<Vec<WorldEvent>, Fail> {
-    let mut events = Vec::new(alloc);
+// Puts a row's events on a list.
+fn list_events(alloc: Global, row: &Row, events: &mut Vec<WorldEvent>) -> Result<(), Fail> {
     for deed in row.deeds.iter().chain(row.more) {
         events.push(event_of(alloc, deed)?)?;
     }
+    Ok(())
+}
+
+fn events_of(alloc: Global, row: &Row) -> Result<Vec<WorldEvent>, Fail> {
+    let mut events = Vec::new(alloc);
+    list_events(alloc, row, &mut events)?;
     Ok(events)
 }
 
@@ -188,36 +197,48 @@ fn shown(world: &World<PlainInstance, PlainBook>) -> Shown {
     (balance, world.may_pass(0, 1, 0), all_taken(world))
 }
 
-/// What comes of these. Where memory is refused to the run, it is made once more.
-fn run(alloc: Global, row: &Row) -> Result<Result<Shown, WorldFault>, Fail> {
+// What comes of these.
+fn run_among(
+    alloc: Global,
+    genesis: &Genesis,
+    keys: &[Keys],
+    liars: &Liars,
+    events: Vec<WorldEvent>,
+) -> Result<Shown, WorldFault>
+    requires keys { AreKeysOf genesis.now keys.now }
+    requires liars { AreLiarsOf genesis.now liars.now }
+{
+    match run_world(alloc, &HmacSha256, genesis, keys, liars, events) {
+        Ok(world) => Ok(shown(&world)),
+        Err(fault) => Err(fault),
+    }
+}
+
+// The same of a row's events. Where memory is refused to the run, it is made once more.
+fn run_at_last(
+    alloc: Global,
+    genesis: &Genesis,
+    keys: &[Keys],
+    liars: &Liars,
+    row: &Row,
+) -> Result<Result<Shown, WorldFault>, Fail>
+    requires keys { AreKeysOf genesis.now keys.now }
+    requires liars { AreLiarsOf genesis.now liars.now }
+{
     let (events, again) = (events_of(alloc, row)?, events_of(alloc, row)?);
+    Ok(match run_among(alloc, genesis, keys, liars, events) {
+        Err(WorldFault::Memory) => run_among(alloc, genesis, keys, liars, again),
+        first => first,
+    })
+}
+
+/// The same among the members of its group.
+fn run(alloc: Global, row: &Row) -> Result<Result<Shown, WorldFault>, Fail> {
     let (faults, opening, liars) = row.group;
     let genesis = Genesis::new(alloc, opening.len() as u64, faults, opening)?;
     let keys = group_test_keys(alloc, &genesis)?;
     let liars = Liars::new(alloc, &genesis, liars)?;
-    let first = run_world(
-        alloc,
-        &HmacSha256,
-        &genesis,
-        keys.as_slice(),
-        &liars,
-        events,
-    );
-    let last = match first {
-        Err(WorldFault::Memory) => run_world(
-            alloc,
-            &HmacSha256,
-            &genesis,
-            keys.as_slice(),
-            &liars,
-            again,
-        ),
-        first => first,
-    };
-    Ok(match last {
-        Ok(world) => Ok(shown(&world)),
-        Err(fault) => Err(fault),
-    })
+    run_at_last(alloc, &genesis, keys.as_slice(), &liars, row)
 }
 
 #[test]

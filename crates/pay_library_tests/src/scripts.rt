@@ -330,8 +330,8 @@ member 4 fronts 0 0 0 0 0 1 0 balances 7 5 0 0 0 4 0
     ),
 ];
 
-fn spelled(alloc: Global, script: &str) -> Result<Vec<u8>, AllocError> {
-    let mut bytes = Vec::new(alloc);
+// Writes a script, with long values in place of its stars.
+fn spell(script: &str, bytes: &mut Vec<u8>) -> Result<(), AllocError> {
     for byte in script.as_bytes() {
         if *byte == b'*' {
             bytes.extend_from_slice(&LONG)?;
@@ -339,7 +339,7 @@ fn spelled(alloc: Global, script: &str) -> Result<Vec<u8>, AllocError> {
             bytes.push(*byte)?;
         }
     }
-    Ok(bytes)
+    Ok(())
 }
 
 // Whether a script prints this among members of this form, and how it ends.
@@ -357,14 +357,24 @@ fn printed<I: Instance + Drop>(
     Ok((bytes.as_slice() == text.as_bytes(), ended))
 }
 
+// The same of a script by its text, among members of each form.
+fn printed_in_both(alloc: Global, script: &str, text: &str) -> Result<[(bool, SimEnd); 2], Fail> {
+    let mut bytes = Vec::new(alloc);
+    spell(script, &mut bytes)?;
+    Ok([
+        printed::<MaskInstance>(alloc, bytes.as_slice(), text)?,
+        printed::<PlainInstance>(alloc, bytes.as_slice(), text)?,
+    ])
+}
+
 #[test]
 fn scripts_print_the_same_in_either_form(rt: HostRuntime) -> Result<(), Fail> {
     for (place, (script, text, end)) in ROWS.iter().enumerate() {
-        let script = spelled(rt.alloc(), script)?;
-        let by_masks = printed::<MaskInstance>(rt.alloc(), script.as_slice(), text)?;
-        assert_eq!(rt; by_masks, (true, *end), "row {place}, by masks");
-        let by_lists = printed::<PlainInstance>(rt.alloc(), script.as_slice(), text)?;
-        assert_eq!(rt; by_lists, (true, *end), "row {place}, by lists");
+        assert_eq!(rt;
+            printed_in_both(rt.alloc(), script, text)?,
+            [(true, *end); 2],
+            "row {place}, by masks and by lists"
+        );
     }
     Ok(())
 }

@@ -1,6 +1,7 @@
 //! Tags that others computed.
 
 use pay_hmac::mac;
+use std::alloc::Global;
 use std::test::Fail;
 
 struct Case {
@@ -116,11 +117,16 @@ const COMPUTED: [Case; 12] = [
     },
 ];
 
+// Whether the tag that is computed begins as a case says.
+fn is_tagged(alloc: Global, case: &Case) -> Result<bool, Fail> {
+    let tag = hex::encode(alloc, mac(case.key, case.text).as_slice())?;
+    Ok(tag.as_str().starts_with(case.tag))
+}
+
 #[test]
 fn tags_are_those_of_others(rt: HostRuntime) -> Result<(), Fail> {
     for case in PUBLISHED.iter().chain(&COMPUTED) {
-        let tag = hex::encode(rt.alloc(), mac(case.key, case.text).as_slice())?;
-        assert!(rt; tag.as_str().starts_with(case.tag), "{}", case.tag);
+        assert!(rt; is_tagged(rt.alloc(), case)?, "{}", case.tag);
     }
     Ok(())
 }

@@ -99,17 +99,51 @@ where
         → slice_get ports.now member.keys.own ≡ Some port) }
     ensures kept { IfErr result (λ fault. fault ≢ Close Memory) }
 {
-    let own = member.keys().own();
-    let members = member.keys().members();
-    let port = ports.port(own);
+    let port = ports.port(member.keys().own());
     let Ok(listening) = Listening::on(rt, port) else {
         return Err(NodeFault::Port(port));
     };
+    run_listening(
+        rt, alloc, member, tagger, ports, dials, ahead, onlooker, &listening, reader, writer,
+    )
+}
+
+// The same on a port that it has.
+fn run_listening<H, I, B, T, O, In, Out>(
+    rt: &H,
+    alloc: Global,
+    member: Member<I, B>,
+    tagger: &T,
+    ports: &Ports,
+    dials: Dials,
+    ahead: Ahead,
+    onlooker: &O,
+    listening: &Listening,
+    reader: &mut In,
+    writer: &mut Out,
+) -> Result<(Member<I, B>, Receipts), NodeFault>
+where
+    H: Threads + Wait + Clock + Net<Listener = TcpListener, Stream = TcpStream> + Sync,
+    I: Instance + Drop + Send,
+    B: Settle + Drop + Send,
+    T: Tagger + Sync,
+    O: Onlooker + Sync,
+    In: Input,
+    Out: Output,
+    requires fresh { member.history ≡ [] }
+    ensures own { IfOk result (λ ended. IsOwn (node_of member) ended.0) }
+    ensures closed { IfOk result (λ ended. ended.1 ≡ BorneOut → IsClosed (node_of member) ended.0
+        (In.remaining reader.old) (In.remaining reader.new)
+        (Out.contents writer.old) (Out.contents writer.new)) }
+    ensures port { IfErr result (λ fault. (port : ℕ) → NamesPort fault port → ⊥) }
+    ensures kept { IfErr result (λ fault. fault ≢ Close Memory) }
+{
+    let members = member.keys().members();
     let Ok((node, seats)) = Node::new(alloc, member, 2 * members - 1) else {
         return Err(NodeFault::Engine(StreamFault::Memory));
     };
     let seats = run_threads(
-        rt, alloc, &node, tagger, ports, dials, ahead, onlooker, &listening, seats, reader, writer,
+        rt, alloc, &node, tagger, ports, dials, ahead, onlooker, listening, seats, reader, writer,
     )?;
     closed(alloc, node, seats.as_slice())
 }
@@ -145,12 +179,11 @@ where
     ensures port { IfErr result (λ fault. (port : ℕ) → NamesPort fault port → ⊥) }
     ensures kept { IfErr result (λ fault. fault ≢ Close Memory) }
 {
-    let keys = node.keys();
-    let dialed = Connections::new(alloc, keys.members())?;
+    let members = node.keys().members();
+    let dialed = Connections::new(alloc, members)?;
     let guests = Guests::new(alloc, MOST_CONNECTIONS)?;
-    let seats = seated(alloc, keys.own(), keys.members(), seats)?;
     let stop = AtomicBool::new(false);
-    let contacts = Contacts::new(rt, alloc, onlooker, &stop, keys.members())?;
+    let contacts = Contacts::new(rt, alloc, onlooker, &stop, members)?;
     let running = Running {
         rt,
         alloc,
@@ -165,9 +198,7 @@ where
         contacts: &contacts,
         stop: &stop,
     };
-    let (seats, ended) = running.run(seats, reader, writer);
-    ended?;
-    Ok(gathered(seats)?)
+    running.run_all(seats, reader, writer)
 }
 
 // The member of a node that no thread calls any more, if it is the node's own and no receipt was found that it doesn't
@@ -200,6 +231,28 @@ where
     T: Tagger + Sync,
     O: Onlooker + Sync,
 {
+    // Gives each thread its seats, runs them, and hands all seats back.
+    fn run_all<In: Input, Out: Output>(
+        &self,
+        seats: Vec<Seat>,
+        reader: &mut In,
+        writer: &mut Out,
+    ) -> Result<Vec<Seat>, NodeFault>
+        requires fresh { AreFresh self.now.node.now.seats seats.items }
+        requires count { self.now.node.now.seats + 1 ≡ 2 * length self.now.node.now.keys.keys }
+        ensures ran { IfOk result (λ seats. HasRun self.now.node.now seats.items
+            (In.remaining reader.old) (In.remaining reader.new)
+            (Out.contents writer.old) (Out.contents writer.new)) }
+        ensures port { IfErr result (λ fault. (port : ℕ) → NamesPort fault port → ⊥) }
+        ensures kept { IfErr result (λ fault. fault ≢ Close Memory) }
+    {
+        let keys = self.node.keys();
+        let seats = seated(self.alloc, keys.own(), keys.members(), seats)?;
+        let (seats, ended) = self.run(seats, reader, writer);
+        ended?;
+        Ok(gathered(seats)?)
+    }
+
     // Answers the lines of the desk while the workers run. Where no thread can be made they run last, and end at once.
     fn run<In: Input, Out: Output>(
         &self,

@@ -1,7 +1,7 @@
 -- Receipts of all seats, counted while a history is replayed once.
-use Rattle.std.proofs.Common.{◌≡◌, ℕ, ◌+◌, ◌≤◌, List, ◌++◌, length, take, drop, get_or, sym, ap, ◌∙◌, subst, arith}
+use Rattle.std.proofs.Common.{◌≡◌, ℕ, ◌+◌, ◌≤◌, List, length, take, get_or, sym, ap, ◌∙◌, subst, arith}
 use Rattle.std.specs.List.{All}
-use Rattle.std.proofs.lemmas.List.{length-take-le, take_all, take_at}
+use Rattle.std.proofs.lemmas.List.{length-take-le, take_all}
 use Rattle.std.proofs.lemmas.Option.{slice_get-get_or}
 use Rattle.pay_member.specs.declared.entry.HistoryEntry.{HistoryEntry}
 use Rattle.pay_member.specs.Member.{MemberFields}
@@ -10,27 +10,21 @@ use Rattle.pay_node.specs.Receipts.{IsBorneOut}
 use Rattle.pay_node.specs.Judging.{AreAllCounted, CountedBorneOut, EachBorneOut}
 use Rattle.pay_node.specs.Seats.{SeatFields}
 
--- a slice of a whole list, written back
-written : {X : Type 0} (n : ℕ) (xs ys : List X) → n ≡ length xs → take n (xs ++ drop (length xs) ys) ≡ xs
-written n xs ys long = take_at xs (drop (length xs) ys) n (sym long)
-
 pub replayed_on :
-    (m was now after : MemberFields) (h : List HistoryEntry) (place n : ℕ) (seats : List SeatFields) (old new : List ℕ)
+    (m was now after : MemberFields) (h : List HistoryEntry) (place : ℕ) (seats : List SeatFields) (counts : List ℕ)
     → h ≡ m.history → was ≡ record m { history = take (length was.history) m.history }
     → now ≡ record was { history = take place h } → place ≤ length h → after ≡ now
-    → CountedBorneOut (record now { history = h }) seats new → length new ≡ length seats → n ≡ length new
-    → CountedBorneOut m seats (take n (new ++ drop (length new) old)) × (length (take n (new ++ drop (length new) old)) ≡ length seats)
+    → CountedBorneOut (record now { history = h }) seats counts
+    → CountedBorneOut m seats counts
     × (after ≡ record m { history = take (length after.history) m.history }) × (length after.history ≤ place + 1)
-replayed_on m was now after h place n seats old new whole begun taken within same counted many long =
-    let back = written n new old long in
+replayed_on m was now after h place seats counts whole begun taken within same counted =
     let of_h : now ≡ record m { history = take place h } = taken ∙ ap (λ (x : MemberFields). record x { history = take place h }) begun in
     let at : now ≡ record m { history = take place m.history } = of_h ∙ ap (λ (l : List HistoryEntry). record m { history = take place l }) whole in
     let here : ◌≡◌ {A = MemberFields} (record now { history = h }) m =
     ap (λ (x : MemberFields). record x { history = h }) of_h ∙ ap (λ (l : List HistoryEntry). record m { history = l }) whole
     in
     let count : length after.history ≡ place = ap (λ (x : MemberFields). length x.history) (same ∙ of_h) ∙ length-take-le place h within in (
-      subst (CountedBorneOut m seats) (sym back) (subst (λ x. CountedBorneOut x seats new) here counted),
-      ap length back ∙ many,
+      subst (λ x. CountedBorneOut x seats counts) here counted,
       same ∙ at ∙ ap (λ k. record m { history = take k m.history }) (sym count),
       omega arith,
     )

@@ -113,6 +113,7 @@ impl<I: Instance + Drop, B: Settle + Drop> Node<I, B> {
     ///
     /// Bytes that don't open, and a WANT, are answered at once, whatever memory there is: no lock is taken, and no
     /// receipt is left.
+    #[tactic(auto, using(crate::proofs::Taking::brought_ok, crate::proofs::Taking::brought_err))]
     pub fn bring<R: Wait, T: Tagger, G: Gate>(
         &self,
         rt: &R,
@@ -138,6 +139,7 @@ impl<I: Instance + Drop, B: Settle + Drop> Node<I, B> {
     }
 
     /// The same of a frame that was read already.
+    #[tactic(auto, using(crate::proofs::Taking::answered_ok, crate::proofs::Taking::answered_err))]
     pub fn bring_frame<R: Wait, T: Tagger, G: Gate>(
         &self,
         rt: &R,

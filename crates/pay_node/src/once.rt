@@ -1,6 +1,6 @@
 //! All receipts of all seats, held against a history that is replayed once.
 
-ghost use Rattle.std.specs.Prelude.{◌≡◌, ◌≤◌, IfOk, IfSome, IsTrue, length, take};
+ghost use Rattle.std.specs.Prelude.{◌≡◌, ◌≤◌, [], IfOk, IfSome, IsTrue, length, take};
 ghost use Rattle.std.specs.List.{All};
 ghost use Rattle.pay_node.specs.Judging.{AreAllCounted, CountedBorneOut, EachBorneOut};
 ghost use Rattle.pay_node.specs.Judging.{FirstBorneOut};
@@ -22,16 +22,32 @@ pub(crate) fn bears_out_each<I: Instance + Drop, B: Settle + Drop>(
 ) -> Result<bool, AllocError>
     ensures { IfOk result (λ says. IsTrue says → All (λ s. EachBorneOut member.now s) seats.now) }
 {
-    let history = member.history();
     let mut fresh = anew(alloc, member)?;
     let mut counts = vec![in alloc; 0; seats.len()]?;
+    count_all(alloc, member, &mut fresh, seats, counts.as_mut_slice())
+}
+
+// The same, with a member that took nothing yet and a count for each seat.
+fn count_all<I: Instance + Drop, B: Settle + Drop>(
+    alloc: Global,
+    member: &Member<I, B>,
+    fresh: &mut Member<I, B>,
+    seats: &[Seat],
+    counts: &mut [usize],
+) -> Result<bool, AllocError>
+    requires fresh { fresh.old ≡ record member.now { history = [] } }
+    requires same { length counts.old ≡ length seats.now }
+    requires counted { CountedBorneOut member.now seats.now counts.old }
+    ensures { IfOk result (λ says. IsTrue says → All (λ s. EachBorneOut member.now s) seats.now) }
+{
+    let history = member.history();
     for place in 0..history.len() + 1 {
-        replay_to(alloc, &mut fresh, history, place)?;
-        if !count_here(alloc, &mut fresh, history, seats, counts.as_mut_slice())? {
+        replay_to(alloc, fresh, history, place)?;
+        if !count_here(alloc, fresh, history, seats, counts)? {
             return Ok(false);
         }
     }
-    Ok(are_all_counted(seats, counts.as_slice()))
+    Ok(are_all_counted(seats, counts))
 }
 
 // Counts, of each seat, the receipts that saw as many entries as the member took, if the history bears them out.

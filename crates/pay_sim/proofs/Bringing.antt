@@ -1,5 +1,5 @@
 -- Frames that are brought, one after the other.
-use Rattle.std.proofs.Common.{◌≡◌, ℕ, suc, ◌+◌, ◌-◌, ◌<◌, ◌≤◌, List, [], ◌∷◌, ◌++◌, Option, Some, None, Ok, Err, refl, sym, ap, ◌∙◌, subst, arith}
+use Rattle.std.proofs.Common.{◌≡◌, ℕ, suc, ◌+◌, ◌-◌, ◌<◌, ◌≤◌, List, [], ◌∷◌, ◌++◌, length, Option, Some, None, Ok, Err, refl, sym, ap, ◌∙◌, subst, arith, append_assoc, codes, decimal}
 use Rattle.std.specs.List.{range_with_len}
 use Rattle.pay_world.specs.declared.event.WorldEvent.{WorldEvent}
 use Rattle.pay_world.specs.declared.event.WorldEvent.TheVariants.{Bring}
@@ -10,7 +10,8 @@ use Rattle.pay_sim.specs.declared.stop.Halt.TheVariants as halt
 use Rattle.pay_sim.specs.declared.stop.RunStop.{RunStop}
 use Rattle.pay_sim.specs.Made.{untaken}
 use Rattle.pay_sim.specs.All.{Draws, Nothing, Stopped, Further, InTurn, Passes, BringsAll, Enough, Halted, Again}
-use Rattle.pay_sim.specs.Playing.{GameFields, IsBehind, IsBrought, IsMade, Leads}
+use Rattle.pay_sim.specs.Script.{IsConverged, TellsAll, with_feed}
+use Rattle.pay_sim.specs.Playing.{GameFields, IsBehind, IsBrought, IsDone, IsMade, Leads}
 
 -- ---- from one list
 
@@ -76,3 +77,27 @@ passes_broken c es now new halt.Memory l brought = tt
 passes_broken c es now new (halt.Stop stop) l brought =
     let one = brought l.0 l.1 in
     (one.0, l.2 one.0 (Some stop) (Halted stop one.1))
+
+-- ---- what is printed of them
+
+pub told_all : (c : ScriptGroup) (es last : List WorldEvent) (before one two three after : List ℕ) (now : GameFields) (n : ℕ)
+    → n ≡ length last - length es → BringsAll c es last None → IsBehind c last now
+    → one ≡ before ++ codes "brought " → two ≡ one ++ decimal n → three ≡ two ++ codes "\n"
+    → ((words : List ℕ) × IsConverged c last words × (after ≡ three ++ words)) → IsDone (TellsAll c es) c before after now (Ok tt)
+told_all c es last before one two three after now n count all behind first second third (words, converged, fourth) = (
+  codes "brought " ++ with_feed (decimal (length last - length es)) ++ words,
+  last,
+  (all, (words, converged, refl)),
+  fourth
+      ∙ ap (λ (l : List ℕ). l ++ words) (third ∙ ap (λ (l : List ℕ). l ++ codes "\n") (second ∙ ap (λ (l : List ℕ). l ++ decimal n) first))
+      ∙ ap (λ (k : ℕ). (((before ++ codes "brought ") ++ decimal k) ++ codes "\n") ++ words) count
+      ∙ ap (λ (l : List ℕ). l ++ words) (append_assoc (before ++ codes "brought ") (decimal (length last - length es)) (codes "\n"))
+      ∙ append_assoc (before ++ codes "brought ") (with_feed (decimal (length last - length es))) words
+      ∙ append_assoc before (codes "brought ") (with_feed (decimal (length last - length es)) ++ words),
+  behind,
+)
+
+pub told_broken : (c : ScriptGroup) (es : List WorldEvent) (before after : List ℕ) (new : GameFields) (h : Halt)
+    → IsBrought (BringsAll c es) c new (Err h) → IsDone (TellsAll c es) c before after new (Err h)
+told_broken c es before after new halt.Memory brought = tt
+told_broken c es before after new (halt.Stop stop) brought = brought

@@ -1,4 +1,4 @@
-ghost use Rattle.std.specs.Prelude.{◌≡◌, IfErr, OnErr, OnOk};
+ghost use Rattle.std.specs.Prelude.{◌≡◌, None, IfErr, OnErr, OnOk};
 ghost use Rattle.std.specs.Io.KnownBytes.{Appends};
 ghost use Rattle.pay_io.specs.Counts.{KeepsCounts, itself};
 ghost use Rattle.pay_io.specs.Device.{WroteBeginning, counted};
@@ -37,7 +37,28 @@ where
         W.failure_count reader.old reader.new writer.old writer.new result }
 {
     let mut play: Play<I, B> = Play::new();
-    run_lines(alloc, LONGEST_LINE, &mut play, reader, writer)?;
+    run_play(alloc, &mut play, reader, writer)
+}
+
+// The same, with a script of which nothing was read yet.
+fn run_play<I, B, R, W>(
+    alloc: Global,
+    play: &mut Play<I, B>,
+    reader: &mut R,
+    writer: &mut W,
+) -> Result<SimEnd, StreamFault>
+where
+    I: Instance + Drop,
+    B: Settle + Drop,
+    R: Input,
+    W: Output,
+    requires { play.old ≡ record { lines = 0; game = None; stop = None } }
+    ensures text { WritesRun (R.remaining reader.old) (R.remaining reader.new)
+        (W.contents writer.old) (W.contents writer.new) result }
+    ensures counts { KeepsCounts itself R.call_count R.failure_count R.remaining
+        W.failure_count reader.old reader.new writer.old writer.new result }
+{
+    run_lines(alloc, LONGEST_LINE, play, reader, writer)?;
     if !play.is_empty() {
         return Ok(end_of(play.stop()));
     }

@@ -1,7 +1,7 @@
 -- The members of a world: at first, and after one of them changed.
-use Rattle.std.proofs.Common.{◌≡◌, ◌≢◌, ◌⊎◌, inl, inr, ⊎_elim, ℕ, zero, suc, ◌<◌, ◌≤◌, Bool, true, false, not, cond, ltb, ◌&&◌, List, [], ◌∷◌, ◌++◌, length, map, set, slice_get, Option, None, Some, is_some, option_map, option_and_then, refl, sym, ap, ◌∙◌, subst, arith, append-nil}
+use Rattle.std.proofs.Common.{◌≡◌, ◌≢◌, ◌⊎◌, inl, inr, ⊎_elim, ℕ, zero, suc, ◌+◌, ◌<◌, ◌≤◌, Bool, true, false, not, cond, ltb, ◌&&◌, List, [], ◌∷◌, ◌++◌, length, get_or, map, set, slice_get, take, Option, None, Some, is_some, option_map, option_and_then, refl, sym, ap, ◌∙◌, subst, arith, append-nil}
 use Rattle.std.specs.Option.{option_map_or}
-use Rattle.std.proofs.lemmas.List.{length-map, length-set, get_or-set_same, set-get_or}
+use Rattle.std.proofs.lemmas.List.{length-map, length-set, map_more, get_or-set_same, set-get_or}
 use Rattle.std.proofs.lemmas.Bool.{cases_eq}
 use Rattle.std.proofs.lemmas.Bool.Decides.{nat_tests}
 use Rattle.std.proofs.lemmas.Option.{slice_get-map, slice_get_within, slice_get_cases, slice_get-get_or, get_or_from_slice_get, option_and_then_some, none-some, same_Some}
@@ -33,6 +33,23 @@ get-set_other (x ∷ xs) zero zero y differs = absurd (differs refl)
 get-set_other (x ∷ xs) zero (suc j) y differs = refl
 get-set_other (x ∷ xs) (suc i) zero y differs = refl
 get-set_other (x ∷ xs) (suc i) (suc j) y differs = get-set_other xs i j y (λ same. differs (ap suc same))
+
+-- past the end there is nobody
+pub past_is_none : (members : List (Option MemberFields)) (i : ℕ) → length members ≤ i → member_at members i ≡ None
+past_is_none members i past = ap (option_and_then (λ m. m)) (go (slice_get members i) refl) where
+  go : (o : Option (Option MemberFields)) → slice_get members i ≡ o → slice_get members i ≡ None
+  go None is = is
+  go (Some o) is = absurd (let inside = slice_get_within members i o is in omega arith)
+
+-- a place more of what comes of each element
+pub placed_more :
+    {X Y : Type 0} (f : X → Y) (xs : List X) (i : ℕ) (d : X) (before after : List Y) (y : Y)
+    → i < length xs → before ≡ map f (take i xs) → y ≡ f (get_or xs i d) → after ≡ before ++ y ∷ [] → after ≡ map f (take (i + 1) xs)
+placed_more f xs i d before after y inside so_far here more =
+    more
+    ∙ ap (λ l. l ++ y ∷ []) so_far
+    ∙ ap (λ z. map f (take i xs) ++ z ∷ []) here
+    ∙ sym (map_more f xs i d inside)
 
 -- writing what is there changes nothing
 pub set_same : {X : Type 0} (xs : List X) (i : ℕ) (y : X) → slice_get xs i ≡ Some y → set xs i y ≡ xs

@@ -1,9 +1,12 @@
 -- What a job is, by the rows of the command that was met; and that the program's command is simple.
-use Rattle.std.proofs.Common.{◌≡◌, List, [], Option, Some, None, option_map, true, refl, ap₂, Bor}
+use Rattle.std.proofs.Common.{◌≡◌, List, [], Option, Some, None, Result, Ok, Err, option_map, true, refl, ap, ap₂, ◌∙◌, Bor}
 use Rattle.std.specs.Option.{unwrap_or}
-use Rattle.clap.specs.Words.{Row, Text, is_simple, is_simple_and_free}
+use Rattle.std.specs.Prelude.{IfOk, IsOkAnd}
+use Rattle.clap.specs.Words.{AddsArg, AddsSubcommand, App, Row, Rule, Text, is_simple, is_simple_and_free, with_rule, with_subcommand}
+use Rattle.clap.specs.declared.builder.Arg.{Arg}
+use Rattle.clap.specs.declared.builder.Command.{Command}
 use Rattle.clap.proofs.OnLiterals.{clap_on_literals}
-use Rattle.payd.specs.Job.{asked_in, asked_of, check, payd_app}
+use Rattle.payd.specs.Job.{IsArgument, IsCommand, asked_in, asked_of, check, payd_app}
 
 pub asked-some : {A : Type 0} (name_of : A → Text) (rows_in : A → List Row) (met : Option A) (name : Text) (rows : List Row)
     → Some name ≡ option_map name_of met
@@ -41,3 +44,21 @@ simple = refl
 pub free : is_simple_and_free payd_app ≡ true
 unfolding clap_on_literals
 free = refl
+
+-- a command with one argument more
+pub one_argument_more : (before after : Command) (o : Arg) (a : App) (r : Rule) → IsCommand before a → IsArgument o r → AddsArg before o after → IsCommand after (with_rule a r)
+one_argument_more before after o a r command argument adds = record {
+  app = adds.shape argument.global ∙ ap₂ with_rule command.app argument.rule;
+  globals = rw (adds.globals, command.globals, argument.global) refl;
+}
+
+-- a program with one command more
+pub one_command_more : {E : Type 0} (program command with : Result Command E) (a b : App) → IfOk program (λ c. IsCommand c a) → IfOk command (λ c. IsCommand c b)
+    → IfOk with (λ w. IsOkAnd program (λ p. IsOkAnd command (λ c. AddsSubcommand p c w))) → IfOk with (λ w. IsCommand w (with_subcommand a b.top))
+one_command_more (Ok p) (Ok c) (Ok w) a b program command adds = record {
+  app = adds.shape command.globals ∙ ap₂ with_subcommand program.app (ap (λ (b : App). b.top) command.app);
+  globals = rw (adds.globals, program.globals, command.globals) refl;
+}
+one_command_more (Ok p) (Err e) (Ok w) a b program command adds = absurd adds
+one_command_more (Err e) command (Ok w) a b program is adds = absurd adds
+one_command_more program command (Err e) a b is said adds = tt

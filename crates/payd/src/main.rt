@@ -25,7 +25,7 @@ use files::{NamedFiles, export_of, genesis_of, keys_of};
 use jobs::jobs_of;
 use pay_audit::{Verdict, write_export};
 use pay_cli::run_check;
-use pay_desk::{Desk, OneMember, run_desk};
+use pay_desk::{Desk, OneMember, Teller, run_desk};
 use pay_echo::MaskInstance;
 use pay_engine::EngineFault;
 use pay_hmac::PreparedHmac;
@@ -114,19 +114,32 @@ fn check<'a>(
     let jobs = jobs_of(rt, jobs)?;
     let genesis = genesis_of(alloc, rt, genesis)?;
     let keys = keys_of(alloc, rt, &genesis, keys)?;
-    let tagger = tagger_of(alloc, &keys)?;
+    Ok(judge_frames(alloc, rt, jobs, &genesis, &keys)?)
+}
+
+/// Judges them as the member with these keys.
+fn judge_frames(
+    alloc: Global,
+    rt: &(impl Input + Print + Threads + Sync),
+    jobs: usize,
+    genesis: &Genesis,
+    keys: &Keys,
+) -> Result<(), EngineFault>
+    requires { IsKeysOf genesis.now keys.now }
+{
+    let tagger = tagger_of(alloc, keys)?;
     let mut reader = Reader::new(rt.reader());
     let mut writer = Writer::new(io::writer(rt));
-    Ok(run_check(
+    run_check(
         rt,
         jobs,
         alloc,
         &tagger,
-        &genesis,
-        &keys,
+        genesis,
+        keys,
         &mut reader,
         &mut writer,
-    )?)
+    )
 }
 
 /// Answers the lines on standard input, once the files are read. The member meets no peer.
@@ -141,10 +154,21 @@ fn serve_desk<'a>(
     let (accounts, own) = (genesis.members(), keys.own());
     let member: OwnMember = Member::new(alloc, genesis, keys)?;
     let teller = OneMember { member, stamp: 0 };
+    Ok(answer_lines(alloc, rt, teller, accounts, own)?)
+}
+
+/// Answers the lines on standard input, as the desk of this teller.
+fn answer_lines<T: Teller + Drop>(
+    alloc: Global,
+    rt: &(impl Input + Print),
+    teller: T,
+    accounts: u16,
+    own: u16,
+) -> Result<(), StreamFault> {
     let mut desk = Desk::new(alloc, teller, accounts, own);
     let mut reader = Reader::new(rt.reader());
     let mut writer = Writer::new(io::writer(rt));
-    Ok(run_desk(alloc, &mut desk, &mut reader, &mut writer)?)
+    run_desk(alloc, &mut desk, &mut reader, &mut writer)
 }
 
 /// Answers the lines on standard input, once the words and the files are read, while the member meets its peers; then
@@ -168,11 +192,7 @@ where
     let keys = keys_of(alloc, rt, &genesis, Some(keys))?;
     let ports = ports_of(alloc, rt, &genesis, ports)?;
     let (member, receipts) = meet_peers(alloc, rt, genesis, keys, &ports, dials, ahead)?;
-    print_export(rt, &member)?;
-    match receipts {
-        Receipts::BorneOut => Ok(()),
-        Receipts::Unjudged => Err(Stop::Close(CloseFault::Memory)),
-    }
+    conclude(rt, &member, receipts)
 }
 
 /// Answers the lines on standard input while a fresh member meets its peers, and hands it back.
@@ -209,6 +229,15 @@ where
     )
 }
 
+/// Writes the export of a member that has met its peers, and says whether its receipts were judged.
+fn conclude<'a>(rt: &impl Print, member: &OwnMember, receipts: Receipts) -> Result<(), Stop<'a>> {
+    print_export(rt, member)?;
+    match receipts {
+        Receipts::BorneOut => Ok(()),
+        Receipts::Unjudged => Err(Stop::Close(CloseFault::Memory)),
+    }
+}
+
 /// Writes a member's export as a line. It takes no memory, so that memory which is refused at the end loses nothing.
 fn print_export(rt: &impl Print, member: &OwnMember) -> Result<(), StreamFault> {
     let mut writer = Writer::new(io::writer(rt));
@@ -237,9 +266,19 @@ fn statement<'a>(
     export: &'a str,
     account: Option<&'a str>,
 ) -> Result<(), Stop<'a>> {
-    let export = export_of(alloc, rt, export)?;
-    let text = statement_said(alloc, &export, account)?;
-    Ok(print_text(rt, text.as_slice())?)
+    let text = statement_in(alloc, rt, export, account)?;
+    Ok(print_text(rt, text)?)
+}
+
+/// The statement of an account, or those of all, by the export in this file.
+fn statement_in<'a>(
+    alloc: Global,
+    files: &impl Files,
+    export: &'a str,
+    account: Option<&'a str>,
+) -> Result<Vec<u8>, Stop<'a>> {
+    let export = export_of(alloc, files, export)?;
+    statement_said(alloc, &export, account)
 }
 
 /// Writes the journal of the export in this file, on this date or on today's.
@@ -249,16 +288,26 @@ fn journal<'a>(
     export: &'a str,
     date: Option<&'a str>,
 ) -> Result<(), Stop<'a>> {
+    let text = journal_in(alloc, rt, export, date)?;
+    Ok(print_text(rt, text)?)
+}
+
+/// The journal of the export in this file, on this date or on today's.
+fn journal_in<'a>(
+    alloc: Global,
+    rt: &(impl Files + Clock),
+    export: &'a str,
+    date: Option<&'a str>,
+) -> Result<Vec<u8>, Stop<'a>> {
     let date = date_of(alloc, rt, date)?;
     let export = export_of(alloc, rt, export)?;
-    let text = journal_text(alloc, &export, date)?;
-    Ok(print_text(rt, text.as_slice())?)
+    Ok(journal_text(alloc, &export, date)?)
 }
 
 /// Writes a text that is there as a whole.
-fn print_text(rt: &impl Print, text: &[u8]) -> Result<(), StreamFault> {
+fn print_text(rt: &impl Print, text: Vec<u8>) -> Result<(), StreamFault> {
     let mut writer = Writer::new(io::writer(rt));
-    write_text(&mut writer, text)
+    write_text(&mut writer, text.as_slice())
 }
 
 /// Plays the script on standard input.

@@ -11,10 +11,11 @@ use pay_link::{GenesisFault, KeysFault};
 use pay_net::{NodeFault, PortsFault};
 use pay_node::CloseFault;
 use std::alloc::AllocError;
+use std::fmt;
 use thiserror::Error;
 
 /// Why the work wasn't done, or not all of it.
-#[derive(Debug, Drop, Error)]
+#[derive(Drop, Error)]
 pub(crate) enum Stop<'a> {
     #[error("engine {0}")]
     Engine(EngineFault),
@@ -52,6 +53,13 @@ pub(crate) enum Stop<'a> {
     /// The clock doesn't say which day it is.
     #[error("clock")]
     Clock,
+}
+
+// The same words: an error has to have these too, and nothing prints them.
+impl fmt::Debug for Stop<'_> {
+    fn fmt<W: fmt::Write>(&self, f: &mut fmt::Formatter<W>) -> fmt::Result {
+        fmt::Display::fmt(self, f)
+    }
 }
 
 impl<'a> From<EngineFault> for Stop<'a> {

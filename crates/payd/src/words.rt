@@ -1,7 +1,8 @@
-ghost use Rattle.std.specs.Prelude.{◌≡◌, IfOk, map, option_map, string_bytes};
-ghost use Rattle.clap.specs.Words.{FailsBy, fault_of, first_of, found_of, new_app, rows_of};
+ghost use Rattle.std.specs.Prelude.{◌≡◌, IfOk, IsOkAnd, map, option_map, string_bytes};
+ghost use Rattle.clap.specs.Words.{AddsSubcommand, FailsBy, fault_of, first_of, found_of, new_app, rows_of};
 ghost use Rattle.clap.specs.Words.{subcommand_of, subcommand_rows_of};
-ghost use Rattle.payd.specs.Job.{IsArgument, IsCommand, asked, asked_by, asked_in, asked_of};
+ghost use Rattle.payd.specs.Job.{IsArgument, IsCommand, account_rule, asked, asked_by, asked_in};
+ghost use Rattle.payd.specs.Job.{asked_of};
 ghost use Rattle.payd.specs.Job.{audit_app, audit_asked, check_app, check_asked, desk_app};
 ghost use Rattle.payd.specs.Job.{desk_asked, export_rule, files_of, files_rule, journal_app};
 ghost use Rattle.payd.specs.Job.{journal_asked, named, node_app, node_asked, option_rule};
@@ -12,7 +13,7 @@ use clap::{Arg, ArgAction, ArgMatches, Command, Error};
 use std::alloc::{AllocError, Global};
 
 /// What the program is asked to do.
-#[derive(Debug, Drop)]
+#[derive(Drop)]
 pub(crate) enum Job<'a> {
     /// Judge the frames on standard input, as a member of this genesis with these keys, each read from
     /// the file of this name, by as many threads as this word says.
@@ -387,14 +388,24 @@ fn named<'a>(matches: &ArgMatches<'a>, option: &str) -> &'a str
 fn payd<'a>(alloc: Global) -> Result<Command<'a>, AllocError>
     ensures { IfOk result (λ command. IsCommand command payd_app) }
 {
-    payd_alone(alloc)
-        .subcommand(check(alloc)?)?
-        .subcommand(desk(alloc)?)?
-        .subcommand(node(alloc)?)?
-        .subcommand(audit(alloc)?)?
-        .subcommand(statement(alloc)?)?
-        .subcommand(journal(alloc)?)?
-        .subcommand(titled(alloc, "sim", SIM_ABOUT, SIM_HELP))
+    let program = with_command(Ok(payd_alone(alloc)), check(alloc));
+    let program = with_command(program, desk(alloc));
+    let program = with_command(program, node(alloc));
+    let program = with_command(program, audit(alloc));
+    let program = with_command(program, statement(alloc));
+    let program = with_command(program, journal(alloc));
+    with_command(program, Ok(titled(alloc, "sim", SIM_ABOUT, SIM_HELP)))
+}
+
+/// The program with one command more, if both could be made.
+fn with_command<'a>(
+    program: Result<Command<'a>, AllocError>,
+    command: Result<Command<'a>, AllocError>,
+) -> Result<Command<'a>, AllocError>
+    ensures { IfOk result (λ with. IsOkAnd program.entry (λ program.
+        IsOkAnd command.entry (λ command. AddsSubcommand program command with))) }
+{
+    program?.subcommand(command?)
 }
 
 fn payd_alone<'a>(alloc: Global) -> Command<'a>
@@ -410,82 +421,72 @@ fn payd_alone<'a>(alloc: Global) -> Command<'a>
 fn check<'a>(alloc: Global) -> Result<Command<'a>, AllocError>
     ensures { IfOk result (λ command. IsCommand command check_app) }
 {
-    let command = titled(alloc, "check", CHECK_ABOUT, CHECK_HELP);
-    let genesis = file_option(alloc, "genesis", "A file of JSON with the genesis");
-    let keys = file_option(alloc, "keys", "A file of JSON with the keys of one member");
-    let jobs = option(alloc, "jobs", "COUNT", "How many threads judge the frames");
-    command.arg(genesis)?.arg(keys)?.arg(jobs)
+    titled(alloc, "check", CHECK_ABOUT, CHECK_HELP)
+        .arg(file_option(alloc, "genesis", "A file of JSON with the genesis"))?
+        .arg(file_option(alloc, "keys", "A file of JSON with the keys of one member"))?
+        .arg(option(alloc, "jobs", "COUNT", "How many threads judge the frames"))
 }
 
 /// The command `desk` and its options.
 fn desk<'a>(alloc: Global) -> Result<Command<'a>, AllocError>
     ensures { IfOk result (λ command. IsCommand command desk_app) }
 {
-    let command = titled(alloc, "desk", DESK_ABOUT, DESK_HELP);
-    let genesis = required_file(alloc, "genesis", "A file of JSON with the genesis");
-    let keys = required_file(alloc, "keys", "A file of JSON with the keys of one member");
-    command.arg(genesis)?.arg(keys)
+    titled(alloc, "desk", DESK_ABOUT, DESK_HELP)
+        .arg(required_file(alloc, "genesis", "A file of JSON with the genesis"))?
+        .arg(required_file(alloc, "keys", "A file of JSON with the keys of one member"))
 }
 
 /// The command `node` and its options.
 fn node<'a>(alloc: Global) -> Result<Command<'a>, AllocError>
     ensures { IfOk result (λ command. IsCommand command node_app) }
 {
-    let command = titled(alloc, "node", NODE_ABOUT, NODE_HELP);
-    let genesis = required_file(alloc, "genesis", "A file of JSON with the genesis");
-    let keys = required_file(alloc, "keys", "A file of JSON with the keys of the member");
-    let ports = required_file(
-        alloc,
-        "ports",
-        "A file of JSON with the port of each member",
-    );
-    let dials = option(
-        alloc,
-        "dials",
-        "COUNT|always",
-        "How often a peer is dialed in vain",
-    );
-    let ahead = option(
-        alloc,
-        "ahead",
-        "COUNT",
-        "How many frames are asked for ahead, from 1 to 64",
-    );
-    command
-        .arg(genesis)?
-        .arg(keys)?
-        .arg(ports)?
-        .arg(dials)?
-        .arg(ahead)
+    titled(alloc, "node", NODE_ABOUT, NODE_HELP)
+        .arg(required_file(alloc, "genesis", "A file of JSON with the genesis"))?
+        .arg(required_file(alloc, "keys", "A file of JSON with the keys of the member"))?
+        .arg(required_file(
+            alloc,
+            "ports",
+            "A file of JSON with the port of each member",
+        ))?
+        .arg(option(
+            alloc,
+            "dials",
+            "COUNT|always",
+            "How often a peer is dialed in vain",
+        ))?
+        .arg(option(
+            alloc,
+            "ahead",
+            "COUNT",
+            "How many frames are asked for ahead, from 1 to 64",
+        ))
 }
 
 /// The command `audit`, its files and its options.
 fn audit<'a>(alloc: Global) -> Result<Command<'a>, AllocError>
     ensures { IfOk result (λ command. IsCommand command audit_app) }
 {
-    let command = titled(alloc, "audit", AUDIT_ABOUT, AUDIT_HELP);
-    let jobs = option(alloc, "jobs", "COUNT", "How many threads read exports");
-    command.arg(files(alloc))?.arg(jobs)
+    titled(alloc, "audit", AUDIT_ABOUT, AUDIT_HELP)
+        .arg(files(alloc))?
+        .arg(option(alloc, "jobs", "COUNT", "How many threads read exports"))
 }
 
 /// The command `statement`, its export and its account.
 fn statement<'a>(alloc: Global) -> Result<Command<'a>, AllocError>
     ensures { IfOk result (λ command. IsCommand command statement_app) }
 {
-    let command = titled(alloc, "statement", STATEMENT_ABOUT, STATEMENT_HELP);
-    let account = Arg::new(alloc, "account")
-        .value_name("ACCOUNT")
-        .help("An account's number");
-    command.arg(export(alloc))?.arg(account)
+    titled(alloc, "statement", STATEMENT_ABOUT, STATEMENT_HELP)
+        .arg(export(alloc))?
+        .arg(account(alloc))
 }
 
 /// The command `journal`, its export and its date.
 fn journal<'a>(alloc: Global) -> Result<Command<'a>, AllocError>
     ensures { IfOk result (λ command. IsCommand command journal_app) }
 {
-    let command = titled(alloc, "journal", JOURNAL_ABOUT, JOURNAL_HELP);
-    let date = option(alloc, "date", "YYYY-MM-DD", "The date of all transactions");
-    command.arg(export(alloc))?.arg(date)
+    titled(alloc, "journal", JOURNAL_ABOUT, JOURNAL_HELP)
+        .arg(export(alloc))?
+        .arg(option(alloc, "date", "YYYY-MM-DD", "The date of all transactions"))
 }
 
 /// A command without options, and what its help says.
@@ -524,6 +525,15 @@ fn export<'a>(alloc: Global) -> Arg<'a>
         .required(true)
         .value_name("EXPORT")
         .help("A file of JSON with an export")
+}
+
+/// The number of an account.
+fn account<'a>(alloc: Global) -> Arg<'a>
+    ensures { IsArgument result account_rule }
+{
+    Arg::new(alloc, "account")
+        .value_name("ACCOUNT")
+        .help("An account's number")
 }
 
 /// The names of one or more files.

@@ -8,46 +8,49 @@ use pay_link::Genesis;
 use pay_pending::WaitingBook;
 use std::alloc::Global;
 
-/// Puts a value on the same list of both, and says how many entries settled; nothing where they answered differently or
-/// came to stand elsewhere.
-pub(crate) fn added_alike(
-    alloc: Global,
-    owner: u16,
-    value: Vec<u8>,
-    plain: &mut Ledger<PlainBook>,
-    waiting: &mut Ledger<WaitingBook>,
-) -> Option<u32> {
-    let again = value.as_slice().to_vec(alloc).ok()?;
-    let answer = plain.add(owner, value).ok()?;
-    if waiting.add(owner, again) != Ok(answer) || !waiting.stands_as(plain) {
-        return None;
+/// Both over lists of their own, which are the same.
+#[derive(Drop)]
+pub(crate) struct Both {
+    plain: Ledger<PlainBook>,
+    waiting: Ledger<WaitingBook>,
+}
+
+impl Both {
+    /// Fresh books of a group with these opening balances, if there is such a group.
+    pub(crate) fn new(alloc: Global, faults: u64, opening: &[u64]) -> Option<Both> {
+        let genesis = Genesis::new(alloc, opening.len() as u64, faults, opening).ok()?;
+        Both::fresh(alloc, &genesis)
     }
-    Some(answer.unwrap_or(0))
+
+    fn fresh(alloc: Global, genesis: &Genesis) -> Option<Both> {
+        Some(Both {
+            plain: Ledger::new(alloc, genesis).ok()?,
+            waiting: Ledger::new(alloc, genesis).ok()?,
+        })
+    }
+
+    /// Puts a value on the same list of both, and says how many entries settled; nothing where they answered differently
+    /// or came to stand elsewhere.
+    pub(crate) fn added_alike(&mut self, alloc: Global, owner: u16, value: &[u8]) -> Option<u32> {
+        let answer = self.plain.add(owner, value.to_vec(alloc).ok()?).ok()?;
+        let other = self.waiting.add(owner, value.to_vec(alloc).ok()?).ok()?;
+        let is_alike = other == answer && self.waiting.stands_as(&self.plain);
+        is_alike.then_some(answer.unwrap_or(0))
+    }
 }
 
 /// The same of ten to the next account.
-fn passed_on(
-    alloc: Global,
-    payer: u8,
-    plain: &mut Ledger<PlainBook>,
-    waiting: &mut Ledger<WaitingBook>,
-) -> Option<u32>
+fn passed_on(alloc: Global, payer: u8, books: &mut Both) -> Option<u32>
     requires { payer < 63 }
 {
-    let value = [1, 0, payer + 1, 0, 0, 0, 0, 0, 0, 0, 10]
-        .to_vec(alloc)
-        .ok()?;
-    added_alike(alloc, u16::from(payer), value, plain, waiting)
+    let value = [1, 0, payer + 1, 0, 0, 0, 0, 0, 0, 0, 10];
+    books.added_alike(alloc, u16::from(payer), &value)
 }
 
 /// The first of accounts 1 to 62 whose ten, which it doesn't have, don't wait.
-fn settled_early(
-    alloc: Global,
-    plain: &mut Ledger<PlainBook>,
-    waiting: &mut Ledger<WaitingBook>,
-) -> Option<u8> {
+fn settled_early(alloc: Global, books: &mut Both) -> Option<u8> {
     for payer in 1..63 {
-        if passed_on(alloc, payer, plain, waiting) != Some(0) {
+        if passed_on(alloc, payer, books) != Some(0) {
             return Some(payer);
         }
     }
@@ -58,12 +61,10 @@ fn settled_early(
 fn settled_at_last(alloc: Global) -> Option<(Option<u8>, Option<u32>, bool)> {
     let (mut opening, mut fronts, mut balances) = ([0; 64], [1; 64], [0; 64]);
     (opening[0], fronts[63], balances[63]) = (10, 0, 10);
-    let genesis = Genesis::new(alloc, 64, 21, &opening).ok()?;
-    let mut plain = Ledger::new(alloc, &genesis).ok()?;
-    let mut waiting = Ledger::new(alloc, &genesis).ok()?;
-    let early = settled_early(alloc, &mut plain, &mut waiting);
-    let settled = passed_on(alloc, 0, &mut plain, &mut waiting);
-    Some((early, settled, plain.shows(&fronts, &balances)))
+    let mut books = Both::new(alloc, 21, &opening)?;
+    let early = settled_early(alloc, &mut books);
+    let settled = passed_on(alloc, 0, &mut books);
+    Some((early, settled, books.plain.shows(&fronts, &balances)))
 }
 
 #[test]

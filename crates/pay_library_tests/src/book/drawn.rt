@@ -1,18 +1,13 @@
 //! Both books over values that are drawn.
 
-use crate::book::both::added_alike;
+use crate::book::both::Both;
 use crate::book::draws::Draws;
-use crate::book::ledger::Ledger;
-use pay_book::PlainBook;
-use pay_link::Genesis;
-use pay_pending::WaitingBook;
 use std::alloc::{AllocError, Global};
 
-/// A value among four accounts: one payment or up to four, each of them void at times, or a value
-/// that has fewer payments than it says.
-fn value_of(alloc: Global, draws: &mut Draws) -> Result<Vec<u8>, AllocError> {
+/// Draws a value among four accounts: one payment or up to four, each of them void at times, or a
+/// value that has fewer payments than it says.
+fn draw_value(draws: &mut Draws, value: &mut Vec<u8>) -> Result<(), AllocError> {
     let count = draws.below(6);
-    let mut value = Vec::new(alloc);
     if count == 0 {
         value.push(1)?;
     } else {
@@ -22,31 +17,22 @@ fn value_of(alloc: Global, draws: &mut Draws) -> Result<Vec<u8>, AllocError> {
         let (payee, amount) = (draws.below(5), draws.below(12));
         value.extend_from_slice(&[0, payee, 0, 0, 0, 0, 0, 0, 0, amount])?;
     }
-    Ok(value)
+    Ok(())
 }
 
 /// Puts a drawn value on the same list of both, and says how many entries settled; nothing where they answered
 /// differently or came to stand elsewhere.
-fn drawn_alike(
-    alloc: Global,
-    draws: &mut Draws,
-    plain: &mut Ledger<PlainBook>,
-    waiting: &mut Ledger<WaitingBook>,
-) -> Option<u32> {
+fn drawn_alike(alloc: Global, draws: &mut Draws, books: &mut Both) -> Option<u32> {
     let owner = u16::from(draws.below(4));
-    let value = value_of(alloc, draws).ok()?;
-    added_alike(alloc, owner, value, plain, waiting)
+    let mut value = Vec::new(alloc);
+    draw_value(draws, &mut value).ok()?;
+    books.added_alike(alloc, owner, value.as_slice())
 }
 
-fn all_added_alike(
-    alloc: Global,
-    draws: &mut Draws,
-    plain: &mut Ledger<PlainBook>,
-    waiting: &mut Ledger<WaitingBook>,
-) -> Option<u32> {
+fn all_added_alike(alloc: Global, draws: &mut Draws, books: &mut Both) -> Option<u32> {
     let mut settled: u32 = 0;
     for _value in 0..10 {
-        settled = settled.saturating_add(drawn_alike(alloc, draws, plain, waiting)?);
+        settled = settled.saturating_add(drawn_alike(alloc, draws, books)?);
     }
     Some(settled)
 }
@@ -54,10 +40,8 @@ fn all_added_alike(
 /// The same of ten values and two new books.
 fn settled_alike(alloc: Global, draws: &mut Draws) -> Option<u32> {
     let opening = [draws.below(20), draws.below(20), draws.below(20), 0].map(u64::from);
-    let genesis = Genesis::new(alloc, 4, 1, &opening).ok()?;
-    let mut plain = Ledger::new(alloc, &genesis).ok()?;
-    let mut waiting = Ledger::new(alloc, &genesis).ok()?;
-    all_added_alike(alloc, draws, &mut plain, &mut waiting)
+    let mut books = Both::new(alloc, 1, &opening)?;
+    all_added_alike(alloc, draws, &mut books)
 }
 
 #[test]

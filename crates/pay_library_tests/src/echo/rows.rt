@@ -1,4 +1,4 @@
-ghost use Rattle.std.specs.Prelude.{◌≤◌, ◌<◌};
+ghost use Rattle.std.specs.Prelude.{◌≡◌, ◌≤◌, ◌<◌};
 
 use crate::echo::telling::{is_foreign, tell};
 use pay_echo::{Group, Instance, MaskInstance, Moves, PlainInstance, VoteRef};
@@ -87,7 +87,35 @@ const ROWS: [Row; 3] = [
     },
 ];
 
-// Whether each vote makes known what it has to, as was foreseen, and all of it is known in the end.
+// Whether each vote makes known what it has to, as was foreseen.
+fn are_told<I: Instance>(
+    alloc: Global,
+    group: Group,
+    instance: &mut I,
+    steps: &[(VoteRef, Moves)],
+) -> Result<bool, AllocError>
+    requires { (I.meaning instance.old).group ≡ group }
+{
+    for (vote, told) in steps {
+        if !is_foreign(group, *vote)
+            || instance.moves(*vote) != *told
+            || tell(instance, alloc, *vote)? != *told
+        {
+            return Ok(false);
+        }
+    }
+    Ok(true)
+}
+
+// Whether this is echoed, readied and delivered.
+fn is_known<I: Instance>(instance: &I, known: [Option<&[u8]>; 3]) -> bool {
+    let [echoed, readied, delivered] = known;
+    instance.echoed() == echoed
+        && instance.readied() == readied
+        && instance.delivered() == delivered
+}
+
+// Whether a row's votes are told so, and all of it is known in the end.
 fn is_met<I: Instance + Drop>(alloc: Global, row: &Row) -> Result<bool, AllocError> {
     let group = Group {
         members: row.members,
@@ -98,20 +126,7 @@ fn is_met<I: Instance + Drop>(alloc: Global, row: &Row) -> Result<bool, AllocErr
         return Ok(false);
     }
     let mut instance = I::fresh(alloc, group)?;
-    for (vote, told) in row.steps {
-        if !is_foreign(group, *vote)
-            || instance.moves(*vote) != *told
-            || tell(&mut instance, alloc, *vote)? != *told
-        {
-            return Ok(false);
-        }
-    }
-    let [echoed, readied, delivered] = row.known;
-    Ok(
-        instance.echoed() == echoed
-            && instance.readied() == readied
-            && instance.delivered() == delivered,
-    )
+    Ok(are_told(alloc, group, &mut instance, row.steps)? && is_known(&instance, row.known))
 }
 
 #[test]

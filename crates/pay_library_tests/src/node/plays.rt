@@ -2,32 +2,12 @@
 
 use crate::node::rows::{FOUR, HANDED, PAYMENT, ROWS};
 use crate::node::step::{Group, Row, Step, Whose};
-use crate::node::trial::{Tried, meets, node_of};
+use crate::node::trial::{Tried, fault_at_closing, meets, node_of};
 use pay_book::PlainBook;
 use pay_echo::MaskInstance;
 use pay_node::{CloseFault, Seat, Stopped};
 use std::alloc::Global;
 use std::sync::Wait;
-
-// What closing a node answers with these seats, once more where memory is refused; nothing, where they agree.
-fn fault_at_closing(alloc: Global, node: Tried, seats: &[Seat]) -> Option<CloseFault> {
-    match node.close(alloc, seats) {
-        Ok(_) => None,
-        Err((CloseFault::Memory, stopped)) => fault_at_last(alloc, stopped, seats),
-        Err((fault, _)) => Some(fault),
-    }
-}
-
-fn fault_at_last(
-    alloc: Global,
-    node: Stopped<MaskInstance, PlainBook>,
-    seats: &[Seat],
-) -> Option<CloseFault> {
-    match node.close(alloc, seats) {
-        Ok(_) => None,
-        Err((fault, _)) => Some(fault),
-    }
-}
 
 // The place of the first call that isn't answered so from this seat, if there is one.
 fn unmet_in<R: Wait>(
@@ -81,14 +61,13 @@ fn seat_of(seats: &mut Vec<Seat>, stamp: usize) -> Option<Seat> {
     Some(seats.swap_remove(place))
 }
 
-// The seats that are handed in, taken out of those of two nodes.
-fn seats_in(
-    alloc: Global,
+// Takes the seats that are handed in out of those of two nodes, where they are all there.
+fn hand_in(
     handed: &[(Whose, usize)],
     own: &mut Vec<Seat>,
     others: &mut Vec<Seat>,
-) -> Option<Vec<Seat>> {
-    let mut seats = Vec::new(alloc);
+    seats: &mut Vec<Seat>,
+) -> Option<()> {
     for (whose, stamp) in handed {
         let seat = match whose {
             Whose::This => seat_of(own, *stamp),
@@ -96,7 +75,7 @@ fn seats_in(
         };
         seats.push(seat?).ok()?;
     }
-    Some(seats)
+    Some(())
 }
 
 // The seats of another node with eight.
@@ -105,14 +84,16 @@ fn others(alloc: Global) -> Option<Vec<Seat>> {
     Some(seats)
 }
 
-// The same, of a node with these seats and of another one with eight.
+// The seats that are handed in, of a node with these seats and of another one with eight.
 fn seats_handed_in(
     alloc: Global,
     handed: &[(Whose, usize)],
     own: &mut Vec<Seat>,
 ) -> Option<Vec<Seat>> {
     let mut others = others(alloc)?;
-    seats_in(alloc, handed, own, &mut others)
+    let mut seats = Vec::new(alloc);
+    hand_in(handed, own, &mut others, &mut seats)?;
+    Some(seats)
 }
 
 // A node of two seats, whose first one asked.
@@ -145,23 +126,35 @@ fn seats_agree_or_not(rt: HostRuntime) {
     }
 }
 
+// Closes a node with the seats of another one, if that is refused: the fault, and the node behind it.
+fn refused(alloc: Global, node: Tried) -> Option<(CloseFault, Stopped<MaskInstance, PlainBook>)> {
+    let others = others(alloc)?;
+    node.close(alloc, others.as_slice()).err()
+}
+
+// Whether a node is asked once more from its first seat, and what closing it with its seats answers then.
+fn asked_again<R: Wait>(
+    rt: &R,
+    alloc: Global,
+    node: Tried,
+    seats: &mut [Seat],
+) -> (bool, Option<CloseFault>) {
+    let asks = match seats.first_mut() {
+        Some(seat) => meets(rt, alloc, &node, seat, &Step::Ask(PAYMENT, Ok(1))),
+        None => false,
+    };
+    (asks, fault_at_closing(alloc, node, seats))
+}
+
 // A node that asked is closed with the seats of another one, starts again, asks once more, and is closed with its own
 // seats: both faults, if both asks were answered.
 fn started_again<R: Wait>(
     rt: &R,
     alloc: Global,
 ) -> Option<(Option<CloseFault>, Option<CloseFault>)> {
-    let others = others(alloc)?;
     let (node, mut seats) = asked(rt, alloc)?;
-    let Err((fault, stopped)) = node.close(alloc, others.as_slice()) else {
-        return None;
-    };
-    let node = stopped.start();
-    let asks = match seats.first_mut() {
-        Some(seat) => meets(rt, alloc, &node, seat, &Step::Ask(PAYMENT, Ok(1))),
-        None => false,
-    };
-    let again = fault_at_closing(alloc, node, seats.as_slice());
+    let (fault, stopped) = refused(alloc, node)?;
+    let (asks, again) = asked_again(rt, alloc, stopped.start(), seats.as_mut_slice());
     asks.then_some((Some(fault), again))
 }
 

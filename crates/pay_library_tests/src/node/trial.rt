@@ -7,7 +7,7 @@ use pay_frame::{Body, Bytes};
 use pay_hmac::HmacSha256;
 use pay_link::{Genesis, test_keys};
 use pay_member::{AskFault, Member, Outcome, QueryFault};
-use pay_node::{Call, MOST_SEATS, Node, OpenGate, Receipt, Seat};
+use pay_node::{Call, CloseFault, MOST_SEATS, Node, OpenGate, Receipt, Seat, Stopped};
 use std::alloc::Global;
 use std::sync::Wait;
 
@@ -23,6 +23,27 @@ pub(crate) fn node_of(alloc: Global, group: Group) -> Option<(Tried, Vec<Seat>)>
     let keys = test_keys(alloc, &genesis, group.own).ok()?;
     let member = Member::new(alloc, genesis, keys).ok()?;
     Node::new(alloc, member, group.seats).ok()
+}
+
+/// What closing a node answers with these seats, once more where memory is refused; nothing, where they agree.
+pub(crate) fn fault_at_closing(alloc: Global, node: Tried, seats: &[Seat]) -> Option<CloseFault> {
+    let (fault, stopped) = node.close(alloc, seats).err()?;
+    let (fault, _stopped) = refused_at_last(alloc, fault, stopped, seats)?;
+    Some(fault)
+}
+
+// A node that didn't close, with why; it is closed once more where memory was refused.
+fn refused_at_last(
+    alloc: Global,
+    fault: CloseFault,
+    node: Stopped<MaskInstance, PlainBook>,
+    seats: &[Seat],
+) -> Option<(CloseFault, Stopped<MaskInstance, PlainBook>)> {
+    if fault == CloseFault::Memory {
+        node.close(alloc, seats).err()
+    } else {
+        Some((fault, node))
+    }
 }
 
 /// Takes a step, once more where memory is refused, and says whether the answer is the one expected.
@@ -117,8 +138,10 @@ fn states<R: Wait>(
     lines: &[Line],
     balance: u64,
 ) -> Option<bool> {
-    let found = node.statement(rt, alloc, seat, account).ok()?;
-    Some(found.lines() == lines && found.balance() == balance)
+    match node.statement(rt, alloc, seat, account) {
+        Ok(found) => Some(found.lines() == lines && found.balance() == balance),
+        Err(_) => None,
+    }
 }
 
 fn settles<R: Wait>(
@@ -128,8 +151,10 @@ fn settles<R: Wait>(
     seat: &mut Seat,
     fronts: &[u32],
 ) -> Option<bool> {
-    let found = node.fronts(rt, alloc, seat).ok()?;
-    Some(found.as_slice() == fronts)
+    match node.fronts(rt, alloc, seat) {
+        Ok(found) => Some(found.as_slice() == fronts),
+        Err(_) => None,
+    }
 }
 
 fn is_fetched(found: Option<Body>, said: Option<&Said>) -> bool {
@@ -148,11 +173,12 @@ fn entries_in(receipts: &[Receipt]) -> usize {
 }
 
 fn are_said(bodies: &[Body], said: &[Said]) -> bool {
+    for (body, said) in bodies.iter().zip(said) {
+        if !is_said(body, said) {
+            return false;
+        }
+    }
     bodies.len() == said.len()
-        && bodies
-            .iter()
-            .zip(said)
-            .all(|(body, said)| is_said(body, said))
 }
 
 fn is_said(body: &Body, said: &Said) -> bool {

@@ -173,13 +173,11 @@ const ROWS: [Row; 10] = [
 
 // These frames, one behind the other.
 fn joined(alloc: Global, frames: &[&[u8]]) -> Option<Vec<u8>> {
-    frames
-        .iter()
-        .copied()
-        .flatten()
-        .copied()
-        .collect(alloc)
-        .ok()
+    let mut bytes = Vec::new(alloc);
+    for frame in frames {
+        bytes.extend_from_slice(frame).ok()?;
+    }
+    Some(bytes)
 }
 
 // Whether a node is asked for two payments.
@@ -227,24 +225,17 @@ fn receipts_in<R: Wait>(rt: &R, seat: &Mutex<Seat>) -> usize {
     seat.lock(rt).receipts().len()
 }
 
-// What comes of a connection to a node, from whose last seat two payments are asked for.
+// What comes of a connection to a node.
 fn came_of<R: Wait>(
     rt: &R,
     alloc: Global,
     node: &Tried,
-    seats: &mut Vec<Seat>,
+    writing: &[(u16, Mutex<Seat>); 2],
     row: &Row,
 ) -> Option<Came> {
     let frames = joined(alloc, row.frames)?;
-    let mut asking = seats.pop()?;
-    let of_2 = seats.pop()?;
-    let of_0 = seats.pop()?;
-    if !asks_twice(rt, alloc, node, &mut asking) {
-        return None;
-    }
-    let writing = [(2, Mutex::new(of_2)), (0, Mutex::new(of_0))];
     let claims = Claims::new(row.goes_on);
-    let (bytes, calls) = written(rt, alloc, node, &writing, &claims, frames.as_slice())?;
+    let (bytes, calls) = written(rt, alloc, node, writing, &claims, frames.as_slice())?;
     Some(Came {
         claimed: claims.told(),
         bytes,
@@ -256,10 +247,40 @@ fn came_of<R: Wait>(
     })
 }
 
+// The seats of members 2 and 0, of three.
+fn writing_of(seats: &mut Vec<Seat>) -> Option<[(u16, Mutex<Seat>); 2]> {
+    let of_2 = seats.pop()?;
+    let of_0 = seats.pop()?;
+    Some([(2, Mutex::new(of_2)), (0, Mutex::new(of_0))])
+}
+
+// Whether a node is asked for two payments from its last seat, which is left out then.
+fn asks_from_last<R: Wait>(rt: &R, alloc: Global, node: &Tried, seats: &mut Vec<Seat>) -> bool {
+    match seats.pop() {
+        Some(mut seat) => asks_twice(rt, alloc, node, &mut seat),
+        None => false,
+    }
+}
+
+// The same of a node with three seats, from the last of which two payments were asked for.
+fn came_behind_asks<R: Wait>(
+    rt: &R,
+    alloc: Global,
+    node: &Tried,
+    seats: &mut Vec<Seat>,
+    row: &Row,
+) -> Option<Came> {
+    if !asks_from_last(rt, alloc, node, seats) {
+        return None;
+    }
+    let writing = writing_of(seats)?;
+    came_of(rt, alloc, node, &writing, row)
+}
+
 // The same of a fresh node.
 fn outcome<R: Wait>(rt: &R, alloc: Global, row: &Row) -> Option<Came> {
     let (node, mut seats) = node_of(alloc, Group { seats: 3, ..FOUR })?;
-    came_of(rt, alloc, &node, &mut seats, row)
+    came_behind_asks(rt, alloc, &node, &mut seats, row)
 }
 
 #[test]

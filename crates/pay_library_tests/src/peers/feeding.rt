@@ -1,6 +1,6 @@
 //! A node that is fed from a peer's stream, of which no frame is asked for ahead.
 
-use crate::node::trial::{Tried, node_of};
+use crate::node::trial::{Tried, fault_at_closing, node_of};
 use crate::peers::rows::{FED, FOUR, WANTED};
 use pay_hmac::HmacSha256;
 use pay_io::{Output, Reader, Writer};
@@ -37,21 +37,26 @@ fn feeds<R: Wait>(
 }
 
 // Whether a node that is fed a frame twice asks for the first, and then for the next one twice; and how many receipts
-// it leaves, if it closes with them.
-fn fed<R: Wait>(rt: &R, alloc: Global) -> Option<(bool, usize)> {
-    let (node, mut seats) = node_of(alloc, FOUR)?;
-    let mut writer: Writer<Vec<u8>> = Writer::new(Vec::new(alloc));
-    let ends = match seats.first_mut() {
-        Some(seat) => feeds(rt, alloc, &node, seat, &FED, &mut writer),
-        None => false,
+// its first seat has then.
+fn fed<R: Wait>(rt: &R, alloc: Global, node: &Tried, seats: &mut [Seat]) -> (bool, usize) {
+    let Some(seat) = seats.first_mut() else {
+        return (false, 0);
     };
+    let mut writer = Writer::new(Vec::new(alloc));
+    let ends = feeds(rt, alloc, node, seat, &FED, &mut writer);
     let asks = writer.into_inner().as_slice() == WANTED.as_slice();
-    let count = seats.first()?.receipts().len();
-    let closed = node.close(alloc, seats.as_slice()).is_ok();
-    closed.then_some((ends && asks, count))
+    (ends && asks, seat.receipts().len())
+}
+
+// The same of a node that closes with its seats.
+fn fed_and_closed<R: Wait>(rt: &R, alloc: Global) -> Option<(bool, usize)> {
+    let (node, mut seats) = node_of(alloc, FOUR)?;
+    let came = fed(rt, alloc, &node, seats.as_mut_slice());
+    let closes = fault_at_closing(alloc, node, seats.as_slice()).is_none();
+    closes.then_some(came)
 }
 
 #[test]
 fn a_repeated_frame_is_asked_on(rt: HostRuntime) {
-    assert_eq!(rt; fed(&rt, rt.alloc()), Some((true, 2)));
+    assert_eq!(rt; fed_and_closed(&rt, rt.alloc()), Some((true, 2)));
 }

@@ -1,13 +1,13 @@
 //! Two workers at one node: while one is held as its frame is opened, or then, the other one's frame is taken.
 
 use crate::node::step::ECHOED;
-use crate::node::trial::{Tried, brings, node_of};
+use crate::node::trial::{Tried, brings, fault_at_closing, node_of};
 use crate::peers::rows::{FOUR, SEND, SEND_OF_2};
 use crate::peers::told::Told;
 use pay_hmac::{HmacSha256, Tagger};
 use pay_io::{Reader, Writer};
 use pay_member::MemberFault;
-use pay_node::{Call, Gate, Seat};
+use pay_node::{Call, Gate, Receipt, Seat};
 use pay_peers::{Ahead, Asking, Dial, Dialed, Dials, run_readers};
 use std::alloc::Global;
 use std::sync::Wait;
@@ -116,23 +116,32 @@ fn frame_of(peer: u16) -> &'static [u8] {
 
 // Whether each seat was told of one frame that was taken, and the held one's of a repeat too if it is to be.
 fn are_told(seats: &[Seat], held: u16, repeats: bool) -> bool {
-    seats.iter().all(|seat| {
-        let receipts = seat.receipts();
-        if !repeats || seat.stamp() != held {
-            return receipts.len() == 1;
-        }
-        let is_repeat = match receipts.last() {
-            Some(receipt) => matches!(
-                receipt.call,
-                Call::Handed {
-                    answer: Err(MemberFault::Repeat(1)),
-                    ..
-                }
-            ),
-            None => false,
+    for seat in seats {
+        let count = if repeats && seat.stamp() == held {
+            2
+        } else {
+            1
         };
-        receipts.len() == 2 && is_repeat
-    })
+        if !is_told(seat.receipts(), count) {
+            return false;
+        }
+    }
+    true
+}
+
+// Whether there are so many receipts, of which the second is that of a repeat.
+fn is_told(receipts: &[Receipt], count: usize) -> bool {
+    let is_repeat = match receipts.get(1) {
+        Some(receipt) => matches!(
+            receipt.call,
+            Call::Handed {
+                answer: Err(MemberFault::Repeat(1)),
+                ..
+            }
+        ),
+        None => true,
+    };
+    receipts.len() == count && is_repeat
 }
 
 // The peer whose frames come from a seat.
@@ -269,14 +278,17 @@ const ROWS: [Row; 6] = [
     },
 ];
 
+// Whether a node closes with these seats, and each was told what it has to be.
+fn is_closed(alloc: Global, node: Tried, seats: &[Seat], row: Row) -> bool {
+    fault_at_closing(alloc, node, seats).is_none() && are_told(seats, row.held, row.repeats)
+}
+
 // Whether the held worker was let go in time, and both frames were answered.
 fn overlaps<R: Threads + Wait + Clock + Sync>(rt: &R, alloc: Global, row: Row) -> Option<bool> {
     let (node, mut seats) = node_of(alloc, FOUR)?;
     let is_ready = !row.repeats || takes_first(rt, alloc, &node, seats.as_mut_slice(), row.held);
     let seats = held_seats(rt, alloc, &node, row.held, row.at_tag, seats)?;
-    let answered = are_told(seats.as_slice(), row.held, row.repeats);
-    let closed = node.close(alloc, seats.as_slice()).is_ok();
-    Some(is_ready && answered && closed)
+    Some(is_closed(alloc, node, seats.as_slice(), row) && is_ready)
 }
 
 #[test]

@@ -1,33 +1,22 @@
-use Rattle.std.proofs.Common.{ap, ap₂, refl, ◌∙◌}
-use Rattle.std.proofs.lemmas.Result.{IfOk-weaker}
+use Rattle.std.proofs.Common.{Ok}
 use Rattle.clap.specs.Words.{App, with_subcommand}
+use Rattle.payd.specs.Job.{audit_app, check_app, desk_app, journal_app, node_app, payd_alone, sim_app, statement_app}
+use Rattle.payd.proofs.AskedLemmas.{one_command_more}
 use Rattle.payd.proofs.words.payd.Goals as goal
 
 pub returns : goal.returns
 returns c =
-    let alone = c.payd_alone.ensures in
-    let check = c.in_ok-check.ensures in
-    let desk = c.in_ok-desk.ensures in
-    let node = c.in_ok-node.ensures in
-    let audit = c.in_ok-audit.ensures in
-    let statement = c.in_ok-statement.ensures in
-    let journal = c.in_ok-journal.ensures in
-    let sim = c.titled.ensures in
-    let first = c.in_ok-subcommand.ensures in
-    let second = c.in_ok-subcommand-2.ensures in
-    let third = c.in_ok-subcommand-3.ensures in
-    let fourth = c.in_ok-subcommand-4.ensures in
-    let fifth = c.in_ok-subcommand-5.ensures in
-    let sixth = c.in_ok-subcommand-6.ensures in
-    let one = first.shape check.globals ∙ ap₂ with_subcommand alone.app (ap (λ (a : App). a.top) check.app) in
-    let two = second.shape desk.globals ∙ ap₂ with_subcommand one (ap (λ (a : App). a.top) desk.app) in
-    let three = third.shape node.globals ∙ ap₂ with_subcommand two (ap (λ (a : App). a.top) node.app) in
-    let four = fourth.shape audit.globals ∙ ap₂ with_subcommand three (ap (λ (a : App). a.top) audit.app) in
-    let five = fifth.shape statement.globals ∙ ap₂ with_subcommand four (ap (λ (a : App). a.top) statement.app) in
-    let six = sixth.shape journal.globals ∙ ap₂ with_subcommand five (ap (λ (a : App). a.top) journal.app) in
-    IfOk-weaker c.subcommand-7.result _ _ (λ r h. record {
-      app = h.shape sim.globals ∙ ap₂ with_subcommand six (ap (λ (a : App). a.top) sim.app);
-      globals =
-          rw (h.globals, sixth.globals, fifth.globals, fourth.globals, third.globals, second.globals, first.globals, alone.globals, check.globals, desk.globals, node.globals, audit.globals, statement.globals, journal.globals, sim.globals)
-          refl;
-    }) c.subcommand-7.ensures
+    let alone = payd_alone in
+    let with_check : App = with_subcommand alone check_app.top in
+    let with_desk : App = with_subcommand with_check desk_app.top in
+    let with_node : App = with_subcommand with_desk node_app.top in
+    let with_audit : App = with_subcommand with_node audit_app.top in
+    let with_statement : App = with_subcommand with_audit statement_app.top in
+    let with_journal : App = with_subcommand with_statement journal_app.top in
+    let one = one_command_more (Ok c.payd_alone.result) c.check.result c.with_command-program.result alone check_app c.payd_alone.ensures c.check.ensures c.with_command-program.ensures in
+    let two = one_command_more c.with_command-program.result c.desk.result c.with_command-program-2.result with_check desk_app one c.desk.ensures c.with_command-program-2.ensures in
+    let three = one_command_more c.with_command-program-2.result c.node.result c.with_command-program-3.result with_desk node_app two c.node.ensures c.with_command-program-3.ensures in
+    let four = one_command_more c.with_command-program-3.result c.audit.result c.with_command-program-4.result with_node audit_app three c.audit.ensures c.with_command-program-4.ensures in
+    let five = one_command_more c.with_command-program-4.result c.statement.result c.with_command-program-5.result with_audit statement_app four c.statement.ensures c.with_command-program-5.ensures in
+    let six = one_command_more c.with_command-program-5.result c.journal.result c.with_command-program-6.result with_statement journal_app five c.journal.ensures c.with_command-program-6.ensures in
+    one_command_more c.with_command-program-6.result (Ok c.titled.result) c.with_command.result with_journal sim_app six c.titled.ensures c.with_command.ensures

@@ -1,14 +1,15 @@
-use Rattle.std.proofs.Common.{◌≡◌, ◌<◌, length, slice_get, Some, option_and_then, false, IfOk, OnErr, sym, ap, ◌∙◌, subst, arith, rules}
+use Rattle.std.proofs.Common.{◌≡◌, ◌<◌, ◌≤◌, length, slice_get, Some, option_and_then, false, IfOk, OnErr, sym, ap, ◌∙◌, subst, arith, rules}
 use Rattle.std.proofs.lemmas.Grind.{common_steps}
 use Rattle.std.proofs.lemmas.Option.{slice_get-get_or}
 use Rattle.pay_world.specs.declared.event.WorldEvent.TheVariants.{Bring}
 use Rattle.pay_world.specs.Setting.{HasFewFaulty}
 use Rattle.pay_world.specs.declared.fault.WorldFault.TheVariants.{Memory}
+use Rattle.pay_world.specs.declared.reply.WorldReply.TheVariants.{Ignored}
 use Rattle.pay_world.specs.World.{WorldFields, member_in, setting_in}
 use Rattle.pay_world.specs.Answer.{Answers, IsTakenBy, is_forged_at}
 use Rattle.pay_world.proofs.Forging.{on_fault}
-use Rattle.pay_world.proofs.WorldLemmas.{few_lie}
-use Rattle.pay_world.proofs.Answering.{with_place, bring_any}
+use Rattle.pay_world.proofs.WorldLemmas.{few_lie, past_is_none}
+use Rattle.pay_world.proofs.Answering.{ignored, with_place, bring_any}
 use Rattle.pay_world.proofs.world.World.bring.Goals as goal
 
 pub invariant_of-self : goal.invariant_of-self
@@ -64,3 +65,11 @@ returns-clause-memory g c = λ lacks.
     subst (λ (x : WorldFields). IsTakenBy (Bring c.args.member c.args.bytes.now) (member_in x c.args.member)) c.self.view_is
     (subst (λ n. IsTakenBy (Bring n c.args.bytes.now) (member_in w n)) c.from-place.ensures
     (subst (IsTakenBy (Bring i c.args.bytes.now)) (sym (ap (option_and_then (λ x. x)) here)) taken))
+
+pub returns-then-place-len-clause-answers : goal.returns-then-place-len-clause-answers
+returns-then-place-len-clause-answers g c =
+    let w : WorldFields = record { genesis = c.self.inside.genesis; liars = c.self.inside.liars; members = c.self.inside.members.items; answered = c.self.inside.answered } in
+    let i = c.from-place.result in
+    let past : length w.members ≤ i = first_of (omega arith, grind (arith, common_steps), search rules) in
+    subst (λ (x : WorldFields). Answers x x (Bring c.args.member c.args.bytes.now) Ignored) c.self.view_is
+    (subst (λ n. Answers w w (Bring n c.args.bytes.now) Ignored) c.from-place.ensures (ignored w (Bring i c.args.bytes.now) (past_is_none w.members i past)))

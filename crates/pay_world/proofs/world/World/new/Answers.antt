@@ -1,11 +1,25 @@
-use Rattle.std.proofs.Common.{◌≡◌, List, Option, map, sym, ap, ◌∙◌, subst, arith}
+use Rattle.std.proofs.Common.{◌≡◌, List, Option, get_or, map, sym, ap, ◌∙◌, subst, arith, rules}
 use Rattle.std.proofs.lemmas.List.{take_all}
+use Rattle.std.proofs.lemmas.Option.{slice_get-get_or}
 use Rattle.pay_link.specs.Genesis.{GenesisFields}
+use Rattle.pay_link.specs.Keys.{IsKeysOf}
 use Rattle.pay_member.specs.Member.{MemberFields}
 use Rattle.pay_world.specs.Liars.{LiarFields}
 use Rattle.pay_world.specs.World.{IsWorld, fresh_place}
-use Rattle.pay_world.proofs.WorldLemmas.{fresh_is_world}
+use Rattle.pay_world.proofs.WorldLemmas.{fresh_is_world, placed_more}
 use Rattle.pay_world.proofs.world.World.new.Goals as goal
+
+pub fresh_place-requires : goal.fresh_place-requires
+fresh_place-requires g c =
+    let is : c.keys-item.result ≡ get_or c.args.keys.now c.loop-keys.keys-index c.keys-item.result = first_of (search rules, grind arith) in
+    subst (IsKeysOf c.args.genesis.now) (sym is)
+    (c.requires.keys.of c.loop-keys.keys-index _ (slice_get-get_or c.args.keys.now c.loop-keys.keys-index c.keys-item.result c.loop-keys-test.true))
+
+pub loop-keys-preserved : goal.loop-keys-preserved
+loop-keys-preserved g c =
+    let is : c.keys-item.result ≡ get_or c.args.keys.now c.loop-keys.keys-index c.keys-item.result = first_of (search rules, grind arith) in
+    placed_more (fresh_place c.args.genesis.now c.args.liars.now) c.args.keys.now c.loop-keys.keys-index c.keys-item.result c.loop-keys.members.items _ _
+    c.loop-keys-test.true c.loop-keys.invariant (c.in_ok-fresh_place.ensures ∙ ap (fresh_place c.args.genesis.now c.args.liars.now) is) c.in_ok-push.ensures.items
 
 pub invariant_of-result : goal.invariant_of-result
 invariant_of-result g c =

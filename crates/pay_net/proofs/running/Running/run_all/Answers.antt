@@ -1,6 +1,6 @@
 use Rattle.std.proofs.Common.{sym, ◌∙◌}
 use Rattle.pay_net.proofs.Desks.{last_is_fresh, served_well}
-use Rattle.pay_net.proofs.running.run_threads.Goals as goal
+use Rattle.pay_net.proofs.running.Running.run_all.Goals as goal
 
 pub returns-clause-ran : goal.returns-clause-ran
 returns-clause-ran g c =

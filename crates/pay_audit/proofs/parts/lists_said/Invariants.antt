@@ -1,11 +1,12 @@
 use Rattle.std.proofs.Common.{◌≡◌, ◌++◌, drop, option_map}
 use Rattle.serde_json.specs.View.{items_view}
 use Rattle.pay_audit.specs.Export.{AreShort, lists_said}
-use Rattle.pay_audit.proofs.parts.lists_in.Given as goal
+use Rattle.pay_audit.proofs.parts.lists_said.Given as goal
 
 -- the lists are those so far, and those of the rest
 abbrev pub invariant-loop-item : goal.invariant-loop-item
-invariant-loop-item l =
-    AreShort l.lists.items ×
-    (lists_said (items_view l.item-items)
-    ≡ option_map (λ ls. l.lists.items ++ ls) (lists_said (items_view (drop l.item-index l.item-items))))
+invariant-loop-item l = record {
+  short : AreShort l.lists.items;
+  said : lists_said (items_view l.items)
+      ≡ option_map (λ ls. l.lists.items ++ ls) (lists_said (items_view (drop l.item-index l.items)));
+}

@@ -1,0 +1,28 @@
+use Rattle.std.proofs.Common.{◌≡◌, ◌<◌, ◌≤◌, length, map, ap, ◌∙◌, arith}
+use Rattle.std.proofs.lemmas.List.{take_all}
+use Rattle.serde_json.proofs.Views.{view-Array}
+use Rattle.serde_json.specs.Data.{array}
+use Rattle.serde_json.specs.View.{items_of}
+use Rattle.pay_link.specs.Genesis.{GenesisFields}
+use Rattle.pay_member.specs.Events.{events}
+use Rattle.pay_member.specs.Book.{book_after}
+use Rattle.pay_audit.specs.Exporting.{number_data}
+use Rattle.pay_audit.proofs.Pushing.{balances, next_number}
+use Rattle.pay_audit.proofs.exporting.balances_of.Goals as goal
+
+pub loop-account-preserved : goal.loop-account-preserved
+loop-account-preserved g c =
+    let m = c.args.member.now in
+    let list = (book_after m.genesis m.keys.own (events m.history)).balances in
+    let count : length list ≡ m.genesis.members = balances c.book_of_events.ensures.settled m.genesis m.keys.own (events m.history) c.genesis.ensures.limits in
+    let has : c.loop-account.account < length list = omega (arith, count, c.loop-account-test.true, c.members-account-end.ensures.value, ap (λ (x : GenesisFields). x.members) c.genesis.ensures.value) in
+    next_number list c.loop-account.account c.loop-account.balances.items c.push.new.self.items c.from.result
+    has c.loop-account.invariant c.in_ok-push.ensures.items (c.from.ensures ∙ ap number_data c.balance.ensures)
+
+pub returns : goal.returns
+returns g c =
+    let m = c.args.member.now in
+    let list = (book_after m.genesis m.keys.own (events m.history)).balances in
+    let count : length list ≡ m.genesis.members = balances c.book_of_events.ensures.settled m.genesis m.keys.own (events m.history) c.genesis.ensures.limits in
+    let all : length list ≤ c.loop-account.account = omega (arith, count, c.loop-account-test.false, c.members-account-end.ensures.value, ap (λ (x : GenesisFields). x.members) c.genesis.ensures.value) in
+    view-Array c.loop-account.balances ∙ ap (λ ds. array (items_of ds)) (c.loop-account.invariant ∙ ap (map number_data) (take_all c.loop-account.account list all))
