@@ -110,6 +110,25 @@ def signal_while_the_node_is_started():
             same(file.read(), b"{0}\n", "the export, of a node that read nothing")
 
 
+# Has a signal that comes wake the thread that waits for the node's answers as little as one just before it waits.
+UNWOKEN = INSIDE.format("""
+class Holder(script.Holder):
+    def pass_answers_on(self):
+        signal.pthread_sigmask(signal.SIG_BLOCK, signal.valid_signals())
+        super().pass_answers_on()
+
+script.Holder = Holder
+""")
+
+
+@test
+def signal_just_before_the_script_waits():
+    child = started([], 'os.write(1, b"{}\\n")', holder=[sys.executable, "-c", UNWOKEN, HOLD])
+    same(line_of(child.stdout), LINE, "the answer")
+    child.terminate()
+    same((end_of(child), child.stdout.read()), ((0, []), b"{}\n"), "the end")
+
+
 # Makes a signal come when a piece of the lines was written, and is looked at before the next thing is done.
 BETWEEN = INSIDE.format("""
 class Pipe:
@@ -618,7 +637,7 @@ def node_that_stays():
     with open(f"/proc/{child.pid}/task/{child.pid}/children", encoding="ascii") as numbers:
         node = int(numbers.read())
     child.stdin.close()
-    until(lambda: of_process(child, "Threads"), "2", of="how many threads the script has")
+    until(lambda: of_process(child, "Threads"), "3", of="how many threads the script has")
     same(os.readlink(f"/proc/{node}/fd/0") in files_of(child), True, "whether the node's input is held")
     child.terminate()
     same((end_of(child), child.stdout.read()), ((0, []), b"{}\n"), "the end")
