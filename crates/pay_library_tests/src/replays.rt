@@ -13,14 +13,14 @@ use std::alloc::Global;
 use std::test::Fail;
 
 /// A payment to oneself, which moves nothing.
-const VALUE: [u8; 11] = [1, 0, 0, 0, 0, 0, 0, 0, 0, 0, 5];
+const VALUE: &[u8] = &[1, 0, 0, 0, 0, 0, 0, 0, 0, 0, 5];
 
 /// An ask for it, which got this number.
 fn history_of(alloc: Global, seq: u32) -> Result<Vec<HistoryEntry>, Fail> {
     let mut history = Vec::new(alloc);
     history.push(HistoryEntry {
         stamp: 3,
-        event: Event::Ask(Bytes::from_slice(alloc, &VALUE)?),
+        event: Event::Ask(Bytes::from_slice(alloc, VALUE)?),
         reply: Reply::Asked(seq),
     })?;
     Ok(history)

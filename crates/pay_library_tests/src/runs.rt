@@ -106,7 +106,7 @@ const ALL_BUT_ONE: &[Deed] = &[
     Deed::Bring(2, READY_OF_1_TO_2),
 ];
 
-const ROWS: [Row; 9] = [
+const ROWS: &[Row] = &[
     Row {
         group: FOUR,
         deeds: &[],
@@ -244,7 +244,8 @@ fn run(alloc: Global, row: &Row) -> Result<Result<Shown, WorldFault>, Fail> {
 #[test]
 fn events_are_run(rt: HostRuntime) -> Result<(), Fail> {
     for (place, row) in ROWS.iter().enumerate() {
-        assert_eq!(rt; run(rt.alloc(), row)?, row.shown, "row {place}");
+        let is_shown = run(rt.alloc(), row)? == row.shown;
+        assert!(rt; is_shown, "row {place}");
     }
     Ok(())
 }

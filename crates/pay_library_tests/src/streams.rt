@@ -1,5 +1,8 @@
 //! Member 1 of four is fed from the stream of member 0, over memory.
 
+ghost use Rattle.std.specs.Prelude.{IfOk};
+ghost use Rattle.pay_link.specs.Keys.{IsPeer};
+
 use pay_book::PlainBook;
 use pay_echo::PlainInstance;
 use pay_engine::EngineFault;
@@ -32,11 +35,17 @@ const KEY: [u8; 32] = [
     0, 0, 0, 0, 0, 0, 0, 0, 0, 0, 0, 0, 0, 0, 0, 0, 0, 0, 0, 0, 0, 0, 0, 0, 0, 0, 0, 0, 0, 0, 0, 1,
 ];
 
-/// What goes out for the bytes, and how it ends.
-fn served(alloc: Global, bytes: &[u8]) -> Result<(Vec<u8>, Result<(), EngineFault>), Fail> {
+fn fresh(alloc: Global) -> Result<Member<PlainInstance, PlainBook>, Fail>
+    ensures { IfOk result (λ member. IsPeer member.keys 0) }
+{
     let genesis = Genesis::new(alloc, 4, 1, &[100, 0, 0, 50])?;
     let keys = Keys::new(alloc, &genesis, 1, &[KEY; 4])?;
-    let mut member: Member<PlainInstance, PlainBook> = Member::new(alloc, genesis, keys)?;
+    Ok(Member::new(alloc, genesis, keys)?)
+}
+
+/// What goes out for the bytes, and how it ends.
+fn served(alloc: Global, bytes: &[u8]) -> Result<(Vec<u8>, Result<(), EngineFault>), Fail> {
+    let mut member = fresh(alloc)?;
     let mut reader = Reader::new(bytes);
     let mut writer = Writer::new(Vec::new(alloc));
     let ended = serve(
@@ -59,34 +68,40 @@ fn served_at_last(alloc: Global, bytes: &[u8]) -> Result<(Vec<u8>, Result<(), En
     }
 }
 
-/// Of so many frames each one that is whole is answered, if they open, behind the first WANT.
+/// Whether so many WANTs go out for the first bytes of a stream, the first one before any frame.
+fn is_answered(alloc: Global, part: &[u8], wants: &[u8], answered: usize) -> Result<bool, Fail> {
+    let (text, ended) = served_at_last(alloc, part)?;
+    let end = if part.len() % FRAME == 0 {
+        Ok(())
+    } else {
+        Err(EngineFault::Frame(FrameFault::Truncated))
+    };
+    let wanted = wants.get(..answered.saturating_mul(FRAME));
+    Ok(wanted == Some(text.as_slice()) && ended == end)
+}
+
+/// Each frame of a stream that is whole is answered, if they open.
 fn cut_anywhere(
     rt: &(impl Abort + AllocGlobal),
     stream: &[u8],
-    frames: u8,
+    wants: &[u8],
     opens: bool,
 ) -> Result<(), Fail> {
-    let wants = hex::decode(rt.alloc(), WANTS)?;
-    for cut in 0..=usize::from(frames) * FRAME {
-        let part = stream.get(..cut).ok_or("a short stream")?;
-        let (text, ended) = served_at_last(rt.alloc(), part)?;
-        let answered = if opens { cut / FRAME } else { 0 };
-        let wanted = wants.get(..FRAME + answered * FRAME);
-        let end = if cut % FRAME == 0 {
-            Ok(())
-        } else {
-            Err(EngineFault::Frame(FrameFault::Truncated))
-        };
-        assert!(rt; wanted == Some(text.as_slice()) && ended == end, "at {cut}");
+    for cut in 0..=stream.len() {
+        let part = stream.get(..cut).unwrap_or_default();
+        let answered = if opens { 1 + cut / FRAME } else { 1 };
+        let is_answered = is_answered(rt.alloc(), part, wants, answered)?;
+        assert!(rt; is_answered, "at {cut}");
     }
     Ok(())
 }
 
 #[test]
 fn frames_cut_anywhere(rt: HostRuntime) -> Result<(), Fail> {
-    for (frames, opens, stream) in [(2, true, TWICE), (1, false, MISTAGGED)] {
+    let wants = hex::decode(rt.alloc(), WANTS)?;
+    for (stream, opens) in &[(TWICE, true), (MISTAGGED, false)] {
         let stream = hex::decode(rt.alloc(), stream)?;
-        cut_anywhere(&rt, stream.as_slice(), frames, opens)?;
+        cut_anywhere(&rt, stream.as_slice(), wants.as_slice(), *opens)?;
     }
     Ok(())
 }

@@ -3,7 +3,7 @@
 use pay_book::{Entry, decode_payment};
 
 /// Values in the list of account 3 of four, and the first entry of each.
-const ROWS: [(&[u8], Entry); 4] = [
+const ROWS: &[(&[u8], Entry)] = &[
     (
         &[1, 0, 1, 0, 0, 0, 0, 0, 0, 0, 30],
         Entry::Pay {
@@ -18,7 +18,7 @@ const ROWS: [(&[u8], Entry); 4] = [
 
 #[test]
 fn values_decode(rt: HostRuntime) {
-    for (value, entry) in &ROWS {
+    for (value, entry) in ROWS {
         assert_eq!(rt; decode_payment(value, 3, 4), *entry);
     }
 }

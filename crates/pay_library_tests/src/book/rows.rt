@@ -101,7 +101,7 @@ const NO_PAYMENTS: &[u8] = &[2, 0];
 const LONG: &[u8] = &[255; 1024];
 
 /// Examples that every book meets.
-pub(crate) const ROWS: [Row; 9] = [
+pub(crate) const ROWS: &[Row] = &[
     Row {
         name: "circular debts settle once money comes",
         opening: [0, 0, 0, 50],

@@ -26,13 +26,12 @@ fn unmet<B: Settle + Drop>(alloc: Global, row: &Row) -> Option<Option<usize>> {
 
 #[test]
 fn both_books_play_rows(rt: HostRuntime) {
-    for row in &ROWS {
-        let name = row.name;
-        assert_eq!(rt; unmet::<PlainBook>(rt.alloc(), row), Some(None), "{name}");
-        assert_eq!(rt;
-            unmet::<WaitingBook>(rt.alloc(), row),
-            Some(None),
-            "{name}, waiting"
-        );
+    for row in ROWS {
+        let (alloc, name) = (rt.alloc(), row.name);
+        let found = [
+            unmet::<PlainBook>(alloc, row),
+            unmet::<WaitingBook>(alloc, row),
+        ];
+        assert_eq!(rt; found, [Some(None); 2], "{name}");
     }
 }

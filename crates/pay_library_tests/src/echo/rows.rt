@@ -48,10 +48,10 @@ struct Row {
     members: u16,
     faults: u16,
     steps: &'static [(VoteRef<'static>, Moves)],
-    known: [Option<&'static [u8]>; 3],
+    known: &'static [Option<&'static [u8]>; 3],
 }
 
-const ROWS: [Row; 3] = [
+const ROWS: &[Row] = &[
     Row {
         members: 4,
         faults: 1,
@@ -66,7 +66,7 @@ const ROWS: [Row; 3] = [
             (VoteRef::Ready(2, A), DELIVERED),
             (VoteRef::Ready(3, B), NOTHING),
         ],
-        known: [Some(A), Some(A), Some(A)],
+        known: &[Some(A), Some(A), Some(A)],
     },
     Row {
         members: 4,
@@ -77,13 +77,13 @@ const ROWS: [Row; 3] = [
             (VoteRef::Send(B), ECHO),
             (VoteRef::Send(A), NOTHING),
         ],
-        known: [Some(B), Some(A), Some(A)],
+        known: &[Some(B), Some(A), Some(A)],
     },
     Row {
         members: 1,
         faults: 0,
         steps: &[(VoteRef::Send(A), ALL)],
-        known: [Some(A), Some(A), Some(A)],
+        known: &[Some(A), Some(A), Some(A)],
     },
 ];
 
@@ -126,7 +126,7 @@ fn is_met<I: Instance + Drop>(alloc: Global, row: &Row) -> Result<bool, AllocErr
         return Ok(false);
     }
     let mut instance = I::fresh(alloc, group)?;
-    Ok(are_told(alloc, group, &mut instance, row.steps)? && is_known(&instance, row.known))
+    Ok(are_told(alloc, group, &mut instance, row.steps)? && is_known(&instance, *row.known))
 }
 
 #[test]

@@ -48,7 +48,7 @@ fn unmet<R: Wait>(rt: &R, alloc: Global, row: &Row) -> Option<usize> {
 
 #[test]
 fn calls_leave_receipts(rt: HostRuntime) {
-    for row in &ROWS {
+    for row in ROWS {
         let name = row.name;
         assert_eq!(rt; unmet(&rt, rt.alloc(), row), None, "{name}");
     }
@@ -119,10 +119,10 @@ fn fault_of<R: Wait>(
 
 #[test]
 fn seats_agree_or_not(rt: HostRuntime) {
-    for handed in &HANDED {
+    for handed in HANDED {
         let name = handed.name;
-        let fault = fault_of(&rt, rt.alloc(), handed.seats);
-        assert_eq!(rt; fault, Some(handed.answer), "{name}");
+        let is_answered = fault_of(&rt, rt.alloc(), handed.seats) == Some(handed.answer);
+        assert!(rt; is_answered, "{name}");
     }
 }
 

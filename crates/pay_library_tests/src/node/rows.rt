@@ -27,20 +27,20 @@ pub(crate) const FOUR: Group = Group {
 };
 
 /// A SEND of member 0 to member 1, number 0, about its first broadcast, with an empty value. Another program tagged it.
-const SEND: [u8; 56] = [
+const SEND: &[u8] = &[
     0, 54, 1, 1, 0, 0, 0, 1, 0, 0, 0, 0, 0, 0, 0, 0, 0, 0, 0, 0, 0, 0, 0, 0, 95, 18, 216, 156, 232,
     199, 171, 234, 104, 63, 10, 5, 239, 51, 203, 236, 225, 46, 12, 222, 29, 67, 48, 187, 155, 99,
     95, 28, 6, 226, 59, 98,
 ];
 
 /// The same with a tag of zeros.
-const WRONG_TAG: [u8; 56] = [
+const WRONG_TAG: &[u8] = &[
     0, 54, 1, 1, 0, 0, 0, 1, 0, 0, 0, 0, 0, 0, 0, 0, 0, 0, 0, 0, 0, 0, 0, 0, 0, 0, 0, 0, 0, 0, 0,
     0, 0, 0, 0, 0, 0, 0, 0, 0, 0, 0, 0, 0, 0, 0, 0, 0, 0, 0, 0, 0, 0, 0, 0, 0,
 ];
 
 /// What a lone member sends of a payment to itself, which moves nothing.
-const LONE: [Said; 3] = [
+const LONE: &[Said] = &[
     Said {
         kind: Kind::Send,
         owner: 0,
@@ -62,7 +62,7 @@ const LONE: [Said; 3] = [
 ];
 
 /// Calls from a seat: each has a receipt, but for a body that was fetched once before, and for bytes that don't open.
-pub(crate) const ROWS: [Row; 3] = [
+pub(crate) const ROWS: &[Row] = &[
     Row {
         name: "a member alone",
         group: ALONE,
@@ -78,7 +78,7 @@ pub(crate) const ROWS: [Row; 3] = [
                 }),
             ),
             Step::Query(1, Err(QueryFault::NoAccount)),
-            Step::Fetch(0, 16, &LONE),
+            Step::Fetch(0, 16, LONE),
             Step::State(0, 0, PaymentState::Settled),
             Step::State(0, 1, PaymentState::Unknown),
             Step::Statement(0, &[Line::Void { seq: 0 }], 7),
@@ -93,19 +93,19 @@ pub(crate) const ROWS: [Row; 3] = [
             Step::FetchOnce(2, &[]),
             Step::Ask(PAYMENT, Ok(0)),
             Step::Receipts(2, 1),
-            Step::FetchOnce(2, &LONE),
-            Step::FetchOnce(0, &LONE),
+            Step::FetchOnce(2, LONE),
+            Step::FetchOnce(0, LONE),
             Step::Receipts(4, 1),
-            Step::FetchOnce(2, &LONE),
-            Step::FetchOnce(0, &LONE),
-            Step::FetchOnce(2, &LONE),
+            Step::FetchOnce(2, LONE),
+            Step::FetchOnce(0, LONE),
+            Step::FetchOnce(2, LONE),
             Step::Receipts(4, 1),
-            Step::FetchOnce(usize::MAX, &LONE),
-            Step::FetchOnce(3, &LONE),
-            Step::Fetch(0, 16, &LONE),
+            Step::FetchOnce(usize::MAX, LONE),
+            Step::FetchOnce(3, LONE),
+            Step::Fetch(0, 16, LONE),
             Step::Receipts(7, 1),
-            Step::FetchOnce(1, &LONE),
-            Step::FetchOnce(0, &LONE),
+            Step::FetchOnce(1, LONE),
+            Step::FetchOnce(0, LONE),
             Step::Receipts(8, 1),
         ],
     },
@@ -113,17 +113,17 @@ pub(crate) const ROWS: [Row; 3] = [
         name: "frames are brought",
         group: FOUR,
         steps: &[
-            Step::Bring(&WRONG_TAG, Outcome::Link(LinkFault::BadTag), false),
+            Step::Bring(WRONG_TAG, Outcome::Link(LinkFault::BadTag), false),
             Step::Receipts(0, 0),
-            Step::Bring(&SEND, ECHOED, true),
-            Step::Bring(&SEND, Outcome::Link(LinkFault::Repeat(1)), true),
+            Step::Bring(SEND, ECHOED, true),
+            Step::Bring(SEND, Outcome::Link(LinkFault::Repeat(1)), true),
             Step::Receipts(2, 1),
         ],
     },
 ];
 
 /// Seats of a node with two, whose first asked once; another node has eight, from which nobody called.
-pub(crate) const HANDED: [Handed; 7] = [
+pub(crate) const HANDED: &[Handed] = &[
     Handed {
         name: "its own seats",
         seats: &[(Whose::This, 0), (Whose::This, 1)],

@@ -75,14 +75,14 @@ const NOTHING: Came = Came {
 };
 
 // Replies behind the first go out together, and a repeated WANT leaves no receipt.
-const ROWS: [Row; 10] = [
+const ROWS: &[Row] = &[
     Row {
-        frames: &[&SEND],
+        frames: &[SEND],
         goes_on: true,
         came: NOTHING,
     },
     Row {
-        frames: &[&WANT, &WANT],
+        frames: &[WANT, WANT],
         goes_on: false,
         came: Came {
             claimed: (1, 0),
@@ -90,7 +90,7 @@ const ROWS: [Row; 10] = [
         },
     },
     Row {
-        frames: &[&SEND, &WANT],
+        frames: &[SEND, WANT],
         goes_on: true,
         came: Came {
             claimed: (1, 0),
@@ -100,7 +100,7 @@ const ROWS: [Row; 10] = [
         },
     },
     Row {
-        frames: &[&SEND, &WANT, &WANT],
+        frames: &[SEND, WANT, WANT],
         goes_on: true,
         came: Came {
             claimed: (1, 0),
@@ -110,7 +110,7 @@ const ROWS: [Row; 10] = [
         },
     },
     Row {
-        frames: &[&WANT, &WANT_OF_0],
+        frames: &[WANT, WANT_OF_0],
         goes_on: true,
         came: Came {
             claimed: (1, 0),
@@ -120,7 +120,7 @@ const ROWS: [Row; 10] = [
         },
     },
     Row {
-        frames: &[&WANT, &WANT_OF_2, &SEND, &WANT_OF_0],
+        frames: &[WANT, WANT_OF_2, SEND, WANT_OF_0],
         goes_on: true,
         came: Came {
             claimed: (1, 0),
@@ -130,7 +130,7 @@ const ROWS: [Row; 10] = [
         },
     },
     Row {
-        frames: &[&WANT, &WANT, &WANT_OF_0, &WANT, &WANT_OF_0],
+        frames: &[WANT, WANT, WANT_OF_0, WANT, WANT_OF_0],
         goes_on: true,
         came: Came {
             claimed: (1, 0),
@@ -140,7 +140,7 @@ const ROWS: [Row; 10] = [
         },
     },
     Row {
-        frames: &[&WANT_FROM_2],
+        frames: &[WANT_FROM_2],
         goes_on: true,
         came: Came {
             claimed: (1, 2),
@@ -150,7 +150,7 @@ const ROWS: [Row; 10] = [
         },
     },
     Row {
-        frames: &[&WANT, &WANT_OF_0, &WANT_FROM_2],
+        frames: &[WANT, WANT_OF_0, WANT_FROM_2],
         goes_on: true,
         came: Came {
             claimed: (1, 0),
@@ -160,7 +160,7 @@ const ROWS: [Row; 10] = [
         },
     },
     Row {
-        frames: &[&WANT_FROM_2, &WANT_OF_0],
+        frames: &[WANT_FROM_2, WANT_OF_0],
         goes_on: true,
         came: Came {
             claimed: (1, 2),

@@ -43,8 +43,8 @@ fn fed<R: Wait>(rt: &R, alloc: Global, node: &Tried, seats: &mut [Seat]) -> (boo
         return (false, 0);
     };
     let mut writer = Writer::new(Vec::new(alloc));
-    let ends = feeds(rt, alloc, node, seat, &FED, &mut writer);
-    let asks = writer.into_inner().as_slice() == WANTED.as_slice();
+    let ends = feeds(rt, alloc, node, seat, FED, &mut writer);
+    let asks = writer.into_inner().as_slice() == WANTED;
     (ends && asks, seat.receipts().len())
 }
 
