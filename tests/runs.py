@@ -31,6 +31,18 @@ def test(function):
     return function
 
 
+def passes(function):
+    """Whether a test passes, which is said with the time that it took, or why not."""
+    begun = time.monotonic()
+    try:
+        function()
+    except (AssertionError, OSError, ValueError, subprocess.SubprocessError) as error:
+        print(f"FAILED {function.__name__}: {error}\n", end="", flush=True)
+        return False
+    print(f"ok {function.__name__} {time.monotonic() - begun:.1f} s\n", end="", flush=True)
+    return True
+
+
 # ---- runs
 
 # The surroundings of a script whose output waits in a buffer, as it does unless Python is told otherwise.
