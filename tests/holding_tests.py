@@ -110,7 +110,7 @@ def signal_while_the_node_is_started():
             same(file.read(), b"{0}\n", "the export, of a node that read nothing")
 
 
-# Has a signal that comes wake the thread that waits for the node's answers as little as one just before it waits.
+# No signal wakes the thread that waits for the node's answers, as one that comes just before it waits doesn't.
 UNWOKEN = INSIDE.format("""
 class Holder(script.Holder):
     def pass_answers_on(self):
