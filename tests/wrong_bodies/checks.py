@@ -10,6 +10,7 @@ import tempfile
 from dataclasses import dataclass, field
 
 from . import rt, rtlib
+from .clauses import answers_to, with_one_clause, without_answers
 from .edits import Body, Place, cut, in_batches, item, place, places_of_change, proof_folders, read_file, write_files
 from .hollow import hollow_out
 
@@ -57,9 +58,9 @@ class Report:
     seconds: float
 
 
-def check(crate, batch: list[Place], kept: str) -> Report:
-    """Checks the functions of a batch on a copy of the crate with all its bodies, over the work that is kept. All
-    others are hollow there."""
+def check(crate, batch: list[Place], declines: bool) -> Report:
+    """Checks the functions of a batch on a copy of the crate with all its bodies. All others are hollow there. With
+    `declines` none but controls can be proved there, and all be refused."""
     texts, tried = joined(crate, batch), {function for it in batch for function in it.functions()}
     with tempfile.TemporaryDirectory(prefix="wrong-bodies-") as room:
         for part in rtlib.PARTS:
@@ -69,14 +70,17 @@ def check(crate, batch: list[Place], kept: str) -> Report:
         texts |= hollow_out(crate.name, room, tried)
         for it in batch:
             copy_proofs(crate, it, room)
-        lines, seconds = check_only(crate, room, tried, kept)
+            if declines and not it.body.is_control:
+                decline_offers(it, room)
+        lines, seconds = check_only(crate, room, tried)
     has_judged = has_come_to_an_end(lines)
     return Report(lines, texts, has_judged and not any(rt.unread(it, texts) for it in lines), seconds)
 
 
-def check_only(crate, room: str, functions: set[str], kept: str) -> tuple[list[str], float]:
+def check_only(crate, room: str, functions: set[str]) -> tuple[list[str], float]:
     """Has the prover check these functions of a crate's copy, and returns what it printed and its processor seconds."""
-    words = crate.words(["--jobs", "1", "--incremental", kept, "--allow-holes"], keeps=False)
+    # (it would take a tenth longer to keep its work for a later check)
+    words = crate.words(["--jobs", "1", "--allow-holes"], keeps=False)
     words += [word for it in sorted(functions) for word in ("--only", it)]
     return run(room, [rtlib.RATTLE, "check", *words])
 
@@ -96,18 +100,36 @@ def joined(crate, batch: list[Place]) -> dict[str, str]:
             into = parts.setdefault(path, [text for _, text in own])
             for at in places_of_change(own, text):
                 if it.ending:
-                    into[at + 1] = with_twin(own, at, cut(text)[at][1], it.ending, into[at + 1])
+                    into[at + 1] = with_twin(own, at, cut(text)[at][1], it, into[at + 1])
                 else:
                     into[at] = cut(text)[at][1]
     return {path: "".join(it) for path, it in parts.items()}
 
 
-def with_twin(own: list[tuple[str, str]], at: int, body: str, ending: str, behind: str) -> str:
+def with_twin(own: list[tuple[str, str]], at: int, body: str, place: Place, behind: str) -> str:
     """What stands behind a function's body, with a twin of this body right behind the function's end."""
     name = own[at][0]
-    head = re.sub(rf"\bfn {name}\b", f"fn {name}{ending}", item(own[at - 1][1], name), count=1)
+    head = re.sub(rf"\bfn {name}\b", f"fn {name}{place.ending}", item(own[at - 1][1], name), count=1)
+    if place.body.clause:
+        head = with_one_clause(head, place.body.clause)
     end, rest = behind.split("\n", 1)
     return f"{end}\n\n{head}{body}{end}\n{rest}"
+
+
+# A line that the prover refuses in a proof file. It then searches as ever, and says which goals are open; but it offers
+# no proof file for them, which would take it a tenth of the check.
+NO_OFFER = "not_to_be_offered"
+REFUSED_LINE = f"use Rattle.std.proofs.Common.{{{NO_OFFER}}}\n"
+
+
+def decline_offers(place: Place, room: str) -> None:
+    """Has the prover offer no proof files for a body's functions."""
+    for function in place.functions():
+        folder = proof_folders(function)[0]
+        if not os.path.exists(f"{room}/{folder}/Proof.antt"):
+            file = f"{folder}/Answers.antt"
+            answers = read_file(f"{room}/{file}") if os.path.isfile(f"{room}/{file}") else ""
+            write_files(room, {file: REFUSED_LINE + answers})
 
 
 def copy_proofs(crate, place: Place, room: str) -> None:
@@ -118,7 +140,14 @@ def copy_proofs(crate, place: Place, room: str) -> None:
         for file in os.listdir(f"{crate.folder}/{folder}") if os.path.isdir(f"{crate.folder}/{folder}") else []:
             if file.endswith(".antt"):
                 text = re.sub(named, rf"\1{place.ending}", read_file(f"{crate.folder}/{folder}/{file}"))
+                text = with_answers_to(place.body.clause, text) if place.body.clause else text
                 write_files(room, {f"{folder}{place.ending}/{file}": text})
+
+
+def with_answers_to(clause: str, proof: str) -> str:
+    """A proof file without the answers to any clause but one."""
+    any_clause = answers_to(r"\w+")
+    return without_answers(proof, rf"(?!{answers_to(clause)} :){any_clause}")
 
 
 def run(folder: str, words: list[str]) -> tuple[list[str], float]:
@@ -135,7 +164,9 @@ def run(folder: str, words: list[str]) -> tuple[list[str], float]:
 
 TAKEN_AWAY = re.compile(r"has no field|is not in scope|has no `|was not admitted")
 # A tactic of a proof file that didn't prove its goal, or says of which values it doesn't hold.
-UNPROVED = re.compile(r"the goal does not follow|the goal fails|no proof of|did not prove|before the equations had joined")
+UNPROVED = re.compile(
+    r"the goal does not follow|the goal fails|no proof of|did not prove|before the equations had joined"
+)
 
 
 def line_of(crate, function: str, report: Report) -> str:
@@ -150,7 +181,7 @@ def own_errors(function: str, report: Report) -> list[str]:
     place = re.compile(rf"(?:\./)?proofs/(?:\w+/)*{function.replace('::', '/')}/\w+\.antt:\d+:\d+: error: (.*)")
     found, is_own = [], False
     for line in report.lines:
-        begun = place.match(line)
+        begun = None if NO_OFFER in line else place.match(line)
         if begun:
             found.append(begun[1])
         elif is_own and line.startswith("  "):
@@ -159,9 +190,10 @@ def own_errors(function: str, report: Report) -> list[str]:
     return found
 
 
-def open_goal(function: str, report: Report) -> str:
-    """A goal of a function that the search left open, or ''. (Of a function with proof files a note of its place alone
-    says so. It is taken where the place tells which function it is.)"""
+def open_goals(function: str, report: Report) -> list[str]:
+    """The goals of a function that the search left open. (Of a function with proof files notes of their places alone
+    say so. They are taken where the place tells which function it is.)"""
+    found = []
     for line in report.lines:
         note = re.match(r"note: src/(\S+)\.rt:(\d+):\d+: (it is not proved that .*)", line)
         if note and f"src/{note[1]}.rt" in report.texts:
@@ -169,8 +201,8 @@ def open_goal(function: str, report: Report) -> str:
             names = [name for name, _ in cut(report.texts[f"src/{note[1]}.rt"]) if name]
             name = function_at(report.texts[f"src/{note[1]}.rt"], int(note[2]))
             if function.startswith(module) and function.split("::")[-1] == name and names.count(name) == 1:
-                return note[3]
-    return ""
+                found.append(note[3])
+    return found
 
 
 def function_at(source: str, line: int) -> str:
@@ -187,22 +219,31 @@ def function_at(source: str, line: int) -> str:
 
 def refusal(crate, place: Place, report: Report) -> tuple[str, str]:
     """How the prover refuses one of the body's functions by itself, and at what; or ('', '') where it doesn't."""
-    mismatch = "", ""
-    for function in place.functions() if report.has_judged else []:
-        said = line_of(crate, function, report)
-        if "did not prove" in said:
-            return GOAL, f"{function}: {said}"
-        if said.startswith(("not proved", "no proof")):
-            errors = own_errors(function, report)
-            at_goal = [it for it in errors if UNPROVED.search(it)]
-            fits = not any(TAKEN_AWAY.search(it) for it in errors)
-            at_goal += [open_goal(function, report)] if fits else []
-            if any(at_goal):
-                return GOAL, f"{function}: {said}: {next(filter(None, at_goal))}"
-            errors = [it for it in errors if not TAKEN_AWAY.search(it)]
-            if errors and not mismatch[0]:
-                mismatch = MISMATCH, f"{function}: {said}: {errors[0]}"
-    return mismatch
+    found = [refusal_of(crate, it, report) for it in place.functions()] if report.has_judged else []
+    found = [it for it in found if it[0] and is_at(place.body.clause, it[1])]
+    return next((it for it in found if it[0] == GOAL), found[0] if found else ("", ""))
+
+
+def is_at(clause: str, said: str) -> bool:
+    """Whether what was said of a refusal names the one clause that has to refuse, where there is one."""
+    return not clause or f"-clause-{clause}" in said
+
+
+def refusal_of(crate, function: str, report: Report) -> tuple[str, str]:
+    """How the prover refuses a function by itself, and at what; or ('', '') where it doesn't."""
+    said = line_of(crate, function, report)
+    if "did not prove" in said:
+        return GOAL, f"{function}: {said}"
+    if not said.startswith(("not proved", "no proof")):
+        return "", ""
+    errors = own_errors(function, report)
+    at_goal = [it for it in errors if UNPROVED.search(it)]
+    fits = not any(TAKEN_AWAY.search(it) for it in errors)
+    at_goal += open_goals(function, report) if fits else []
+    if at_goal:
+        return GOAL, f"{function}: {said}: {'; '.join(at_goal)}"
+    errors = [it for it in errors if not TAKEN_AWAY.search(it)]
+    return (MISMATCH, f"{function}: {said}: {errors[0]}") if errors else ("", "")
 
 
 def is_proved(crate, place: Place, report: Report) -> bool:
@@ -239,24 +280,24 @@ def why_not(crate, place: Place, report: Report) -> Outcome:
 def try_bodies(crate, bodies: list[Body]) -> Tally:
     """Tries wrong bodies of a crate batch by batch, once more together what the batches leave open, and by itself what
     is open then."""
-    tally = Tally(crate.name)
-    with tempfile.TemporaryDirectory(prefix="wrong-bodies-") as kept:
-        for ordered in in_batches, in_batches, lambda left: [[place(it, 0)] for it in left]:
-            bodies = [it for batch in ordered(bodies) for it in try_batch(crate, batch, kept, tally)]
+    tally, is_first = Tally(crate.name), True
+    for ordered in in_batches, in_batches, lambda left: [[place(it, 0)] for it in left]:
+        bodies = [it for batch in ordered(bodies) for it in try_batch(crate, batch, tally, is_first)]
+        is_first = False
     return tally
 
 
-def try_batch(crate, batch: list[Place], kept: str, tally: Tally) -> list[Body]:
+def try_batch(crate, batch: list[Place], tally: Tally, is_first: bool) -> list[Body]:
     """Tries the bodies of a batch, in halves where it can't be read as a whole, and returns those left open."""
-    report = check(crate, batch, kept)
+    report = check(crate, batch, declines=is_first)
     tally.checks += 1
     tally.seconds += report.seconds
     if not report.has_judged and len(batch) > 1:
         half = len(batch) // 2
-        return [it for part in (batch[:half], batch[half:]) for it in try_batch(crate, part, kept, tally)]
+        return [it for part in (batch[:half], batch[half:]) for it in try_batch(crate, part, tally, is_first)]
     left = []
     for it in batch:
-        outcome = verdict_of(crate, it, report, is_last=len(batch) == 1)
+        outcome = verdict_of(crate, it, report, is_last=len(batch) == 1 and not is_first)
         if outcome:
             tally.outcomes.append(outcome)
         else:

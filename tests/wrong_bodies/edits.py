@@ -7,6 +7,7 @@ import re
 from dataclasses import dataclass
 
 from . import rt
+from .clauses import why_not_alone
 
 
 class BadEdit(Exception):
@@ -25,6 +26,8 @@ class Body:
     edit: str = ""
     # Whether it is harmless, so that it has to be proved.
     is_control: bool = False
+    # The one clause that has to refuse it, or '' where any may.
+    clause: str = ""
     # Whether it changes nothing but these functions' bodies.
     is_inside: bool = True
     # Whether it can stand in twins of the functions that it changes.
@@ -113,8 +116,9 @@ def last_line(lines: list[str], pattern: str) -> int:
 
 
 def statements(source: str, has_own: bool) -> tuple[str, dict[str, str]]:
-    """What callers can know of a source: all but functions, and by their names the heads of functions. What a trait
-    asks for and what a constant may call is of the first; unless `has_own`, what only its own crate can call of none."""
+    """What callers can know of a source: all but functions, and by their names the heads of functions. What a constant
+    may call is of the first, and of what a trait asks for the head, and the body that it gives; unless `has_own`, what
+    only its own crate can call is of none."""
     kept, heads, is_dropped = "", {}, False
     for name, text in cut(source):
         if not name:
@@ -122,12 +126,15 @@ def statements(source: str, has_own: bool) -> tuple[str, dict[str, str]]:
             is_dropped = False
         elif "const fn" in (head := item(kept, name)):
             kept += text
-        elif not is_of_trait(kept, name):
+        elif is_of_trait(kept, name):
+            is_dropped = above(kept).startswith("impl")
+            kept += text * (not is_dropped)
+        else:
             kept, is_dropped = kept.removesuffix(head), True
             if has_own or re.search(rf"(?m)^ *pub fn {name}\b", head):
                 of = above(kept) if head.startswith(" ") else ""
                 heads[name] = heads.get(name, "") + of + without_comments(head, "//")
-    return without_comments(kept, "//"), heads
+    return re.sub(r"(?m)^ *//.*\n", "", kept), heads
 
 
 def without_comments(text: str, begin: str) -> str:
@@ -155,7 +162,7 @@ def write_files(folder: str, texts: dict[str, str]) -> None:
 
 # ---- edits
 
-MARKS = "function|file|old|new|promise|control"
+MARKS = "function|file|old|new|promise|control|clause"
 
 
 def lines_of(edit: str, mark: str) -> list[str]:
@@ -173,7 +180,8 @@ def read_body(crate, name: str) -> Body:
     texts, why = rt.edited(text, crate.folder)
     if why:
         raise BadEdit(why)
-    body = Body(name, texts, re.findall(r"(?m)^function: (\S+)$", text), text, bool(lines_of(text, "control")))
+    functions, clauses = re.findall(r"(?m)^function: (\S+)$", text), lines_of(text, "clause")
+    body = Body(name, texts, functions, text, bool(lines_of(text, "control")), "".join(clauses))
     if not body.functions:
         raise BadEdit("it has no line 'function: PATH'")
     named = {it.rpartition("::")[2] for it in body.functions}
@@ -184,7 +192,22 @@ def read_body(crate, name: str) -> Body:
         elif changed - named:
             raise BadEdit(f"no line 'function: PATH' names {min(changed - named)}, whose body it changes")
     body.can_be_twin = body.is_inside and can_be_twin(crate, body)
+    why = why_not_by_a_clause(crate, body) if body.clause else ""
+    if why:
+        raise BadEdit(f"it names a clause, and {why}")
     return body
+
+
+def why_not_by_a_clause(crate, body: Body) -> str:
+    """Why a body can't be tried against one clause, or ''."""
+    if body.is_control or not body.can_be_twin or len(body.functions) != 1:
+        return "it is a control, or changes more than one function that can have a twin"
+    ((path, new),) = body.texts.items()
+    own = cut(read_file(f"{crate.folder}/{path}"))
+    (at,) = places_of_change(own, new)
+    folder = f"{crate.folder}/{proof_folders(body.functions[0])[0]}"
+    proofs = [read_file(f"{folder}/{it}") for it in sorted(os.listdir(folder))] if os.path.isdir(folder) else []
+    return why_not_alone(item(own[at - 1][1], own[at][0]), "".join(proofs), body.clause)
 
 
 def can_be_twin(crate, body: Body) -> bool:

@@ -1,8 +1,11 @@
 """Makes functions hollow, so that a check knows them by their contracts alone.
 
-A hollow function never ends, and its proof is a hole, which the prover takes for the proof that is wanted (--allow-holes
-has it do so). What calls it is judged by its contract, and the check spends nothing on its proof, which rt ci makes. A
-function stays whole that a trait asks for, that is constant, that stands in a cycle of calls, or that is `main`.
+A hollow function never ends, and its proof is a hole, which the prover takes for the proof that is wanted (by
+--allow-holes). What calls it is judged by its contract, and the check spends nothing on its proof, which rt ci makes.
+All share one hole, since the prover prints the goal of each, which takes it as long as a short proof.
+
+A function stays whole that is constant, that stands in a cycle of calls, that is `main`, or that has its body in a
+trait, or in an impl of a trait with type arguments.
 """
 
 from __future__ import annotations
@@ -11,14 +14,19 @@ import os
 import re
 import shutil
 
-from .edits import above, cut, is_of_trait, item, proof_folders, read_file, write_files
+from .edits import above, cut, item, proof_folders, read_file, write_files
 
 BODY = "\n    loop {}\n"
+HOLE = """\
+pub taken_as_proved : {A : Type 2} → A
+taken_as_proved = ?
+"""
 PROOF = """\
 use Rattle.{crate}.proofs.{path}.Statement.{{statement}}
+use Rattle.{crate}.proofs.TheHole.{{taken_as_proved}}
 
 pub {name}_spec : {{M : Type 1}} → statement M
-{name}_spec = ?
+{name}_spec = taken_as_proved
 """
 
 
@@ -30,6 +38,9 @@ def hollow_out(crate: str, room: str, whole: set[str]) -> dict[str, str]:
             path = os.path.relpath(f"{at}/{file}", room)
             texts[path] = hollow_file(crate, room, path, whole)
     write_files(room, texts)
+    node = f"{room}/proofs/Lib.antt"
+    declared = read_file(node) if os.path.isfile(node) else ""
+    write_files(room, {"proofs/TheHole.antt": HOLE, "proofs/Lib.antt": f"{declared}mod TheHole\n"})
     return texts
 
 
@@ -47,20 +58,27 @@ def hollow_file(crate: str, room: str, path: str, whole: set[str]) -> str:
 def path_of(file: str, head: str, name: str) -> str:
     """How the prover names the function whose head ends this text of a file, or '' where it has to stay whole."""
     own = item(head, name)
-    if name == "main" or "#[cycle" in own or re.search(rf"\bconst fn {name}\b", own) or is_of_trait(head, name):
+    if name == "main" or "#[cycle" in own or re.search(rf"\bconst fn {name}\b", own):
         return ""
     module = re.sub(r"^(lib|main)$", "", file.removeprefix("src/").removesuffix(".rt")).replace("/", "::")
-    of = [it for it in (module, own.startswith(" ") and type_of(above(head)), name) if it]
-    return "::".join(of)
+    owner = owner_of(above(head)) if own.startswith(" ") else ""
+    return "" if owner is None else "::".join(it for it in (module, owner, name) if it)
 
 
-def type_of(head: str) -> str:
-    """The name of the type that an impl is of."""
+def owner_of(head: str) -> str | None:
+    """How the prover names what a function belongs to: the type of an impl, and behind it the trait where it is of one.
+    Nothing, where that doesn't name the function's proof."""
+    if not head.startswith("impl"):
+        return None
     depth, at = 0, len("impl")
     while depth or head[at] == "<":
         depth += {"<": 1, ">": -(head[at - 1] != "-")}.get(head[at], 0)
         at += 1
-    return re.match(r"\s*(\w+)", head[at:])[1]
+    generics, rest = head[:at], head[at:]
+    of_trait = re.match(r"\s*(?:\w+::)*(?!Drop\b)(\w+) for (\w+)", rest)
+    if of_trait and not re.search(rf"\b{of_trait[2]}\b", generics):
+        return of_trait[2] + of_trait[1]
+    return None if " for " in rest else re.match(r"\s*(\w+)", rest)[1]
 
 
 def hollow_proof(crate: str, room: str, function: str) -> None:

@@ -3,9 +3,8 @@
 A verdict hangs on a body's sum and on the toolchain. The sum is over
 
 - the edit, and the functions that it changes with their proof files;
-- the contracts of the functions that these name, or that a spec or a lemma cites: a body is judged by contracts alone;
-- its crate's sources without functions, its specs and its lemmas, and of each library below its sources without
-  functions and its specs, but always with what traits ask for; and their lines of crates.txt;
+- what these reach by their names (tests/wrong_bodies/world.py): contracts of functions, and of its crate's sources,
+  specs and lemmas, and the sources and specs of those below, the definitions; and their lines of crates.txt;
 - what of this script a verdict comes from.
 
 The record of a crate is a file of lines 'BODY KIND SUM TOOLCHAIN', in their order. A line with another sum says nothing
@@ -15,7 +14,6 @@ and does no harm, so that a merge may keep both sides' lines; one of another too
 from __future__ import annotations
 
 import functools
-import hashlib
 import os
 import re
 import subprocess
@@ -23,17 +21,12 @@ from dataclasses import dataclass, field
 
 from . import TOP, rtlib
 from .checks import WELL, Outcome
-from .edits import Body, cut, places_of_change, proof_folders, read_file, statements, without_comments
+from .edits import Body, above, cut, item, places_of_change, proof_folders, read_file, without_comments
+from .world import Part, imports_of, names_in, sum_of, texts_of, with_imports, without_remarks, world_of
 
 FOLDER = os.path.join(TOP, "tests", "refused")
-# How a spec or a lemma cites a function's contract, or its proof.
-CITING = re.compile(r"\bcontracts\b|\.Met\b|\bproofs\.[\w.]+\.(?:Proof|Statement)\b")
 # Of those on record one of so many is tried all the same, and at most so many of a crate go together.
 DRAWN, GROUP = 20, 20
-
-
-def sum_of(*parts) -> str:
-    return hashlib.sha256(repr(parts).encode()).hexdigest()[:32]
 
 
 # ---- worlds
@@ -42,7 +35,8 @@ def sum_of(*parts) -> str:
 @functools.cache
 def script_sum() -> str:
     """Of the texts of this script that verdicts come from, without what they say to a reader."""
-    texts = [read_file(os.path.join(TOP, "tests", "wrong_bodies", it)) for it in ("checks.py", "edits.py", "hollow.py")]
+    parts = "checks.py", "clauses.py", "edits.py", "hollow.py"
+    texts = [read_file(os.path.join(TOP, "tests", "wrong_bodies", it)) for it in parts]
     return sum_of([without_comments(re.sub(r'(?s)"""(?!\\).*?"""', "", text), "#") for text in texts])
 
 
@@ -53,84 +47,33 @@ def toolchain() -> str:
     return f"{identity.split()[0]}-{sum_of(identity, parts)[:16]}"
 
 
-@functools.cache
-def texts_of(crate) -> dict[str, str]:
-    """A crate's sources, specs and proofs by their paths in it."""
-    return {os.path.relpath(it, crate.folder): read_file(it) for it in rtlib.files_of(crate.folder)}
-
-
-@functools.cache
-def proofs_named(crate) -> set[str]:
-    """The libraries below whose proofs a crate names."""
-    found = {it for text in texts_of(crate).values() for it in re.findall(r"\bRattle\.(\w+)\.proofs\b", text)}
-    return found - {crate.name}
-
-
-@dataclass
-class Known:
-    """What others can know of a crate."""
-
-    # A sum over all but functions.
-    sum: str
-    # Of the functions of a name a sum over their heads.
-    heads: dict[str, str]
-    # What those of its specs name, and of its lemmas where they count, that cite a function.
-    words: set[str]
-
-
-@functools.cache
-def known_of(crate, has_proofs: bool, has_own: bool) -> Known:
-    found, heads, words = [], {}, set()
-    for path, text in sorted(texts_of(crate).items()):
-        if path.startswith("src/"):
-            kept, of = statements(text, has_own)
-            found.append((path, kept))
-            for name, head in of.items():
-                heads.setdefault(name, []).append((path, head))
-        elif path.startswith("specs/") or has_proofs and not is_of_function(path):
-            kept = without_comments(text, "--")
-            found.append((path, kept))
-            words.update(words_in(kept) if CITING.search(kept) else [])
-    about = sum_of(crate.name, crate.of_kit, [it.name for it in crate.deps], found)
-    return Known(about, {name: sum_of(it) for name, it in heads.items()}, words)
-
-
-def words_in(text: str) -> set[str]:
-    return {*re.findall(r"\w+", text)}
-
-
-@functools.cache
-def world_of(crate) -> tuple[str, tuple[Known, ...]]:
-    """A sum of what the verdicts on all of a crate's wrong bodies hang on, but for the toolchain and for functions; and
-    what is known of the crate and of those below."""
-    below = sorted(crate.below(), key=lambda it: it.name)
-    named = {name for it in [crate, *below] for name in proofs_named(it)}
-    known = known_of(crate, True, True), *[known_of(it, it.name in named, False) for it in below]
-    return sum_of(script_sum(), [it.sum for it in known]), known
-
-
-def is_of_function(path: str) -> bool:
-    """Whether this is a proof file of one function."""
-    return os.path.basename(path) in ("Answers.antt", "Invariants.antt", "Proof.antt")
-
-
 def sum_of_body(crate, body: Body) -> str:
     """A sum of all that the verdict on a wrong body hangs on, but for the toolchain."""
-    own, (about, known) = changed_by(crate, body), world_of(crate)
-    words = words_in(" ".join([*body.functions, *[text for _, text in own]])).union(*[it.words for it in known])
-    heads = [sorted((name, it.heads[name]) for name in words & {*it.heads}) for it in known]
-    return sum_of(about, body.name, body.edit, own, heads)
+    world, own = world_of(crate), changed_by(crate, body)
+    named = names_in(" ".join(body.functions)).union(*[it.named for it in own])
+    reached = world.sum_of_reached(frozenset(named))
+    return sum_of(script_sum(), world.sum, body.name, body.edit, [it.text for it in own], reached)
 
 
-def changed_by(crate, body: Body) -> list[tuple[str, str]]:
-    """What a body makes of the functions that it changes, and their proof files."""
+def changed_by(crate, body: Body) -> list[Part]:
+    """What a body makes of the functions that it changes, with their heads and those of their impls, and their proof
+    files."""
     texts, found = texts_of(crate), []
-    for path, text in body.texts.items():
-        places = places_of_change(cut(texts[path]), text) if body.is_inside else []
-        found += [(path, cut(text)[at][1]) for at in places] or [(path, text)]
+    for path, text in sorted(body.texts.items()):
+        own = cut(texts[path])
+        places = places_of_change(own, text) if body.is_inside else []
+        changed = [head_of(own, at) + cut(text)[at][1] for at in places] or [text]
+        found += [with_imports(frozenset(), it, imports_of(texts[path])) for it in changed]
     folders = tuple(f"{folder}/" for it in body.functions for folder in proof_folders(it))
-    proofs = [(path, without_comments(text, "--")) for path, text in texts.items() if path.startswith(folders)]
-    return sorted(found) + sorted(proofs)
+    proofs = [without_remarks(text) for path, text in sorted(texts.items()) if path.startswith(folders)]
+    return found + [with_imports(frozenset(), it, {}) for it in proofs]
+
+
+def head_of(own: list[tuple[str, str]], at: int) -> str:
+    """The head of the function at a place of a cut source, behind that of its impl."""
+    before, name = "".join(text for _, text in own[:at]), own[at][0]
+    head = item(before, name)
+    return (above(before) if head.startswith(" ") else "") + without_comments(head, "//")
 
 
 def commit() -> str:
@@ -193,7 +136,8 @@ class Choice:
 
 def choose(bodies: list[Body], record: Record) -> Choice:
     """Tries what isn't on record."""
-    return Choice([it for it in bodies if not record.kind(it)], [it for it in bodies if record.kind(it)])
+    kinds = [record.kind(it) for it in bodies]
+    return Choice(*[[it for it, kind in zip(bodies, kinds) if bool(kind) == is_kept] for is_kept in (False, True)])
 
 
 def draw(choices: dict[str, Choice], by: str) -> None:

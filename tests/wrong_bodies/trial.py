@@ -76,6 +76,22 @@ pub fn beside_unproved(k: u32) -> u32
     given
 }
 
+pub fn pair(k: u32) -> (u32, u32)
+    requires { k < 100 }
+    ensures low { result.0 ≡ k }
+    ensures high { result.1 ≡ k + 1 }
+{
+    (same(k), next(k))
+}
+
+pub fn pair_above(k: u32) -> (u32, u32)
+    requires { k < 99 }
+    ensures low { result.0 ≡ k + 1 }
+    ensures high { result.1 ≡ k + 2 }
+{
+    pair(k + 1)
+}
+
 pub trait Five {
     fn five(&self) -> u32
         ensures { result ≡ 5 };
@@ -114,12 +130,24 @@ use Rattle.fixture.proofs.passed_on.Goals as goal
 pub returns : goal.returns
 returns c = c.same.ensures
 """,
+    "pair_above": """\
+use Rattle.std.proofs.Common.{arith}
+use Rattle.fixture.proofs.pair_above.Goals as goal
+
+pub returns-clause-low : goal.returns-clause-low
+returns-clause-low c = omega (arith, c.pair.ensures.low)
+
+pub returns-clause-high : goal.returns-clause-high
+returns-clause-high c = omega (arith, c.pair.ensures.high)
+""",
 }
 
 # Each edit's function, its old and new text, and what has to come of it.
 EDITS = {
     "cannot_be_read": ("same", "    k", "    j", BAD_EDIT),
     "harmless": ("same", "    k", "    k + 0", LET_THROUGH),
+    "harmless_beside_a_proof": ("third", "next(almost)", "(next(almost))", LET_THROUGH),
+    "harmless_beside_a_term": ("passed_on", "    same(k)", "    (same((k)))", LET_THROUGH),
     "harmless_above_wrong": ("second", "next(before)", "before + 1", LET_THROUGH),
     "old_text_twice": ("next", "x + 1", "x", BAD_EDIT),
     "other_function": ("same", "next(before)", "before", BAD_EDIT),
@@ -131,6 +159,17 @@ EDITS = {
     "wrong_beside_a_term": ("passed_on", "    same(k)", "    same(k) / 2", MISMATCH),
     "wrong_of_a_trait": ("PlainFive::five", "2 + 3", "2 * 3", GOAL),
     "harmless_above_wrong_of_a_trait": ("AskingFive::five", "Plain.five();", "(Plain.five());", LET_THROUGH),
+}
+# The same of edits that name a clause, behind which it stands.
+AT_CLAUSES = {
+    "at_its_clause": ("pair", "next(k))", "next(k) + 1)", GOAL, "high"),
+    "at_another_clause": ("pair", "next(k))", "next(k) + 2)", LET_THROUGH, "low"),
+    "at_a_clause_with_an_answer": ("pair_above", "pair(k + 1)", "pair(k)", GOAL, "high"),
+    "at_another_clause_with_an_answer": ("pair_above", "    pair(k + 1)", "    (pair(k + 1).0, k)", LET_THROUGH, "low"),
+    "at_what_another_requires": ("pair", "next(k))", "next(k + 1) - 1)", LET_THROUGH, "low"),
+    "at_a_clause_that_is_not_there": ("pair", "next(k))", "next(k) + 4)", BAD_EDIT, "middle"),
+    "at_the_one_clause": ("second", "next(before)", "before", BAD_EDIT, "value"),
+    "at_a_clause_of_a_trait": ("PlainFive::five", "2 + 3", "2 * 4", BAD_EDIT, "value"),
 }
 # The same of controls.
 CONTROLS = {
@@ -171,8 +210,8 @@ def try_itself() -> tuple[bool, str]:
     return not said, "\n".join([head, *[f"itself/{it}" for it in said]])
 
 
-def edit_text(function: str, old: str, new: str, why: str = "") -> str:
-    mark = f"control: {why}\n" if why else ""
+def edit_text(function: str, old: str, new: str, mark: str = "") -> str:
+    mark = f"{mark}\n" if mark else ""
     return f"{mark}function: {function}\nfile: src/lib.rt\nold: {old}\nnew: {new}\n"
 
 
@@ -188,13 +227,15 @@ def try_edits(top: str) -> tuple[list[str], Tally]:
     for name, (function, old, new, _) in EDITS.items():
         texts[f"crates/fixture/wrong-bodies/{name}.edit"] = edit_text(function, old, new)
     for name, (function, old, new, _) in CONTROLS.items():
-        texts[f"crates/fixture/wrong-bodies/{name}.edit"] = edit_text(function, old, new, "the same")
+        texts[f"crates/fixture/wrong-bodies/{name}.edit"] = edit_text(function, old, new, "control: the same")
+    for name, (function, old, new, _, clause) in AT_CLAUSES.items():
+        texts[f"crates/fixture/wrong-bodies/{name}.edit"] = edit_text(function, old, new, f"clause: {clause}")
     write_files(top, texts)
     crate = fixture(top)
     bodies, bad = read_bodies(crate)
     tally = try_bodies(crate, bodies)
     tally.outcomes += [Outcome(name, BAD_EDIT, why) for name, why in bad.items()]
-    wanted = {name: it[3] for name, it in (EDITS | CONTROLS).items()}
+    wanted = {name: it[3] for name, it in (EDITS | CONTROLS | AT_CLAUSES).items()}
     missed = [it for it in tally.outcomes if it.verdict != wanted[it.body]]
     said = [f"{it.body}: {it.verdict}, and not {wanted[it.body]}: {it.said}" for it in missed]
     if sorted(it.body for it in tally.outcomes) != sorted(wanted):
@@ -288,6 +329,12 @@ fn hidden(k: u32) -> u32
 pub trait Counts {{
     fn count(&self) -> u32
         ensures {{ result ≡ 5 }};
+
+    fn given(&self) -> u32
+        ensures {{ result ≡ 4 }}
+    {{
+        9 - 5
+    }}
 }}
 
 impl Counts for u32 {{
@@ -299,37 +346,93 @@ impl Counts for u32 {{
 }}
 """
 OWN, BELOW = "crates/fixture", "crates/under"
+WITHIN = "Limits::within", "k < self", "k <= self"
 COMMENT = "-- a comment\n"
-# A file, an old and a new text of it, and of which functions a body has to be tried anew then. A spec cites `patient`.
+# Types and a function of one, below a trait's impl that names another.
+TYPES = """\
+
+pub struct Limits {
+    most: Most,
+}
+
+pub struct Most(u32);
+
+pub struct Least(u32);
+
+impl Limits {
+    pub fn within(&self, k: u32) -> bool {
+        k < self.most.0
+    }
+}
+
+impl Five for Limits {
+    fn five(&self) -> u32 {
+        Least(5).0
+    }
+}
+"""
+# The proof of `third` names a lemma, this a spec and a lemma below, and the spec a contract and a spec below.
+CITED = {
+    f"{OWN}/proofs/third/Answers.antt": "use Rattle.fixture.proofs.Own.{helps as h}\n"
+    + ANSWERS["third"]
+    + "\npub other : goal.other\nother c = h\n",
+    f"{OWN}/proofs/Own.antt": "use Rattle.under.proofs.Below.{lemma}\nuse Rattle.fixture.specs.Same.{same_as}\n\n"
+    "pub helps : same_as 1\nhelps = lemma\n\npub unused : ℕ\nunused = 1\n",
+    f"{OWN}/specs/Same.antt": "use Rattle.under.specs.Held.{Holder}\n"
+    "use Rattle.fixture.specs.contracts.patient as asked\n\n"
+    "-- a remark\nabbrev pub same_as : ℕ → Type 0\nsame_as k = asked k × Holder k\n\n"
+    "abbrev pub another : ℕ\nanother = 1\n",
+    f"{BELOW}/specs/Held.antt": "pub record Holder (k : ℕ) : Type 0 where\n  pub held : k ≡ 2\n\n"
+    "pub data Sign : Type 0 where\n  Plus : Sign\n",
+    f"{BELOW}/proofs/Below.antt": "pub lemma : ℕ\nlemma = 1\n",
+}
+# A file, an old and a new text of it, and of which functions a body has to be tried anew then.
 CHANGES = (
     (f"{BELOW}/src/lib.rt", "    x + 1\n", "    1 + x\n", ""),
     (f"{BELOW}/src/lib.rt", "pub fn same", "// a comment\npub fn same", ""),
     (f"{BELOW}/src/lib.rt", "k + 7 }", "7 + k }", ""),
+    (f"{BELOW}/src/lib.rt", "hidden(5) - 7", "hidden(6) - 8", ""),
     (f"{BELOW}/src/lib.rt", "fn hidden(k: u32)", "pub(crate) fn shown(k: u32)", ""),
     (f"{BELOW}/src/lib.rt", UNDER[UNDER.index("fn hidden") : UNDER.index("pub trait Counts")], "", ""),
     (f"{BELOW}/src/lib.rt", "fn hidden", "pub fn hidden", ""),
     (f"{BELOW}/src/lib.rt", "fn hidden", "fn next", ""),
-    (f"{BELOW}/proofs/Lib.antt", COMMENT, "mod More\n", ""),
+    (f"{BELOW}/src/lib.rt", "fn hidden", "const fn hidden", ""),
+    (f"{BELOW}/src/lib.rt", "pub fn same", "pub const MOST: u32 = 4;\n\npub fn same", ""),
+    (f"{BELOW}/src/lib.rt", "pub fn same", "pub const Most: u32 = 4;\n\npub fn same", "within"),
+    (f"{BELOW}/src/lib.rt", "-> u32\n        ensures {", "-> u32\n        ensures five {", "five within"),
     (f"{BELOW}/src/lib.rt", "x + 1 < 100", "x + 1 < 99", "third"),
     (f"{BELOW}/src/lib.rt", "x < 100", "x < 99", "next third"),
-    (f"{BELOW}/src/lib.rt", "pub fn patient<R: Wait>(_rt", "pub fn patient<R: Wait>(rt", "next third"),
+    (f"{BELOW}/src/lib.rt", "pub fn patient<R: Wait>(_rt", "pub fn patient<R: Wait>(rt", "third"),
     (f"{BELOW}/src/lib.rt", "fn hidden", "pub fn next", "next third"),
-    (f"{BELOW}/src/lib.rt", "fn hidden", "const fn hidden", "next third"),
-    (f"{BELOW}/src/lib.rt", "pub fn same", "pub const MOST: u32 = 4;\n\npub fn same", "next third"),
-    (f"{BELOW}/src/lib.rt", "-> u32\n        ensures {", "-> u32\n        ensures five {", "next third"),
-    (f"{BELOW}/src/lib.rt", "ensures five", "ensures value", "next third"),
-    (f"{BELOW}/specs/Lib.antt", COMMENT, "pub mod More\n", "next third"),
+    # (all name u32, which has an impl of that trait)
+    (f"{BELOW}/src/lib.rt", "9 - 5", "8 - 4", "five next third within"),
+    (f"{BELOW}/src/lib.rt", "#![tactic(auto)]", "#![tactic(none)]", "five next third within"),
+    (f"{BELOW}/specs/Held.antt", "k ≡ 2", "k ≡ 3", "third"),
+    (f"{BELOW}/specs/Held.antt", "Plus : Sign", "Minus : Sign", ""),
+    (f"{BELOW}/proofs/Below.antt", "lemma = 1", "lemma = 2", "third"),
+    (f"{BELOW}/proofs/Lib.antt", COMMENT, "mod More\n", ""),
     (f"{OWN}/src/lib.rt", "    let before = next(x);\n    next(before)\n", "    x + 2\n", ""),
     (f"{OWN}/src/lib.rt", "pub fn same", "// a comment\npub fn same", ""),
     (f"{OWN}/src/lib.rt", "pub fn same", "fn hidden() {\n}\n\npub fn same", ""),
     (f"{OWN}/src/lib.rt", "ensures { result ≡ k }", "ensures { k ≡ result }", ""),
+    (f"{OWN}/src/lib.rt", "let answer = Plain.five();", "let answer = 5;", ""),
+    (f"{OWN}/src/lib.rt", "pub struct Plain;", "pub struct Plain(u8);", "five"),
+    (f"{OWN}/src/lib.rt", "pub struct Asking;", "pub struct Asking(u8);", ""),
+    (f"{OWN}/src/lib.rt", "Least(5)", "Least(7)", ""),
+    (f"{OWN}/src/lib.rt", "struct Most(u32)", "struct Most(u64)", "within"),
     (f"{OWN}/src/lib.rt", "    x + 1\n", "    x + 1 + 0\n", "next"),
     (f"{OWN}/src/lib.rt", "x + 1 < 100", "x + 1 < 99", "third"),
     (f"{OWN}/src/lib.rt", "x < 100", "x < 99", "next third"),
-    (f"{OWN}/src/lib.rt", "pub fn patient<R: Wait>(_rt", "pub fn patient<R: Wait>(rt", "next third"),
-    (f"{OWN}/src/lib.rt", "pub trait", "pub(crate) trait", "next third"),
-    (f"{OWN}/specs/Lib.antt", COMMENT, "pub mod More\n", "next third"),
-    (f"{OWN}/proofs/Lib.antt", COMMENT, "mod More\n", "next third"),
+    (f"{OWN}/src/lib.rt", "pub fn patient<R: Wait>(_rt", "pub fn patient<R: Wait>(rt", "third"),
+    (f"{OWN}/src/lib.rt", "pub trait", "pub(crate) trait", "five within"),
+    (f"{OWN}/specs/Same.antt", "asked k", "asked (k + 1)", "third"),
+    (f"{OWN}/specs/Same.antt", "contracts.patient", "contracts.pair", "third"),
+    (f"{OWN}/specs/Same.antt", "another = 1", "another = 2", ""),
+    (f"{OWN}/specs/Same.antt", "-- a remark", "-- another", ""),
+    (f"{OWN}/specs/Same.antt", "Held.{Holder}", "Held.{Holder, Sign}", ""),
+    (f"{OWN}/proofs/Own.antt", "helps = lemma", "helps = lemma + 0", "third"),
+    (f"{OWN}/proofs/Own.antt", "unused = 1", "unused = 2", ""),
+    (f"{OWN}/proofs/Lib.antt", COMMENT, "mod More\n", ""),
     (f"{OWN}/proofs/passed_on/Answers.antt", "c.same.ensures", "search", ""),
     (f"{OWN}/proofs/third/Answers.antt", "search rules", "search", "third"),
     (f"{OWN}/proofs/fn/third/call/Answers.antt", COMMENT, "mod More\n", "third"),
@@ -338,27 +441,25 @@ CHANGES = (
 
 def try_worlds(top: str) -> list[str]:
     """Changes a crate and a library below it, and looks which wrong bodies another record is asked for."""
-    texts = {"crates.txt": "under:\nfixture: under\n", f"{BELOW}/src/lib.rt": UNDER, f"{OWN}/src/lib.rt": SOURCE}
+    texts = {"crates.txt": "under:\nfixture: under\n", f"{BELOW}/src/lib.rt": UNDER}
+    texts |= {f"{OWN}/src/lib.rt": SOURCE + TYPES}
     texts |= {f"{OWN}/proofs/{name}/Answers.antt": text for name, text in ANSWERS.items()}
     texts |= {path: COMMENT for path, old, _, _ in CHANGES if old == COMMENT}
-    texts |= {f"{OWN}/specs/Citing.antt": "use Rattle.fixture.specs.contracts.patient as asked\n"}
-    texts |= {f"{OWN}/specs/Same.antt": "same : ℕ → ℕ\n"}
+    texts |= CITED
     write_files(top, texts)
-    for name, of in ("next", "wrong"), ("third", "wrong_beside_a_proof"):
-        write_files(top, {f"{OWN}/wrong-bodies/{name}.edit": edit_text(*EDITS[of][:3])})
+    edits = {"five": EDITS["wrong_of_a_trait"], "next": EDITS["wrong"], "within": WITHIN}
+    edits |= {"third": EDITS["wrong_beside_a_proof"]}
+    for name, of in edits.items():
+        write_files(top, {f"{OWN}/wrong-bodies/{name}.edit": edit_text(*of[:3])})
     before, said = sums(top), []
+    if {*before} != {*edits}:
+        said.append("not each of the edits can be read")
     for path, old, new, anew in CHANGES:
         write_files(top, {path: texts[path].replace(old, new, 1)})
         found = [name for name, of in sums(top).items() if of != before[name]]
         if old not in texts[path] or found != anew.split():
             said.append(f"'{new}' in {path} has {found} tried anew, and not {anew.split()}")
         write_files(top, {path: texts[path]})
-    # a proof that others name counts
-    write_files(top, {f"{OWN}/proofs/Lib.antt": "use Rattle.under.proofs.Lib.{lemma}\n"})
-    before = sums(top)
-    write_files(top, {f"{BELOW}/proofs/Lib.antt": "mod More\n"})
-    if any(of == before[name] for name, of in sums(top).items()):
-        said.append("a change of a proof that another crate names doesn't count")
     return said
 
 
