@@ -98,9 +98,14 @@ class Record:
         text = read_file(self.path) if os.path.isfile(self.path) else ""
         found = [self.LINE.fullmatch(it) for it in text.splitlines()]
         self.kinds = {(it[1], it[3], it[4]): it[2] for it in found if it and it[2] in WELL}
+        self.sums: dict[tuple[str, str], str] = {}
 
     def sum(self, body: Body) -> str:
-        return sum_of_body(self.crate, body)
+        """Its sum as it was first asked for: before the body is tried."""
+        key = body.name, body.edit
+        if key not in self.sums:
+            self.sums[key] = sum_of_body(self.crate, body)
+        return self.sums[key]
 
     def kind(self, body: Body) -> str:
         """Of which kind this toolchain's refusal of this very body is on record, or ''."""
