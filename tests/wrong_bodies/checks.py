@@ -166,6 +166,7 @@ TAKEN_AWAY = re.compile(r"has no field|is not in scope|has no `|was not admitted
 # A tactic of a proof file that didn't prove its goal, or says of which values it doesn't hold.
 UNPROVED = re.compile(
     r"the goal does not follow|the goal fails|no proof of|did not prove|before the equations had joined"
+    r"|`(?:search|grind)` (?:found no proof|builds no proof|stopped at its own limit|broke off)"
 )
 
 

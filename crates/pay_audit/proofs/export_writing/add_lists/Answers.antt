@@ -1,4 +1,5 @@
 use Rattle.std.proofs.Common.{◌∷◌, [], ◌≡◌, ◌<◌, Some, false, refl, ap, map, length, take, nat_lt, zero-add, ◌++◌, ◌∙◌, ◌+◌, arith, rules}
+use Rattle.std.proofs.lemmas.Grind.{common_steps}
 use Rattle.std.specs.List.{slice_get}
 use Rattle.std.proofs.lemmas.List.{take_all}
 use Rattle.std.proofs.lemmas.List.FromFn.{get_or-map-range_with_len, length-map-range_with_len}
@@ -43,3 +44,6 @@ returns g c =
     adds_next (at c.args.text.now c.args.writer.now) (at c.loop-owner.text c.loop-owner.writer) (at c.add-2.new.self c.add-2.new.writer)
     (91 ∷ begun false (map list_data (take k list))) (93 ∷ []) _
     c.loop-owner.invariant c.add-2.ensures (all_in_array list_data list k all)
+
+pub loop-owner-init : goal.loop-owner-init
+loop-owner-init g c = grind (arith, common_steps)

@@ -1,4 +1,5 @@
 use Rattle.std.proofs.Common.{◌≡◌, ℕ, suc, ◌+◌, ◌<◌, ◌≤◌, List, [], length, take, refl, ap, ap₂, subst, sym, ◌∙◌, arith}
+use Rattle.std.proofs.lemmas.Grind.{common_steps}
 use Rattle.pay_frame.specs.declared.limits.TheConstants.{MOST_MEMBERS, SEQS}
 use Rattle.pay_book.specs.Book.{Standing, fresh, IsSettled, CanSettle}
 use Rattle.pay_audit.specs.Export.{ExportFields, IsExport, list_in}
@@ -33,3 +34,6 @@ settle-requires g c =
     subst Can (sym (ap₂ take count lists))
     (c.grown_list_can_settle.ensures (list_in (take owner e.lists)) now book owner c.loop-owner.invariant.settled (one_more e.lists owner) within
     (c.group_lists_are_countable.ensures now book (λ a _. short e.lists SEQS (suc owner) a sound.short) few))
+
+pub loop-owner-preserved : goal.loop-owner-preserved
+loop-owner-preserved g c = grind (arith, common_steps)

@@ -1,4 +1,5 @@
-use Rattle.std.proofs.Common.{◌≡◌, ◌∷◌, ◌∙◌, ap, length}
+use Rattle.std.proofs.Common.{◌≡◌, ◌∷◌, ◌∙◌, ap, length, arith}
+use Rattle.std.proofs.lemmas.Grind.{common_steps}
 use Rattle.std.specs.List.{flat_map}
 use Rattle.std.proofs.lemmas.List.{take_all}
 use Rattle.pay_book.specs.declared.payment.TheConstants.{SEVERAL_VERSION}
@@ -14,3 +15,9 @@ returns-clause-length c =
     ∙ ap (λ ps. length (SEVERAL_VERSION ∷ length payments ∷ flat_map pair_bytes ps))
     (take_all c.loop-payment.payment-index payments c.loop-payment-test.false)
     ∙ length-payments_value payments
+
+pub loop-payment-init : goal.loop-payment-init
+loop-payment-init c = grind (arith, common_steps)
+
+pub loop-payment-preserved : goal.loop-payment-preserved
+loop-payment-preserved c = grind (arith, common_steps)

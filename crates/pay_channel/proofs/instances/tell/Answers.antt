@@ -1,4 +1,5 @@
-use Rattle.std.proofs.Common.{ap, sym, ◌∙◌, subst}
+use Rattle.std.proofs.Common.{ap, sym, ◌∙◌, subst, arith}
+use Rattle.std.proofs.lemmas.Grind.{common_steps}
 use Rattle.std.specs.Bool.{then_some}
 use Rattle.pay_frame.specs.declared.kind.Kind.TheVariants.{Echo, Ready}
 use Rattle.pay_echo.specs.Meaning.{Meaning}
@@ -16,3 +17,12 @@ returns-clause-out g c =
       echo = c.in_ok-echo.ensures ∙ ap (λ v. then_some c.moves-moves.result.echo (body_of Echo c.args.owner c.args.seq v)) c.value.ensures.value;
       ready = c.in_ok-ready.ensures ∙ ap (λ v. then_some c.moves-moves.result.ready (body_of Ready c.args.owner c.args.seq v)) c.value-2.ensures.value;
     }
+
+pub returns-in_err-echo-clause-err : goal.returns-in_err-echo-clause-err
+returns-in_err-echo-clause-err g c = grind (arith, common_steps)
+
+pub returns-in_err-ready-clause-err : goal.returns-in_err-ready-clause-err
+returns-in_err-ready-clause-err g c = grind (arith, common_steps)
+
+pub take-requires-clause-told : goal.take-requires-clause-told
+take-requires-clause-told g c = grind (arith, common_steps)

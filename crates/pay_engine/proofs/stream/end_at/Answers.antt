@@ -1,4 +1,5 @@
-use Rattle.std.proofs.Common.{◌≡◌, ◌∙◌, ◌++◌, ap, Err, rules}
+use Rattle.std.proofs.Common.{◌≡◌, ◌∙◌, ◌++◌, ap, Err, rules, arith}
+use Rattle.std.proofs.lemmas.Grind.{common_steps}
 use Rattle.std.specs.Io.KnownBytes.{Appends}
 use Rattle.pay_io.specs.Device.{WroteBeginning}
 use Rattle.pay_engine.specs.declared.engine_fault.EngineFault.TheVariants.{Memory, Write}
@@ -26,3 +27,6 @@ returns-clause-handles g c =
     let text : c.end.new.out.items ≡ last = c.in_ok-end.ensures.text ∙ ap (λ xs. xs ++ last) c.clear.ensures.items in
     let written : Appends (contents c.args.writer.now) (contents c.write_text.new.writer) last = rw text at (rw c.deref.ensures.value at c.in_ok-write_text.ensures.ok) in
     λ start left rest held reads later going none stream whole. all_to _ start _ left rest _ _ held reads c.args.fault going none stream whole written
+
+pub returns-clause-err : goal.returns-clause-err
+returns-clause-err g c = grind (arith, common_steps)

@@ -1,4 +1,5 @@
 use Rattle.std.proofs.Common.{◌≡◌, ℕ, [], Err, true, false, arith, rules}
+use Rattle.std.proofs.lemmas.Grind.{common_steps}
 use Rattle.pay_engine.specs.declared.engine_fault.EngineFault.{EngineFault}
 use Rattle.pay_engine.specs.declared.engine_fault.EngineFault.TheVariants.{Memory, Write}
 use Rattle.pay_io.specs.declared.limits.TheConstants.{MOST_READS}
@@ -75,3 +76,9 @@ returns-clause-counts g c = record {
   bound = search rules;
   gave = λ _. gave _ _ _ _ _ _ _ MOST_READS c.loop.invariant.handling (omega arith);
 }
+
+pub returns-in_err-read_once-clause-counts : goal.returns-in_err-read_once-clause-counts
+returns-in_err-read_once-clause-counts g c = grind (arith, common_steps)
+
+pub returns-then-not-branch-clause-counts : goal.returns-then-not-branch-clause-counts
+returns-then-not-branch-clause-counts g c = grind (arith, common_steps)

@@ -1,4 +1,5 @@
-use Rattle.std.proofs.Common.{ℕ, ap, subst, sym}
+use Rattle.std.proofs.Common.{ℕ, ap, subst, sym, arith}
+use Rattle.std.proofs.lemmas.Grind.{common_steps}
 use Rattle.pay_member.specs.Legal.{Legal}
 use Rattle.pay_member.specs.Member.{MemberFields}
 use Rattle.pay_node.specs.Closing.{AllSettled}
@@ -21,3 +22,6 @@ returns-in-Ok-clause-closed g c input left before after ran borne_out =
       ran = ran;
       right = right_at_end _ _ _ ran.others ran.desk ran.all settled;
     }
+
+pub returns-in-Err-Memory-default-clause-closed : goal.returns-in-Err-Memory-default-clause-closed
+returns-in-Err-Memory-default-clause-closed g c = grind (arith, common_steps)

@@ -1,4 +1,5 @@
 use Rattle.std.proofs.Common.{◌≡◌, ◌≢◌, [], Some, length, sym, ◌∙◌, append-nil, arith, rules}
+use Rattle.std.proofs.lemmas.Grind.{common_steps}
 use Rattle.pay_sim.specs.Script.{LineTells, Obeys}
 use Rattle.pay_sim.proofs.Reading.{done_as, empty_tells, command_tells}
 use Rattle.pay_sim.proofs.play.obey_line.Goals as goal
@@ -13,3 +14,6 @@ returns-in-Some g c = λ group es b.
     let some : length c.args.line.now ≢ 0 = first_of (search rules, grind arith) in
     done_as (Obeys group es c.in-Some.command) (LineTells group es c.args.line.now) group _ _ _ c.obey.result
     (λ t does. command_tells group es c.args.line.now (Some c.in-Some.command) t some (sym c.in-Some.is ∙ c.in_ok-command.ensures) does) (c.obey.ensures group es b)
+
+pub returns-in-None : goal.returns-in-None
+returns-in-None g c = grind (arith, common_steps)

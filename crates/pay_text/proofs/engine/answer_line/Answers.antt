@@ -1,4 +1,5 @@
-use Rattle.std.proofs.Common.{◌≡◌, Err, rules}
+use Rattle.std.proofs.Common.{◌≡◌, Err, rules, arith}
+use Rattle.std.proofs.lemmas.Grind.{common_steps}
 use Rattle.std.specs.Io.KnownBytes.{Appends}
 use Rattle.pay_io.specs.Device.{WroteBeginning}
 use Rattle.pay_text.specs.Answers.{bytes_of}
@@ -21,3 +22,6 @@ returns-clause-goes g c = λ left.
     let said : says c.args.answerer.now c.args.cutter.now.line (bytes_of answer.text) answer.goes_on c.answer.new.self = rw c.line.ensures at c.in_ok-text.ensures.ok in
     let wrote : Appends (g.W.Output.contents c.args.writer.now) (g.W.Output.contents c.write_text.new.writer) (bytes_of answer.text) = rw c.as_bytes.ensures at c.in_ok-write_text.ensures.ok in
     one_answered says g.A.Answerer.gives_up c.args.answerer.now c.answer.new.self c.args.cutter.now.line left (bytes_of answer.text) answer.goes_on _ _ said wrote
+
+pub returns-clause-cutter : goal.returns-clause-cutter
+returns-clause-cutter g c = grind (arith, common_steps)

@@ -1,4 +1,5 @@
 use Rattle.std.proofs.Common.{◌≡◌, [], Ok, Err, true, false, rules, arith, sym, ◌∙◌, take, length-take}
+use Rattle.std.proofs.lemmas.Grind.{common_steps}
 use Rattle.std.specs.Io.KnownBytes.{Consumes, IsAtEnd}
 use Rattle.pay_io.specs.declared.stream_fault.StreamFault.{StreamFault}
 use Rattle.pay_text.specs.Cutting.{is_nothing}
@@ -54,3 +55,6 @@ pub returns-else-branch-clause-reads : goal.returns-else-branch-clause-reads
 returns-else-branch-clause-reads g c =
     let off : c.in_ok-take_piece.field-0 ≡ false = search rules in
     λ old input before reads going. (piece_goes g.A.Answerer.says g.A.Answerer.gives_up c.args.cutter.now.bound c.args.cutter.now.line c.take_piece.new.cutter.line old c.args.answerer.now c.take_piece.new.answerer input _ _ before _ _ reads (take c.in-Ok.count c.read.new.buffer) (Ok false) going c.in-Ok.ensures.bytes.0 (rw off at c.in_ok-take_piece.ensures.goes), tt)
+
+pub returns-in_default-clause-reads : goal.returns-in_default-clause-reads
+returns-in_default-clause-reads g c = grind (arith, common_steps)

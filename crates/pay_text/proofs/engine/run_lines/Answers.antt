@@ -1,4 +1,5 @@
-use Rattle.std.proofs.Common.{◌≡◌, ℕ, Ok, Err, rules, sym, ap, subst}
+use Rattle.std.proofs.Common.{◌≡◌, ℕ, Ok, Err, rules, sym, ap, subst, arith}
+use Rattle.std.proofs.lemmas.Grind.{common_steps}
 use Rattle.pay_io.specs.declared.stream_fault.StreamFault.{StreamFault}
 use Rattle.pay_text.specs.Cutting.{Begun}
 use Rattle.pay_text.specs.Engine.{IsGoing, Writes}
@@ -41,3 +42,12 @@ returns-in-Some-clause-text g c =
 
 pub returns-clause-text : goal.returns-clause-text
 returns-clause-text g c = broken g.A.Answerer.says g.A.Answerer.gives_up c.args.bound c.loop.cutter.line c.args.answerer.now c.loop.answerer _ _ _ _ c.loop.counter c.loop.invariant.going
+
+pub returns-clause-counts : goal.returns-clause-counts
+returns-clause-counts g c = grind (arith, common_steps)
+
+pub returns-in-Some-clause-counts : goal.returns-in-Some-clause-counts
+returns-in-Some-clause-counts g c = grind (arith, common_steps)
+
+pub returns-in_err-at_end-clause-counts : goal.returns-in_err-at_end-clause-counts
+returns-in_err-at_end-clause-counts g c = grind (arith, common_steps)

@@ -1,4 +1,5 @@
 use Rattle.std.proofs.Common.{◌≤◌, refl, arith}
+use Rattle.std.proofs.lemmas.Grind.{common_steps}
 use Rattle.pay_world.specs.Setting.{HasFewFaulty}
 use Rattle.pay_world.specs.World.{setting_in}
 use Rattle.pay_world.proofs.UnderWay.{all_of_all, alike, asked, books}
@@ -29,3 +30,6 @@ returns-clause-asked g c = λ _.
 
 pub returns-clause-books : goal.returns-clause-books
 returns-clause-books g c = λ _. books c.args.world.now c.members-receiver-end.ensures.limits c.book_of_events.ensures.equal (returns-clause-delivered g c refl)
+
+pub loop-receiver-preserved : goal.loop-receiver-preserved
+loop-receiver-preserved g c = grind (arith, common_steps)

@@ -1,4 +1,5 @@
 use Rattle.std.proofs.Common.{◌≡◌, Err, rules, arith}
+use Rattle.std.proofs.lemmas.Grind.{common_steps}
 use Rattle.std.proofs.lemmas.List.{nil_from_length}
 use Rattle.std.specs.Slice.Iter.{chunks_rest}
 use Rattle.payd.specs.Files.{IsExportsStop}
@@ -42,3 +43,6 @@ returns-clause-verdict g c =
     let none = nil_from_length _ c.in-None.ensures.steps.1.0 in
     let is = all_shared (g.F.NamedFiles.holds c.args.files.now) c.args.names.now (chunks_rest at.batch-iterator) at.auditor none at.invariant.sharing in
     record { exports = at.invariant.sharing.exports; read = is; is = c.verdict.ensures at.invariant.sharing.exports at.invariant.sharing.taken }
+
+pub loop-batch-init : goal.loop-batch-init
+loop-batch-init g c = grind (arith, common_steps)

@@ -1,4 +1,5 @@
 use Rattle.std.proofs.Common.{◌<◌, ◌^◌, ℕ, List, length, ap, sym, subst, ◌∙◌, ⊎_elim, arith}
+use Rattle.std.proofs.lemmas.Grind.{common_steps}
 use Rattle.std.specs.Bool.{OnFalse}
 use Rattle.std.proofs.lemmas.Bool.{cases_eq}
 use Rattle.pay_book.specs.Book.{MaySettle}
@@ -37,3 +38,6 @@ loop-settled-smaller g c =
 pub returns-clause-settled : goal.returns-clause-settled
 returns-clause-settled g c =
     settled_from_stuck (g.S.Source.lists c.args.source.now) c.step.new.self.accounts c.step.ensures.book c.loop-settled-test.ensures.stuck
+
+pub returns-clause-count : goal.returns-clause-count
+returns-clause-count g c = grind (arith, common_steps)

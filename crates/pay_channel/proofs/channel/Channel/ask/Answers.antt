@@ -1,4 +1,5 @@
-use Rattle.std.proofs.Common.{◌+◌, ap, sym, subst}
+use Rattle.std.proofs.Common.{◌+◌, ap, sym, subst, arith}
+use Rattle.std.proofs.lemmas.Grind.{common_steps}
 use Rattle.pay_echo.specs.Broadcast.{value_of}
 use Rattle.pay_channel.specs.Source.{GrowsOnly}
 use Rattle.pay_channel.specs.History.{Ask}
@@ -31,3 +32,9 @@ returns-clause-grows g c =
 pub vote-requires-clause-value : goal.vote-requires-clause-value
 unfolding value_of
 vote-requires-clause-value g c = c.requires.value
+
+pub returns-in_err-applied-clause-err : goal.returns-in_err-applied-clause-err
+returns-in_err-applied-clause-err g c = grind (arith, common_steps)
+
+pub returns-in_err-send-clause-err : goal.returns-in_err-send-clause-err
+returns-in_err-send-clause-err g c = grind (arith, common_steps)

@@ -1,4 +1,5 @@
-use Rattle.std.proofs.Common.{ap, sym, ◌∙◌, subst₂, []}
+use Rattle.std.proofs.Common.{ap, sym, ◌∙◌, subst₂, [], arith}
+use Rattle.std.proofs.lemmas.Grind.{common_steps}
 use Rattle.std.proofs.lemmas.Result.{on_ok_weaker, on_err_weaker, IfOk-weaker}
 use Rattle.pay_echo.specs.Meaning.{Meaning, Sees}
 use Rattle.pay_echo.specs.Votes.{vote_of}
@@ -104,3 +105,6 @@ returns-clause-out g c =
     let new = ap (λ ns. meaning_in its (slots_of g.I.Instance.meaning ns) c.args.owner c.args.seq) c.in_ok-insert.ensures.entries ∙ meaning_in-inserted g.I.Instance.meaning its c.args.owner c.args.seq key_cmp is c.get_mut.follows.lender-at-none.entries c.tell-2.new.instance in
     let P : Meaning → Meaning → Type 0 = λ m n. IsOutgoing c.args.owner c.args.seq (vote_of c.args.vote) m n c.in_ok-outgoing.outgoing in
     subst₂ P (sym old) (sym new) c.in_ok-outgoing.ensures.out
+
+pub returns-in_err-instance-clause-err : goal.returns-in_err-instance-clause-err
+returns-in_err-instance-clause-err g c = grind (arith, common_steps)

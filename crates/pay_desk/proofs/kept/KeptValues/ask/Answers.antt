@@ -1,4 +1,5 @@
-use Rattle.std.proofs.Common.{ℕ, List, ap, map, ◌∙◌, ◌∷◌, [], ◌++◌}
+use Rattle.std.proofs.Common.{ℕ, List, ap, map, ◌∙◌, ◌∷◌, [], ◌++◌, arith}
+use Rattle.std.proofs.lemmas.Grind.{common_steps}
 use Rattle.pay_desk.specs.declared.by_id.ById.{ById}
 use Rattle.pay_desk.specs.Kept.{kept_under}
 use Rattle.pay_desk.proofs.Finding.{kept_behind, kept_of}
@@ -12,3 +13,9 @@ returns-clause-kept g c =
     (ap (kept_under c.args.id) c.self.view_is ∙ c.requires.fresh)
     ∙ ap (λ ks. ks ++ payment.kept ∷ []) c.self.view_is
     ∙ ap (λ (v : List ℕ). c.args.self.now ++ record { id = c.args.id; value = v; seq = c.in_ok-seq.seq } ∷ []) c.in_ok-copy.ensures.value
+
+pub returns-clause-replied : goal.returns-clause-replied
+returns-clause-replied g c = grind (arith, common_steps)
+
+pub returns-in_err-seq-clause-kept : goal.returns-in_err-seq-clause-kept
+returns-in_err-seq-clause-kept g c = grind (arith, common_steps)

@@ -1,4 +1,5 @@
-use Rattle.std.proofs.Common.{◌≡◌, ℕ, List, Some, ◌++◌, slice_get, ap, sym, ◌∙◌, subst}
+use Rattle.std.proofs.Common.{◌≡◌, ℕ, List, Some, ◌++◌, slice_get, ap, sym, ◌∙◌, subst, arith, rules}
+use Rattle.std.proofs.lemmas.Grind.{common_steps}
 use Rattle.pay_echo.specs.Broadcast.{IsForeign, value_of}
 use Rattle.pay_echo.specs.Meaning.{Meaning}
 use Rattle.pay_echo.specs.Plain.{AreDistinct}
@@ -24,3 +25,9 @@ returns-clause-after c =
     let foreign = subst (λ (m : Meaning). IsForeign m.group (vote_of c.args.vote)) (sym c.self.view_is) c.requires.foreign in
     rw (c.or-self-inside.ensures, c.then_some.ensures, c.put_if.ensures, c.put.ensures.readys, c.put.ensures.echoes, grown.1, ← c.self.view_is)
     (counted-meaning c.self.inside.group c.self.inside.values.items grown.0 c.self.inside.echoes.items c.self.inside.readys.items c.self.inside.delivered (vote_of c.args.vote) c.in_ok-place.place c.args.moves c.self.invariant distinct is foreign)
+
+pub invariant_of-self : goal.invariant_of-self
+invariant_of-self c = grind (arith, common_steps)
+
+pub returns-in_err-place-clause-err : goal.returns-in_err-place-clause-err
+returns-in_err-place-clause-err c = search rules

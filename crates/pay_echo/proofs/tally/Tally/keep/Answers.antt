@@ -1,4 +1,5 @@
 use Rattle.std.proofs.Common.{◌≡◌, ◌++◌, ◌∷◌, [], ℕ, List, Some, length, ap, sym, ◌∙◌, subst, arith}
+use Rattle.std.proofs.lemmas.Grind.{common_steps}
 use Rattle.std.specs.Prelude.{slice_get}
 use Rattle.std.proofs.lemmas.List.{length_push, get_or_push}
 use Rattle.std.proofs.lemmas.Option.{slice_get-get_or}
@@ -31,3 +32,6 @@ returns-clause-echoes c = echoes-shown c.self.inside.members c.self.inside.candi
 
 pub returns-clause-readys : goal.returns-clause-readys
 returns-clause-readys c = readys-shown c.self.inside.members c.self.inside.candidates.items c.push.new.self.items c.self.inside.echoed c.self.inside.readied c.args.self.now c.args.value.now c.in_ok-value.value c.self.invariant c.self.view_is c.in_ok-push.ensures.items c.in_ok-value.ensures.value
+
+pub returns-in-Some-clause-place : goal.returns-in-Some-clause-place
+returns-in-Some-clause-place c = grind (arith, common_steps)

@@ -1,4 +1,5 @@
 use Rattle.std.proofs.Common.{rules, ◌≡◌, ◌∙◌, ◌+◌, ◌-◌, ap, sym, None, drop, take, arith}
+use Rattle.std.proofs.lemmas.Grind.{common_steps}
 use Rattle.std.proofs.lemmas.List.{drop-drop}
 use Rattle.pay_frame.specs.Cutting.{Held}
 use Rattle.pay_frame.specs.Passing.{IsFront}
@@ -17,3 +18,6 @@ returns-in-Ok-clause-passes c =
     passes old _ c.args.most size c.in-Ok.count front (sym (ap (λ (h : Held). h.met) c.self.view_is) ∙ none) none
     (ap (λ n. take n (drop inside.start inside.buffer.items)) count ∙ ap (take size) bytes)
     (sym (drop-drop size inside.start inside.buffer.items) ∙ ap (drop size) bytes)
+
+pub returns-in-Err-clause-fault : goal.returns-in-Err-clause-fault
+returns-in-Err-clause-fault c = grind (arith, common_steps)

@@ -1,4 +1,5 @@
 use Rattle.std.proofs.Common.{◌≡◌, ◌<◌, ◌≤◌, arith, length, List, [], ◌∷◌, ◌++◌, refl, sym, ap, ◌∙◌, subst}
+use Rattle.std.proofs.lemmas.Grind.{common_steps}
 use Rattle.pay_frame.specs.declared.limits.TheConstants.{GREATEST_VALUE, SEQS}
 use Rattle.pay_channel.specs.History as channel
 use Rattle.pay_channel.specs.History.{asks}
@@ -29,3 +30,9 @@ invariant_of-self-2 g c =
     (record { kept = c.asked_is_kept.ensures; taken = ask_taken m.genesis m.keys (events h) c.args.value fits left; reply = ap Asked asked })
     c.self.invariant.one_for_each
     (turns_asked c.taken_in_order.ensures.next m c.self.inside.ledger c.self.inside.fronts c.args.value c.self.invariant))
+
+pub returns-clause-entry : goal.returns-clause-entry
+returns-clause-entry g c = grind (arith, common_steps)
+
+pub returns-then-seq-ge-SEQS-clause-refused : goal.returns-then-seq-ge-SEQS-clause-refused
+returns-then-seq-ge-SEQS-clause-refused g c = grind (arith, common_steps)

@@ -1,4 +1,5 @@
-use Rattle.std.proofs.Common.{◌++◌, Option, Ok, Err, sym, ap, ◌∙◌, subst}
+use Rattle.std.proofs.Common.{◌++◌, Option, Ok, Err, sym, ap, ◌∙◌, subst, arith}
+use Rattle.std.proofs.lemmas.Grind.{common_steps}
 use Rattle.std.specs.Option.{option_to_list}
 use Rattle.pay_channel.specs.History as channel
 use Rattle.pay_link.specs.Keys.{KeyFields}
@@ -75,3 +76,6 @@ returns-in-Ok-clause-memory g c =
     let m = c.args.self.now in
     let some = some_opened c.one_frame_is.ensures.law m.keys c.args.bytes.now o has in
     on_err_by c.take_unanswered.result (event_opened m.keys (events m.history) c.args.bytes.now o.frame some) c.take_unanswered.ensures.memory
+
+pub returns-in-Err-clause-memory : goal.returns-in-Err-clause-memory
+returns-in-Err-clause-memory g c = grind (arith, common_steps)

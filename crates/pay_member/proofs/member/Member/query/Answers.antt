@@ -1,4 +1,5 @@
 use Rattle.std.proofs.Common.{◌≡◌, ◌<◌, List, [], ◌∷◌, ◌++◌, arith, refl, sym, ap, ◌∙◌, subst}
+use Rattle.std.proofs.lemmas.Grind.{common_steps}
 use Rattle.pay_member.specs.declared.event.Event.TheVariants.{Query}
 use Rattle.pay_member.specs.declared.reply.Reply.TheVariants as reply
 use Rattle.pay_member.specs.declared.entry.HistoryEntry.{HistoryEntry}
@@ -33,3 +34,6 @@ returns-clause-told g c =
     subst At c.self.view_is
     (told_is c.a_channel_follows.ensures.lists c.settled_book_is_one.ensures c.self.inside.genesis c.self.inside.keys.own (events c.self.inside.history.items) c.self.inside.ledger c.args.account
     c.balance.result c.front.result c.listed.result c.self.invariant.tracks c.balance.ensures c.front.ensures c.listed.ensures)
+
+pub returns-clause-entry : goal.returns-clause-entry
+returns-clause-entry g c = grind (arith, common_steps)

@@ -67,3 +67,15 @@ returns-clause-took g c =
     subst At c.self.view_is
     (took_is c.a_channel_follows.ensures.event c.a_channel_follows.ensures.lists c.a_channel_follows.ensures.answers c.settled_book_is_one.ensures
     c.self.inside.genesis c.self.inside.keys.own (events c.self.inside.history.items) c.self.inside.ledger c.apply.new.self (channel.From from body) c.in_ok-took.took c.self.invariant.tracks grows)
+
+pub returns-clause-entry : goal.returns-clause-entry
+returns-clause-entry g c = grind (arith, common_steps)
+
+pub returns-clause-refused : goal.returns-clause-refused
+returns-clause-refused g c = search rules
+
+pub returns-in_err-reserve-clause-refused : goal.returns-in_err-reserve-clause-refused
+returns-in_err-reserve-clause-refused g c = search rules
+
+pub returns-in_err-took-clause-refused : goal.returns-in_err-took-clause-refused
+returns-in_err-took-clause-refused g c = search rules

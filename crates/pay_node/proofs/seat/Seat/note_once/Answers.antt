@@ -1,4 +1,5 @@
-use Rattle.std.proofs.Common.{rules, ◌≡◌, ◌∙◌, ◌++◌, [], ◌∷◌, Some, None, ap, sym, subst, length, slice_get, List}
+use Rattle.std.proofs.Common.{rules, ◌≡◌, ◌∙◌, ◌++◌, [], ◌∷◌, Some, None, ap, sym, subst, length, slice_get, List, arith}
+use Rattle.std.proofs.lemmas.Grind.{common_steps}
 use Rattle.pay_frame.specs.Frame.{BodyFields}
 use Rattle.pay_node.specs.declared.question.Question.TheVariants as question
 use Rattle.pay_node.specs.declared.shown.Shown.TheVariants as shown
@@ -42,3 +43,9 @@ returns-in_ok-keep_body-in-Some-clause-own g c =
     let sent : slice_get (sent_by m) c.args.number ≡ Some body = search rules in
     let receipt : c.keep_body.new.self.receipts ≡ c.args.self.now.receipts ++ reading_receipt (length m.history) (question.Sent c.args.number 1) (shown.Sent (body ∷ [])) = search rules in
     kept_stays m c.args.self.now c.keep_body.new.self c.args.number body sent c.in_ok-keep_body-in-Some.ensures.stamp receipt
+
+pub returns-in_err-note-in-None-clause-err : goal.returns-in_err-note-in-None-clause-err
+returns-in_err-note-in-None-clause-err g c = grind (arith, common_steps)
+
+pub returns-in_ok-note-in-None-clause-own : goal.returns-in_ok-note-in-None-clause-own
+returns-in_ok-note-in-None-clause-own g c = grind (arith, common_steps)

@@ -1,4 +1,5 @@
-use Rattle.std.proofs.Common.{◌≡◌, [], Err, inr, sym, ◌∙◌, append-nil, rules}
+use Rattle.std.proofs.Common.{◌≡◌, [], Err, inr, sym, ◌∙◌, append-nil, rules, arith}
+use Rattle.std.proofs.lemmas.Grind.{common_steps}
 use Rattle.pay_frame.specs.Lent.{fields_of}
 use Rattle.pay_peers.specs.Ahead.{IsDue}
 use Rattle.pay_peers.proofs.Fed.{fed_not, fed_on}
@@ -26,3 +27,6 @@ returns-in-None g c =
     let fed = fed_not c.args.self.now.node.now c.args.self.now.peer c.args.self.now.ahead.count c.args.asking.now c.bring_frame.new.seat f c.in_ok-brought.brought c.number-number.result
     due c.in_ok-brought.ensures.brought c.number-number.ensures.value c.in-None.ensures in
     record { handles = ([], fed, sym (append-nil c.args.out.now.items)) }
+
+pub returns-in_ok-ask_for-in-Some : goal.returns-in_ok-ask_for-in-Some
+returns-in_ok-ask_for-in-Some g c = grind (arith, common_steps)

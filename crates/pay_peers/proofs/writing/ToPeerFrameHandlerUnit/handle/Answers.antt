@@ -1,4 +1,5 @@
-use Rattle.std.proofs.Common.{◌≡◌, ◌++◌, [], inl, inr, refl, sym, append-nil, rules}
+use Rattle.std.proofs.Common.{◌≡◌, ◌++◌, [], inl, inr, refl, sym, append-nil, rules, arith}
+use Rattle.std.proofs.lemmas.Grind.{common_steps}
 use Rattle.pay_peers.specs.Answering.{IsSentTo}
 use Rattle.pay_peers.proofs.writing.ToPeerFrameHandlerUnit.handle.Goals as goal
 
@@ -19,3 +20,6 @@ returns-in_ok-extend_from_slice-in-Some-answer g c =
         longer,
       );
     }
+
+pub returns-then-not-goes_on : goal.returns-then-not-goes_on
+returns-then-not-goes_on g c = grind (arith, common_steps)

@@ -1,4 +1,5 @@
-use Rattle.std.proofs.Common.{◌≡◌, ◌<◌, ◌++◌, ◌∷◌, [], ℕ, false, List, eqb, length, ap, ◌∙◌, sym, subst, arith}
+use Rattle.std.proofs.Common.{◌≡◌, ◌<◌, ◌++◌, ◌∷◌, [], ℕ, false, List, eqb, length, ap, ◌∙◌, sym, subst, arith, rules}
+use Rattle.std.proofs.lemmas.Grind.{common_steps}
 use Rattle.std.specs.Prelude.{Contains, vec_len, vec_capacity}
 use Rattle.std.specs.List.{list_any}
 use Rattle.std.proofs.lemmas.Bool.{cond-true}
@@ -17,3 +18,9 @@ returns-then-not-contains-clause-there c =
     omega (arith, room, c.args.self.now.room, c.args.self.now.waiting.ok) in
     let P : List ℕ → Type 0 = λ xs. Contains xs account in
     subst P (sym (c.push.ensures.items ∙ cond-true _ (old ++ account ∷ []) old (c.push.ensures.succeeds fits))) (Contains-push old account)
+
+pub returns-then-not-contains-clause-list : goal.returns-then-not-contains-clause-list
+returns-then-not-contains-clause-list c = search rules
+
+pub returns-then-not-contains-clause-longer : goal.returns-then-not-contains-clause-longer
+returns-then-not-contains-clause-longer c = grind (arith, common_steps)

@@ -1,4 +1,5 @@
 use Rattle.std.proofs.Common.{◌<◌, [], ◌∷◌, ◌++◌, length, Err, sym, subst, refl, arith}
+use Rattle.std.proofs.lemmas.Grind.{common_steps}
 use Rattle.pay_world.specs.RunLaws.{IsSaidTo}
 use Rattle.pay_sim.specs.declared.game.TheConstants.{MOST_EVENTS}
 use Rattle.pay_sim.specs.Playing.{IsBehind}
@@ -25,3 +26,6 @@ returns-in-Err-Forged-clause-made g c = λ group es b.
     let room : length es < MOST_EVENTS = (let made = b1.made in let less = c.if-self-ge-MOST_EVENTS.false in omega arith) in
     stops_forged group es _ b1 c.what_is_forged.ensures.said c.args.event c.in-Err-Forged.place room
     (subst (λ f. IsSaidTo c.self.inside.world c.args.event (Err f)) c.in-Err-Forged.field-0-is c.in-Err-Forged.ensures.refused)
+
+pub returns-then-self-ge-MOST_EVENTS-clause-made : goal.returns-then-self-ge-MOST_EVENTS-clause-made
+returns-then-self-ge-MOST_EVENTS-clause-made g c = grind (arith, common_steps)

@@ -1,4 +1,5 @@
 use Rattle.std.proofs.Common.{◌+◌, ◌<◌, [], ◌∷◌, ◌++◌, length, Ok, sym, subst, refl, arith}
+use Rattle.std.proofs.lemmas.Grind.{common_steps}
 use Rattle.pay_world.specs.Passing.{passing}
 use Rattle.pay_sim.specs.declared.game.TheConstants.{MOST_EVENTS}
 use Rattle.pay_sim.specs.Playing.{GameFields, IsBehind, IsMade}
@@ -22,3 +23,6 @@ returns-in-Ok-clause-made g c = λ group es b.
     let new : GameFields = record { world = c.pass.new.self; members = c.self.inside.members; made = c.self.inside.made + 1 } in
     subst (λ (x : GameFields). IsMade group es (passing x.world c.args.from c.args.to c.args.number) new (Ok c.in-Ok.reply)) c.self.view_is
     (makes_one group es _ b1 c.world_by_events.ensures.one_more c.what_is_forged.ensures.answered new event c.in-Ok.reply room c.in-Ok.ensures.refused c.in-Ok.ensures.answers c.in-Ok.ensures.count refl refl)
+
+pub returns-in-Err-clause-made : goal.returns-in-Err-clause-made
+returns-in-Err-clause-made g c = grind (arith, common_steps)

@@ -1,4 +1,5 @@
-use Rattle.std.proofs.Common.{◌≡◌, Err, sym, subst, rules}
+use Rattle.std.proofs.Common.{◌≡◌, Err, sym, subst, rules, arith}
+use Rattle.std.proofs.lemmas.Grind.{common_steps}
 use Rattle.pay_world.specs.World.{WorldFields}
 use Rattle.pay_world.specs.Answer.{Answers}
 use Rattle.pay_world.proofs.Passing.{grown_prefix}
@@ -31,3 +32,9 @@ returns-clause-prefix g c =
     let w = c.args.self.now in
     let was = subst (λ (x : WorldFields). Answers w x c.args.event c.in_ok-reply.reply) (sym c.self.view_is) c.in_ok-reply.ensures.answers in
     λ i. grown_prefix _ _ _ (was.histories i)
+
+pub invariant_of-self : goal.invariant_of-self
+invariant_of-self g c = grind (arith, common_steps)
+
+pub returns-clause-count : goal.returns-clause-count
+returns-clause-count g c = grind (arith, common_steps)

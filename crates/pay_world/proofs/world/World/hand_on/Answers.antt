@@ -83,3 +83,6 @@ returns-clause-err g c =
     let any = bring_any c.what_opens.ensures c.forged_is_told.ensures.forged c.correct_members_stand.ensures.deed w i bytes c.index_mut.result.now c.pass_place.new.place c.pass_place.result
     c.self.invariant few here unforged c.pass_place.ensures.reply c.pass_place.ensures.after c.pass_place.ensures.grown c.pass_place.ensures.err in
     subst (λ (x : WorldFields). OnErr c.pass_place.result (with_place w i c.pass_place.new.place ≡ x)) c.self.view_is any.err
+
+pub returns-in-Some-clause-memory : goal.returns-in-Some-clause-memory
+returns-in-Some-clause-memory g c = grind (arith, common_steps)

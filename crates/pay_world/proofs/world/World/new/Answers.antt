@@ -1,4 +1,5 @@
 use Rattle.std.proofs.Common.{◌≡◌, List, Option, get_or, map, sym, ap, ◌∙◌, subst, arith, rules}
+use Rattle.std.proofs.lemmas.Grind.{common_steps}
 use Rattle.std.proofs.lemmas.List.{take_all}
 use Rattle.std.proofs.lemmas.Option.{slice_get-get_or}
 use Rattle.pay_link.specs.Genesis.{GenesisFields}
@@ -42,3 +43,6 @@ returns-clause-limits g c =
     subst (λ x. At x c.in_ok-copy-2.field-0 c.loop-keys.members.items) (sym c.in_ok-copy.ensures)
     (subst (λ x. At c.args.genesis.now x c.loop-keys.members.items) (sym c.in_ok-copy-2.ensures.value)
     (subst (At c.args.genesis.now c.args.liars.now) (sym members) first))
+
+pub returns-clause-value : goal.returns-clause-value
+returns-clause-value g c = grind (arith, common_steps)

@@ -1,0 +1,9 @@
+use Rattle.std.proofs.Common.{arith}
+use Rattle.std.proofs.lemmas.Grind.{common_steps}
+use Rattle.pay_desk.proofs.desk.Desk.ask.Goals as goal
+
+pub returns-clause-text : goal.returns-clause-text
+returns-clause-text g c = grind (arith, common_steps)
+
+pub returns-in-Err-Memory-clause-err : goal.returns-in-Err-Memory-clause-err
+returns-in-Err-Memory-clause-err g c = grind (arith, common_steps)
