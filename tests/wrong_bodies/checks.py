@@ -11,8 +11,9 @@ from dataclasses import dataclass, field
 
 from . import rt, rtlib
 from .clauses import answers_to, with_one_clause, without_answers
-from .edits import Body, Place, cut, in_batches, item, place, places_of_change, proof_folders, read_file, write_files
-from .hollow import hollow_out
+from .edits import Body, Place, above, cut, in_batches, item, place, places_of_change, proof_folders, read_file
+from .edits import write_files
+from .hollow import hollow_out, module_of, path_of
 
 # A wrong body is refused at a goal that isn't proved, or by a proof file that doesn't fit it. A control is proved.
 GOAL, MISMATCH, PROVED = "goal", "mismatch", "control"
@@ -193,29 +194,37 @@ def own_errors(function: str, report: Report) -> list[str]:
 
 def open_goals(function: str, report: Report) -> list[str]:
     """The goals of a function that the search left open. (Of a function with proof files notes of their places alone
-    say so. They are taken where the place tells which function it is.)"""
+    say so.)"""
     found = []
     for line in report.lines:
-        note = re.match(r"note: src/(\S+)\.rt:(\d+):\d+: (it is not proved that .*)", line)
-        if note and f"src/{note[1]}.rt" in report.texts:
-            module = "" if note[1] in ("lib", "main") else note[1].replace("/", "::") + "::"
-            names = [name for name, _ in cut(report.texts[f"src/{note[1]}.rt"]) if name]
-            name = function_at(report.texts[f"src/{note[1]}.rt"], int(note[2]))
-            if function.startswith(module) and function.split("::")[-1] == name and names.count(name) == 1:
-                found.append(note[3])
+        note = re.match(r"note: (src/\S+\.rt):(\d+):\d+: (it is not proved that .*|`search` found no .*)", line)
+        if note and is_within(function, note[1], report.texts.get(note[1], ""), int(note[2])):
+            found.append(note[3])
     return found
 
 
-def function_at(source: str, line: int) -> str:
-    """The function on whose head or body a line of a source is, or ''."""
-    before = 0
-    parts = cut(source)
-    for at, (name, text) in enumerate(parts):
-        head = item(parts[at - 1][1], name).count("\n") if name else 0
-        if name and before - head < line <= before + text.count("\n") + 1:
-            return name
-        before += text.count("\n")
-    return ""
+def is_within(function: str, path: str, source: str, line: int) -> bool:
+    """Whether a line of a source is on the head or body of a function. Where that place doesn't tell how the prover
+    names it, it has to be the only one of its name in the file."""
+    head, name = function_at(source, line)
+    named = path_of(path, head, name) if name else ""
+    if named or not name:
+        return named == function
+    owner, _, last = function.removeprefix(module_of(path)).removeprefix("::").rpartition("::")
+    of = re.match(r"impl\b.*?\b(\w+)<(?:\w+::)*(\w+)> for (\w+)", above(head))
+    is_only = [it for it, _ in cut(source)].count(name) == 1
+    return name == last and (is_only or bool(of) and owner == of[3] + of[1] + of[2])
+
+
+def function_at(source: str, line: int) -> tuple[str, str]:
+    """The function on whose head or body a line of a source is, behind all that stands before its body; or ''."""
+    before, above_it = 0, ""
+    for name, text in cut(source):
+        begins = before - item(above_it, name).count("\n") if name else 0
+        if name and begins < line <= before + text.count("\n") + 1:
+            return above_it, name
+        before, above_it = before + text.count("\n"), above_it + text
+    return "", ""
 
 
 def refusal(crate, place: Place, report: Report) -> tuple[str, str]:

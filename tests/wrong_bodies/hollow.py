@@ -60,9 +60,13 @@ def path_of(file: str, head: str, name: str) -> str:
     own = item(head, name)
     if name == "main" or "#[cycle" in own or re.search(rf"\bconst fn {name}\b", own):
         return ""
-    module = re.sub(r"^(lib|main)$", "", file.removeprefix("src/").removesuffix(".rt")).replace("/", "::")
     owner = owner_of(above(head)) if own.startswith(" ") else ""
-    return "" if owner is None else "::".join(it for it in (module, owner, name) if it)
+    return "" if owner is None else "::".join(it for it in (module_of(file), owner, name) if it)
+
+
+def module_of(file: str) -> str:
+    """How the prover names the module that a file of src/ is, or '' for the root."""
+    return re.sub(r"^(lib|main)$", "", file.removeprefix("src/").removesuffix(".rt")).replace("/", "::")
 
 
 def owner_of(head: str) -> str | None:

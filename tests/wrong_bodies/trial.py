@@ -8,7 +8,7 @@ from collections import Counter
 
 from . import rtlib
 from .checks import BAD_EDIT, GOAL, LET_THROUGH, MISMATCH, NOT_PROVED, PROVED, WELL
-from .checks import Outcome, Tally, try_bodies
+from .checks import Outcome, Tally, is_within, try_bodies
 from .edits import Body, read_bodies, write_files
 from .promises import faults_of_promises, mismatches
 from .record import DRAWN, GROUP, Choice, Record, choose, draw
@@ -181,6 +181,30 @@ CONTROLS = {
     "no_control": ("next", "    x + 1", "    x + 3", NOT_PROVED),
 }
 
+# Methods of one name, and of each the lines that it is on.
+SAME_NAMES = """\
+impl From<Low> for Fault {
+    fn from(low: Low) -> Fault {
+        Fault::Low
+    }
+}
+
+impl From<high::High> for Fault {
+    fn from(high: High) -> Fault {
+        Fault::High
+    }
+}
+
+impl Fault {
+    fn code(&self) -> u8
+        ensures { result ≡ 0 }
+    {
+        0
+    }
+}
+"""
+LINES = {"FaultFromLow::from": [2, 3, 4], "FaultFromHigh::from": [8, 9, 10], "Fault::code": [14, 15, 16, 17, 18]}
+
 PROMISES = """\
 | promise | in one line | today |
 |---|---|---|
@@ -204,6 +228,7 @@ def try_itself() -> tuple[bool, str]:
         said += try_record(top, tally)
     with tempfile.TemporaryDirectory(prefix="wrong-bodies-") as top:
         said += try_worlds(top)
+    said += try_places()
     if faults_of_promises(PROMISES, {"wrong": ["Kept"], "another": ["Unheard"], "a_third": []}) != FAULTS:
         said.append("a promise without a wrong body passes")
     head = f"itself: {'FAILED' if said else 'ok'}; {tally.checks} checks, {tally.seconds:.0f} processor seconds"
@@ -244,6 +269,13 @@ def try_edits(top: str) -> tuple[list[str], Tally]:
     if mismatches(bodies, tally.outcomes) != (1, 0) or mismatches(bodies, proved) != (1, 1):
         said.append("the bodies that stand on a mismatch are miscounted")
     return said, tally
+
+
+def try_places() -> list[str]:
+    """Looks at which function each line is taken for of a source in which methods have the same name."""
+    path, lines = "src/fault.rt", range(1, SAME_NAMES.count("\n") + 1)
+    found = {it: [line for line in lines if is_within(f"fault::{it}", path, SAME_NAMES, line)] for it in LINES}
+    return [] if found == LINES else [f"the lines of methods of one name are taken for {found}"]
 
 
 def try_record(top: str, tally: Tally) -> list[str]:
