@@ -204,8 +204,8 @@ def open_goals(function: str, report: Report) -> list[str]:
 
 
 def is_within(function: str, path: str, source: str, line: int) -> bool:
-    """Whether a line of a source is on the head or body of a function. Where that place doesn't tell how the prover
-    names it, it has to be the only one of its name in the file."""
+    """Whether a line of a source is on the head or body of a function. In an impl of a trait with arguments it has to be
+    the only one of its name in the file, or the impl's type, trait and one argument make up its name."""
     head, name = function_at(source, line)
     named = path_of(path, head, name) if name else ""
     if named or not name:
