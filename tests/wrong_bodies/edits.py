@@ -115,28 +115,6 @@ def last_line(lines: list[str], pattern: str) -> int:
     return max(at for at, line in enumerate(lines) if re.match(pattern, line))
 
 
-def statements(source: str, has_own: bool) -> tuple[str, dict[str, str]]:
-    """What callers can know of a source: all but functions, and by their names the heads of functions. What a constant
-    may call is of the first, and of what a trait asks for the head, and the body that it gives; unless `has_own`, what
-    only its own crate can call is of none."""
-    kept, heads, is_dropped = "", {}, False
-    for name, text in cut(source):
-        if not name:
-            kept += text.partition("}\n")[2] if is_dropped else text
-            is_dropped = False
-        elif "const fn" in (head := item(kept, name)):
-            kept += text
-        elif is_of_trait(kept, name):
-            is_dropped = above(kept).startswith("impl")
-            kept += text * (not is_dropped)
-        else:
-            kept, is_dropped = kept.removesuffix(head), True
-            if has_own or re.search(rf"(?m)^ *pub fn {name}\b", head):
-                of = above(kept) if head.startswith(" ") else ""
-                heads[name] = heads.get(name, "") + of + without_comments(head, "//")
-    return re.sub(r"(?m)^ *//.*\n", "", kept), heads
-
-
 def without_comments(text: str, begin: str) -> str:
     lines = text.splitlines()
     return "\n".join(it for it in lines if it.strip() and not it.lstrip().startswith(begin))

@@ -22,7 +22,8 @@ from dataclasses import dataclass, field
 from . import TOP, rtlib
 from .checks import WELL, Outcome
 from .edits import Body, above, cut, item, places_of_change, proof_folders, read_file, without_comments
-from .world import Part, imports_of, names_in, sum_of, texts_of, with_imports, without_remarks, world_of
+from .parts import File, Part, sum_of, texts_of, without_remarks
+from .world import world_of
 
 FOLDER = os.path.join(TOP, "tests", "refused")
 # Of those on record one of so many is tried all the same, and at most so many of a crate go together.
@@ -34,10 +35,14 @@ DRAWN, GROUP = 20, 20
 
 @functools.cache
 def script_sum() -> str:
-    """Of the texts of this script that verdicts come from, without what they say to a reader."""
-    parts = "checks.py", "clauses.py", "edits.py", "hollow.py"
-    texts = [read_file(os.path.join(TOP, "tests", "wrong_bodies", it)) for it in parts]
-    return sum_of([without_comments(re.sub(r'(?s)"""(?!\\).*?"""', "", text), "#") for text in texts])
+    """Of the texts of this script that verdicts come from."""
+    return sum_of([text_of_script(it) for it in ("checks.py", "clauses.py", "edits.py", "hollow.py")])
+
+
+def text_of_script(part: str) -> str:
+    """A part of this script without what it says to a reader."""
+    text = read_file(os.path.join(TOP, "tests", "wrong_bodies", part))
+    return without_comments(re.sub(r'(?s)"""(?!\\).*?"""', "", text), "#")
 
 
 @functools.cache
@@ -50,9 +55,7 @@ def toolchain() -> str:
 def sum_of_body(crate, body: Body) -> str:
     """A sum of all that the verdict on a wrong body hangs on, but for the toolchain."""
     world, own = world_of(crate), changed_by(crate, body)
-    named = names_in(" ".join(body.functions)).union(*[it.named for it in own])
-    reached = world.sum_of_reached(frozenset(named))
-    return sum_of(script_sum(), world.sum, body.name, body.edit, [it.text for it in own], reached)
+    return sum_of(script_sum(), world.sum, body.name, body.edit, [it.text for it in own], world.sum_of_reached(own))
 
 
 def changed_by(crate, body: Body) -> list[Part]:
@@ -63,10 +66,10 @@ def changed_by(crate, body: Body) -> list[Part]:
         own = cut(texts[path])
         places = places_of_change(own, text) if body.is_inside else []
         changed = [head_of(own, at) + cut(text)[at][1] for at in places] or [text]
-        found += [with_imports(frozenset(), it, imports_of(texts[path])) for it in changed]
+        found += [File(crate.name, path, text).part(set(), it) for it in changed]
     folders = tuple(f"{folder}/" for it in body.functions for folder in proof_folders(it))
-    proofs = [without_remarks(text) for path, text in sorted(texts.items()) if path.startswith(folders)]
-    return found + [with_imports(frozenset(), it, {}) for it in proofs]
+    proofs = [File(crate.name, path, text) for path, text in sorted(texts.items()) if path.startswith(folders)]
+    return found + [it.part(set(), without_remarks(it.text)) for it in proofs]
 
 
 def head_of(own: list[tuple[str, str]], at: int) -> str:

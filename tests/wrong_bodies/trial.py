@@ -9,9 +9,10 @@ from collections import Counter
 from . import rtlib
 from .checks import BAD_EDIT, GOAL, LET_THROUGH, MISMATCH, NOT_PROVED, PROVED, WELL
 from .checks import Outcome, Tally, is_within, try_bodies
-from .edits import Body, read_bodies, write_files
+from .edits import Body, read_bodies, read_file, write_files
 from .promises import faults_of_promises, mismatches
-from .record import DRAWN, GROUP, Choice, Record, choose, draw
+from .parts import sum_of
+from .record import DRAWN, FOLDER, GROUP, Choice, Record, choose, draw, text_of_script, toolchain
 
 SOURCE = """\
 //! What the trial of wrong bodies tries itself on.
@@ -221,17 +222,40 @@ FAULTS = [
 ]
 
 
-def try_itself() -> tuple[bool, str]:
-    """Returns whether all came as it had to, and what to say."""
-    with tempfile.TemporaryDirectory(prefix="wrong-bodies-") as top:
-        said, tally = try_edits(top)
-        said += try_record(top, tally)
+def line_on_record() -> str:
+    """What the record has where this toolchain and script passed this trial."""
+    parts = sorted(it for it in os.listdir(os.path.dirname(__file__)) if it.endswith(".py"))
+    return f"itself {sum_of([text_of_script(it) for it in parts])} {toolchain()}\n"
+
+
+def is_on_record() -> bool:
+    path = os.path.join(FOLDER, "itself")
+    return os.path.isfile(path) and line_on_record() in read_file(path).splitlines(True)
+
+
+def put_on_record() -> None:
+    write_files(FOLDER, {"itself": line_on_record()})
+
+
+def is_drawn(by: str) -> bool:
+    """Whether a name, such as a commit's, draws this trial, though it is on record; none does."""
+    return not by or int(sum_of(by, "itself"), 16) % DRAWN == 0
+
+
+def try_itself(has_checks: bool) -> tuple[bool, str]:
+    """Returns whether all came as it had to, and what to say; without checks only of what needs none."""
+    said, tally = [], Tally("itself")
+    if has_checks:
+        with tempfile.TemporaryDirectory(prefix="wrong-bodies-") as top:
+            said, tally = try_edits(top)
+            said += try_record(top, tally)
     with tempfile.TemporaryDirectory(prefix="wrong-bodies-") as top:
         said += try_worlds(top)
     said += try_places()
     if faults_of_promises(PROMISES, {"wrong": ["Kept"], "another": ["Unheard"], "a_third": []}) != FAULTS:
         said.append("a promise without a wrong body passes")
-    head = f"itself: {'FAILED' if said else 'ok'}; {tally.checks} checks, {tally.seconds:.0f} processor seconds"
+    by = f"{tally.checks} checks, {tally.seconds:.0f} processor seconds" if has_checks else "its checks are on record"
+    head = f"itself: {'FAILED' if said else 'ok'}; {by}"
     return not said, "\n".join([head, *[f"itself/{it}" for it in said]])
 
 
@@ -349,24 +373,25 @@ def fields(bodies: list[Body], size: int) -> list[tuple]:
     return [(it.texts, it.functions, it.edit) for it in (bodies * size)[:size]]
 
 
-# A library below a crate, with a function that only it can call, a trait and an impl of it.
+# A library below a crate, with functions of the same names, one that only it can call, and an impl of a trait. It
+# passes on a type, a trait and another type that nobody asks for.
 UNDER = f"""\
 {SOURCE}
+pub use shelf::{{Counts, Drawer, Shelf as Rack}};
+
+use shelf::Counts;
+
+pub fn doubled(k: u32) -> u32
+    requires {{ k < 60 }}
+    ensures {{ result ≡ k + k }}
+{{
+    k + k
+}}
+
 fn hidden(k: u32) -> u32
     ensures {{ result ≡ k + 7 }}
 {{
     k + 7
-}}
-
-pub trait Counts {{
-    fn count(&self) -> u32
-        ensures {{ result ≡ 5 }};
-
-    fn given(&self) -> u32
-        ensures {{ result ≡ 4 }}
-    {{
-        9 - 5
-    }}
 }}
 
 impl Counts for u32 {{
@@ -377,11 +402,61 @@ impl Counts for u32 {{
     }}
 }}
 """
+SHELF = """\
+pub trait Counts {
+    fn count(&self) -> u32
+        ensures { result ≡ 5 };
+
+    fn given(&self) -> u32
+        ensures { result ≡ 4 }
+    {
+        9 - 5
+    }
+}
+
+pub struct Shelf {
+    boards: Boards,
+}
+
+pub struct Boards(u32);
+
+pub struct Drawer(u32);
+
+impl Shelf {
+    pub fn room(&self) -> u32
+        ensures { result ≤ 8 }
+    {
+        8
+    }
+
+    pub fn boards(&self) -> u32
+        ensures { result ≤ 3 }
+    {
+        3
+    }
+}
+
+impl Drawer {
+    pub fn room(&self) -> u32
+        ensures { result ≤ 2 }
+    {
+        2
+    }
+
+    pub fn boards(&self) -> u32
+        ensures { result ≤ 1 }
+    {
+        1
+    }
+}
+"""
 OWN, BELOW = "crates/fixture", "crates/under"
 WITHIN = "Limits::within", "k < self", "k <= self"
 COMMENT = "-- a comment\n"
-# Types and a function of one, below a trait's impl that names another.
+# Types and a function of one, below a trait's impl that names another; and a function that calls what is below.
 TYPES = """\
+
+use under::{Counts, Rack as Shelf, doubled as twice};
 
 pub struct Limits {
     most: Most,
@@ -402,7 +477,14 @@ impl Five for Limits {
         Least(5).0
     }
 }
+
+#[tactic(auto, using(crate::proofs::Twos::of_two))]
+pub fn shelved(shelf: &Shelf, boards: u32) -> u32 {
+    let count = shelf.room();
+    twice(count.given()) + boards
+}
 """
+SHELVED = "shelved", " + boards", " - boards"
 # The proof of `third` names a lemma, this a spec and a lemma below, and the spec a contract and a spec below.
 CITED = {
     f"{OWN}/proofs/third/Answers.antt": "use Rattle.fixture.proofs.Own.{helps as h}\n"
@@ -410,13 +492,16 @@ CITED = {
     + "\npub other : goal.other\nother c = h\n",
     f"{OWN}/proofs/Own.antt": "use Rattle.under.proofs.Below.{lemma}\nuse Rattle.fixture.specs.Same.{same_as}\n\n"
     "pub helps : same_as 1\nhelps = lemma\n\npub unused : ℕ\nunused = 1\n",
+    f"{OWN}/proofs/Twos.antt": "use Rattle.under.proofs.Below.{◌+++◌}\nuse Rattle.under.specs.Held as above\n\n"
+    "pub ruleset of_two = (twos)\n\npub twos : ℕ\ntwos = ap above.signed\n",
     f"{OWN}/specs/Same.antt": "use Rattle.under.specs.Held.{Holder}\n"
     "use Rattle.fixture.specs.contracts.patient as asked\n\n"
     "-- a remark\nabbrev pub same_as : ℕ → Type 0\nsame_as k = asked k × Holder k\n\n"
     "abbrev pub another : ℕ\nanother = 1\n",
     f"{BELOW}/specs/Held.antt": "pub record Holder (k : ℕ) : Type 0 where\n  pub held : k ≡ 2\n\n"
-    "pub data Sign : Type 0 where\n  Plus : Sign\n",
-    f"{BELOW}/proofs/Below.antt": "pub lemma : ℕ\nlemma = 1\n",
+    "pub data Sign : Type 0 where\n  Plus : Sign\n\nabbrev pub signed : Sign\nsigned = Plus\n",
+    f"{BELOW}/proofs/Below.antt": "pub lemma : ℕ\nlemma = 1\n\n"
+    "infixl 10 ◌+++◌\nabbrev pub ◌+++◌ : ℕ → ℕ → ℕ\n◌+++◌ k l = k\n",
 }
 # A file, an old and a new text of it, and of which functions a body has to be tried anew then.
 CHANGES = (
@@ -425,23 +510,32 @@ CHANGES = (
     (f"{BELOW}/src/lib.rt", "k + 7 }", "7 + k }", ""),
     (f"{BELOW}/src/lib.rt", "hidden(5) - 7", "hidden(6) - 8", ""),
     (f"{BELOW}/src/lib.rt", "fn hidden(k: u32)", "pub(crate) fn shown(k: u32)", ""),
-    (f"{BELOW}/src/lib.rt", UNDER[UNDER.index("fn hidden") : UNDER.index("pub trait Counts")], "", ""),
+    (f"{BELOW}/src/lib.rt", UNDER[UNDER.index("fn hidden") : UNDER.index("impl Counts")], "", ""),
     (f"{BELOW}/src/lib.rt", "fn hidden", "pub fn hidden", ""),
-    (f"{BELOW}/src/lib.rt", "fn hidden", "fn next", ""),
+    (f"{BELOW}/src/lib.rt", "fn hidden", "pub fn next", ""),
     (f"{BELOW}/src/lib.rt", "fn hidden", "const fn hidden", ""),
     (f"{BELOW}/src/lib.rt", "pub fn same", "pub const MOST: u32 = 4;\n\npub fn same", ""),
-    (f"{BELOW}/src/lib.rt", "pub fn same", "pub const Most: u32 = 4;\n\npub fn same", "within"),
-    (f"{BELOW}/src/lib.rt", "-> u32\n        ensures {", "-> u32\n        ensures five {", "five within"),
-    (f"{BELOW}/src/lib.rt", "x + 1 < 100", "x + 1 < 99", "third"),
-    (f"{BELOW}/src/lib.rt", "x < 100", "x < 99", "next third"),
-    (f"{BELOW}/src/lib.rt", "pub fn patient<R: Wait>(_rt", "pub fn patient<R: Wait>(rt", "third"),
-    (f"{BELOW}/src/lib.rt", "fn hidden", "pub fn next", "next third"),
-    # (all name u32, which has an impl of that trait)
-    (f"{BELOW}/src/lib.rt", "9 - 5", "8 - 4", "five next third within"),
-    (f"{BELOW}/src/lib.rt", "#![tactic(auto)]", "#![tactic(none)]", "five next third within"),
+    # (a file's own type or function of a name is meant)
+    (f"{BELOW}/src/lib.rt", "pub fn same", "pub const Most: u32 = 4;\n\npub fn same", ""),
+    (f"{BELOW}/src/lib.rt", "-> u32\n        ensures {", "-> u32\n        ensures five {", ""),
+    (f"{BELOW}/src/lib.rt", "x < 100", "x < 99", ""),
+    (f"{BELOW}/src/lib.rt", "pub fn patient<R: Wait>(_rt", "pub fn patient<R: Wait>(rt", ""),
+    (f"{BELOW}/src/lib.rt", "k < 60", "k < 50", "shelved"),
+    (f"{BELOW}/src/lib.rt", "Drawer, Shelf as Rack", "Shelf, Drawer as Rack", "shelved"),
+    (f"{BELOW}/src/lib.rt", "ensures five {", "ensures six {", "shelved"),
+    (f"{BELOW}/src/lib.rt", "#![tactic(auto)]", "#![tactic(none)]", "five next shelved third within"),
+    (f"{BELOW}/src/shelf.rt", "9 - 5", "8 - 4", "shelved"),
+    (f"{BELOW}/src/shelf.rt", "Boards(u32)", "Boards(u64)", "shelved"),
+    (f"{BELOW}/src/shelf.rt", "Drawer(u32)", "Drawer(u64)", ""),
+    (f"{BELOW}/src/shelf.rt", "≤ 8", "≤ 9", "shelved"),
+    (f"{BELOW}/src/shelf.rt", "≤ 3", "≤ 4", ""),
+    (f"{BELOW}/src/shelf.rt", "≤ 2", "≤ 3", ""),
     (f"{BELOW}/specs/Held.antt", "k ≡ 2", "k ≡ 3", "third"),
-    (f"{BELOW}/specs/Held.antt", "Plus : Sign", "Minus : Sign", ""),
+    (f"{BELOW}/specs/Held.antt", "Plus : Sign", "Minus : Sign", "shelved"),
+    (f"{BELOW}/specs/Held.antt", "signed = Plus", "signed = (Plus)", "shelved"),
     (f"{BELOW}/proofs/Below.antt", "lemma = 1", "lemma = 2", "third"),
+    # (what uses an operator doesn't name it)
+    (f"{BELOW}/proofs/Below.antt", "k l = k", "k l = l", "shelved third"),
     (f"{BELOW}/proofs/Lib.antt", COMMENT, "mod More\n", ""),
     (f"{OWN}/src/lib.rt", "    let before = next(x);\n    next(before)\n", "    x + 2\n", ""),
     (f"{OWN}/src/lib.rt", "pub fn same", "// a comment\npub fn same", ""),
@@ -457,6 +551,8 @@ CHANGES = (
     (f"{OWN}/src/lib.rt", "x < 100", "x < 99", "next third"),
     (f"{OWN}/src/lib.rt", "pub fn patient<R: Wait>(_rt", "pub fn patient<R: Wait>(rt", "third"),
     (f"{OWN}/src/lib.rt", "pub trait", "pub(crate) trait", "five within"),
+    (f"{OWN}/src/lib.rt", "shelf.room()", "shelf.boards()", "shelved"),
+    (f"{OWN}/src/lib.rt", "doubled as twice", "next as twice", "shelved"),
     (f"{OWN}/specs/Same.antt", "asked k", "asked (k + 1)", "third"),
     (f"{OWN}/specs/Same.antt", "contracts.patient", "contracts.pair", "third"),
     (f"{OWN}/specs/Same.antt", "another = 1", "another = 2", ""),
@@ -464,6 +560,8 @@ CHANGES = (
     (f"{OWN}/specs/Same.antt", "Held.{Holder}", "Held.{Holder, Sign}", ""),
     (f"{OWN}/proofs/Own.antt", "helps = lemma", "helps = lemma + 0", "third"),
     (f"{OWN}/proofs/Own.antt", "unused = 1", "unused = 2", ""),
+    (f"{OWN}/proofs/Twos.antt", "(twos)", "(twos, twos)", "shelved"),
+    (f"{OWN}/proofs/Twos.antt", "ap above", "above", "shelved"),
     (f"{OWN}/proofs/Lib.antt", COMMENT, "mod More\n", ""),
     (f"{OWN}/proofs/passed_on/Answers.antt", "c.same.ensures", "search", ""),
     (f"{OWN}/proofs/third/Answers.antt", "search rules", "search", "third"),
@@ -473,14 +571,14 @@ CHANGES = (
 
 def try_worlds(top: str) -> list[str]:
     """Changes a crate and a library below it, and looks which wrong bodies another record is asked for."""
-    texts = {"crates.txt": "under:\nfixture: under\n", f"{BELOW}/src/lib.rt": UNDER}
+    texts = {"crates.txt": "under:\nfixture: under\n", f"{BELOW}/src/lib.rt": UNDER, f"{BELOW}/src/shelf.rt": SHELF}
     texts |= {f"{OWN}/src/lib.rt": SOURCE + TYPES}
     texts |= {f"{OWN}/proofs/{name}/Answers.antt": text for name, text in ANSWERS.items()}
     texts |= {path: COMMENT for path, old, _, _ in CHANGES if old == COMMENT}
     texts |= CITED
     write_files(top, texts)
     edits = {"five": EDITS["wrong_of_a_trait"], "next": EDITS["wrong"], "within": WITHIN}
-    edits |= {"third": EDITS["wrong_beside_a_proof"]}
+    edits |= {"third": EDITS["wrong_beside_a_proof"], "shelved": SHELVED}
     for name, of in edits.items():
         write_files(top, {f"{OWN}/wrong-bodies/{name}.edit": edit_text(*of[:3])})
     before, said = sums(top), []
