@@ -11,9 +11,9 @@ from dataclasses import dataclass, field
 
 from . import rt, rtlib
 from .clauses import answers_to, with_one_clause, without_answers
-from .edits import Body, Place, above, cut, in_batches, item, place, places_of_change, proof_folders, read_file
-from .edits import write_files
-from .hollow import hollow_out, module_of, path_of
+from .edits import Body, Place, above, cut, in_batches, item, module_of, place, places_of_change, proof_folders
+from .edits import read_file, write_files
+from .hollow import hollow_out, path_of
 
 # A wrong body is refused at a goal that isn't proved, or by a proof file that doesn't fit it. A control is proved.
 GOAL, MISMATCH, PROVED = "goal", "mismatch", "control"
@@ -96,7 +96,8 @@ def joined(crate, batch: list[Place]) -> dict[str, str]:
         return batch[0].body.texts
     owns, parts = {}, {}
     for it in batch:
-        for path, text in it.body.texts.items():
+        texts = {} if it.is_of_file else it.body.texts
+        for path, text in texts.items():
             own = owns.setdefault(path, cut(read_file(f"{crate.folder}/{path}")))
             into = parts.setdefault(path, [text for _, text in own])
             for at in places_of_change(own, text):
@@ -104,7 +105,31 @@ def joined(crate, batch: list[Place]) -> dict[str, str]:
                     into[at + 1] = with_twin(own, at, cut(text)[at][1], it, into[at + 1])
                 else:
                     into[at] = cut(text)[at][1]
-    return {path: "".join(it) for path, it in parts.items()}
+    texts = {path: "".join(it) for path, it in parts.items()}
+    for it in batch:
+        if it.is_of_file:
+            add_twin_of_file(crate, it, texts)
+    return texts
+
+
+def add_twin_of_file(crate, place: Place, texts: dict[str, str]) -> None:
+    """Adds to the texts of a crate's files the twin of a body's file, which is declared behind it."""
+    path = place.body.file
+    folder, _, name = path.removesuffix(".rt").rpartition("/")
+    root = "src/main.rt" if os.path.isfile(f"{crate.folder}/src/main.rt") else "src/lib.rt"
+    parent = root if folder == "src" else f"{folder}.rt"
+    declared = texts.get(parent) or read_file(f"{crate.folder}/{parent}")
+    texts[parent] = re.sub(rf"(?m)^((?:pub(?:\([a-z]+\))? )?mod {name})(;\n)", rf"\1\2\1{place.ending}\2", declared, count=1)
+    texts[f"{folder}/{name}{place.ending}.rt"] = renamed(crate, place, place.body.texts[path])
+
+
+def renamed(crate, place: Place, text: str) -> str:
+    """A text with what twins of functions, or of a file, are named there."""
+    named = [module_of(place.body.file)] if place.is_of_file else place.body.functions
+    for it in named:
+        path = re.escape(it.replace("::", "."))
+        text = re.sub(rf"(Rattle\.{crate.name}\.(?:proofs|specs\.(?:contracts|declared))\.{path})\b", rf"\1{place.ending}", text)
+    return text
 
 
 def with_twin(own: list[tuple[str, str]], at: int, body: str, place: Place, behind: str) -> str:
@@ -136,13 +161,12 @@ def decline_offers(place: Place, room: str) -> None:
 def copy_proofs(crate, place: Place, room: str) -> None:
     """Gives a twin the proof files of its function."""
     for function in place.body.functions if place.ending else []:
-        folder = proof_folders(function)[0]
-        named = rf"(Rattle\.{crate.name}\.(?:proofs|specs\.contracts)\.{re.escape(function.replace('::', '.'))})\b"
+        folder, into = proof_folders(function)[0], proof_folders(place.named(function))[0]
         for file in os.listdir(f"{crate.folder}/{folder}") if os.path.isdir(f"{crate.folder}/{folder}") else []:
             if file.endswith(".antt"):
-                text = re.sub(named, rf"\1{place.ending}", read_file(f"{crate.folder}/{folder}/{file}"))
+                text = renamed(crate, place, read_file(f"{crate.folder}/{folder}/{file}"))
                 text = with_answers_to(place.body.clause, text) if place.body.clause else text
-                write_files(room, {f"{folder}{place.ending}/{file}": text})
+                write_files(room, {f"{into}/{file}": text})
 
 
 def with_answers_to(clause: str, proof: str) -> str:
@@ -306,8 +330,12 @@ def try_batch(crate, batch: list[Place], tally: Tally, is_first: bool) -> list[B
         half = len(batch) // 2
         return [it for part in (batch[:half], batch[half:]) for it in try_batch(crate, part, tally, is_first)]
     left = []
+    proved = {it.body.functions[0] for it in batch if it.body.is_control and is_proved(crate, it, report)}
     for it in batch:
-        outcome = verdict_of(crate, it, report, is_last=len(batch) == 1 and not is_first)
+        is_last = len(batch) == 1 and not is_first
+        # (what is said of a twin of a file counts beside a control that is proved there)
+        counts = not it.is_of_file or it.body.functions[0] in proved
+        outcome = verdict_of(crate, it, report, is_last) if counts else None
         if outcome:
             tally.outcomes.append(outcome)
         else:

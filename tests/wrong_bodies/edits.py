@@ -6,7 +6,7 @@ import os
 import re
 from dataclasses import dataclass
 
-from . import rt
+from . import rt, rtlib
 from .clauses import why_not_alone
 
 
@@ -32,21 +32,35 @@ class Body:
     is_inside: bool = True
     # Whether it can stand in twins of the functions that it changes.
     can_be_twin: bool = False
+    # The file of which it can stand in a twin, with all that the file has, or ''.
+    file: str = ""
 
 
 @dataclass
 class Place:
-    """Where a check has a body: in its functions' own place, or in twins of them."""
+    """Where a check has a body: in its functions' own place, in twins of them, or in a twin of their file."""
 
     body: Body
     # What the twins' names end with, or ''.
     ending: str = ""
+    is_of_file: bool = False
 
     def functions(self) -> list[str]:
-        return [it + self.ending for it in self.body.functions]
+        return [self.named(it) for it in self.body.functions]
+
+    def named(self, function: str) -> str:
+        """What a function is named there."""
+        module = module_of(self.body.file) if self.is_of_file else function
+        return module + self.ending + function.removeprefix(module)
 
 
 # ---- sources
+
+
+def module_of(file: str) -> str:
+    """How the prover names the module that a file of src/ is, or '' for the root."""
+    return re.sub(r"^(lib|main)$", "", file.removeprefix("src/").removesuffix(".rt")).replace("/", "::")
+
 
 FUNCTION = re.compile(r"( *)(?:pub(?:\([a-z]+\))? )?(?:const )?fn (\w+)")
 
@@ -170,6 +184,7 @@ def read_body(crate, name: str) -> Body:
         elif changed - named:
             raise BadEdit(f"no line 'function: PATH' names {min(changed - named)}, whose body it changes")
     body.can_be_twin = body.is_inside and can_be_twin(crate, body)
+    body.file = file_with_twin(crate, body) if body.is_inside and not body.can_be_twin else ""
     why = why_not_by_a_clause(crate, body) if body.clause else ""
     if why:
         raise BadEdit(f"it names a clause, and {why}")
@@ -204,6 +219,25 @@ def can_be_twin(crate, body: Body) -> bool:
     return sorted(named) == sorted(names) and not any(map(os.path.exists, closures))
 
 
+def file_with_twin(crate, body: Body) -> str:
+    """The file that a body changes, if a twin of it can stand beside it: one of a module, whose impls are of types that
+    it defines, and of which no other file's specs or proofs speak. Else ''."""
+    (path, *others), (function, *_) = sorted(body.texts), body.functions
+    module = module_of(path)
+    if others or len(body.functions) > 1 or not module or not function.startswith(f"{module}::"):
+        return ""
+    text = read_file(f"{crate.folder}/{path}")
+    defined = {*re.findall(r"(?m)^(?:pub(?:\([a-z]+\))? )?(?:struct|enum|trait) (\w+)", text)}
+    has_own_impls = {*re.findall(r"(?m)^impl\b[^{;]*? for (?:\w+::)*(\w+)", text)} <= defined
+    name = re.escape(module.replace("::", "."))
+    speaks = re.compile(rf"\bRattle\.{crate.name}\.(?:proofs|specs\.(?:contracts|declared))\.{name}\b")
+    own = f"{crate.folder}/{path}", f"{crate.folder}/proofs/{module.replace('::', '/')}/"
+    elsewhere = [it for it in rtlib.files_of(crate.folder) if not it.startswith(own)]
+    is_alone = not any(speaks.search(read_file(it)) for it in elsewhere)
+    has_closures = os.path.exists(f"{crate.folder}/{proof_folders(function)[1]}")
+    return path if has_own_impls and is_alone and not has_closures else ""
+
+
 def read_bodies(crate) -> tuple[list[Body], dict[str, str]]:
     """Reads a crate's wrong bodies, and says of those that can't be tried why."""
     folder, bodies, bad = f"{crate.folder}/wrong-bodies", [], {}
@@ -221,21 +255,24 @@ def read_bodies(crate) -> tuple[list[Body], dict[str, str]]:
 def in_batches(bodies: list[Body]) -> list[list[Place]]:
     """Puts each body into the first batch in which it can be judged, those first that can have no twin."""
     batches: list[list[Place]] = []
+    # (a twin of a file needs a control beside it, which shows that what is right can be proved there)
+    shown = {(it.file, *it.functions) for it in bodies if it.is_control and it.file}
     for body in sorted(bodies, key=lambda it: it.can_be_twin):
-        batch = next((it for it in batches if fits(body, it)), [])
+        is_of_file = (body.file, *body.functions) in shown
+        batch = next((it for it in batches if fits(body, is_of_file, it)), [])
         if not batch:
             batches.append(batch)
-        batch.append(place(body, len(batch)))
+        batch.append(place(body, len(batch), is_of_file))
     return batches
 
 
-def fits(body: Body, batch: list[Place]) -> bool:
+def fits(body: Body, is_of_file: bool, batch: list[Place]) -> bool:
     """Whether a body can stand beside those of a batch."""
     taken = {name for it in batch if not it.ending for name in it.body.functions}
-    is_free = body.can_be_twin or not taken & {*body.functions}
+    is_free = body.can_be_twin or is_of_file or not taken & {*body.functions}
     return is_free and body.is_inside and all(it.body.is_inside for it in batch)
 
 
-def place(body: Body, number: int) -> Place:
+def place(body: Body, number: int, is_of_file: bool = False) -> Place:
     """A body's place in a check, as the one of this number there."""
-    return Place(body, f"_twin{number}" if body.can_be_twin else "")
+    return Place(body, f"_twin{number}" if body.can_be_twin or is_of_file else "", is_of_file)

@@ -14,7 +14,7 @@ import os
 import re
 import shutil
 
-from .edits import above, cut, item, proof_folders, read_file, write_files
+from .edits import above, cut, item, module_of, proof_folders, read_file, write_files
 
 BODY = "\n    loop {}\n"
 HOLE = """\
@@ -62,11 +62,6 @@ def path_of(file: str, head: str, name: str) -> str:
         return ""
     owner = owner_of(above(head)) if own.startswith(" ") else ""
     return "" if owner is None else "::".join(it for it in (module_of(file), owner, name) if it)
-
-
-def module_of(file: str) -> str:
-    """How the prover names the module that a file of src/ is, or '' for the root."""
-    return re.sub(r"^(lib|main)$", "", file.removeprefix("src/").removesuffix(".rt")).replace("/", "::")
 
 
 def owner_of(head: str) -> str | None:

@@ -3,6 +3,7 @@
 from __future__ import annotations
 
 import os
+import re
 import tempfile
 from collections import Counter
 
@@ -19,6 +20,9 @@ SOURCE = """\
 #![tactic(auto)]
 
 ghost use Rattle.std.specs.Prelude.{◌≡◌, ◌+◌, ◌<◌};
+
+pub mod own;
+pub mod told;
 
 use std::sync::Wait;
 
@@ -116,6 +120,31 @@ impl Five for Asking {
 }
 """
 
+# Files of modules, of which a twin can stand beside them: each has a trait and what it is of. A spec speaks of the
+# second one, so that this can have none.
+FILE = """\
+ghost use Rattle.std.specs.Prelude.{◌≡◌};
+
+pub trait Six {
+    fn six(&self) -> u32
+        ensures { result ≡ 6 };
+}
+
+pub struct Round(u32);
+
+impl Six for Round {
+    fn six(&self) -> u32 {
+        3 + 3
+    }
+}
+"""
+TOLD = """\
+use Rattle.fixture.specs.declared.told.Round.{Round}
+
+abbrev pub first : Round → Round
+first r = r
+"""
+
 # Proof files: one with a tactic, so that the prover names no goal of the function, and one with the term itself.
 ANSWERS = {
     "third": """\
@@ -161,6 +190,14 @@ EDITS = {
     "wrong_of_a_trait": ("PlainFive::five", "2 + 3", "2 * 3", GOAL),
     "harmless_above_wrong_of_a_trait": ("AskingFive::five", "Plain.five();", "(Plain.five());", LET_THROUGH),
 }
+# The same of edits of the two other files.
+IN_FILES = {
+    "harmless_in_a_file": ("own::RoundSix::six", "3 + 3", "4 + 2", LET_THROUGH),
+    "wrong_in_a_file": ("own::RoundSix::six", "3 + 3", "3 + 4", GOAL),
+    "wrong_again_in_a_file": ("own::RoundSix::six", "3 + 3", "3 * 3", GOAL),
+    "wrong_in_a_file_without_twin": ("told::RoundSix::six", "3 + 3", "3 + 4", GOAL),
+    "wrong_again_in_a_file_without_twin": ("told::RoundSix::six", "3 + 3", "3 * 3", GOAL),
+}
 # The same of edits that name a clause, behind which it stands.
 AT_CLAUSES = {
     "at_its_clause": ("pair", "next(k))", "next(k) + 1)", GOAL, "high"),
@@ -180,7 +217,12 @@ CONTROLS = {
     "that_may_wait": ("patient", "given = k;", "given = (k);", PROVED),
     "beside_what_is_not_proved": ("beside_unproved", "given = unproved(k);", "given = (unproved(k));", PROVED),
     "no_control": ("next", "    x + 1", "    x + 3", NOT_PROVED),
+    "in_a_file": ("own::RoundSix::six", "3 + 3", "(3 + 3)", PROVED),
+    "in_a_file_without_twin": ("told::RoundSix::six", "3 + 3", "(3 + 3)", PROVED),
 }
+
+# Those that can stand in a twin of their file.
+TWINS_OF_FILES = ["harmless_in_a_file", "in_a_file", "wrong_again_in_a_file", "wrong_in_a_file"]
 
 # Methods of one name, and of each the lines that it is on.
 SAME_NAMES = """\
@@ -260,8 +302,8 @@ def try_itself(has_checks: bool) -> tuple[bool, str]:
 
 
 def edit_text(function: str, old: str, new: str, mark: str = "") -> str:
-    mark = f"{mark}\n" if mark else ""
-    return f"{mark}function: {function}\nfile: src/lib.rt\nold: {old}\nnew: {new}\n"
+    mark, module = f"{mark}\n" if mark else "", re.match(r"[a-z]+(?=::)", function)
+    return f"{mark}function: {function}\nfile: src/{module[0] if module else 'lib'}.rt\nold: {old}\nnew: {new}\n"
 
 
 def fixture(top: str):
@@ -272,8 +314,10 @@ def fixture(top: str):
 def try_edits(top: str) -> tuple[list[str], Tally]:
     """Tries the edits above."""
     texts = {"crates.txt": "fixture:\n", "crates/fixture/src/lib.rt": SOURCE}
+    texts |= {f"crates/fixture/src/{name}.rt": FILE for name in ("own", "told")}
+    texts |= {"crates/fixture/specs/Lib.antt": "pub mod Told\n", "crates/fixture/specs/Told.antt": TOLD}
     texts.update({f"crates/fixture/proofs/{name}/Answers.antt": text for name, text in ANSWERS.items()})
-    for name, (function, old, new, _) in EDITS.items():
+    for name, (function, old, new, _) in (EDITS | IN_FILES).items():
         texts[f"crates/fixture/wrong-bodies/{name}.edit"] = edit_text(function, old, new)
     for name, (function, old, new, _) in CONTROLS.items():
         texts[f"crates/fixture/wrong-bodies/{name}.edit"] = edit_text(function, old, new, "control: the same")
@@ -284,9 +328,10 @@ def try_edits(top: str) -> tuple[list[str], Tally]:
     bodies, bad = read_bodies(crate)
     tally = try_bodies(crate, bodies)
     tally.outcomes += [Outcome(name, BAD_EDIT, why) for name, why in bad.items()]
-    wanted = {name: it[3] for name, it in (EDITS | CONTROLS | AT_CLAUSES).items()}
+    wanted = {name: it[3] for name, it in (EDITS | IN_FILES | CONTROLS | AT_CLAUSES).items()}
+    said = [] if [it.name for it in bodies if it.file] == TWINS_OF_FILES else ["other bodies can stand in a twin of a file"]
     missed = [it for it in tally.outcomes if it.verdict != wanted[it.body]]
-    said = [f"{it.body}: {it.verdict}, and not {wanted[it.body]}: {it.said}" for it in missed]
+    said += [f"{it.body}: {it.verdict}, and not {wanted[it.body]}: {it.said}" for it in missed]
     if sorted(it.body for it in tally.outcomes) != sorted(wanted):
         said.append("some edits have no verdict, or two")
     proved = [it for it in tally.outcomes if it.body != "in_brackets"]
