@@ -41,8 +41,13 @@ def script_sum() -> str:
 
 def text_of_script(part: str) -> str:
     """A part of this script without what it says to a reader."""
-    text = read_file(os.path.join(TOP, "tests", "wrong_bodies", part))
-    return without_comments(re.sub(r'(?s)"""(?!\\).*?"""', "", text), "#")
+    return without_remarks_of_python(read_file(os.path.join(TOP, "tests", "wrong_bodies", part)))
+
+
+def without_remarks_of_python(text: str) -> str:
+    """A text without comments and docstrings. (What begins with a backslash is another string.)"""
+    text = re.sub(r'(?s)("""\\.*?""")|""".*?"""', lambda it: it[1] or "", text)
+    return without_comments(text, "# ")
 
 
 @functools.cache

@@ -10,10 +10,11 @@ from collections import Counter
 from . import rtlib
 from .checks import BAD_EDIT, GOAL, LET_THROUGH, MISMATCH, NOT_PROVED, PROVED, WELL
 from .checks import Outcome, Tally, is_within, try_bodies
-from .edits import Body, read_bodies, read_file, write_files
+from .edits import Body, read_bodies, read_file, without_comments, write_files
 from .promises import faults_of_promises, mismatches
 from .parts import sum_of
 from .record import DRAWN, FOLDER, GROUP, Choice, Record, choose, draw, text_of_script, toolchain
+from .record import without_remarks_of_python
 
 SOURCE = """\
 //! What the trial of wrong bodies tries itself on.
@@ -248,6 +249,29 @@ impl Fault {
 """
 LINES = {"FaultFromLow::from": [2, 3, 4], "FaultFromHigh::from": [8, 9, 10], "Fault::code": [14, 15, 16, 17, 18]}
 
+# A script, and what counts of it.
+REMARKS = '''
+"""Says what it is."""
+TEXT = """\\
+# in a text
+"""
+# says more
+
+
+def one():
+    """Says one."""
+    return 1
+'''
+PLAIN = '''
+TEXT = """\\
+# in a text
+"""
+
+
+def one():
+    return 1
+'''
+
 PROMISES = """\
 | promise | in one line | today |
 |---|---|---|
@@ -270,13 +294,18 @@ def line_on_record() -> str:
     return f"itself {sum_of([text_of_script(it) for it in parts])} {toolchain()}\n"
 
 
-def is_on_record() -> bool:
+def lines_on_record() -> list[str]:
     path = os.path.join(FOLDER, "itself")
-    return os.path.isfile(path) and line_on_record() in read_file(path).splitlines(True)
+    return read_file(path).splitlines(True) if os.path.isfile(path) else []
+
+
+def is_on_record() -> bool:
+    return line_on_record() in lines_on_record()
 
 
 def put_on_record() -> None:
-    write_files(FOLDER, {"itself": line_on_record()})
+    others = [it for it in lines_on_record() if it.split()[-1] != toolchain()]
+    write_files(FOLDER, {"itself": "".join([*others, line_on_record()])})
 
 
 def is_drawn(by: str) -> bool:
@@ -293,7 +322,7 @@ def try_itself(has_checks: bool) -> tuple[bool, str]:
             said += try_record(top, tally)
     with tempfile.TemporaryDirectory(prefix="wrong-bodies-") as top:
         said += try_worlds(top)
-    said += try_places()
+    said += try_places() + try_remarks()
     if faults_of_promises(PROMISES, {"wrong": ["Kept"], "another": ["Unheard"], "a_third": []}) != FAULTS:
         said.append("a promise without a wrong body passes")
     by = f"{tally.checks} checks, {tally.seconds:.0f} processor seconds" if has_checks else "its checks are on record"
@@ -345,6 +374,12 @@ def try_places() -> list[str]:
     path, lines = "src/fault.rt", range(1, SAME_NAMES.count("\n") + 1)
     found = {it: [line for line in lines if is_within(f"fault::{it}", path, SAME_NAMES, line)] for it in LINES}
     return [] if found == LINES else [f"the lines of methods of one name are taken for {found}"]
+
+
+def try_remarks() -> list[str]:
+    """Looks at what counts of a script."""
+    is_well = without_remarks_of_python(REMARKS) == without_comments(PLAIN, "# ")
+    return [] if is_well else ["a script's remarks count, or some of it counts as a remark"]
 
 
 def try_record(top: str, tally: Tally) -> list[str]:
