@@ -6,11 +6,13 @@ import os
 import re
 import tempfile
 from collections import Counter
+from types import SimpleNamespace
+from unittest import mock
 
-from . import rtlib
+from . import checks, rtlib
 from .checks import BAD_EDIT, GOAL, LET_THROUGH, MISMATCH, NOT_PROVED, PROVED, WELL
 from .checks import Outcome, Tally, is_within, try_bodies
-from .edits import Body, read_bodies, read_file, without_comments, write_files
+from .edits import Body, place, read_bodies, read_file, without_comments, write_files
 from .promises import faults_of_promises, mismatches
 from .parts import sum_of
 from .record import DRAWN, FOLDER, GROUP, Choice, Record, choose, draw, text_of_script, toolchain
@@ -322,7 +324,7 @@ def try_itself(has_checks: bool) -> tuple[bool, str]:
             said += try_record(top, tally)
     with tempfile.TemporaryDirectory(prefix="wrong-bodies-") as top:
         said += try_worlds(top)
-    said += try_places() + try_remarks()
+    said += try_places() + try_twins_of_a_file() + try_remarks()
     if faults_of_promises(PROMISES, {"wrong": ["Kept"], "another": ["Unheard"], "a_third": []}) != FAULTS:
         said.append("a promise without a wrong body passes")
     by = f"{tally.checks} checks, {tally.seconds:.0f} processor seconds" if has_checks else "its checks are on record"
@@ -374,6 +376,20 @@ def try_places() -> list[str]:
     path, lines = "src/fault.rt", range(1, SAME_NAMES.count("\n") + 1)
     found = {it: [line for line in lines if is_within(f"fault::{it}", path, SAME_NAMES, line)] for it in LINES}
     return [] if found == LINES else [f"the lines of methods of one name are taken for {found}"]
+
+
+def try_twins_of_a_file() -> list[str]:
+    """Looks at whether what is said of a twin of a file counts, beside a control that is proved there or isn't."""
+    crate, function, refused = SimpleNamespace(name="fixture"), "own::RoundSix::six", "not proved: it did not prove it"
+    bodies = [Body(it, {}, [function], is_control=it == "control", file="src/own.rt") for it in ("control", "wrong")]
+    batch, found = [place(it, at, True) for at, it in enumerate(bodies)], []
+    for of_control in "no holes", refused:
+        lines = [f"fn fixture::own_twin{at}::RoundSix::six: {it}" for at, it in enumerate((of_control, refused))]
+        tally = Tally("fixture")
+        with mock.patch.object(checks, "check", return_value=checks.Report(lines, {}, True, 0)):
+            left = checks.try_batch(crate, batch, tally, True)
+        found.append(([it.verdict for it in tally.outcomes], left))
+    return [] if found == [([PROVED, GOAL], []), ([], bodies)] else [f"of twins of a file {found} came"]
 
 
 def try_remarks() -> list[str]:
