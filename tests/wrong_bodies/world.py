@@ -2,8 +2,9 @@
 
 A body reaches the parts of its crate and of those below (tests/wrong_bodies/parts.py) that it names, and what these
 name in turn. Where a file imports a name from another that defines it, this one part is meant; where that passes it on,
-any of that name there or below. A call behind a value is of any function of that name. Of functions a body reaches
-those that it names itself, or that are named where a part cites a contract: what a contract says needs no other.
+any of that name there or below. A call behind a value is of any function of that name whose type is reached. Of
+functions a body reaches those that it names itself, or that are named where a part cites a contract: what a contract
+says needs no other.
 """
 
 from __future__ import annotations
