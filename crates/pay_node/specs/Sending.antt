@@ -1,4 +1,5 @@
--- What a member sent to all, how many that are, and whether an answer tells that it sent more.
+-- What a member sent to all, how many that are, whether there is one at a place, and whether an answer tells that it
+-- sent more.
 use Rattle.std.specs.Prelude.{◌≡◌, ℕ, ◌<◌, ◌↔◌, Bool, IsTrue, List, length, Result, Ok, Err}
 use Rattle.pay_frame.specs.Frame.{BodyFields}
 use Rattle.pay_channel.specs.History.{out}
@@ -25,6 +26,13 @@ pub record IsCountSent (n : NodeFields) (count : ℕ) : Type 0 where
   pub own : IsOwn n member
   pub legal : Legal member.genesis member.keys member.history
   pub is : count ≡ length (sent_by member)
+
+-- The node's member, with some legal history, sent a body at this place of all.
+pub record IsSentAt (n : NodeFields) (place : ℕ) : Type 0 where
+  pub member : MemberFields
+  pub own : IsOwn n member
+  pub legal : Legal member.genesis member.keys member.history
+  pub is : place < length (sent_by member)
 
 -- the member behind an event, which is unchanged where it refused that
 abbrev pub behind : MemberFields → ℕ → Event → Result Reply MemberFault → MemberFields

@@ -1,5 +1,5 @@
 ghost use Rattle.std.specs.Prelude.{◌≡◌, ◌≢◌, ◌↔◌, ◌+◌, ◌<◌, ◌≤◌, ◌^◌, Ok, Err, [], IfOk, IfErr, IfSome};
-ghost use Rattle.std.specs.Prelude.{IsTrue, OnErr};
+ghost use Rattle.std.specs.Prelude.{IsTrue, OnErr, false};
 ghost use Rattle.pay_frame.specs.Lent.{fields_of};
 ghost use Rattle.pay_link.specs.Keys.{IsPeer};
 ghost use Rattle.pay_link.specs.Opening.{OpenedFields, judgement};
@@ -10,7 +10,7 @@ ghost use Rattle.pay_member.specs.Legal.{Legal};
 ghost use Rattle.std.specs.Sync.Mutex.{mutex_guard_value};
 ghost use Rattle.pay_node.specs.Closing.{AllSettled, IsFault};
 ghost use Rattle.pay_node.specs.Keeping.{IsFetched};
-ghost use Rattle.pay_node.specs.Sending.{HasSent, IsCountSent};
+ghost use Rattle.pay_node.specs.Sending.{HasSent, IsCountSent, IsSentAt};
 ghost use Rattle.pay_node.specs.Nodes.{AreFresh, IsAnswered, IsAnsweredAs, IsBrought, IsOwn};
 ghost use Rattle.pay_node.specs.Nodes.{IsShown, IsTaken, outcome_of, want_of};
 
@@ -323,12 +323,26 @@ impl<I: Instance + Drop, B: Settle + Drop> Node<I, B> {
     }
 
     /// Waits until the member sent a body at a place, or until told to stop. Answers whether it did.
-    /// No clause can say so, for none says what a lock keeps; it is tested.
-    pub fn wait_until_sent<R: Wait>(&self, rt: &R, place: u64, stop: &AtomicBool) -> bool {
-        let member = self.changed.wait_while(rt, self.member.lock(rt), |member| {
-            member.sent(place).is_none() && !stop.load(Ordering::SeqCst)
-        });
+    /// That it waits no longer than that no clause can say, for none names the flag; it is tested.
+    #[tactic(auto, using(crate::proofs::Sent::found_at))]
+    pub fn wait_until_sent<R: Wait>(&self, rt: &R, place: u64, stop: &AtomicBool) -> bool
+        ensures { IsTrue result → IsSentAt self.now place }
+    {
+        let member = self.changed.wait_while(
+            rt,
+            self.member.lock(rt),
+            |member| self.has_to_wait(member, place, stop),
+        );
+        // for its clause alone: the history is legal
+        let _history = member.history();
         member.sent(place).is_some()
+    }
+
+    // Whether one has to wait until a member sends a body at a place: it must be the node's own, too.
+    fn has_to_wait(&self, member: &Member<I, B>, place: u64, stop: &AtomicBool) -> bool
+        ensures { result ≡ false → IsOwn self.now member.now }
+    {
+        !self.is_own(member) || (member.sent(place).is_none() && !stop.load(Ordering::SeqCst))
     }
 
     /// Tells those to stop who wait for what the member has still to send: a writer then has no
