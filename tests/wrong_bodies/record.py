@@ -119,6 +119,14 @@ class Record:
         """Of which kind this toolchain's refusal of this very body is on record, or ''."""
         return self.kinds.get((body.name, self.sum(body), self.made_by), "")
 
+    def by_others(self, bodies: list[Body]) -> list[list[Outcome]]:
+        """What is on record of these very bodies, by each other toolchain."""
+        sums, found = {it.name: self.sum(it) for it in bodies}, {}
+        for (name, of, by), kind in self.kinds.items():
+            if by != self.made_by and sums.get(name) == of:
+                found.setdefault(by, []).append(Outcome(name, kind, "on record"))
+        return [*found.values()]
+
     def write(self, bodies: list[Body], outcomes: list[Outcome]) -> None:
         """Writes down the bodies that came as they have to, and keeps what other toolchains said of these bodies."""
         came = {it.body: it.verdict for it in outcomes if it.verdict in WELL}
