@@ -432,6 +432,11 @@ def try_toolchains(top: str, bodies: list[Body], tally: Tally, choice: Choice) -
         if choose(bodies, Record(crate, top, made_by)) != choice:
             said.append("what one toolchain's record says is gone with another's")
     stale = [Body(it.name, it.texts, it.functions, f"{it.edit}# ") for it in bodies]
+    third, well = Record(crate, top, "a third"), {(it.body, it.verdict) for it in tally.outcomes if it.verdict in WELL}
+    if [{(it.body, it.verdict) for it in one} for one in third.by_others(bodies)] != [well, well]:
+        said.append("what two toolchains have on record isn't told to a third")
+    if third.by_others(stale):
+        said.append("what is on record of another edit is told")
     Record(crate, top, "another").write(stale, [])
     if Record(crate, top, "").kinds:
         said.append("a line of another edit stays on record")

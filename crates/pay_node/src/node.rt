@@ -323,7 +323,7 @@ impl<I: Instance + Drop, B: Settle + Drop> Node<I, B> {
     }
 
     /// Waits until the member sent a body at a place, or until told to stop. Answers whether it did.
-    /// That it waits no longer than that no clause can say, for none names the flag; it is tested.
+    /// How long it waits no clause can say, for none names the flag; it is tested.
     #[tactic(auto, using(crate::proofs::Sent::found_at))]
     pub fn wait_until_sent<R: Wait>(&self, rt: &R, place: u64, stop: &AtomicBool) -> bool
         ensures { IsTrue result → IsSentAt self.now place }
@@ -338,11 +338,12 @@ impl<I: Instance + Drop, B: Settle + Drop> Node<I, B> {
         member.sent(place).is_some()
     }
 
-    // Whether one has to wait until a member sends a body at a place: it must be the node's own, too.
+    // Whether a body at a place has still to be waited for. Whose member it is is looked at last, which
+    // no wake-up in vain comes to.
     fn has_to_wait(&self, member: &Member<I, B>, place: u64, stop: &AtomicBool) -> bool
         ensures { result ≡ false → IsOwn self.now member.now }
     {
-        !self.is_own(member) || (member.sent(place).is_none() && !stop.load(Ordering::SeqCst))
+        (member.sent(place).is_none() && !stop.load(Ordering::SeqCst)) || !self.is_own(member)
     }
 
     /// Tells those to stop who wait for what the member has still to send: a writer then has no
