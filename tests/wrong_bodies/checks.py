@@ -2,6 +2,7 @@
 
 from __future__ import annotations
 
+import functools
 import os
 import re
 import shutil
@@ -13,6 +14,7 @@ from . import rt, rtlib
 from .clauses import answers_to, with_one_clause, without_answers
 from .edits import Body, Place, above, cut, in_batches, item, module_of, place, places_of_change, proof_folders
 from .edits import read_file, write_files
+from .goals import answered, goal_of, with_answers_taken, with_one_answer, without_tactics
 from .hollow import hollow_out, path_of
 
 # A wrong body is refused at a goal that isn't proved, or by a proof file that doesn't fit it. A control is proved.
@@ -23,11 +25,12 @@ WELL = (GOAL, MISMATCH, PROVED)
 
 @dataclass
 class Outcome:
-    """What came of a wrong body, and what was said of it."""
+    """What came of a wrong body, what was said of it, and the goal at which it was refused, or ''."""
 
     body: str
     verdict: str
     said: str
+    goal: str = ""
 
 
 @dataclass
@@ -120,7 +123,18 @@ def add_twin_of_file(crate, place: Place, texts: dict[str, str]) -> None:
     parent = root if folder == "src" else f"{folder}.rt"
     declared = texts.get(parent) or read_file(f"{crate.folder}/{parent}")
     texts[parent] = re.sub(rf"(?m)^((?:pub(?:\([a-z]+\))? )?mod {name})(;\n)", rf"\1\2\1{place.ending}\2", declared, count=1)
-    texts[f"{folder}/{name}{place.ending}.rt"] = renamed(crate, place, place.body.texts[path])
+    text = text_of_twin(crate, place) if place.goal else place.body.texts[path]
+    texts[f"{folder}/{name}{place.ending}.rt"] = renamed(crate, place, text)
+
+
+def text_of_twin(crate, place: Place) -> str:
+    """What a file becomes by a body that is tried at one goal."""
+    ((path, text),) = place.body.texts.items()
+    parts = cut(text)
+    (at,) = places_of_change(cut(read_file(f"{crate.folder}/{path}")), text)
+    texts, head = [it for _, it in parts], item(parts[at - 1][1], parts[at][0])
+    texts[at - 1] = texts[at - 1].removesuffix(head) + without_tactics(head)
+    return "".join(texts)
 
 
 def renamed(crate, place: Place, text: str) -> str:
@@ -138,10 +152,13 @@ def with_twin(own: list[tuple[str, str]], at: int, body: str, place: Place, behi
     head = re.sub(rf"\bfn {name}\b", f"fn {name}{place.ending}", item(own[at - 1][1], name), count=1)
     if place.body.clause:
         head = with_one_clause(head, place.body.clause)
+    if place.goal:
+        head = without_tactics(head)
     end, rest = behind.split("\n", 1)
     return f"{end}\n\n{head}{body}{end}\n{rest}"
 
 
+ANSWERS = "Answers.antt"
 # A line that the prover refuses in a proof file. It then searches as ever, and says which goals are open; but it offers
 # no proof file for them, which would take it a tenth of the check.
 NO_OFFER = "not_to_be_offered"
@@ -153,7 +170,7 @@ def decline_offers(place: Place, room: str) -> None:
     for function in place.functions():
         folder = proof_folders(function)[0]
         if not os.path.exists(f"{room}/{folder}/Proof.antt"):
-            file = f"{folder}/Answers.antt"
+            file = f"{folder}/{ANSWERS}"
             answers = read_file(f"{room}/{file}") if os.path.isfile(f"{room}/{file}") else ""
             write_files(room, {file: REFUSED_LINE + answers})
 
@@ -165,8 +182,18 @@ def copy_proofs(crate, place: Place, room: str) -> None:
         for file in os.listdir(f"{crate.folder}/{folder}") if os.path.isdir(f"{crate.folder}/{folder}") else []:
             if file.endswith(".antt"):
                 text = renamed(crate, place, read_file(f"{crate.folder}/{folder}/{file}"))
-                text = with_answers_to(place.body.clause, text) if place.body.clause else text
-                write_files(room, {f"{into}/{file}": text})
+                write_files(room, {f"{into}/{file}": proof_of_twin(crate, place, file, text)})
+
+
+def proof_of_twin(crate, place: Place, file: str, text: str) -> str:
+    """What a proof file becomes for a twin of its function."""
+    if place.body.clause:
+        text = with_answers_to(place.body.clause, text)
+    if file != ANSWERS:
+        return text
+    if place.goal:
+        return with_one_answer(text, place.goal)
+    return with_answers_taken(text, crate.name) if place.takes_answers else text
 
 
 def with_answers_to(clause: str, proof: str) -> str:
@@ -186,6 +213,16 @@ def run(folder: str, words: list[str]) -> tuple[list[str], float]:
 
 
 # ---- verdicts
+
+
+@dataclass
+class Refusal:
+    """How a function is refused, what is said of it, and at which goal, or ''."""
+
+    kind: str
+    said: str
+    goal: str = ""
+
 
 TAKEN_AWAY = re.compile(r"has no field|is not in scope|has no `|was not admitted")
 # A tactic of a proof file that didn't prove its goal, or says of which values it doesn't hold.
@@ -251,11 +288,11 @@ def function_at(source: str, line: int) -> tuple[str, str]:
     return "", ""
 
 
-def refusal(crate, place: Place, report: Report) -> tuple[str, str]:
-    """How the prover refuses one of the body's functions by itself, and at what; or ('', '') where it doesn't."""
-    found = [refusal_of(crate, it, report) for it in place.functions()] if report.has_judged else []
-    found = [it for it in found if it[0] and is_at(place.body.clause, it[1])]
-    return next((it for it in found if it[0] == GOAL), found[0] if found else ("", ""))
+def refusal(crate, place: Place, report: Report) -> Refusal | None:
+    """How the prover refuses one of the body's functions by itself, or nothing where it doesn't."""
+    found = [refusal_of(crate, it, place, report) for it in place.functions()] if report.has_judged else []
+    found = [it for it in found if it and is_at(place.body.clause, it.said)]
+    return next((it for it in found if it.kind == GOAL), found[0] if found else None)
 
 
 def is_at(clause: str, said: str) -> bool:
@@ -263,21 +300,27 @@ def is_at(clause: str, said: str) -> bool:
     return not clause or f"-clause-{clause}" in said
 
 
-def refusal_of(crate, function: str, report: Report) -> tuple[str, str]:
-    """How the prover refuses a function by itself, and at what; or ('', '') where it doesn't."""
+def refusal_of(crate, function: str, place: Place, report: Report) -> Refusal | None:
+    """How the prover refuses one function by itself, or nothing where it doesn't."""
     said = line_of(crate, function, report)
     if "did not prove" in said:
-        return GOAL, f"{function}: {said}"
+        return Refusal(GOAL, f"{function}: {said}")
     if not said.startswith(("not proved", "no proof")):
-        return "", ""
+        return None
     errors = own_errors(function, report)
-    at_goal = [it for it in errors if UNPROVED.search(it)]
     fits = not any(TAKEN_AWAY.search(it) for it in errors)
-    at_goal += open_goals(function, report) if fits else []
+    errors = [it for it in errors if not TAKEN_AWAY.search(it) and counts(place, it)]
+    at_goal = [it for it in errors if UNPROVED.search(it)]
+    # (what has no answer is left open in a twin that is tried at one goal)
+    at_goal += open_goals(function, report) if fits and not place.goal else []
     if at_goal:
-        return GOAL, f"{function}: {said}: {'; '.join(at_goal)}"
-    errors = [it for it in errors if not TAKEN_AWAY.search(it)]
-    return (MISMATCH, f"{function}: {said}: {errors[0]}") if errors else ("", "")
+        return Refusal(GOAL, f"{function}: {said}: {'; '.join(at_goal)}", goal_of(at_goal[0]))
+    return Refusal(MISMATCH, f"{function}: {said}: {errors[0]}", goal_of(errors[0])) if errors else None
+
+
+def counts(place: Place, error: str) -> bool:
+    """Whether an error in a proof file is about an answer that is tried."""
+    return goal_of(error) == place.goal if place.goal else not place.takes_answers
 
 
 def is_proved(crate, place: Place, report: Report) -> bool:
@@ -289,9 +332,9 @@ def is_proved(crate, place: Place, report: Report) -> bool:
 def verdict_of(crate, place: Place, report: Report, is_last: bool) -> Outcome | None:
     """What came of a body, or nothing where this check leaves it open and isn't the last one."""
     name, is_control = place.body.name, place.body.is_control
-    kind, said = refusal(crate, place, report)
-    if kind:
-        return Outcome(name, NOT_PROVED if is_control else kind, said)
+    found = refusal(crate, place, report)
+    if found:
+        return Outcome(name, NOT_PROVED if is_control else found.kind, found.said, found.goal)
     if is_control and is_proved(crate, place, report):
         return Outcome(name, PROVED, "proved")
     if is_last or is_proved(crate, place, report):
@@ -312,13 +355,25 @@ def why_not(crate, place: Place, report: Report) -> Outcome:
 
 
 def try_bodies(crate, bodies: list[Body]) -> Tally:
-    """Tries wrong bodies of a crate batch by batch, once more together what the batches leave open, and by itself what
-    is open then."""
+    """Tries wrong bodies of a crate batch by batch, each where it is known at the goal that refused it last; once more
+    together what the batches leave open, with all goals, and by itself what is open then."""
     tally, is_first = Tally(crate.name), True
-    for ordered in in_batches, in_batches, lambda left: [[place(it, 0)] for it in left]:
+    for ordered in functools.partial(at_goals, crate), in_batches, lambda left: [[place(it, 0)] for it in left]:
         bodies = [it for batch in ordered(bodies) for it in try_batch(crate, batch, tally, is_first)]
         is_first = False
     return tally
+
+
+def at_goals(crate, bodies: list[Body]) -> list[list[Place]]:
+    """The batches of bodies, those in twins at the goal that refused them last: alone where their function's proof file
+    answers it, and else beside all that have no answer."""
+    batches = in_batches(bodies)
+    for it in (it for batch in batches for it in batch if it.ending and it.body.goal):
+        answers = f"{crate.folder}/{proof_folders(it.body.functions[0])[0]}/{ANSWERS}"
+        if len(it.body.functions) == 1 and os.path.isfile(answers):
+            it.takes_answers = it.body.goal not in answered(read_file(answers))
+            it.goal = "" if it.takes_answers else it.body.goal
+    return batches
 
 
 def try_batch(crate, batch: list[Place], tally: Tally, is_first: bool) -> list[Body]:

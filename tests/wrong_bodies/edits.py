@@ -28,6 +28,8 @@ class Body:
     is_control: bool = False
     # The one clause that has to refuse it, or '' where any may.
     clause: str = ""
+    # The goal at which it was refused last, or ''.
+    goal: str = ""
     # Whether it changes nothing but these functions' bodies.
     is_inside: bool = True
     # Whether it can stand in twins of the functions that it changes.
@@ -44,6 +46,10 @@ class Place:
     # What the twins' names end with, or ''.
     ending: str = ""
     is_of_file: bool = False
+    # The one goal of its function that is tried, or '' where all are.
+    goal: str = ""
+    # Whether the answers in its function's proof files are taken as proved.
+    takes_answers: bool = False
 
     def functions(self) -> list[str]:
         return [self.named(it) for it in self.body.functions]

@@ -18,7 +18,7 @@ from .edits import above, cut, item, module_of, proof_folders, read_file, write_
 
 BODY = "\n    loop {}\n"
 HOLE = """\
-pub taken_as_proved : {A : Type 2} → A
+pub taken_as_proved {ℓ} : {A : Type ℓ} → A
 taken_as_proved = ?
 """
 PROOF = """\

@@ -7,8 +7,9 @@ A verdict hangs on a body's sum and on the toolchain. The sum is over
   specs and lemmas, and the sources and specs of those below, the definitions; and their lines of crates.txt;
 - what of this script a verdict comes from.
 
-The record of a crate is a file of lines 'BODY KIND SUM TOOLCHAIN', in their order. A line with another sum says nothing
-and does no harm, so that a merge may keep both sides' lines; one of another toolchain waits for it.
+The record of a crate is a file of lines 'BODY KIND SUM TOOLCHAIN GOAL', in their order. A line with another sum says
+nothing of a body and does no harm, so that a merge may keep both sides' lines; one of another toolchain waits for it.
+The goal is that at which the body was refused, where the prover named one. It decides only where a run looks first.
 """
 
 from __future__ import annotations
@@ -36,7 +37,7 @@ DRAWN, GROUP = 20, 20
 @functools.cache
 def script_sum() -> str:
     """Of the texts of this script that verdicts come from."""
-    return sum_of([text_of_script(it) for it in ("checks.py", "clauses.py", "edits.py", "hollow.py")])
+    return sum_of([text_of_script(it) for it in ("checks.py", "clauses.py", "edits.py", "goals.py", "hollow.py")])
 
 
 def text_of_script(part: str) -> str:
@@ -99,13 +100,16 @@ def commit() -> str:
 class Record:
     """What is on record of a crate's wrong bodies."""
 
-    LINE = re.compile(r"(\S+) (\S+) ([0-9a-f]{32}) (\S+)")
+    LINE = re.compile(r"(\S+) (\S+) ([0-9a-f]{32}) (\S+)(?: (\S+))?")
 
     def __init__(self, crate, folder: str = FOLDER, made_by: str = ""):
         self.crate, self.path, self.made_by = crate, f"{folder}/{crate.name}", made_by or toolchain()
         text = read_file(self.path) if os.path.isfile(self.path) else ""
         found = [self.LINE.fullmatch(it) for it in text.splitlines()]
-        self.kinds = {(it[1], it[3], it[4]): it[2] for it in found if it and it[2] in WELL}
+        found = [it for it in found if it and it[2] in WELL]
+        self.kinds = {(it[1], it[3], it[4]): it[2] for it in found}
+        # Of each body and toolchain.
+        self.goals = {(it[1], it[4]): it[5] or "" for it in found}
         self.sums: dict[tuple[str, str], str] = {}
 
     def sum(self, body: Body) -> str:
@@ -119,6 +123,11 @@ class Record:
         """Of which kind this toolchain's refusal of this very body is on record, or ''."""
         return self.kinds.get((body.name, self.sum(body), self.made_by), "")
 
+    def goal(self, name: str) -> str:
+        """The goal at which a body of this name was refused last, by this toolchain or else by another, or ''."""
+        by_others = [goal for (body, _), goal in sorted(self.goals.items()) if body == name]
+        return self.goals.get((name, self.made_by), "") or next(filter(None, by_others), "")
+
     def by_others(self, bodies: list[Body]) -> list[list[Outcome]]:
         """What is on record of these very bodies, by each other toolchain."""
         sums, found = {it.name: self.sum(it) for it in bodies}, {}
@@ -130,12 +139,14 @@ class Record:
     def write(self, bodies: list[Body], outcomes: list[Outcome]) -> None:
         """Writes down the bodies that came as they have to, and keeps what other toolchains said of these bodies."""
         came = {it.body: it.verdict for it in outcomes if it.verdict in WELL}
+        goals = self.goals | {(it.body, self.made_by): it.goal for it in outcomes if it.goal}
         sums = {it.name: self.sum(it) for it in bodies}
         kinds = {key: it for key, it in self.kinds.items() if sums.get(key[0]) == key[1] and key[2] != self.made_by}
         kinds |= {(name, sums[name], self.made_by): came[name] for name in sums if name in came}
         os.makedirs(os.path.dirname(self.path), exist_ok=True)
         with open(self.path, "w", encoding="utf-8") as file:
-            file.writelines(f"{name} {kind} {of} {by}\n" for (name, of, by), kind in sorted(kinds.items()))
+            for (name, of, by), kind in sorted(kinds.items()):
+                file.write(f"{name} {kind} {of} {by} {goals.get((name, by), '')}".rstrip() + "\n")
 
 
 # ---- what a run tries

@@ -173,6 +173,13 @@ returns-clause-low c = omega (arith, c.pair.ensures.low)
 pub returns-clause-high : goal.returns-clause-high
 returns-clause-high c = omega (arith, c.pair.ensures.high)
 """,
+    "own/RoundSix/six": """\
+use Rattle.std.proofs.Common.{arith}
+use Rattle.fixture.proofs.own.RoundSix.six.Goals as goal
+
+pub returns : goal.returns
+returns c = grind arith
+""",
 }
 
 # Each edit's function, its old and new text, and what has to come of it.
@@ -212,6 +219,24 @@ AT_CLAUSES = {
     "at_the_one_clause": ("second", "next(before)", "before", BAD_EDIT, "value"),
     "at_a_clause_of_a_trait": ("PlainFive::five", "2 + 3", "2 * 4", BAD_EDIT, "value"),
 }
+# The same of edits that were refused last at a goal, which stands behind what has to come of them.
+AT_GOALS = {
+    "at_its_goal": ("pair_above", "pair(k + 1)", "pair(k + 2)", GOAL, "returns-clause-high"),
+    "at_its_goal_in_a_file": ("own::RoundSix::six", "3 + 3", "3 + 5", GOAL, "returns"),
+    "at_a_goal_without_an_answer": ("pair_above", "pair(k + 1)", "pair(k + 60)", GOAL, "pair-requires"),
+    "at_a_goal_that_it_meets": ("pair_above", "    pair(k + 1)", "    (pair(k + 1).0, k)", GOAL, "returns-clause-low"),
+    "at_a_goal_that_is_gone": ("third", "next(almost)", "next(almost) - 2", GOAL, "returns-clause-high"),
+    "harmless_at_a_goal": ("pair_above", "pair(k + 1)", "pair(1 + k)", LET_THROUGH, "returns-clause-high"),
+}
+# At which goals these are refused then.
+GOALS = {
+    "at_its_goal": "returns-clause-high",
+    "at_its_goal_in_a_file": "returns",
+    "at_a_goal_without_an_answer": "pair-requires",
+    "at_a_goal_that_it_meets": "returns-clause-high",
+    "at_a_goal_that_is_gone": "returns",
+    "harmless_at_a_goal": "",
+}
 # The same of controls.
 CONTROLS = {
     "in_brackets": ("passed_on", "    same(k)", "    (same(k))", PROVED),
@@ -225,7 +250,13 @@ CONTROLS = {
 }
 
 # Those that can stand in a twin of their file.
-TWINS_OF_FILES = ["harmless_in_a_file", "in_a_file", "wrong_again_in_a_file", "wrong_in_a_file"]
+TWINS_OF_FILES = [
+    "at_its_goal_in_a_file",
+    "harmless_in_a_file",
+    "in_a_file",
+    "wrong_again_in_a_file",
+    "wrong_in_a_file",
+]
 
 # Methods of one name, and of each the lines that it is on.
 SAME_NAMES = """\
@@ -348,7 +379,8 @@ def try_edits(top: str) -> tuple[list[str], Tally]:
     texts |= {f"crates/fixture/src/{name}.rt": FILE for name in ("own", "told")}
     texts |= {"crates/fixture/specs/Lib.antt": "pub mod Told\n", "crates/fixture/specs/Told.antt": TOLD}
     texts.update({f"crates/fixture/proofs/{name}/Answers.antt": text for name, text in ANSWERS.items()})
-    for name, (function, old, new, _) in (EDITS | IN_FILES).items():
+    of_goals = {name: it[:4] for name, it in AT_GOALS.items()}
+    for name, (function, old, new, _) in (EDITS | IN_FILES | of_goals).items():
         texts[f"crates/fixture/wrong-bodies/{name}.edit"] = edit_text(function, old, new)
     for name, (function, old, new, _) in CONTROLS.items():
         texts[f"crates/fixture/wrong-bodies/{name}.edit"] = edit_text(function, old, new, "control: the same")
@@ -357,14 +389,19 @@ def try_edits(top: str) -> tuple[list[str], Tally]:
     write_files(top, texts)
     crate = fixture(top)
     bodies, bad = read_bodies(crate)
+    for it in bodies:
+        it.goal = AT_GOALS[it.name][4] if it.name in AT_GOALS else ""
     tally = try_bodies(crate, bodies)
     tally.outcomes += [Outcome(name, BAD_EDIT, why) for name, why in bad.items()]
-    wanted = {name: it[3] for name, it in (EDITS | IN_FILES | CONTROLS | AT_CLAUSES).items()}
+    wanted = {name: it[3] for name, it in (EDITS | IN_FILES | AT_GOALS | CONTROLS | AT_CLAUSES).items()}
     said = [] if [it.name for it in bodies if it.file] == TWINS_OF_FILES else ["other bodies can stand in a twin of a file"]
     missed = [it for it in tally.outcomes if it.verdict != wanted[it.body]]
     said += [f"{it.body}: {it.verdict}, and not {wanted[it.body]}: {it.said}" for it in missed]
     if sorted(it.body for it in tally.outcomes) != sorted(wanted):
         said.append("some edits have no verdict, or two")
+    goals = {it.body: it.goal for it in tally.outcomes if it.body in GOALS}
+    if goals != GOALS:
+        said.append(f"bodies are refused at the goals {goals}")
     proved = [it for it in tally.outcomes if it.body != "in_brackets"]
     if mismatches(bodies, tally.outcomes) != (1, 0) or mismatches(bodies, proved) != (1, 1):
         said.append("the bodies that stand on a mismatch are miscounted")
@@ -411,6 +448,11 @@ def try_record(top: str, tally: Tally) -> list[str]:
         said.append("another than the bodies that are not on record is tried as new")
     if {(it.name, record.kind(it)) for it in choice.kept} - {(it.body, it.verdict) for it in tally.outcomes}:
         said.append("a body is on record as what it isn't")
+    on_record = {name: goal for name, goal in GOALS.items() if goal}
+    for made_by in "", "another":
+        found = Record(crate, top, made_by)
+        if {it: found.goal(it) for it in GOALS if found.goal(it)} != on_record:
+            said.append("a goal isn't on record, or is that of no refusal")
     said += try_toolchains(top, bodies, tally, choice)
     said += try_draws(bodies)
     write_files(top, {"crates/fixture/wrong-bodies/wrong.edit": edit_text("next", "    x + 1", "    x + 1 + 0")})

@@ -2,11 +2,11 @@ ghost use Rattle.std.specs.Prelude.{◌≡◌};
 ghost use Rattle.pay_audit.specs.Faults.{export_fault_name, export_fault_number};
 
 use std::alloc::AllocError;
+use std::fmt;
 use thiserror::Error;
 
 /// Why a file is no export, in the order in which it is tested; memory stands apart.
 #[derive(Clone, Copy, Debug, PartialEq, Eq, Error)]
-#[error("{} {}", self.number(), self.name())]
 pub enum ExportFault {
     Memory,
     /// The file isn't JSON.
@@ -42,6 +42,12 @@ impl ExportFault {
         ensures value { result.now ≡ export_fault_name self }
     {
         self.entry().1
+    }
+}
+
+impl fmt::Display for ExportFault {
+    fn fmt<W: fmt::Write>(&self, f: &mut fmt::Formatter<W>) -> fmt::Result {
+        write!(f, "{} {}", self.number(), self.name())
     }
 }
 

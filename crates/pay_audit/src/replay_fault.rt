@@ -2,11 +2,11 @@ ghost use Rattle.std.specs.Prelude.{◌≡◌};
 ghost use Rattle.pay_audit.specs.Faults.{replay_fault_name, replay_fault_number};
 
 use std::alloc::AllocError;
+use std::fmt;
 use thiserror::Error;
 
 /// Why a history wasn't replayed; memory stands apart.
 #[derive(Clone, Copy, Debug, PartialEq, Eq, Error)]
-#[error("{} {}", self.number(), self.name())]
 pub enum ReplayFault {
     Memory,
     /// The entry at this place is the first that a member can't have after those before it.
@@ -36,6 +36,12 @@ impl ReplayFault {
         ensures value { result.now ≡ replay_fault_name self }
     {
         self.entry().1
+    }
+}
+
+impl fmt::Display for ReplayFault {
+    fn fmt<W: fmt::Write>(&self, f: &mut fmt::Formatter<W>) -> fmt::Result {
+        write!(f, "{} {}", self.number(), self.name())
     }
 }
 

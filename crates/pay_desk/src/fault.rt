@@ -2,11 +2,11 @@ ghost use Rattle.std.specs.Prelude.{◌≡◌};
 ghost use Rattle.pay_desk.specs.Faults.{desk_fault_name, desk_fault_number, desk_fault_of};
 
 use crate::teller_fault::TellerFault;
+use std::fmt;
 use thiserror::Error;
 
 /// Why a desk refuses a line.
 #[derive(Clone, Copy, Debug, PartialEq, Eq, Error)]
-#[error("{} {}", self.number(), self.name())]
 pub enum DeskFault {
     /// Memory was refused. The same line may be given again.
     Memory,
@@ -47,6 +47,12 @@ impl DeskFault {
         ensures value { result.now ≡ desk_fault_name self }
     {
         self.entry().1
+    }
+}
+
+impl fmt::Display for DeskFault {
+    fn fmt<W: fmt::Write>(&self, f: &mut fmt::Formatter<W>) -> fmt::Result {
+        write!(f, "{} {}", self.number(), self.name())
     }
 }
 

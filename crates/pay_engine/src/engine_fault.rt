@@ -5,11 +5,11 @@ ghost use Rattle.pay_engine.specs.EngineFault.{engine_of};
 use pay_frame::FrameFault;
 use pay_io::StreamFault;
 use std::alloc::{AllocError, AllocFailed};
+use std::fmt;
 use thiserror::Error;
 
 /// Why an engine that reads an `Input` and writes an `Output` ended early.
 #[derive(Clone, Copy, Debug, PartialEq, Eq, Error)]
-#[error("{} {}", self.number(), self.name())]
 pub enum EngineFault {
     /// An allocation failed.
     Memory,
@@ -49,6 +49,12 @@ impl EngineFault {
         ensures value { result.now ≡ engine_name self }
     {
         self.entry().1
+    }
+}
+
+impl fmt::Display for EngineFault {
+    fn fmt<W: fmt::Write>(&self, f: &mut fmt::Formatter<W>) -> fmt::Result {
+        write!(f, "{} {}", self.number(), self.name())
     }
 }
 

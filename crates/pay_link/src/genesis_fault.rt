@@ -2,11 +2,11 @@ ghost use Rattle.std.specs.Prelude.{◌≡◌};
 ghost use Rattle.pay_link.specs.Faults.{genesis_fault_name, genesis_fault_number};
 
 use std::alloc::AllocError;
+use std::fmt;
 use thiserror::Error;
 
 /// Why there is no genesis, in the order in which it is tested; memory stands apart.
 #[derive(Clone, Copy, Debug, PartialEq, Eq, Error)]
-#[error("{} {}", self.number(), self.name())]
 pub enum GenesisFault {
     Memory,
     /// The file isn't JSON.
@@ -49,6 +49,12 @@ impl GenesisFault {
         ensures value { result.now ≡ genesis_fault_name self }
     {
         self.entry().1
+    }
+}
+
+impl fmt::Display for GenesisFault {
+    fn fmt<W: fmt::Write>(&self, f: &mut fmt::Formatter<W>) -> fmt::Result {
+        write!(f, "{} {}", self.number(), self.name())
     }
 }
 

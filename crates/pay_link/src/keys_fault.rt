@@ -2,11 +2,11 @@ ghost use Rattle.std.specs.Prelude.{◌≡◌};
 ghost use Rattle.pay_link.specs.Faults.{keys_fault_name, keys_fault_number};
 
 use std::alloc::AllocError;
+use std::fmt;
 use thiserror::Error;
 
 /// Why there are no keys, in the order in which it is tested; memory stands apart.
 #[derive(Clone, Copy, Debug, PartialEq, Eq, Error)]
-#[error("{} {}", self.number(), self.name())]
 pub enum KeysFault {
     Memory,
     /// The file isn't JSON.
@@ -46,6 +46,12 @@ impl KeysFault {
         ensures value { result.now ≡ keys_fault_name self }
     {
         self.entry().1
+    }
+}
+
+impl fmt::Display for KeysFault {
+    fn fmt<W: fmt::Write>(&self, f: &mut fmt::Formatter<W>) -> fmt::Result {
+        write!(f, "{} {}", self.number(), self.name())
     }
 }
 

@@ -1,12 +1,12 @@
 ghost use Rattle.std.specs.Prelude.{◌≡◌};
 ghost use Rattle.pay_link.specs.Faults.{link_fault_name, link_fault_number};
 
+use std::fmt;
 use thiserror::Error;
 
 /// Why a frame is refused, in the order in which it is tested: the first four where it is opened,
 /// the last two where it is taken.
 #[derive(Clone, Copy, Debug, PartialEq, Eq, Error)]
-#[error("{} {}", self.number(), self.name())]
 pub enum LinkFault {
     NotForMe,
     /// The sender is no member, or is the receiver itself.
@@ -46,5 +46,11 @@ impl LinkFault {
         ensures value { result.now ≡ link_fault_name self }
     {
         self.entry().1
+    }
+}
+
+impl fmt::Display for LinkFault {
+    fn fmt<W: fmt::Write>(&self, f: &mut fmt::Formatter<W>) -> fmt::Result {
+        write!(f, "{} {}", self.number(), self.name())
     }
 }

@@ -2,11 +2,11 @@ ghost use Rattle.std.specs.Prelude.{◌≡◌};
 ghost use Rattle.pay_member.specs.Faults.{member_fault_name, member_fault_number};
 
 use std::alloc::AllocError;
+use std::fmt;
 use thiserror::Error;
 
 /// Why a member refuses an event, whichever it is.
 #[derive(Clone, Copy, Debug, PartialEq, Eq, Error)]
-#[error("{} {}", self.number(), self.name())]
 pub enum MemberFault {
     /// Memory was refused; looked for last.
     Memory,
@@ -52,6 +52,12 @@ impl MemberFault {
         ensures value { result.now ≡ member_fault_name self }
     {
         self.entry().1
+    }
+}
+
+impl fmt::Display for MemberFault {
+    fn fmt<W: fmt::Write>(&self, f: &mut fmt::Formatter<W>) -> fmt::Result {
+        write!(f, "{} {}", self.number(), self.name())
     }
 }
 

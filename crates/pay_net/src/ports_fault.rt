@@ -2,11 +2,11 @@ ghost use Rattle.std.specs.Prelude.{◌≡◌};
 ghost use Rattle.pay_net.specs.Faults.{ports_fault_name, ports_fault_number};
 
 use std::alloc::AllocError;
+use std::fmt;
 use thiserror::Error;
 
 /// Why there are no ports, in the order in which it is tested; memory stands apart.
 #[derive(Clone, Copy, Debug, PartialEq, Eq, Error)]
-#[error("{} {}", self.number(), self.name())]
 pub enum PortsFault {
     Memory,
     /// The file isn't JSON.
@@ -37,6 +37,12 @@ impl PortsFault {
         ensures value { result.now ≡ ports_fault_name self }
     {
         self.entry().1
+    }
+}
+
+impl fmt::Display for PortsFault {
+    fn fmt<W: fmt::Write>(&self, f: &mut fmt::Formatter<W>) -> fmt::Result {
+        write!(f, "{} {}", self.number(), self.name())
     }
 }
 

@@ -2,11 +2,11 @@ ghost use Rattle.std.specs.Prelude.{◌≡◌};
 ghost use Rattle.pay_node.specs.Faults.{close_fault_name, close_fault_number};
 
 use std::alloc::AllocError;
+use std::fmt;
 use thiserror::Error;
 
 /// Why a node can't be closed.
 #[derive(Clone, Copy, Debug, PartialEq, Eq, Error)]
-#[error("{} {}", self.number(), self.name())]
 pub enum CloseFault {
     /// Memory was refused.
     Memory,
@@ -33,6 +33,12 @@ impl CloseFault {
             CloseFault::Memory => "Memory",
             CloseFault::Mismatch(_) => "Mismatch",
         }
+    }
+}
+
+impl fmt::Display for CloseFault {
+    fn fmt<W: fmt::Write>(&self, f: &mut fmt::Formatter<W>) -> fmt::Result {
+        write!(f, "{} {}", self.number(), self.name())
     }
 }
 

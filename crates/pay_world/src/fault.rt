@@ -2,11 +2,11 @@ ghost use Rattle.std.specs.Prelude.{◌≡◌};
 ghost use Rattle.pay_world.specs.Faults.{world_fault_name, world_fault_number};
 
 use std::alloc::AllocError;
+use std::fmt;
 use thiserror::Error;
 
 /// Why a world doesn't answer an event.
 #[derive(Clone, Copy, Debug, PartialEq, Eq, Error)]
-#[error("{} {}", self.number(), self.name())]
 pub enum WorldFault {
     /// Memory was refused; looked for last.
     Memory,
@@ -38,6 +38,12 @@ impl WorldFault {
         ensures value { result.now ≡ world_fault_name self }
     {
         self.entry().1
+    }
+}
+
+impl fmt::Display for WorldFault {
+    fn fmt<W: fmt::Write>(&self, f: &mut fmt::Formatter<W>) -> fmt::Result {
+        write!(f, "{} {}", self.number(), self.name())
     }
 }
 

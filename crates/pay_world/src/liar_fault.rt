@@ -2,12 +2,12 @@ ghost use Rattle.std.specs.Prelude.{◌≡◌};
 ghost use Rattle.pay_world.specs.Faults.{liar_fault_name, liar_fault_number};
 
 use std::alloc::AllocError;
+use std::fmt;
 use thiserror::Error;
 
 /// Why a list isn't one of a group's liars, in the order in which it is tested; memory stands
 /// apart.
 #[derive(Clone, Copy, Debug, PartialEq, Eq, Error)]
-#[error("{} {}", self.number(), self.name())]
 pub enum LiarFault {
     Memory,
     /// One of them is no member.
@@ -43,6 +43,12 @@ impl LiarFault {
         ensures value { result.now ≡ liar_fault_name self }
     {
         self.entry().1
+    }
+}
+
+impl fmt::Display for LiarFault {
+    fn fmt<W: fmt::Write>(&self, f: &mut fmt::Formatter<W>) -> fmt::Result {
+        write!(f, "{} {}", self.number(), self.name())
     }
 }
 

@@ -1,4 +1,5 @@
 use Rattle.std.proofs.Common.{drop, take, ◌≡◌, ◌∙◌, ◌++◌, ◌∷◌, [], append_assoc, arith, true, false, Ok, Err, ℕ, inr, sym, subst, rules}
+use Rattle.std.proofs.lemmas.Grind.{common_steps}
 use Rattle.std.specs.Io.KnownBytes.{Appends}
 use Rattle.std.proofs.KnownBytes.{Consumes-nil}
 use Rattle.pay_engine.specs.declared.engine_fault.EngineFault.TheVariants.{Memory, Write}
@@ -91,3 +92,6 @@ returns-in-Err-clause-handles g c =
     let was : InProgress h start c.batches.state left (g.Out.Output.contents c.batches.writer) held reads = c.batches.invariant.handles start left reads going in
     c.end_at.ensures.handles start left left held reads reads was (Consumes-nil left) (given_at_fault was.read held was.frames c.in-Err.fault c.fault_is_for_good.ensures.stream was.cut wrong)
     (stream_at_fault start.input left was.read held was.frames c.in-Err.fault c.fault_is_for_good.ensures.stream was.consumed was.cut wrong)
+
+pub batches-smaller : goal.batches-smaller
+batches-smaller g c = grind (arith, common_steps)

@@ -1,4 +1,5 @@
 use Rattle.std.proofs.Common.{◌≡◌, ◌∙◌, ◌<◌, ◌+◌, [], Some, None, inl, length, sym, arith, rules}
+use Rattle.std.proofs.lemmas.Grind.{common_steps}
 use Rattle.std.specs.Io.KnownBytes.{IsAtEnd}
 use Rattle.std.proofs.lemmas.List.{nil_from_length}
 use Rattle.pay_frame.specs.declared.fault.FrameFault.TheVariants.{Truncated}
@@ -49,3 +50,6 @@ returns-clause-handles g c =
     let stream : IsStream going.read going.frames (Some Truncated) = record { rest = c.args.work.now.read; cut = going.cut; ends = CutOff some c.requires.begins } in
     let last = held_again (g.H.FrameHandler.handling c.args.handler.now) start c.args.state.now (remaining c.args.reader.now) (g.Out.Output.contents c.args.writer.now) c.args.work.now.read c.fill.new.self reads none.1 going in
     c.end_at.ensures.handles start _ _ c.fill.new.self reads (reads + 1) last none.0 stream (stream_at_end start.input _ _ going.read going.frames (Some Truncated) going.consumed none.0 end stream)
+
+pub handle_held-requires : goal.handle_held-requires
+handle_held-requires g c = grind (arith, common_steps)

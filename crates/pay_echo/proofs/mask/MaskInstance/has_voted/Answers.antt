@@ -1,4 +1,5 @@
-use Rattle.std.proofs.Common.{◌∙◌}
+use Rattle.std.proofs.Common.{◌∙◌, arith}
+use Rattle.std.proofs.lemmas.Grind.{common_steps}
 use Rattle.pay_echo.proofs.MaskLemmas.{voted-at}
 use Rattle.pay_echo.proofs.mask.MaskInstance.has_voted.Goals as goal
 
@@ -11,3 +12,12 @@ pub returns-in-Ready-clause-voted : goal.returns-in-Ready-clause-voted
 returns-in-Ready-clause-voted c =
     rw (c.in-Ready.is, ← c.self.view_is)
     (c.has_voted-in-Ready.ensures ∙ voted-at c.self.inside.tally.values c.self.inside.tally.readys c.in-Ready.process c.self.invariant.are.ready_places)
+
+pub returns-in-Send-clause-placed : goal.returns-in-Send-clause-placed
+returns-in-Send-clause-placed c = grind (arith, common_steps)
+
+pub returns-in-Echo-clause-placed : goal.returns-in-Echo-clause-placed
+returns-in-Echo-clause-placed c = grind (arith, common_steps)
+
+pub returns-in-Ready-clause-placed : goal.returns-in-Ready-clause-placed
+returns-in-Ready-clause-placed c = grind (arith, common_steps)

@@ -35,3 +35,6 @@ returns-clause-readys c = readys-shown c.self.inside.members c.self.inside.candi
 
 pub returns-in-Some-clause-place : goal.returns-in-Some-clause-place
 returns-in-Some-clause-place c = grind (arith, common_steps)
+
+pub returns-clause-one : goal.returns-clause-one
+returns-clause-one c = grind (arith, common_steps)
