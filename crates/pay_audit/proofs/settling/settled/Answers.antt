@@ -37,3 +37,6 @@ settle-requires g c =
 
 pub loop-owner-preserved : goal.loop-owner-preserved
 loop-owner-preserved g c = grind (arith, common_steps)
+
+pub returns : goal.returns
+returns g c = grind (arith, common_steps)

@@ -1,3 +1,5 @@
+use Rattle.std.proofs.Common.{arith}
+use Rattle.std.proofs.lemmas.Grind.{common_steps}
 use Rattle.pay_sim.proofs.Short.{one_is_long, all_are_short}
 use Rattle.pay_sim.proofs.group.as_members.Goals as goal
 
@@ -6,3 +8,6 @@ returns-in_default c = one_is_long c.args.numbers.now c.loop-number.number-index
 
 pub returns : goal.returns
 returns c = all_are_short c.args.numbers.now c.loop-number.members.items c.loop-number.number-index c.loop-number-test.false c.loop-number.invariant.same c.loop-number.invariant.short
+
+pub loop-number-preserved : goal.loop-number-preserved
+loop-number-preserved c = grind (arith, common_steps)

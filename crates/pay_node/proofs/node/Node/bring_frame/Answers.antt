@@ -4,3 +4,9 @@ use Rattle.pay_node.proofs.node.Node.bring_frame.Goals as goal
 
 pub returns-in-Err-clause-brought : goal.returns-in-Err-clause-brought
 returns-in-Err-clause-brought g c = grind (arith, common_steps)
+
+pub returns-in-Ok-clause-brought : goal.returns-in-Ok-clause-brought
+returns-in-Ok-clause-brought g c = grind (arith, common_steps)
+
+pub returns-in-Ok-clause-memory : goal.returns-in-Ok-clause-memory
+returns-in-Ok-clause-memory g c = grind (arith, common_steps)
