@@ -1,5 +1,4 @@
-use Rattle.std.proofs.Common.{◌≡◌, List, [], ◌∷◌, ◌++◌, take, Bool, true, false, ap, sym, subst, ◌∙◌, arith}
-use Rattle.std.proofs.lemmas.Grind.{common_steps}
+use Rattle.std.proofs.Common.{◌≡◌, List, [], ◌∷◌, ◌++◌, take, Bool, true, false, ap, sym, subst, ◌∙◌}
 use Rattle.std.specs.Bool.{OnTrue}
 use Rattle.std.proofs.lemmas.List.{take_all, take_more}
 use Rattle.pay_member.specs.Events.{events}
@@ -40,9 +39,3 @@ returns g c =
       legal = subst (Legal m.genesis m.keys) all c.loop-place.invariant.legal;
       illegal = tt;
     }
-
-pub returns-clause-taken : goal.returns-clause-taken
-returns-clause-taken g c = grind (arith, common_steps)
-
-pub returns-clause-legal : goal.returns-clause-legal
-returns-clause-legal g c = grind (arith, common_steps)
