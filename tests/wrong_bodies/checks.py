@@ -42,8 +42,10 @@ class Tally:
     checks: int = 0
     seconds: float = 0
 
-    def count(self, *verdicts: str) -> int:
-        return sum(it.verdict in verdicts for it in self.outcomes)
+    def add(self, other: Tally) -> None:
+        self.outcomes += other.outcomes
+        self.checks += other.checks
+        self.seconds += other.seconds
 
 
 # ---- checks
@@ -169,8 +171,9 @@ def decline_offers(place: Place, room: str) -> None:
     """Has the prover offer no proof files for a body's functions."""
     for function in place.functions():
         folder = proof_folders(function)[0]
-        if not os.path.exists(f"{room}/{folder}/Proof.antt"):
-            file = f"{folder}/{ANSWERS}"
+        file = f"{folder}/{ANSWERS}"
+        # (an error in a file that the edit changes would count as the edit's own)
+        if file not in place.body.texts and not os.path.exists(f"{room}/{folder}/Proof.antt"):
             answers = read_file(f"{room}/{file}") if os.path.isfile(f"{room}/{file}") else ""
             write_files(room, {file: REFUSED_LINE + answers})
 
@@ -314,7 +317,8 @@ def refusal_of(crate, function: str, place: Place, report: Report) -> Refusal | 
     # (what has no answer is left open in a twin that is tried at one goal)
     at_goal += open_goals(function, report) if fits and not place.goal else []
     if at_goal:
-        return Refusal(GOAL, f"{function}: {said}: {'; '.join(at_goal)}", goal_of(at_goal[0]))
+        first = next((it for it in at_goal if is_at(place.body.clause, it)), at_goal[0])
+        return Refusal(GOAL, f"{function}: {said}: {'; '.join(at_goal)}", goal_of(first))
     return Refusal(MISMATCH, f"{function}: {said}: {errors[0]}", goal_of(errors[0])) if errors else None
 
 
@@ -329,13 +333,25 @@ def is_proved(crate, place: Place, report: Report) -> bool:
     return report.has_judged and all(it == "no holes" or it.startswith("depends on a hole in ") for it in said)
 
 
+# What is said of a function of which all is proved but what it calls.
+STANDS_ON_OTHERS = re.compile(r"no proof(?:[:;] it (?:calls|passes the block) [^;]*, which (?:is|are) not proved)+")
+
+
+def is_right(crate, place: Place, report: Report) -> bool:
+    """Whether each function of a control is proved, given the contracts of all others: one in its place may be wrong."""
+    functions = place.functions()
+    stands = all(STANDS_ON_OTHERS.fullmatch(line_of(crate, it, report)) for it in functions)
+    is_whole = not any(own_errors(it, report) or open_goals(it, report) for it in functions)
+    return is_proved(crate, place, report) or report.has_judged and stands and is_whole
+
+
 def verdict_of(crate, place: Place, report: Report, is_last: bool) -> Outcome | None:
     """What came of a body, or nothing where this check leaves it open and isn't the last one."""
     name, is_control = place.body.name, place.body.is_control
     found = refusal(crate, place, report)
     if found:
         return Outcome(name, NOT_PROVED if is_control else found.kind, found.said, found.goal)
-    if is_control and is_proved(crate, place, report):
+    if is_control and is_right(crate, place, report):
         return Outcome(name, PROVED, "proved")
     if is_last or is_proved(crate, place, report):
         return why_not(crate, place, report)
@@ -366,11 +382,12 @@ def try_bodies(crate, bodies: list[Body]) -> Tally:
 
 def at_goals(crate, bodies: list[Body]) -> list[list[Place]]:
     """The batches of bodies, those in twins at the goal that refused them last: alone where their function's proof file
-    answers it, and else beside all that have no answer."""
+    answers it, and else beside all that have no answer. A goal that isn't of the one clause is passed over."""
     batches = in_batches(bodies)
     for it in (it for batch in batches for it in batch if it.ending and it.body.goal):
         answers = f"{crate.folder}/{proof_folders(it.body.functions[0])[0]}/{ANSWERS}"
-        if len(it.body.functions) == 1 and os.path.isfile(answers):
+        is_tried = len(it.body.functions) == 1 and is_at(it.body.clause, it.body.goal)
+        if is_tried and os.path.isfile(answers):
             it.takes_answers = it.body.goal not in answered(read_file(answers))
             it.goal = "" if it.takes_answers else it.body.goal
     return batches
@@ -385,7 +402,7 @@ def try_batch(crate, batch: list[Place], tally: Tally, is_first: bool) -> list[B
         half = len(batch) // 2
         return [it for part in (batch[:half], batch[half:]) for it in try_batch(crate, part, tally, is_first)]
     left = []
-    proved = {it.body.functions[0] for it in batch if it.body.is_control and is_proved(crate, it, report)}
+    proved = {it.body.functions[0] for it in batch if it.body.is_control and is_right(crate, it, report)}
     for it in batch:
         is_last = len(batch) == 1 and not is_first
         # (what is said of a twin of a file counts beside a control that is proved there)

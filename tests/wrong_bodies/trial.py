@@ -121,6 +121,12 @@ impl Five for Asking {
         answer
     }
 }
+
+pub fn asked() -> u32
+    ensures { result ≡ 5 }
+{
+    Plain.five()
+}
 """
 
 # Files of modules, of which a twin can stand beside them: each has a trait and what it is of. A spec speaks of the
@@ -228,6 +234,10 @@ AT_GOALS = {
     "at_a_goal_that_is_gone": ("third", "next(almost)", "next(almost) - 2", GOAL, "returns-clause-high"),
     "harmless_at_a_goal": ("pair_above", "pair(k + 1)", "pair(1 + k)", LET_THROUGH, "returns-clause-high"),
 }
+# Those of them whose goal has no answer: all answers are taken as proved. The others are tried at their goal alone.
+WITHOUT_AN_ANSWER = ["at_a_goal_that_is_gone", "at_a_goal_without_an_answer"]
+# The last goal of one that names another clause, so that it is tried at all.
+OF_ANOTHER_CLAUSE = {"at_a_clause_with_an_answer": "returns-clause-low"}
 # At which goals these are refused then.
 GOALS = {
     "at_its_goal": "returns-clause-high",
@@ -237,6 +247,8 @@ GOALS = {
     "at_a_goal_that_is_gone": "returns",
     "harmless_at_a_goal": "",
 }
+# The edit that can't be read, and one that stands beside it.
+BESIDE_UNREAD = ["cannot_be_read", "wrong_again"]
 # The same of controls.
 CONTROLS = {
     "in_brackets": ("passed_on", "    same(k)", "    (same(k))", PROVED),
@@ -245,6 +257,8 @@ CONTROLS = {
     "that_may_wait": ("patient", "given = k;", "given = (k);", PROVED),
     "beside_what_is_not_proved": ("beside_unproved", "given = unproved(k);", "given = (unproved(k));", PROVED),
     "no_control": ("next", "    x + 1", "    x + 3", NOT_PROVED),
+    "above_wrong_of_a_trait": ("asked", "    Plain.five()", "    (Plain.five())", PROVED),
+    "no_control_above_wrong_of_a_trait": ("asked", "    Plain.five()", "    Plain.five() + 1", NOT_PROVED),
     "in_a_file": ("own::RoundSix::six", "3 + 3", "(3 + 3)", PROVED),
     "in_a_file_without_twin": ("told::RoundSix::six", "3 + 3", "(3 + 3)", PROVED),
 }
@@ -390,11 +404,15 @@ def try_edits(top: str) -> tuple[list[str], Tally]:
     crate = fixture(top)
     bodies, bad = read_bodies(crate)
     for it in bodies:
-        it.goal = AT_GOALS[it.name][4] if it.name in AT_GOALS else ""
-    tally = try_bodies(crate, bodies)
+        it.goal = AT_GOALS[it.name][4] if it.name in AT_GOALS else OF_ANOTHER_CLAUSE.get(it.name, "")
+    said = try_goals(crate, bodies)
+    # (what can't be read has its batch halved again and again, so that few stand in it)
+    tally = try_bodies(crate, [it for it in bodies if it.name not in BESIDE_UNREAD])
+    tally.add(try_bodies(crate, [it for it in bodies if it.name in BESIDE_UNREAD]))
     tally.outcomes += [Outcome(name, BAD_EDIT, why) for name, why in bad.items()]
     wanted = {name: it[3] for name, it in (EDITS | IN_FILES | AT_GOALS | CONTROLS | AT_CLAUSES).items()}
-    said = [] if [it.name for it in bodies if it.file] == TWINS_OF_FILES else ["other bodies can stand in a twin of a file"]
+    if [it.name for it in bodies if it.file] != TWINS_OF_FILES:
+        said.append("other bodies can stand in a twin of a file")
     missed = [it for it in tally.outcomes if it.verdict != wanted[it.body]]
     said += [f"{it.body}: {it.verdict}, and not {wanted[it.body]}: {it.said}" for it in missed]
     if sorted(it.body for it in tally.outcomes) != sorted(wanted):
@@ -406,6 +424,16 @@ def try_edits(top: str) -> tuple[list[str], Tally]:
     if mismatches(bodies, tally.outcomes) != (1, 0) or mismatches(bodies, proved) != (1, 1):
         said.append("the bodies that stand on a mismatch are miscounted")
     return said, tally
+
+
+def try_goals(crate, bodies: list[Body]) -> list[str]:
+    """Looks at which goals those are tried first that were refused last at one."""
+    places = [it for batch in checks.at_goals(crate, bodies) for it in batch]
+    alone = {it.body.name: it.goal for it in places if it.goal}
+    taken = sorted(it.body.name for it in places if it.takes_answers)
+    wanted = {name: it[4] for name, it in AT_GOALS.items() if name not in WITHOUT_AN_ANSWER}
+    is_well = (alone, taken) == (wanted, WITHOUT_AN_ANSWER)
+    return [] if is_well else [f"bodies are tried at the goals {alone}, and with answers taken {taken}"]
 
 
 def try_places() -> list[str]:

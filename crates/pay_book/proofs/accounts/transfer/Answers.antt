@@ -1,4 +1,4 @@
-use Rattle.std.proofs.Common.{ℕ, ◌-◌, slice_index, slice_set, length-set, arith}
+use Rattle.std.proofs.Common.{ℕ, ◌-◌, slice_index, slice_set, length-set, arith, rules}
 use Rattle.std.proofs.lemmas.List.Sums.{sum_by-set, get_or-le-sum_by}
 use Rattle.pay_book.proofs.accounts.transfer.Goals as goal
 
@@ -12,3 +12,6 @@ overflow_add-balances c =
     let taken = sum_by-set (λ (x : ℕ). x) old c.args.account left 0 c.requires.account in
     let part = get_or-le-sum_by (λ (x : ℕ). x) (slice_set old c.args.account left) c.in-Pay.payee 0 (omega (arith, length-set {A = ℕ})) in
     omega arith
+
+pub returns-in-Pay : goal.returns-in-Pay
+returns-in-Pay c = search rules
