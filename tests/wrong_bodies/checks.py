@@ -12,10 +12,11 @@ from dataclasses import dataclass, field
 
 from . import rt, rtlib
 from .clauses import answers_to, with_one_clause, without_answers
-from .edits import Body, Place, above, cut, in_batches, item, module_of, place, places_of_change, proof_folders
+from .edits import Body, Place, cut, in_batches, item, module_of, place, places_of_change, proof_folders
 from .edits import read_file, write_files
 from .goals import answered, goal_of, with_answers_taken, with_one_answer, without_tactics
-from .hollow import hollow_out, path_of
+from .hollow import hollow_out
+from .lines import is_within
 
 # A wrong body is refused at a goal that isn't proved, or by a proof file that doesn't fit it. A control is proved.
 GOAL, MISMATCH, PROVED = "goal", "mismatch", "control"
@@ -265,30 +266,6 @@ def open_goals(function: str, report: Report) -> list[str]:
         if note and is_within(function, note[1], report.texts.get(note[1], ""), int(note[2])):
             found.append(note[3])
     return found
-
-
-def is_within(function: str, path: str, source: str, line: int) -> bool:
-    """Whether a line of a source is on the head or body of a function. In an impl of a trait with arguments it has to be
-    the only one of its name in the file, or the impl's type, trait and one argument make up its name."""
-    head, name = function_at(source, line)
-    named = path_of(path, head, name) if name else ""
-    if named or not name:
-        return named == function
-    owner, _, last = function.removeprefix(module_of(path)).removeprefix("::").rpartition("::")
-    of = re.match(r"impl\b.*?\b(\w+)<(?:\w+::)*(\w+)> for (\w+)", above(head))
-    is_only = [it for it, _ in cut(source)].count(name) == 1
-    return name == last and (is_only or bool(of) and owner == of[3] + of[1] + of[2])
-
-
-def function_at(source: str, line: int) -> tuple[str, str]:
-    """The function on whose head or body a line of a source is, behind all that stands before its body; or ''."""
-    before, above_it = 0, ""
-    for name, text in cut(source):
-        begins = before - item(above_it, name).count("\n") if name else 0
-        if name and begins < line <= before + text.count("\n") + 1:
-            return above_it, name
-        before, above_it = before + text.count("\n"), above_it + text
-    return "", ""
 
 
 def refusal(crate, place: Place, report: Report) -> Refusal | None:

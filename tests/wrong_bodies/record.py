@@ -27,6 +27,8 @@ from .parts import File, Part, sum_of, texts_of, without_remarks
 from .world import world_of
 
 FOLDER = os.path.join(TOP, "tests", "refused")
+# What of this script verdicts come from.
+SCRIPT = ("checks.py", "clauses.py", "edits.py", "goals.py", "hollow.py", "lines.py")
 # Of those on record one of so many is tried all the same, and at most so many of a crate go together.
 DRAWN, GROUP = 20, 20
 
@@ -36,8 +38,7 @@ DRAWN, GROUP = 20, 20
 
 @functools.cache
 def script_sum() -> str:
-    """Of the texts of this script that verdicts come from."""
-    return sum_of([text_of_script(it) for it in ("checks.py", "clauses.py", "edits.py", "goals.py", "hollow.py")])
+    return sum_of([text_of_script(it) for it in SCRIPT])
 
 
 def text_of_script(part: str) -> str:

@@ -11,8 +11,9 @@ from unittest import mock
 
 from . import checks, rtlib
 from .checks import BAD_EDIT, GOAL, LET_THROUGH, MISMATCH, NOT_PROVED, PROVED, WELL
-from .checks import Outcome, Tally, is_within, try_bodies
+from .checks import Outcome, Tally, try_bodies
 from .edits import Body, place, read_bodies, read_file, without_comments, write_files
+from .lines import is_within
 from .promises import faults_of_promises, mismatches
 from .parts import sum_of
 from .record import DRAWN, FOLDER, GROUP, Choice, Record, choose, draw, text_of_script, toolchain
