@@ -81,8 +81,8 @@ def pauses_between_dials_grow():
     with dialing(ALWAYS, []) as peer:
         measured = pauses(dials(peer, most=11, silence=PATIENCE))
     # a pause is never shorter than it should be, but for what the peer saw too late of the dial before
-    least = [0.01, 0.02, 0.04, 0.08, 0.16, 0.32, 0.64, 1, 1, 1]
-    same([pause >= 0.8 * wanted for pause, wanted in zip(measured, least)], 10 * [True], f"pauses {measured}")
+    least, late = [0.01, 0.02, 0.04, 0.08, 0.16, 0.32, 0.64, 1, 1, 1], 0.02
+    same([pause >= wanted - late for pause, wanted in zip(measured, least)], 10 * [True], f"pauses {measured}")
     same(max(measured) < 2, True, f"the longest of {measured}")
 
 
