@@ -80,9 +80,10 @@ def a_peer_is_given_up_behind_so_many_dials():
 def pauses_between_dials_grow():
     with dialing(ALWAYS, []) as peer:
         measured = pauses(dials(peer, most=11, silence=PATIENCE))
-    # a pause is never shorter than it should be, but for what the peer saw too late of the dial before
-    least, late = [0.01, 0.02, 0.04, 0.08, 0.16, 0.32, 0.64, 1, 1, 1], 0.02
-    same([pause >= wanted - late for pause, wanted in zip(measured, least)], 10 * [True], f"pauses {measured}")
+    # a pause is never shorter than it should be, but for what the peer saw too late of the dial before: of the first
+    # two, of 10 and 20 ms, that would say nothing
+    least, late = [0.04, 0.08, 0.16, 0.32, 0.64, 1, 1, 1], 0.02
+    same([pause >= wanted - late for pause, wanted in zip(measured[2:], least)], 8 * [True], f"pauses {measured}")
     same(max(measured) < 2, True, f"the longest of {measured}")
 
 
