@@ -74,7 +74,7 @@ def instructions(words, source=os.devnull, **given):
 
 def used_by_node(node):
     """What a running node used of processors so far, in its own code and in the system's."""
-    with open(f"/proc/{node.program()}/stat", encoding="ascii") as stat:
+    with open(f"/proc/{node.child.pid}/stat", encoding="ascii") as stat:
         fields = stat.read().rpartition(")")[2].split()
     return [int(fields[11]) / TICKS, int(fields[12]) / TICKS]
 

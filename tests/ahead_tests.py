@@ -5,7 +5,7 @@ import socket
 import time
 
 from frames import ECHO, SEND, WANT, frame, payment, read_frame
-from nodes import Group, advised, free_ports, told_apart
+from nodes import Group, free_ports, told_apart
 from peers import connected, received
 from runs import SECONDS, key_texts, same, shows, test, with_files
 
@@ -18,9 +18,9 @@ def words_that_say_no_number_ahead():
     words = ["node", "--genesis", "g", "--keys", "k", "--ports", "p"]
     for word in ("0", "65", "", "00", "05", "+5", "5 ", "1.5", "1e1", "0x5", "five", "always", f"{2**64}"):
         errors = f"payd: ahead {word}: no number from 1 to 64\n"
-        was = advised(with_files(files, [*words, f"--ahead={word}"], b"FRONT\n"))
+        was = with_files(files, [*words, f"--ahead={word}"], b"FRONT\n")
         shows(was, 2, "", errors, of=f"{word!r}")
-        was = advised(with_files({}, [*words, f"--ahead={word}"]))
+        was = with_files({}, [*words, f"--ahead={word}"])
         shows(was, 2, "", errors, of=f"{word!r} before the files")
     for more in (["--ahead"], ["--ahead", "-1"], ["--ahead", "5", "--ahead", "5"]):
         status, output, errors = with_files(files, [*words, *more], b"FRONT\n")

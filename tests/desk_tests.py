@@ -3,6 +3,7 @@
 import json
 import os
 import random
+import socket
 import subprocess
 import tempfile
 import threading
@@ -153,6 +154,25 @@ def desk_answers_line_by_line():
     finally:
         watchdog.cancel()
     shows((child.returncode, output.decode(), errors.decode()), 0, "")
+
+
+@test
+def answers_to_one_read_are_written_at_once():
+    """By a socket that keeps each write apart: as many as there are reads of 4,096 bytes."""
+    lines = lines_of(f"PAY {order} 1 1" for order in range(1000))
+    near, far = socket.socketpair(socket.AF_UNIX, socket.SOCK_SEQPACKET)
+    with near, far, tempfile.TemporaryFile() as file:
+        file.write(lines.encode())
+        file.seek(0)
+        words = [PAYD, "desk", "--genesis", EXAMPLE_GENESIS, "--keys", example_keys(0)]
+        child = subprocess.Popen(words, stdin=file, stdout=far, stderr=subprocess.DEVNULL)
+        far.close()
+        writes = []
+        while piece := near.recv(1 << 17):
+            writes.append(piece.decode())
+        same(child.wait(timeout=SECONDS), 0, "the end of the desk")
+    same("".join(writes), lines_of(f"asked {order} seq {order}" for order in range(1000)), "the answers")
+    same(len(writes), -(-len(lines) // 4096), "writes")
 
 
 @test

@@ -7,7 +7,7 @@ import subprocess
 import tempfile
 import time
 
-from nodes import PATIENCE, Group, advised, free_ports, told_apart, until, write_json
+from nodes import PATIENCE, Group, free_ports, told_apart, until, write_json
 from peers import Strangers
 from runs import GENESIS, PAYD, SECONDS, key_texts, same, shows, test, with_files
 
@@ -204,9 +204,9 @@ def words_that_say_no_dials():
     words = ["node", "--genesis", "g", "--keys", "k", "--ports", "p"]
     for word in ("0", "", "00", "05", "+5", "5 ", "1.5", "1e3", "0x5", "five", "Always", "always ", f"{2**64}"):
         errors = f"payd: dials {word}: neither a count from 1 on nor always\n"
-        was = advised(with_files(files, [*words, f"--dials={word}"], b"FRONT\n"))
+        was = with_files(files, [*words, f"--dials={word}"], b"FRONT\n")
         shows(was, 2, "", errors, of=f"{word!r}")
-        was = advised(with_files({}, [*words, f"--dials={word}"]))
+        was = with_files({}, [*words, f"--dials={word}"])
         shows(was, 2, "", errors, of=f"{word!r} before the files")
     for more in (["--dials"], ["--dials", "-1"], ["--dials", "5", "--dials", "5"], ["--dials", "5", "5"]):
         status, output, errors = with_files(files, [*words, *more], b"FRONT\n")

@@ -1,5 +1,6 @@
 // Comes between the program and the C library, and refuses what the environment says: one growth of memory, one read
-// of standard input, one write of standard output, one receipt from a socket or one sending to one, counted from 1; or
+// of standard input, one write of standard output, one receipt from a socket or one sending to one, one write at a place
+// of a file, one sync, counted from 1; or
 // all but so many bytes of each read or write, or of that sending; one growth in a further thread, one thread or all; or
 // interrupts the first reads. Where it refused something it makes the file that HOSTILE_MARK names.
 #define _GNU_SOURCE
@@ -14,7 +15,7 @@
 #include <sys/syscall.h>
 #include <unistd.h>
 
-static atomic_long growths, reads, interrupted, writes, receives, sends;
+static atomic_long growths, reads, interrupted, writes, receives, sends, placed, syncs;
 
 static long wanted(const char *name) {
     const char *text = getenv(name);
@@ -126,6 +127,43 @@ int pthread_create(pthread_t *made, const pthread_attr_t *how, void *(*run)(void
         return EAGAIN;
     }
     return refused(&threads, "HOSTILE_THREAD") ? EAGAIN : real(made, how, run, with);
+}
+
+// A write that is refused may have taken some bytes before.
+static ssize_t write_at(int file, const void *buffer, size_t size, off_t at) {
+    if (refused(&placed, "HOSTILE_PLACED")) {
+        size_t most = wanted("HOSTILE_PLACED_SIZE");
+        if (most != 0) {
+            syscall(SYS_pwrite64, file, buffer, size < most ? size : most, at);
+        }
+        errno = ENOSPC;
+        return -1;
+    }
+    return syscall(SYS_pwrite64, file, buffer, size, at);
+}
+
+ssize_t pwrite(int file, const void *buffer, size_t size, off_t at) {
+    return write_at(file, buffer, size, at);
+}
+
+ssize_t pwrite64(int file, const void *buffer, size_t size, off_t at) {
+    return write_at(file, buffer, size, at);
+}
+
+static int sync_by(long call, int file) {
+    if (refused(&syncs, "HOSTILE_SYNC")) {
+        errno = EIO;
+        return -1;
+    }
+    return syscall(call, file);
+}
+
+int fsync(int file) {
+    return sync_by(SYS_fsync, file);
+}
+
+int fdatasync(int file) {
+    return sync_by(SYS_fdatasync, file);
 }
 
 ssize_t recv(int file, void *buffer, size_t size, int flags) {

@@ -2,12 +2,11 @@
 
 import os
 import re
-import shutil
 import subprocess
 import tempfile
 
 from nodes import export_text, free_ports, write_json
-from runs import SECONDS, TOP, key_texts, same, test
+from runs import SECONDS, TOP, key_texts, same, test, wants
 
 INSTALL = os.path.join(TOP, "tools", "install")
 ALONE = {"members": 1, "faults": 0, "opening": [7]}
@@ -29,15 +28,11 @@ def installed_program_stands_alone():
         write_json(folder, "g", ALONE)
         write_json(folder, "k", {"own": 0, "keys": key_texts(0, 1)})
         write_json(folder, "p", {"ports": free_ports(1)})
-        words = [payd, "node", "--genesis", "g", "--keys", "k", "--ports", "p", "--export", "e"]
-        same(run_in(folder, words, b"FRONT\n"), (0, "front 0\n", ""), "a node")
-        with open(os.path.join(folder, "lines"), "w", encoding="ascii") as lines:
-            lines.write("FRONT\n")
-        for place, given in enumerate(("<&-", "</")):
-            words = f"prefix/bin/payd node --genesis g --keys k --ports p --export e{place} --lines lines {given}"
-            same(run_in(folder, ["sh", "-c", words]), (0, "front 0\n", ""), f"{words}")
-        with open(os.path.join(folder, "e"), encoding="ascii") as export:
-            same(export.read(), export_text(0, [7], [[]], [0], [7]), "its export")
+        words = [payd, "node", "--genesis", "g", "--keys", "k", "--ports", "p", "--data", "member"]
+        export = export_text(0, [7], [[]], [0], [7])
+        same(run_in(folder, words, b"FRONT\n"), (0, f"front 0\n{export}", "payd: log: new\n"), "a node")
+        words = [payd, "export", "--genesis", "g", "--keys", "k", "--data", "member"]
+        same(run_in(folder, words), (0, export, ""), "its export")
         with open(os.path.join(folder, "prefix", "lib", "payd", "proved"), encoding="ascii") as proved:
             same(proved.read().startswith("proved"), True, "what was proved")
 
@@ -49,12 +44,12 @@ def manual_and_completions():
         subprocess.run([INSTALL, prefix], check=True, capture_output=True, timeout=SECONDS)
         with open(os.path.join(prefix, "share", "man", "man1", "payd.1"), encoding="ascii") as page:
             text = page.read()
-        for command in ("CHECK", "SIM", "DESK", "NODE", "AUDIT", "STATEMENT", "JOURNAL"):
+        for command in ("CHECK", "SIM", "DESK", "NODE", "EXPORT", "AUDIT", "STATEMENT", "JOURNAL"):
             same(text.count(f".SH {command}\n"), 1, f"the manual page on {command}")
         script = os.path.join(prefix, "share", "bash-completion", "completions", "payd")
         write_json(folder, "my keys.json", {})
         for words, found in (
-            ("--e", "<--export>"),
+            ("--da", "<--data>"),
             ("--dials a", "<always>"),
             ("--keys my", "<my keys.json>"),
             ("--keys none", "<>"),
@@ -73,34 +68,45 @@ COMPLETIONS = {
 
 @test
 def completions_for_each_shell():
-    """Each is there, has all commands and the options of a node, and its shell reads it where that is installed."""
+    """Each is there, and has all commands and the options of a node."""
     with tempfile.TemporaryDirectory() as folder:
         subprocess.run([INSTALL, folder], check=True, capture_output=True, timeout=SECONDS)
         for shell, place in COMPLETIONS.items():
-            path = os.path.join(folder, place)
-            with open(path, encoding="ascii") as file:
+            with open(os.path.join(folder, place), encoding="ascii") as file:
                 words = set(re.findall(r"[a-z]+", file.read()))
-            wanted = "check sim desk node audit statement journal genesis keys ports dials ahead export lines stay"
+            wanted = "check sim desk node export audit statement journal genesis keys ports dials ahead data stay"
             same(set(wanted.split()) - words, set(), f"words that the completions for {shell} lack")
-            if shutil.which(shell) is None:
-                print(f"completions_for_each_shell is skipped for {shell}: no {shell}")
-                continue
-            same(run_in(folder, [shell, "-n", path]), (0, "", ""), f"{shell} reads its completions")
+
+
+def completions_read_by(shell, place):
+    """A test that wants this shell: it reads its completions."""
+
+    def tried():
+        wants(shell)
+        with tempfile.TemporaryDirectory() as folder:
+            subprocess.run([INSTALL, folder], check=True, capture_output=True, timeout=SECONDS)
+            read = run_in(folder, [shell, "-n", os.path.join(folder, place)])
+            same(read, (0, "", ""), f"{shell} reads its completions")
             with open(os.path.join(folder, "wrong"), "w", encoding="ascii") as file:
                 file.write("if (\n")
             same(run_in(folder, [shell, "-n", "wrong"])[0] != 0, True, f"{shell} refuses what is no script")
+
+    tried.__name__, tried.__module__ = f"completions_read_by_{shell}", __name__
+    return test(tried)
+
+
+for of_shell in COMPLETIONS.items():
+    completions_read_by(*of_shell)
 
 
 @test
 def fish_completes_a_node():
     """As bash in the test of the manual; zsh completes in a terminal only."""
-    if shutil.which("fish") is None:
-        print("fish_completes_a_node is skipped: no fish")
-        return
+    wants("fish")
     with tempfile.TemporaryDirectory() as folder:
         subprocess.run([INSTALL, folder], check=True, capture_output=True, timeout=SECONDS)
-        ask = f"source {os.path.join(folder, COMPLETIONS['fish'])}; complete -C 'payd node --e'"
-        same(run_in(folder, ["fish", "--no-config", "-c", ask]), (0, "--export\n", ""), "a completion")
+        ask = f"source {os.path.join(folder, COMPLETIONS['fish'])}; complete -C 'payd node --da'"
+        same(run_in(folder, ["fish", "--no-config", "-c", ask]), (0, "--data\n", ""), "a completion")
 
 
 @test

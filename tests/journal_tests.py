@@ -12,7 +12,7 @@ import tempfile
 import audits
 from audits import FRESH, PAID, TWO_ENTRIES, WORKED, changed, journal
 from frames import payment
-from runs import SECONDS, TOP, run, same, shows, test, with_files
+from runs import SECONDS, TOP, run, same, shows, test, wants, with_files
 
 DAY = "2026-01-31"
 
@@ -178,9 +178,7 @@ def read_by(program, balances_in):
     exports += [it for _ in range(20) for it in audits.random_exports(seeded) if audits.verdict([it]) == "clean"]
 
     def tried():
-        if shutil.which(program) is None:
-            print(f"read_by_{program} is skipped: no {program}")
-            return
+        wants(program)
         for given in exports:
             status, output, _ = journal_of(given, "--date", DAY)
             same(status, 0, f"the journal of {given}")

@@ -1,6 +1,5 @@
 """Black-box tests of running nodes: real processes, and sockets of the loopback."""
 
-import errno
 import json
 import os
 import random
@@ -11,9 +10,8 @@ import tempfile
 
 import desks
 from frames import ECHO, READY, SEND, WANT, frame, payment
-from memory_tests import program
 from model import Member
-from nodes import PATIENCE, Group, advised, audited, compact, export_text, free_ports, until, write_json
+from nodes import PATIENCE, Group, audited, compact, export_text, free_ports, in_memory, until, write_json
 from peers import Cuts, Hostile, Liar, Strangers, connected, received
 from runs import GENESIS, GENESIS_ROWS, KEYS_ROWS, PAYD, SECONDS, TOP, UNWRITTEN
 from runs import key_texts, run, run_to_nobody, same, shows, test, with_files
@@ -154,7 +152,7 @@ def node_alone(text, own=0, genesis=GENESIS, ports=None):
     members = genesis["members"]
     files = {"g": genesis, "k": {"own": own, "keys": key_texts(own, members)}}
     files["p"] = {"ports": ports or free_ports(members)}
-    return with_files(files, ["node", "--genesis", "g", "--keys", "k", "--ports", "p"], text)
+    return in_memory(with_files(files, ["node", "--genesis", "g", "--keys", "k", "--ports", "p"], text))
 
 
 @test
@@ -188,25 +186,20 @@ def end_of_input_while_others_are_silent():
 
 @test
 def devices_of_a_node():
-    """On a disk that is full the program loses its export, and a held one has it on standard error."""
-    why = os.strerror(errno.ENOSPC)
-    export = export_text(0, OPENING, FRESH, [0, 0, 0, 0], OPENING)
-    export += f"payd: the export can't be written to standard output: {why}; it is on standard error\n"
-    unread = f"payd: the answers can't be written: {why}; the node's input ends here\n"
+    """On a disk that is full the export is lost: a folder would have it."""
     with Group(OPENING, running=[]) as group:
         words = [PAYD, "node", "--genesis", "genesis", "--keys", "keys-0", "--ports", "ports"]
         given = {"cwd": group.place.name, "stderr": subprocess.PIPE, "timeout": SECONDS}
-        for text, said in ((b"FRONT\n", unread + export), (b"", export)):
+        for text in (b"FRONT\n", b""):
             with open("/dev/full", "wb") as sink:
-                alone = subprocess.run([program(), *words[1:]], input=text, stdout=sink, **given)
-                held = subprocess.run(words, input=text, stdout=sink, **given)
-            same((alone.returncode, alone.stderr), (3, b"payd: engine 3 Write\n"), f"a full disk, {text}")
-            was = advised((held.returncode, "", held.stderr.decode()))
-            same(was, (3, "", said), f"a full disk and a held node, {text}")
+                done = subprocess.run(words, input=text, stdout=sink, **given)
+            was = in_memory((done.returncode, "", done.stderr.decode()))
+            same(was, (3, "", "payd: engine 3 Write\n"), f"a full disk, {text}")
         folder = os.open(TOP, os.O_RDONLY)
         done = subprocess.run(words, stdin=folder, stdout=subprocess.PIPE, **given)
         os.close(folder)
-        same((done.returncode, done.stdout, done.stderr), (3, b"", b"payd: engine 2 Read\n"), "a folder")
+        was = in_memory((done.returncode, done.stdout, done.stderr.decode()))
+        same(was, (3, b"", "payd: engine 2 Read\n"), "a folder")
 
 
 # ---- its files and words
@@ -255,7 +248,7 @@ KEYS = {"own": 0, "keys": key_texts(0)}
 def each_fault_of_ports():
     for content, fault in PORTS_ROWS:
         was = with_files({"g": GENESIS, "k": KEYS, "p": content}, NODE, b"FRONT\n")
-        shows(advised(was), 2, "", f"payd: ports {fault}\n", of=f"{content!r}"[:80])
+        shows(was, 2, "", f"payd: ports {fault}\n", of=f"{content!r}"[:80])
 
 
 @test
@@ -268,7 +261,7 @@ def ports_as_they_may_be_written():
         # nobody else has a port of one's own, which is no fault of the file
         {"ports": [own, own, own, own]},
     ):
-        was = with_files({"g": GENESIS, "k": KEYS, "p": content}, NODE, b"FRONT\n")
+        was = in_memory(with_files({"g": GENESIS, "k": KEYS, "p": content}, NODE, b"FRONT\n"))
         wanted = "front 0 0 0 0\n" + export_text(0, OPENING, FRESH, [0, 0, 0, 0], OPENING)
         shows(was, 0, wanted, of=f"{content!r}")
 
@@ -292,14 +285,14 @@ def first_fault_of_a_nodes_files():
             ["--genesis", genesis, "--keys", keys, "--ports", ports],
             ["--ports", ports, "--keys", keys, "--genesis", genesis],
         ):
-            was = advised(with_files(files, ["node", *words], b"FRONT\n"))
+            was = with_files(files, ["node", *words], b"FRONT\n")
             shows(was, 2, "", f"payd: {line}\n", of=f"{words}")
     for content, fault in GENESIS_ROWS:
         was = with_files({"g": content, "k": "{", "p": "{"}, NODE, b"FRONT\n")
-        shows(advised(was), 2, "", f"payd: genesis {fault}\n", of=f"{content!r}")
+        shows(was, 2, "", f"payd: genesis {fault}\n", of=f"{content!r}")
     for content, fault in KEYS_ROWS:
         was = with_files({"g": GENESIS, "k": content, "p": "{"}, NODE, b"FRONT\n")
-        shows(advised(was), 2, "", f"payd: keys {fault}\n", of=f"{content!r}")
+        shows(was, 2, "", f"payd: keys {fault}\n", of=f"{content!r}")
 
 
 @test
@@ -309,12 +302,12 @@ def port_that_is_taken():
         for own in range(4):
             was = node_alone(b"FRONT\n", own, ports=ports)
             if own == 2:
-                shows(advised(was), 3, "", f"payd: port {ports[2]}\n", of="the taken port")
+                shows(was, 3, "", f"payd: port {ports[2]}\n", of="the taken port")
             else:
                 same(was[0], 0, f"node {own} has its own")
         # files are judged first
         files = {"g": GENESIS, "k": {"own": 2, "keys": key_texts(2)}, "p": {"ports": [*ports[:3], 0]}}
-        was = advised(with_files(files, NODE, b"FRONT\n"))
+        was = with_files(files, NODE, b"FRONT\n")
         shows(was, 2, "", "payd: ports 2 BadShape\n", of="a fault beside it")
     same(node_alone(b"FRONT\n", 2, ports=ports)[0], 0, "the port, given back")
 
@@ -347,7 +340,7 @@ def words_of_a_node():
     files = {"g": GENESIS, "k": KEYS, "p": {"ports": free_ports(4)}}
     genesis, keys, ports = NODE[1:3], NODE[3:5], NODE[5:7]
     for words in ([*genesis, *keys, *ports], [*ports, *keys, *genesis], ["--genesis=g", "--keys=k", "--ports=p"]):
-        status, output, errors = with_files(files, ["node", *words], b"FRONT\n")
+        status, output, errors = in_memory(with_files(files, ["node", *words], b"FRONT\n"))
         same((status, output.startswith("front 0 0 0 0\n{"), errors), (0, True, ""), f"{words}")
     for words in (
         [],

@@ -8,7 +8,6 @@ import os
 import random
 import re
 import select
-import signal
 import socket
 import subprocess
 import tempfile
@@ -49,23 +48,24 @@ def until(ask, wanted, of):
         time.sleep(PAUSE)
 
 
+# what a node without a folder says first
+IN_MEMORY = "payd: without --data the member lives in memory alone: what ends the node before its input does "
+IN_MEMORY += "loses its account\n"
+
 # what a node says of its peers on standard error
 NEWS = re.compile(r"payd: peer (\d+) (met|lost|given up)\n")
 
 
 def told_apart(errors):
-    """What standard error says of peers, and all else that is there."""
-    return [(int(peer), word) for peer, word in NEWS.findall(errors)], NEWS.sub("", errors)
-
-# what tools/hold-node says behind a fault that ended a node
-ADVICE = re.compile(r"payd: to do: [^\n]+\n\Z")
+    """What standard error says of peers, and all else that is there but that a member is in memory alone."""
+    return [(int(peer), word) for peer, word in NEWS.findall(errors)], NEWS.sub("", errors.removeprefix(IN_MEMORY))
 
 
-def advised(was):
-    """Status, output and errors of a node that a fault ended, without the advice, which has to be there."""
+def in_memory(was):
+    """Status, output and errors of a node without a folder, without what it says of that, which has to be there."""
     status, output, errors = was
-    same(ADVICE.search(errors) is not None, True, f"advice behind {errors!r}")
-    return status, output, ADVICE.sub("", errors)
+    same(errors.startswith(IN_MEMORY), True, f"what is said of memory in {errors!r}")
+    return status, output, errors.removeprefix(IN_MEMORY)
 
 
 def write_json(folder, name, value):
@@ -126,24 +126,16 @@ class Node:
         answers = [self.ask(f"BALANCE {account}") for account in range(len(self.front()))]
         return [int(answer.split()[2]) for answer in answers]
 
-    def program(self):
-        """The program's process number, or None behind its end. (tools/hold-node runs it where PAYD is the script.)"""
-        try:
-            with open(f"/proc/{self.child.pid}/task/{self.child.pid}/children", encoding="ascii") as numbers:
-                return next(map(int, numbers.read().split()), self.child.pid)
-        except (FileNotFoundError, ProcessLookupError):
-            return None
-
     def status(self, name):
         """A number that the system has of the program: `Threads`, or kibibytes, as `VmRSS`."""
-        with open(f"/proc/{self.program()}/status", encoding="ascii") as lines:
+        with open(f"/proc/{self.child.pid}/status", encoding="ascii") as lines:
             return next(int(line.split()[1]) for line in lines if line.startswith(f"{name}:"))
 
     def threads(self):
         return self.status("Threads")
 
     def open_files(self):
-        return len(os.listdir(f"/proc/{self.program()}/fd"))
+        return len(os.listdir(f"/proc/{self.child.pid}/fd"))
 
     def news(self):
         """What standard error said of peers so far."""
@@ -167,10 +159,7 @@ class Node:
         return self.end()
 
     def kill(self):
-        """Ends both processes as they stand, if they haven't ended: the node's first, for it would still export."""
-        program = self.program()
-        if program is not None:
-            os.kill(program, signal.SIGKILL)
+        """Ends the process as it stands, if it hasn't ended."""
         self.child.kill()
         self.child.wait()
         for stream in (self.child.stdin, self.child.stdout, self.child.stderr):

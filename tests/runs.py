@@ -2,12 +2,14 @@
 
 import json
 import os
+import shutil
 import signal
 import subprocess
 import sys
 import tempfile
 import threading
 import time
+import unittest
 
 TOP = os.path.dirname(os.path.dirname(os.path.realpath(__file__)))
 sys.path[:0] = [os.path.join(TOP, "examples"), os.path.join(TOP, "tools")]
@@ -31,16 +33,30 @@ def test(function):
     return function
 
 
-def passes(function):
-    """Whether a test passes, which is said with the time that it took, or why not."""
+PASSED, FAILED, SKIPPED = "passed", "failed", "skipped"
+
+
+def outcome_of(function):
+    """What came of a test, which is said with the time that it took, or with the reason."""
     begun = time.monotonic()
     try:
         function()
+    except unittest.SkipTest as reason:
+        print(f"skipped {function.__name__}: {reason}\n", end="", flush=True)
+        return SKIPPED
     except (AssertionError, OSError, ValueError, subprocess.SubprocessError) as error:
         print(f"FAILED {function.__name__}: {error}\n", end="", flush=True)
-        return False
+        return FAILED
     print(f"ok {function.__name__} {time.monotonic() - begun:.1f} s\n", end="", flush=True)
-    return True
+    return PASSED
+
+
+def wants(*programs):
+    """The first of these programs that is here. Where none is, which only some machines have, the test is skipped."""
+    found = next(filter(shutil.which, programs), None)
+    if found is None:
+        raise unittest.SkipTest(f"no {' or '.join(programs)}")
+    return found
 
 
 # ---- runs

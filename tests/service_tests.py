@@ -4,11 +4,12 @@ import os
 import re
 import shlex
 import shutil
+import signal
 import subprocess
 import tempfile
 
 from nodes import PATIENCE, export_text, free_ports, until, write_json
-from runs import PAYD, SECONDS, TOP, key_texts, same, test
+from runs import PAYD, SECONDS, TOP, key_texts, same, test, wants
 
 UNIT = "payd-node.service"
 COMMAND = re.compile("^(ExecStart(?:Pre)?)=(.*)$", re.MULTILINE)
@@ -33,37 +34,44 @@ def complaints(text):
 @test
 def service_manager_takes_the_unit():
     """With a harmless command in the place of each, which may not be installed here."""
-    if shutil.which("systemd-analyze") is None:
-        print("service_manager_takes_the_unit is skipped: no systemd-analyze")
-        return
+    wants("systemd-analyze")
     harmless = shutil.which("true")
     text, count = COMMAND.subn(rf"\1={harmless}", unit())
     same(count, 2, "commands of the unit")
     same(complaints(text), (0, []), "the unit")
-    for right, wrong in (("=mixed", "=mixd"), ("Restart=", "Restat="), ("=infinity", "=ever")):
+    for right, wrong in (("=always", "=alwys"), ("Restart=", "Restat="), ("=1 2", "=one")):
         same((text.count(right), len(complaints(text.replace(right, wrong))[1])), (1, 1), f"{wrong} is complained of")
 
 
 @test
 def commands_of_the_unit_run_a_node():
-    """In another folder, and with the program that stands here; a line goes in as the unit's own words say."""
+    """In another folder, and with the program that stands here; a line goes in as the unit's own words say. Killed and
+    run again, as the service manager does, it goes on."""
     with tempfile.TemporaryDirectory() as folder:
         write_json(folder, "genesis.json", {"members": 1, "faults": 0, "opening": [7]})
         write_json(folder, "keys.json", {"own": 0, "keys": key_texts(0, 1)})
         write_json(folder, "ports.json", {"ports": free_ports(1)})
         moved = unit().replace("/usr/local/bin/payd", PAYD).replace("/run/payd/", f"{folder}/")
         before, command = (shlex.split(words) for _, words in COMMAND.findall(moved))
+        told = re.search("echo FRONT > (.*)$", moved, re.MULTILINE)[0]
         subprocess.run(before, check=True, timeout=SECONDS)
-        with open(os.path.join(folder, "log"), "w+b") as log:
-            child = subprocess.Popen(command, cwd=folder, stdin=subprocess.DEVNULL, stdout=log, stderr=log)
-            try:
-                told = re.search("echo FRONT > (.*)$", moved, re.MULTILINE)[0]
-                subprocess.run(["sh", "-c", told], check=True, timeout=SECONDS)
-                until(lambda: os.pread(log.fileno(), 65536, 0), b"front 0\n", of="what the node says")
-                child.terminate()
-                same(child.wait(timeout=PATIENCE), 0, "its end")
-            finally:
-                child.kill()
-                child.wait()
-        with open(os.path.join(folder, "export.json"), encoding="ascii") as export:
-            same(export.read(), export_text(0, [7], [[]], [0], [7]), "its export")
+        for said in ("new", "0 entries of 0 payments, started again"):
+            same(ended_behind(told, command, folder), f"payd: log: {said}\nfront 0\n", "what the node says")
+        words = [PAYD, "export", "--genesis", "genesis.json", "--keys", "keys.json", "--data", "member"]
+        done = subprocess.run(words, cwd=folder, capture_output=True, text=True, check=True, timeout=SECONDS)
+        same(done.stdout, export_text(0, [7], [[]], [0], [7]), "its export")
+
+
+def ended_behind(told, command, folder):
+    """What a node says to a line, upon which it is ended."""
+    with open(os.path.join(folder, "said"), "w+b") as said:
+        child = subprocess.Popen(command, cwd=folder, stdin=subprocess.DEVNULL, stdout=said, stderr=said)
+        try:
+            subprocess.run(["sh", "-c", told], check=True, timeout=SECONDS)
+            until(lambda: os.pread(said.fileno(), 65536, 0)[-8:], b"front 0\n", of="what the node says")
+            child.terminate()
+            same(child.wait(timeout=PATIENCE), -signal.SIGTERM, "its end")
+        finally:
+            child.kill()
+            child.wait()
+        return os.pread(said.fileno(), 65536, 0).decode()

@@ -3,15 +3,12 @@
 import ast
 import os
 import re
-import shutil
 import subprocess
 
-from runs import SECONDS, TOP, same, test
+from runs import SECONDS, TOP, same, test, wants
 
 NEEDS_PROGRAM = False
-# (tests/wrong_bodies and its script aren't among them: their texts are in the sums of what is on record, and a blank
-# changed there has all wrong bodies tried anew)
-FOLDERS = ("bench", "examples", "tests", "tools", ".")
+FOLDERS = ("bench", "examples", "tests", "tests/mutants", "tools", ".")
 LONGEST = 120
 
 # The oldest Python that the program's scripts run with; of what it doesn't have, what is likely to be called; and the
@@ -30,8 +27,7 @@ def is_python(path):
 
 def python_files():
     for folder in FOLDERS:
-        names = (it for it in sorted(os.listdir(os.path.join(TOP, folder))) if it != "wrong-bodies")
-        paths = (os.path.join(TOP, folder, it) for it in names)
+        paths = (os.path.join(TOP, folder, it) for it in sorted(os.listdir(os.path.join(TOP, folder))))
         yield from (os.path.normpath(it) for it in paths if os.path.isfile(it) and is_python(it))
 
 
@@ -67,8 +63,7 @@ def oldest_python_reads_all_files():
 @test
 def linter_finds_nothing():
     """By ruff with the rules of pyproject.toml, else by pyflakes alone."""
-    linters = (["ruff", "check", "--no-cache"], ["pyflakes3"], ["pyflakes"])
-    words = next((it for it in linters if shutil.which(it[0])), None)
-    if words:
-        done = subprocess.run([*words, *python_files()], cwd=TOP, capture_output=True, text=True, timeout=SECONDS)
-        same(done.returncode, 0, f"{words[0]}: {done.stdout}{done.stderr}")
+    linter = wants("ruff", "pyflakes3", "pyflakes")
+    words = [linter, "check", "--no-cache"] if linter == "ruff" else [linter]
+    done = subprocess.run([*words, *python_files()], cwd=TOP, capture_output=True, text=True, timeout=SECONDS)
+    same(done.returncode, 0, f"{linter}: {done.stdout}{done.stderr}")

@@ -7,13 +7,15 @@ import os
 
 from runs import TOP, key_texts, run, same, test, with_files
 
+import groups
+
 TOOL = os.path.join(TOP, "tools", "make-vectors")
 
 
-def vectors(name):
+def vectors(name, least=100):
     with open(os.path.join(TOP, "vectors", f"{name}.json"), encoding="ascii") as file:
         rows = json.load(file)
-    same(len(rows) > 100, True, f"vectors of {name}")
+    same(len(rows) >= least, True, f"vectors of {name}")
     return rows
 
 
@@ -53,6 +55,15 @@ def vectors_of_exports():
             same(was, (2, "", f"payd: export {row['fault']}\n"), row["for"])
         else:
             shown(row, was, 0 if row["line"] == "clean" else 1, [row["line"]])
+
+
+@test
+def vectors_of_groups():
+    for row in vectors("groups", 24):
+        group = groups.Group(row["group"])
+        same(group.canonical().decode("ascii"), row["canonical"], f"the text of {row['for']}")
+        same(" ".join(group.fingerprint()), row["fingerprint"], f"the fingerprint of {row['for']}")
+        same(json.loads(group.keys(bytes.fromhex(row["secret"]))), row["keys"], f"the keys of {row['for']}")
 
 
 @test

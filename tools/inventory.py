@@ -1,5 +1,5 @@
-"""Reads what the sources say of themselves: crates, their functions with the names of their clauses, and their wrong
-bodies. It needs no toolchain: sources are read as `rt fmt` lays them out."""
+"""Reads what the sources say of themselves: crates, their functions with the names of their clauses, and their mutants.
+It needs no toolchain: sources are read as `rt fmt` lays them out."""
 
 import os
 import re
@@ -23,6 +23,8 @@ class Function:
     name: str
     is_public: bool
     is_test: bool = False
+    # Whether it takes nothing and gives nothing, so that it is there for what it ensures.
+    is_law: bool = False
     # What the prover's name of the owner goes on with.
     of_trait: str = ""
     asks: list = field(default_factory=list)
@@ -37,18 +39,14 @@ class Function:
         owner = f"{self.owner} as {self.trait}" if self.trait else self.owner
         return f"{owner}::{self.name}" if owner else self.name
 
-    def is_law(self):
-        return self.is_public and not self.owner and self.module.endswith(("laws", "examples"))
-
 
 @dataclass
-class WrongBody:
-    """A wrong body, or a control where a reason is given why it is none."""
+class Mutant:
+    """A mutant: an edit of a function that the prover has to refuse."""
 
     name: str
     functions: list
     promises: list
-    control: str
 
 
 @dataclass
@@ -59,7 +57,7 @@ class Crate:
     stands_on: list
     about: str
     functions: list
-    bodies: list
+    mutants: list
 
 
 def read_file(path):
@@ -165,23 +163,23 @@ def functions_of(text, module):
         if not named or len(named[1]) != (4 if inside.owner else 0):
             continue
         is_public, is_test = named[2] == "pub " or inside.is_public_trait, lines[at - 1].strip() == "#[test]"
-        function = Function(module, inside.owner, inside.trait, named[3], is_public, is_test, inside.of_trait)
+        is_law = bool(re.fullmatch(r"pub fn \w+(<.*>)?\(\)", line))
+        function = Function(module, inside.owner, inside.trait, named[3], is_public, is_test, is_law, inside.of_trait)
         if not line.rstrip().endswith(("{", "{}", ";", "}")):
             read_clauses(lines[at + 1 :], function)
         yield function
 
 
-# ---- wrong bodies, crates
+# ---- mutants, crates
 
 
-def read_bodies(folder):
-    """A crate's wrong bodies, with those that `rt ci` tries."""
-    for kind in "wrong-bodies", "must-fail":
+def read_mutants(folder):
+    """A crate's mutants, with those that `rt ci` tries."""
+    for kind in "mutants", "must-fail":
         for path in files_below(f"{folder}/{kind}", ".edit"):
             text = read_file(f"{folder}/{kind}/{path}")
-            marked = {it: re.findall(rf"(?m)^{it}: (.*\S)", text) for it in ("function", "promise", "control")}
-            name = os.path.splitext(path)[0]
-            yield WrongBody(name, marked["function"], marked["promise"], "".join(marked["control"]))
+            marked = {it: re.findall(rf"(?m)^{it}: (.*\S)", text) for it in ("function", "promise")}
+            yield Mutant(os.path.splitext(path)[0], marked["function"], marked["promise"])
 
 
 def read_crate(name, stands_on):
@@ -189,8 +187,8 @@ def read_crate(name, stands_on):
     root = next(it for it in ("lib.rt", "main.rt") if os.path.isfile(f"{folder}/src/{it}"))
     head = re.match(r"(?://!.*\n)*", read_file(f"{folder}/src/{root}"))[0]
     about = first_sentence([it[len("//!") :] for it in head.partition("\n//!\n")[0].splitlines()])
-    functions, bodies = list(read_functions(folder)), list(read_bodies(folder))
-    return Crate(name, stands_on, about, functions, bodies)
+    functions, mutants = list(read_functions(folder)), list(read_mutants(folder))
+    return Crate(name, stands_on, about, functions, mutants)
 
 
 def read_crates():

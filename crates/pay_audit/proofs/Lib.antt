@@ -19,3 +19,4 @@ mod Showing
 mod Taking
 mod Text
 mod Verdicts
+mod Former

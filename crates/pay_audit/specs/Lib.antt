@@ -13,3 +13,4 @@ pub mod Compared
 pub mod Auditor
 pub mod Columns
 pub mod Gathering
+pub mod Former

@@ -3,12 +3,13 @@
 
 ghost use Rattle.pay_audit.specs.Auditor.{VerdictOfTakenIsOne};
 ghost use Rattle.pay_audit.specs.OneList.{OneListIsNoFork};
+ghost use Rattle.pay_audit.specs.Former.{VerdictIsAsFormer};
 ghost use Rattle.pay_audit.specs.FileLaws.{BadGenesisCause, BadJsonCause, BadShapeCause};
 ghost use Rattle.pay_audit.specs.Laws.{BalancesAreJudged, ForkIsJudged, FrontIsJudged};
 ghost use Rattle.pay_audit.specs.ReadBack.{ExportReadsBack};
 ghost use Rattle.pay_audit.specs.Said.{CleanIsJudged, VerdictIsSaid};
 
-use pay_book::laws::{largest_is_computed, largest_is_one, settled_book_exists};
+use pay_book::laws::{largest_is_computed, largest_is_one, settled_book_exists, single_entries};
 use pay_link::laws::genesis_limits;
 
 /// A file isn't JSON exactly where it has no value, of a wrong shape exactly where its value lacks a part of an export
@@ -56,6 +57,13 @@ pub fn verdict_is_judged()
     largest_is_computed();
     largest_is_one();
     settled_book_exists();
+}
+
+/// Where no listed value is of several payments, exports have the verdict that they had when each value was one payment.
+pub fn verdict_of_single_payments()
+    ensures { VerdictIsAsFormer }
+{
+    single_entries();
 }
 
 /// All exports that an auditor can have taken have one verdict. That there are some is what making one says.

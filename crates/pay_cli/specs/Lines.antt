@@ -1,16 +1,15 @@
 -- The lines of `check`: what a member makes of each frame of a stream.
-use Rattle.std.specs.Prelude.{ℕ, ◌+◌, List, [], ◌++◌, length, slice_index, slice_set, decimal, codes, Result, Ok, Err, ⊤}
+use Rattle.std.specs.Prelude.{ℕ, ◌+◌, List, ◌++◌, length, slice_index, slice_set, decimal, codes, Result, Ok, Err, ⊤}
 use Rattle.pay_frame.specs.declared.fault.FrameFault.{FrameFault}
 use Rattle.pay_frame.specs.declared.kind.Kind.{Kind}
 use Rattle.pay_frame.specs.declared.kind.Kind.TheVariants.{Send, Echo, Ready, Want}
 use Rattle.pay_frame.specs.Fault.{number_of, name_of}
 use Rattle.pay_frame.specs.Frame.{FrameFields}
 use Rattle.pay_link.specs.declared.link_fault.LinkFault.{LinkFault}
-use Rattle.pay_link.specs.declared.link_fault.LinkFault.TheVariants.{NotForMe, UnknownSender, UnknownOwner, BadTag, Repeat, Gap}
-use Rattle.pay_link.specs.Faults.{link_fault_number, link_fault_name}
 use Rattle.pay_link.specs.Fronts.{turn}
 use Rattle.pay_link.specs.Keys.{KeyFields}
 use Rattle.pay_link.specs.Opening.{OpenedFields, judgement}
+use Rattle.pay_link.specs.Words.{link_words}
 use Rattle.pay_cli.specs.declared.progress.Progress.{Progress}
 
 abbrev pub kind_word : Kind → List ℕ
@@ -30,20 +29,9 @@ ok_words f =
 abbrev pub want_words : FrameFields → List ℕ
 want_words f = codes " want from " ++ decimal f.from ++ codes " number " ++ decimal f.number
 
--- ` next M`, where a refusal says which number is next
-abbrev pub next_words : LinkFault → List ℕ
-next_words NotForMe = []
-next_words UnknownSender = []
-next_words UnknownOwner = []
-next_words BadTag = []
-next_words (Repeat next) = codes " next " ++ decimal next
-next_words (Gap next) = codes " next " ++ decimal next
-
 -- ` refused C NAME`, and which number is next
 abbrev pub refused_words : LinkFault → List ℕ
-refused_words fault =
-    codes " refused " ++ decimal (link_fault_number fault) ++ codes " " ++ link_fault_name fault
-    ++ next_words fault
+refused_words fault = codes " refused " ++ link_words fault
 
 -- What becomes of a frame: it opened and is the next of its sender, it opened and is a WANT, or it
 -- is refused.

@@ -1,9 +1,8 @@
 //! The lines of `check`, written behind what is written already.
 
-ghost use Rattle.std.specs.Prelude.{◌≡◌, ◌++◌, OnOk, decimal, codes};
+ghost use Rattle.std.specs.Prelude.{◌≡◌, ◌++◌, OnOk, codes};
 ghost use Rattle.pay_frame.specs.Lent.{fields_of};
-ghost use Rattle.pay_cli.specs.Lines.{kind_word, ok_words, want_words, refused_words, next_words};
-ghost use Rattle.pay_cli.specs.Lines.{fault_line};
+ghost use Rattle.pay_cli.specs.Lines.{fault_line, kind_word, ok_words, refused_words, want_words};
 
 use pay_frame::{FrameFault, FrameRef, Kind};
 use pay_link::LinkFault;
@@ -43,13 +42,7 @@ pub fn push_refused(out: &mut Vec<u8>, fault: LinkFault) -> Result<(), AllocErro
     ensures { OnOk result (out.new.items ≡ out.old.items ++ refused_words fault) }
 {
     push_word(out, " refused ")?;
-    push_number(out, u64::from(fault.number()))?;
-    push_word(out, " ")?;
-    push_word(out, fault.name())?;
-    match fault {
-        LinkFault::Repeat(next) | LinkFault::Gap(next) => push_next(out, next),
-        _ => Ok(()),
-    }
+    fault.push_words(out)
 }
 
 /// The last line of a stream with bytes that are no frame: its number, and the fault's number and
@@ -75,11 +68,4 @@ fn ok_from(kind: Kind) -> &'static str
         Kind::Ready => " ok ready from ",
         Kind::Want => " ok want from ",
     }
-}
-
-fn push_next(out: &mut Vec<u8>, next: u64) -> Result<(), AllocError>
-    ensures { OnOk result (out.new.items ≡ out.old.items ++ codes " next " ++ decimal next) }
-{
-    push_word(out, " next ")?;
-    push_number(out, next)
 }

@@ -16,7 +16,7 @@ use Rattle.pay_desk.specs.Calls as call
 use Rattle.pay_desk.specs.Calls.{Call, TellerReply, asked_by, only_reads}
 use Rattle.pay_desk.specs.Desk.{DeskSays, command_at}
 use Rattle.pay_desk.specs.Kept.{kept_after, kept_under}
-use Rattle.pay_desk.specs.Laws.{AreUnderFreeIds, AsksOnce}
+use Rattle.pay_desk.specs.Laws.{AreUnderFreeIds, AsksOnce, KeepsAll}
 use Rattle.pay_desk.specs.Payments.{pairs_of, value_of}
 
 abbrev asked_of : Kept → List ℕ
@@ -124,3 +124,17 @@ module _ {T : Type 0} (says : T → Call → TellerReply → T → Type 0) (aske
       joined old mid new (line_asks_once old mid line first true said) (lines_ask_once mid new lines rest on after)
   lines_ask_once old new (line ∷ lines) t on (first, rest, false, mid, said, parts, after) =
       joined old mid new (line_asks_once old mid line first false said) (unchanged mid new after.same)
+
+  keeps_more : (before : List (List ℕ)) (old new : Desk T) → AsksOnce asked old new → KeepsAll asked before old → KeepsAll asked before new
+  keeps_more before old new once all = record {
+    values = ap (map asked_of) once.kept ∙ map-append asked_of old.kept once.more
+        ∙ ap (λ vs. vs ++ map asked_of once.more) all.values
+        ∙ append_assoc before (asked old.teller) (map asked_of once.more)
+        ∙ ap (λ vs. before ++ vs) (sym once.broadcast);
+    free = subst (AreUnderFreeIds []) (sym once.kept) (free_joined [] old.kept once.more all.free once.free);
+  }
+
+  pub lines_keep_all :
+      (before : List (List ℕ)) (old new : Desk T) (lines : List (Option (List ℕ))) (t : List ℕ) (on : Bool)
+      → text.Answers (DeskSays says) old lines t on new → KeepsAll asked before old → KeepsAll asked before new
+  lines_keep_all before old new lines t on said = keeps_more before old new (lines_ask_once old new lines t on said)

@@ -66,3 +66,16 @@ abbrev pub LinesAskOnce : {T : Type 0} → (T → Call → TellerReply → T →
 LinesAskOnce {T} says asked =
     (old new : Desk T) (lines : List (Option (List ℕ))) (text : List ℕ) (on : Bool)
     → Answers (DeskSays says) old lines text on new → AsksOnce asked old new
+
+-- ---- a whole life
+
+-- Kept is just what was broadcast since the member began, in order, each value under an id of its own: these values
+-- before this teller, and the others through it.
+pub record KeepsAll {T : Type 0} (asked : T → List (List ℕ)) (before : List (List ℕ)) (desk : Desk T) : Type 0 where
+  pub values : map (λ k. k.value) desk.kept ≡ before ++ asked desk.teller
+  pub free : AreUnderFreeIds [] desk.kept
+
+abbrev pub LinesKeepAll : {T : Type 0} → (T → Call → TellerReply → T → Type 0) → (T → List (List ℕ)) → Type 0
+LinesKeepAll {T} says asked =
+    (before : List (List ℕ)) (old new : Desk T) (lines : List (Option (List ℕ))) (text : List ℕ) (on : Bool)
+    → Answers (DeskSays says) old lines text on new → KeepsAll asked before old → KeepsAll asked before new

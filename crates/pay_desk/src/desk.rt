@@ -44,11 +44,18 @@ impl<T: Teller> Desk<T> {
     pub fn new(alloc: Global, teller: T, accounts: u16, own: u16) -> Desk<T>
         ensures { result ≡ record { teller = teller; accounts = accounts; own = own; kept = [] } }
     {
+        Desk::with_kept(teller, accounts, own, KeptValues::new(alloc))
+    }
+
+    /// A desk that goes on with what earlier ones kept.
+    pub fn with_kept(teller: T, accounts: u16, own: u16, kept: KeptValues) -> Desk<T>
+        ensures { result ≡ record { teller = teller; accounts = accounts; own = own; kept = kept } }
+    {
         Desk {
             teller,
             accounts,
             own,
-            kept: KeptValues::new(alloc),
+            kept,
         }
     }
 

@@ -1,4 +1,4 @@
-ghost use Rattle.std.specs.Prelude.{◌≡◌, ◌≤◌, [], None, length};
+ghost use Rattle.std.specs.Prelude.{◌≡◌, ◌≤◌, [], ◌∷◌, ◌++◌, None, OnErr, OnOk, length};
 ghost use Rattle.std.specs.Option.{option_copied};
 ghost use Rattle.pay_desk.specs.Calls as call;
 ghost use Rattle.pay_desk.specs.Calls.{Replies};
@@ -9,7 +9,7 @@ use crate::teller::Teller;
 use crate::teller_fault::TellerFault;
 use indexmap::IndexSet;
 use pay_frame::{Bytes, GREATEST_VALUE};
-use std::alloc::Global;
+use std::alloc::{AllocError, Global};
 use std::marker::Model;
 
 /// A value that was asked for under an id, and the number that it got.
@@ -45,12 +45,30 @@ impl KeptValues {
         }
     }
 
+    /// How many values are kept.
+    pub fn len(&self) -> usize
+        ensures { result ≡ length self.now }
+    {
+        self.values.len()
+    }
+
     /// What is kept under an id.
     pub fn find(&self, alloc: Global, id: u64) -> Option<&Kept>
         ensures { option_copied result ≡ kept_under id self.now }
     {
         let value = self.values.get(&ById::of_id(alloc, id))?;
         Some(&value.kept)
+    }
+
+    /// Keeps what was asked for before, after all else.
+    pub fn keep(&mut self, kept: Kept) -> Result<(), AllocError>
+        requires { kept_under kept.id self.old ≡ None }
+        ensures kept { OnOk result (self.new ≡ self.old ++ kept ∷ []) }
+        ensures err { OnErr result (self.new ≡ self.old) }
+    {
+        self.values.reserve(1)?;
+        self.values.insert(ById { kept })?;
+        Ok(())
     }
 
     /// Has a teller broadcast a value, and keeps that it was asked for. Memory is refused before the
@@ -69,7 +87,7 @@ impl KeptValues {
     {
         self.values.reserve(1)?;
         let copy = value.copy(alloc)?;
-        let seq = teller.ask(alloc, value)?;
+        let seq = teller.ask(alloc, id, value)?;
         let kept = Kept {
             id,
             value: copy,

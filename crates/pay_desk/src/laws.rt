@@ -2,7 +2,7 @@
 //! nothing.
 
 ghost use Rattle.pay_desk.specs.Laws.{AccountCause, KeptAnswersItsOwn, LineAsksOnce};
-ghost use Rattle.pay_desk.specs.Laws.{LinesAskOnce, PayeeCause, PaymentCause};
+ghost use Rattle.pay_desk.specs.Laws.{LinesAskOnce, LinesKeepAll, PayeeCause, PaymentCause};
 
 use crate::teller::Teller;
 use pay_book::what_was_encoded;
@@ -24,8 +24,10 @@ pub fn a_kept_id_answers_its_own()
 
 /// By one line, and by any lines one after the other, a desk has its teller broadcast just the
 /// values that it keeps since then, in their order, each under an id that was free until then. So
-/// no id is asked with twice.
+/// no id is asked with twice, also by a desk that begins with what earlier ones kept, as long as
+/// the member is the same.
 pub fn a_desk_asks_once<T: Teller>()
     ensures line { LineAsksOnce T.says T.asked }
     ensures lines { LinesAskOnce T.says T.asked }
+    ensures life { LinesKeepAll T.says T.asked }
 {}

@@ -23,7 +23,7 @@ impl<I: Instance + Drop, B: Settle + Drop> Teller for OneMember<I, B> {
     ghost asked = { λ m. values_asked m.member.history };
 
     #[tactic(auto, unfolding(crate::specs::OneMember::reply_by, crate::specs::OneMember::member_after))]
-    fn ask(&mut self, alloc: Global, value: Bytes) -> Result<u32, TellerFault> {
+    fn ask(&mut self, alloc: Global, _id: u64, value: Bytes) -> Result<u32, TellerFault> {
         match self.member.ask(alloc, self.stamp, value) {
             Ok(seq) => Ok(seq),
             Err(AskFault::Spent) => Err(TellerFault::Spent),

@@ -20,8 +20,8 @@ pub trait Teller {
     ghost asked: { Self → List (List ℕ) };
 
     /// Broadcasts a value of the account's own, of at most 1,024 bytes, and returns the number that
-    /// it got, or `Spent`.
-    fn ask(&mut self, alloc: Global, value: Bytes) -> Result<u32, TellerFault>
+    /// it got, or `Spent`. It was asked for under this id, which the teller may note.
+    fn ask(&mut self, alloc: Global, id: u64, value: Bytes) -> Result<u32, TellerFault>
         requires { length value ≤ GREATEST_VALUE }
         ensures { Replies says self.old (call.Ask value) call.Asked result self.new };
 

@@ -10,8 +10,8 @@ use Rattle.std.proofs.KnownBytes.{Appends-nil, Appends-trans, Consumes-nil, Cons
 use Rattle.std.proofs.lemmas.List.{append-nil, length-append, nil_from_length, take_all}
 use Rattle.std.proofs.Math.Seq.{take-append-add, drop-append_seam}
 use Rattle.pay_frame.specs.declared.fault.FrameFault.{FrameFault}
-use Rattle.pay_engine.specs.declared.read_buffer.TheConstants.{GREATEST_READ}
-use Rattle.pay_engine.specs.Held.{ReadsMore}
+use Rattle.pay_engine.specs.declared.limits.TheConstants.{GREATEST_READ}
+use Rattle.pay_io.specs.Sliding.{ReadsMore}
 use Rattle.pay_io.specs.Device.{Gave, WroteBeginning}
 use Rattle.pay_frame.specs.Frame.{FrameFields, IsFrame, frame_bytes}
 use Rattle.pay_frame.specs.Reading.{IsFault, IsReading}
@@ -73,7 +73,7 @@ nothing_read (Some xs) (Some ys) kept = sym kept
 pub nothing_more : (old new : List ℕ) (left rest : Option (List ℕ)) (count : ℕ) → ReadsMore old new left rest count → count ≡ 0 → Consumes left rest [] × (new ≡ old)
 nothing_more old new left rest count more zero =
     let none : more.piece ≡ [] = nil_from_length more.piece (more.sized ∙ zero) in
-    (subst (Consumes left rest) none more.taken, more.behind ∙ ap (λ xs. old ++ xs) none ∙ append-nil old)
+    (subst (Consumes left rest) none more.taken, more.appended ∙ ap (λ xs. old ++ xs) none ∙ append-nil old)
 
 -- the first of some frames in front
 pub first_of_them : (x r : List ℕ) (fs gs : List FrameFields) → IsFramesThen x (fs ++ gs) r → IsFramesThen x fs (flat_map frame_bytes gs ++ r)
@@ -326,11 +326,11 @@ module _ {S : Type 0} (h : Handling S) where
   -- what is held behind a piece that was read
   pub fed_piece :
       (start : Start S) (state : S) (left rest after : Option (List ℕ)) (old new : List ℕ) (count reads : ℕ) → Grows
-      → ReadsMore old new left rest count → 0 < count → InProgress h start state left after old reads → InProgress h start state rest after new (reads + 1)
-  fed_piece start state left rest after old new count reads grows more some going =
+      → ReadsMore old new left rest count → length new ≤ GREATEST_READ → 0 < count → InProgress h start state left after old reads → InProgress h start state rest after new (reads + 1)
+  fed_piece start state left rest after old new count reads grows more most some going =
       let sized = more.sized in
-      let most = more.most in
-      subst (λ xs. InProgress h start state rest after xs (reads + 1)) (sym more.behind)
+      let whole = ap length more.appended ∙ length-append old more.piece in
+      subst (λ xs. InProgress h start state rest after xs (reads + 1)) (sym more.appended)
       (reads_more start state left rest after old more.piece reads grows going more.taken (omega arith) (omega arith))
 
   -- the same is held

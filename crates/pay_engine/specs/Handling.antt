@@ -11,7 +11,7 @@ use Rattle.pay_io.specs.Device.{WroteBeginning}
 use Rattle.pay_frame.specs.Frame.{FrameFields}
 use Rattle.pay_frame.specs.Reading.{IsProperBeginning}
 use Rattle.pay_frame.specs.Stream.{IsFramesThen, IsStream}
-use Rattle.pay_engine.specs.declared.read_buffer.TheConstants.{GREATEST_READ}
+use Rattle.pay_engine.specs.declared.limits.TheConstants.{GREATEST_READ}
 
 -- A step takes a state to the next by a frame, and has a text. Behind which frames a stream may be
 -- left, before it ends: they have no text, and the state stays. And the text of the fault that ends

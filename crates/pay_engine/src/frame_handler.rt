@@ -4,7 +4,7 @@ ghost use Rattle.pay_frame.specs.Lent.{fields_of};
 ghost use Rattle.pay_frame.specs.Stream.{IsFramesThen};
 ghost use Rattle.pay_engine.specs.Handling.{Handling, HandlesBatch, HandlesOne};
 
-use crate::read_buffer::GREATEST_READ;
+use crate::limits::GREATEST_READ;
 use pay_frame::{CUTTER_ROOM, FrameFault, FrameRef, frame_sizes, read, read_again};
 use std::alloc::{AllocError, Global};
 

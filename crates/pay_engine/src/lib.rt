@@ -5,11 +5,11 @@
 mod engine_fault;
 mod frame_handler;
 mod laws;
-mod read_buffer;
+mod limits;
 mod stream;
 
 pub use engine_fault::EngineFault;
 pub use frame_handler::FrameHandler;
 pub use laws::{exact_text, faults_keep_their_names};
-pub use read_buffer::GREATEST_READ;
+pub use limits::GREATEST_READ;
 pub use stream::handle_stream;

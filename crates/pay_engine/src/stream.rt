@@ -10,15 +10,18 @@ ghost use Rattle.pay_engine.specs.Handling.{HandlesOnce, HasHandled, InProgress,
 
 use crate::engine_fault::EngineFault;
 use crate::frame_handler::FrameHandler;
-use crate::read_buffer::{GREATEST_READ, ReadBuffer, frames_in_front};
-use pay_frame::{FrameFault, fault_is_for_good, frame_sizes, nothing_is_a_beginning, stream_grows};
-use pay_io::{Input, MOST_READS, Output, write_text};
+use crate::limits::GREATEST_READ;
+use pay_frame::{
+    CUTTER_ROOM, FrameFault, fault_is_for_good, frame_sizes, frames_in_front,
+    nothing_is_a_beginning, stream_grows,
+};
+use pay_io::{Input, MOST_READS, Output, SlidingBuffer, write_text};
 use std::alloc::Global;
 
 /// What is held between two reads, and what is written next.
 #[derive(Drop)]
 struct Work {
-    read: ReadBuffer,
+    read: SlidingBuffer,
     out: Vec<u8>,
 }
 
@@ -52,7 +55,7 @@ pub fn handle_stream<S, H: FrameHandler<S>, In: Input, Out: Output>(
     nothing_is_a_beginning();
     frame_sizes();
     stream_grows();
-    let read = ReadBuffer::new(alloc, handler.buffer_size())?;
+    let read = SlidingBuffer::new(alloc, handler.buffer_size())?;
     let mut work = Work {
         read,
         out: Vec::new(alloc),
@@ -75,15 +78,18 @@ fn read_once<S, H: FrameHandler<S>, In: Input, Out: Output>(
     reader: &mut In,
     writer: &mut Out,
 ) -> Result<bool, EngineFault>
-    requires room { (n : ℕ) → n ≤ length work.old.read + GREATEST_READ + 1
+    requires room { (n : ℕ) → n ≤ GREATEST_READ + 1
         → H.has_room handler.now state.old n }
-    requires begins { IsProperBeginning work.old.read }
+    requires begins { IsProperBeginning work.old.read.bytes }
+    requires least { CUTTER_ROOM ≤ work.old.read.room }
+    requires most { work.old.read.room ≤ GREATEST_READ }
     ensures handles { (start : Start S) (reads : ℕ)
         → InProgress (H.handling handler.now) start state.old (In.remaining reader.old)
-        (Out.contents writer.old) work.old.read reads
+        (Out.contents writer.old) work.old.read.bytes reads
         → HandlesOnce (H.handling handler.now) start state.new
-        (In.remaining reader.new) (Out.contents writer.new) work.new.read (reads + 1) result }
-    ensures begins { IfOk result (λ on. IsTrue on → IsProperBeginning work.new.read) }
+        (In.remaining reader.new) (Out.contents writer.new) work.new.read.bytes (reads + 1) result }
+    ensures begins { IfOk result (λ on. IsTrue on → IsProperBeginning work.new.read.bytes) }
+    ensures same_room { work.new.read.room ≡ work.old.read.room }
     ensures called { In.call_count reader.new ≡ counted (In.call_count reader.old) }
     ensures bound { ¬ (IsErrOf result EngineFault.Bound) }
     ensures read { IsErrOf result EngineFault.Read
@@ -104,7 +110,7 @@ fn read_once<S, H: FrameHandler<S>, In: Input, Out: Output>(
     if count > 0 {
         return handle_held(alloc, handler, state, &mut work.read, &mut work.out, writer);
     }
-    if work.read.held().is_empty() {
+    if work.read.bytes().is_empty() {
         return Ok(false);
     }
     end_at(handler, state, &mut work.out, writer, FrameFault::Truncated)
@@ -116,18 +122,19 @@ fn handle_held<S, H: FrameHandler<S>, Out: Output>(
     alloc: Global,
     handler: &H,
     state: &mut S,
-    read: &mut ReadBuffer,
+    read: &mut SlidingBuffer,
     out: &mut Vec<u8>,
     writer: &mut Out,
 ) -> Result<bool, EngineFault>
-    requires room { (n : ℕ) → n ≤ length read.old + 1
+    requires room { (n : ℕ) → n ≤ length read.old.bytes + 1
         → H.has_room handler.now state.old n }
     ensures handles { (start : Start S) (left : Option (List ℕ)) (reads : ℕ)
         → InProgress (H.handling handler.now) start state.old left (Out.contents writer.old)
-        read.old reads
+        read.old.bytes reads
         → HandlesOnce (H.handling handler.now) start state.new left
-        (Out.contents writer.new) read.new reads result }
-    ensures begins { IfOk result (λ on. IsTrue on → IsProperBeginning read.new) }
+        (Out.contents writer.new) read.new.bytes reads result }
+    ensures begins { IfOk result (λ on. IsTrue on → IsProperBeginning read.new.bytes) }
+    ensures same_room { read.new.room ≡ read.old.room }
     ensures bound { ¬ (IsErrOf result EngineFault.Bound) }
     ensures read { ¬ (IsErrOf result EngineFault.Read) }
     ensures write { IsErrOf result EngineFault.Write
@@ -140,14 +147,14 @@ fn handle_held<S, H: FrameHandler<S>, Out: Output>(
     frame_sizes();
     stream_grows();
     'batches: loop {
-        match frames_in_front(read.held(), handler.at_once(read.held())) {
-            Ok(size) => {
-                if size == 0 {
+        match frames_in_front(read.bytes(), handler.at_once(read.bytes())) {
+            Ok((size, count)) => {
+                if count == 0 {
                     return Ok(true);
                 }
                 out.clear();
-                let goes_on = handler.handle_batch(alloc, state, &read.held()[..size], out)?;
-                read.pass(size);
+                let goes_on = handler.handle_batch(alloc, state, &read.bytes()[..size], out)?;
+                read.consume(size);
                 write_text(writer, out)?;
                 if !goes_on {
                     return Ok(false);

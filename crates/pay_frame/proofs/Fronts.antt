@@ -9,8 +9,8 @@ use Rattle.pay_frame.specs.Frame.{FrameFields, frame_bytes, IsFrame}
 use Rattle.pay_frame.specs.Places.{length_field, may_stand, IsWhole}
 use Rattle.pay_frame.specs.Reading.{IsFault, IsReading, IsProperBeginning}
 use Rattle.pay_frame.specs.Stream.{IsFramesThen}
-use Rattle.pay_frame.specs.Cutting.{Held, IsNoFrame, PassesFrames}
-use Rattle.pay_frame.specs.Passing.{IsFront, Passes}
+use Rattle.pay_frame.specs.Cutting.{Held, IsFront, IsNoFrame, PassesFrames}
+use Rattle.pay_frame.specs.Passing.{Passes}
 use Rattle.pay_frame.proofs.Heads.{may_stand-frame}
 use Rattle.pay_frame.proofs.Starting.{length-frame}
 use Rattle.pay_frame.proofs.Streams.{more_bytes, next_frame}
@@ -47,7 +47,7 @@ one_more bytes size next frames f within cut reading =
       cut = subst (λ xs. IsFramesThen xs (frames ++ f ∷ []) []) (sym taken) (next_frame (front ++ one) one [] frames f (more_bytes front [] one frames cut) reading.0.is (sym (append-nil one)));
     }
 
-pub front_at : (bytes : List ℕ) (most size count : ℕ) (frames : List FrameFields) → size ≤ length bytes → IsFramesThen (take size bytes) frames [] → count ≡ length frames → count ≤ most → (count < most → IsNoFrame (drop size bytes)) → (count ≡ 0 → IsProperBeginning (drop size bytes)) → IsFront bytes most size count
+pub front_at : (bytes : List ℕ) (most size count : ℕ) (frames : List FrameFields) → size ≤ length bytes → IsFramesThen (take size bytes) frames [] → count ≡ length frames → count ≤ most → (count < most → IsNoFrame (drop size bytes)) → (count ≡ 0 → (size ≡ 0) × IsProperBeginning bytes) → IsFront bytes most size count
 front_at bytes most size count frames fits cut counted within all none = record { frames = frames; fits = fits; cut = cut; counted = counted; within = within; all = all; none = none }
 
 -- ---- all that were passed
@@ -65,7 +65,7 @@ passes old new most size count front none met given bytes =
       counted = front.counted;
       within = front.within;
       all = λ lt. subst IsNoFrame (sym bytes) (front.all lt);
-      none = λ zero. subst IsProperBeginning (sym bytes) (front.none zero);
+      none = λ zero. let nothing = front.none zero in subst IsProperBeginning (sym (bytes ∙ ap (λ n. drop n old.bytes) nothing.0)) nothing.1;
       unmet = none;
       met = met;
     }

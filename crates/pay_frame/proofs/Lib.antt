@@ -5,7 +5,7 @@ pub mod HeadFields
 pub mod Starting
 pub mod Answering
 pub mod OneReading
-pub mod Windows
+pub mod Ends
 pub mod WholeRuns
 pub mod EveryReading
 pub mod FaultStays

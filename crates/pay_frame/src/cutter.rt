@@ -1,28 +1,17 @@
-ghost use Rattle.std.specs.Prelude.{◌≡◌, ◌<◌, ◌≤◌, IfErr, IfOk, drop, vec_len};
-ghost use Rattle.std.specs.Vec.{vec_capacity};
-ghost use Rattle.pay_frame.specs.Passing.{IsFront};
-ghost use Rattle.pay_frame.specs.Reading.{IsFault};
-
 use crate::fault::FrameFault;
 use crate::frame_ref::FrameRef;
 use crate::limits::CUTTER_ROOM;
-use crate::reading::{frame_of, read};
+use crate::reading::{frame_of, frames_in_front, read};
+use pay_io::SlidingBuffer;
 use std::alloc::{AllocError, Global};
 use std::marker::Model;
 
 /// Splits a stream of bytes into frames, however the stream is cut into pieces.
 ///
 /// It buffers at most `CUTTER_ROOM` bytes. `new` allocates the buffer, and no later call allocates.
-/// The bytes held are a window of the buffer: `feed` writes behind its end, `next` moves its
-/// beginning past a frame. They move to the buffer's front only where a piece doesn't fit behind
-/// them.
 #[derive(Debug, Drop)]
 pub struct Cutter {
-    buffer: Vec<u8>,
-    /// Where the frame that was returned last begins.
-    given: usize,
-    /// Where the window begins. It ends where the buffer's bytes do.
-    start: usize,
+    stream: SlidingBuffer,
     met: Option<FrameFault>,
 }
 
@@ -31,17 +20,16 @@ impl Model for Cutter {
 
     ghost Value = { Held };
 
-    ghost use Rattle.pay_frame.specs.Window.{held_in, IsWindow};
+    ghost use Rattle.pay_frame.specs.CutterFields.{held_in, HasCutterRoom};
 
     ghost view = { held_in };
 
-    ghost invariant = { IsWindow };
+    ghost invariant = { HasCutterRoom };
 }
 
 impl Cutter {
     ghost use Rattle.std.specs.Prelude.{◌≡◌, ◌<◌, ◌≤◌, ◌++◌, [], ⊤, true, false, IfOk, IfErr, Err};
-    ghost use Rattle.std.specs.Prelude.{length, drop, vec_len};
-    ghost use Rattle.std.specs.Vec.{vec_capacity};
+    ghost use Rattle.std.specs.Prelude.{length};
     ghost use Rattle.std.specs.Borrow.{sem};
     ghost use mathlib.Core.Option.{none};
     ghost use denote.Follow.{follows_so};
@@ -58,11 +46,8 @@ impl Cutter {
     pub fn new(alloc: Global) -> Result<Cutter, AllocError>
         ensures empty { IfOk result (λ cutter. cutter ≡ nothing_held) }
     {
-        let buffer = Vec::with_capacity(alloc, CUTTER_ROOM)?;
         Ok(Cutter {
-            buffer,
-            given: 0,
-            start: 0,
+            stream: SlidingBuffer::new(alloc, CUTTER_ROOM)?,
             met: None,
         })
     }
@@ -75,14 +60,7 @@ impl Cutter {
         if self.met.is_some() {
             return 0;
         }
-        if piece.len() > CUTTER_ROOM - self.buffer.len() && self.start > 0 {
-            drop_front(&mut self.buffer, self.start);
-            self.given = 0;
-            self.start = 0;
-        }
-        let count = piece.len().min(CUTTER_ROOM - self.buffer.len());
-        let _ = self.buffer.extend_from_slice(&piece[..count]);
-        count
+        self.stream.append(piece)
     }
 
     /// Removes and returns the next frame of the stream, if it is complete. Once it has returned a
@@ -109,10 +87,9 @@ impl Cutter {
         if let Some(fault) = self.met {
             return Err(fault);
         }
-        match frames_in_front(self.held(), most) {
+        match frames_in_front(self.stream.bytes(), most) {
             Ok((size, count)) => {
-                self.given = self.start;
-                self.start += size;
+                self.stream.consume(size);
                 Ok(count)
             }
             Err(fault) => {
@@ -126,7 +103,7 @@ impl Cutter {
     pub fn given(&self) -> &[u8]
         ensures { result.now ≡ self.now.given }
     {
-        &self.buffer[self.given..self.start]
+        self.stream.consumed()
     }
 
     /// Whether the stream may end here, with no complete frame in front: `Ok` if nothing is
@@ -138,18 +115,12 @@ impl Cutter {
         if let Some(fault) = self.met {
             return Err(fault);
         }
-        read(self.held())?;
-        if self.held().is_empty() {
+        read(self.stream.bytes())?;
+        if self.stream.bytes().is_empty() {
             Ok(())
         } else {
             Err(FrameFault::Truncated)
         }
-    }
-
-    fn held(&self) -> &[u8]
-        ensures { result.now ≡ self.now.bytes }
-    {
-        &self.buffer[self.start..]
     }
 
     /// Moves past the frame in front, if it is complete.
@@ -167,34 +138,4 @@ impl Cutter {
     {
         frame_of(self.given())
     }
-}
-
-/// The size of the complete frames in front, at most so many, and how many these are: a fault only
-/// where it is in front of all.
-fn frames_in_front(bytes: &[u8], most: usize) -> Result<(usize, usize), FrameFault>
-    requires most { 0 < most }
-    ensures front { IfOk result (λ found. IsFront bytes.now most found.0 found.1) }
-    ensures fault { IfErr result (IsFault bytes.now) }
-{
-    let mut size = 0;
-    for count in 0..most {
-        match read(&bytes[size..]) {
-            Ok(Some((_, next))) => size += next,
-            Ok(None) => return Ok((size, count)),
-            Err(fault) if count == 0 => return Err(fault),
-            Err(_) => return Ok((size, count)),
-        }
-    }
-    Ok((size, most))
-}
-
-/// Removes the first bytes.
-fn drop_front(buffer: &mut Vec<u8>, count: usize)
-    requires { count ≤ vec_len buffer.old }
-    ensures items { buffer.new.items ≡ drop count buffer.old.items }
-    ensures capacity { vec_capacity buffer.new ≡ vec_capacity buffer.old }
-{
-    let len = buffer.len();
-    buffer.copy_within(count..len, 0);
-    buffer.truncate(len - count);
 }

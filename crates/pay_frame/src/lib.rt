@@ -32,7 +32,7 @@ pub use limits::{
     CUTTER_ROOM, GREATEST_FRAME, GREATEST_VALUE, HEAD_LEN, LEAST_LENGTH, MOST_MEMBERS, SEQS,
     TAG_LEN,
 };
-pub use reading::{read, read_one};
+pub use reading::{frames_in_front, read, read_one};
 pub use stream_laws::{
     cutter_follows_stream, every_reading, every_stream, fault_is_for_good, frame_sizes, one_stream,
     stream_goes_on, stream_grows,

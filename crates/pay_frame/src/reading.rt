@@ -3,6 +3,7 @@ ghost use Rattle.std.specs.Prelude.{IfErr, IfSome, IfNone};
 ghost use Rattle.pay_frame.specs.Frame.{code_of, frame_bytes};
 ghost use Rattle.pay_frame.specs.Lent.{fields_of, sized_of, one_of};
 ghost use Rattle.pay_frame.specs.Reading.{IsReading, IsProperBeginning, IsFault, fault_at};
+ghost use Rattle.pay_frame.specs.Cutting.{IsFront};
 ghost use Rattle.pay_frame.specs.OneFrame.{IsOneReading};
 ghost use Rattle.pay_frame.specs.Places.{length_field, is_want, may_stand, PassBelow, IsFirstWrong};
 ghost use Rattle.pay_frame.specs.Places.{IsWhole, IsSizeOf, two_at, eight_at, are_lengths};
@@ -40,6 +41,25 @@ pub fn read_one(bytes: &[u8]) -> Result<FrameRef<'_>, FrameFault>
         Some(_) => Err(FrameFault::Trailing),
         None => Err(FrameFault::Truncated),
     }
+}
+
+/// The size and the count of the complete frames in front, at most so many: a fault only where it
+/// is in front of all.
+pub fn frames_in_front(bytes: &[u8], most: usize) -> Result<(usize, usize), FrameFault>
+    requires most { 0 < most }
+    ensures front { IfOk result (λ found. IsFront bytes.now most found.0 found.1) }
+    ensures fault { IfErr result (IsFault bytes.now) }
+{
+    let mut size = 0;
+    for count in 0..most {
+        match read(&bytes[size..]) {
+            Ok(Some((_, next))) => size += next,
+            Ok(None) => return Ok((size, count)),
+            Err(fault) if count == 0 => return Err(fault),
+            Err(_) => return Ok((size, count)),
+        }
+    }
+    Ok((size, most))
 }
 
 /// The size of the frame in front, if it is complete.

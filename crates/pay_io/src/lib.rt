@@ -5,11 +5,13 @@
 mod counted;
 mod device;
 mod limits;
+mod sliding_buffer;
 mod stream_fault;
 mod writing;
 
 pub use counted::{Counted, Reader, Writer};
 pub use device::{DeviceFailed, Input, Output, write_all};
 pub use limits::{MOST_READS, MOST_TRIES};
+pub use sliding_buffer::SlidingBuffer;
 pub use stream_fault::StreamFault;
 pub use writing::write_text;

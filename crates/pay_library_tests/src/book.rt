@@ -4,6 +4,6 @@ mod both;
 mod drawn;
 mod draws;
 mod ledger;
-mod lists;
+pub(crate) mod lists;
 mod rows;
 mod tests;

@@ -11,11 +11,19 @@ mod cuts;
 #[cfg(test)]
 mod echo;
 #[cfg(test)]
+mod groups;
+#[cfg(test)]
+mod kept;
+#[cfg(test)]
+mod logs;
+#[cfg(test)]
 mod members;
 #[cfg(test)]
 mod node;
 #[cfg(test)]
 mod peers;
+#[cfg(test)]
+mod records;
 #[cfg(test)]
 mod replays;
 #[cfg(test)]

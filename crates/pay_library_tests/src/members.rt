@@ -12,7 +12,7 @@ use std::alloc::{AllocError, Global};
 use std::process::Abort;
 use std::test::Fail;
 
-type Tried = Member<MaskInstance, PlainBook>;
+pub(crate) type Tried = Member<MaskInstance, PlainBook>;
 
 /// What is done to a member, or looked at, with what comes of it. Bytes are in hexadecimal.
 enum Step {
@@ -78,7 +78,7 @@ const READY_AND_SETTLED_2: Took = Took {
 };
 
 /// Member 0 sends member 1 its first frame, thirty to account 1.
-const SENT: &str =
+pub(crate) const SENT: &str =
     "00410101000000010000000000000000000000000000000b010001000000000000001e9888b9a5c22950ec29a47418b007b031883ea7bb3dd6a937b2ca073fb102952a";
 
 /// Member 1 asks member 0 for its frame 1.
@@ -302,7 +302,7 @@ const SPLIT: &[Row] = &[
     },
 ];
 
-fn fresh(alloc: Global, own: u16) -> Result<Tried, Fail> {
+pub(crate) fn fresh(alloc: Global, own: u16) -> Result<Tried, Fail> {
     let genesis = Genesis::new(alloc, 4, 1, &[100, 0, 0, 50])?;
     if own >= genesis.members() {
         return Err(Fail::new("no such member"));

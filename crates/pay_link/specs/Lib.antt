@@ -7,3 +7,4 @@ pub mod Keys
 pub mod Opening
 pub mod Sealing
 pub mod TestKeys
+pub mod Words

@@ -4,6 +4,7 @@ ghost use Rattle.pay_link.specs.Fronts.{turn};
 
 use crate::link_fault::LinkFault;
 use std::alloc::{AllocError, Global};
+use std::cmp::Ordering;
 use std::marker::Model;
 
 /// The next number to be taken from each member.
@@ -42,14 +43,7 @@ impl Fronts {
         requires { from < length self.now }
         ensures { result ≡ turn (slice_index self.now from) number }
     {
-        let next = self.next(from);
-        if number == next {
-            Ok(())
-        } else if number < next {
-            Err(LinkFault::Repeat(next))
-        } else {
-            Err(LinkFault::Gap(next))
-        }
+        turn(self.next(from), number)
     }
 
     /// The next number from a member was taken.
@@ -59,5 +53,16 @@ impl Fronts {
         ensures { self.new ≡ slice_set self.old from (slice_index self.old from + 1) }
     {
         self.next[usize::from(from)] += 1;
+    }
+}
+
+/// Whether a number is the next one. A lower one was taken before, a higher one leaves a gap.
+pub fn turn(next: u64, number: u64) -> Result<(), LinkFault>
+    ensures { result ≡ turn next number }
+{
+    match number.cmp(&next) {
+        Ordering::Equal => Ok(()),
+        Ordering::Less => Err(LinkFault::Repeat(next)),
+        Ordering::Greater => Err(LinkFault::Gap(next)),
     }
 }

@@ -16,7 +16,7 @@ mod opened;
 mod sealing;
 
 pub use checked::Checked;
-pub use fronts::Fronts;
+pub use fronts::{Fronts, turn};
 pub use genesis::Genesis;
 pub use genesis_fault::GenesisFault;
 pub use keys::Keys;

@@ -1,6 +1,9 @@
-ghost use Rattle.std.specs.Prelude.{◌≡◌};
+ghost use Rattle.std.specs.Prelude.{◌≡◌, ◌++◌, OnOk, codes, decimal};
 ghost use Rattle.pay_link.specs.Faults.{link_fault_name, link_fault_number};
+ghost use Rattle.pay_link.specs.Words.{link_words, next_words};
 
+use pay_text::{push_number, push_word};
+use std::alloc::AllocError;
 use std::fmt;
 use thiserror::Error;
 
@@ -47,6 +50,26 @@ impl LinkFault {
     {
         self.entry().1
     }
+
+    /// Appends the fault's number and name, and for a repeat or a gap the number that is next.
+    pub fn push_words(self, out: &mut Vec<u8>) -> Result<(), AllocError>
+        ensures words { OnOk result (out.new.items ≡ out.old.items ++ link_words self) }
+    {
+        push_number(out, u64::from(self.number()))?;
+        push_word(out, " ")?;
+        push_word(out, self.name())?;
+        match self {
+            LinkFault::Repeat(next) | LinkFault::Gap(next) => push_next(out, next),
+            _ => Ok(()),
+        }
+    }
+}
+
+fn push_next(out: &mut Vec<u8>, next: u64) -> Result<(), AllocError>
+    ensures { OnOk result (out.new.items ≡ out.old.items ++ codes " next " ++ decimal next) }
+{
+    push_word(out, " next ")?;
+    push_number(out, next)
 }
 
 impl fmt::Display for LinkFault {

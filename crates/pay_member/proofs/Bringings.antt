@@ -3,6 +3,7 @@ use Rattle.std.proofs.Common.{◌≡◌, ◌≢◌, ◌⊎◌, inl, inr, ℕ, �
 use Rattle.std.specs.Bool.{⊤}
 use Rattle.std.specs.Option.{option_and_then, option_map, option_to_list}
 use Rattle.std.proofs.lemmas.Bool.{cases_order}
+use Rattle.pay_frame.specs.declared.fault.FrameFault.{FrameFault}
 use Rattle.pay_frame.specs.Frame.{FrameFields}
 use Rattle.pay_channel.specs.History as channel
 use Rattle.pay_channel.specs.Taken.{next}
@@ -15,6 +16,8 @@ use Rattle.pay_link.specs.declared.link_fault.LinkFault.TheVariants as link
 use Rattle.pay_member.specs.declared.event.Event.TheVariants.{Taken}
 use Rattle.pay_member.specs.declared.fault.MemberFault.{MemberFault}
 use Rattle.pay_member.specs.declared.fault.MemberFault.TheVariants.{Memory, Repeat, Gap}
+use Rattle.pay_member.specs.declared.incoming.Incoming.{Incoming}
+use Rattle.pay_member.specs.declared.incoming.Incoming.TheVariants.{Message, Want}
 use Rattle.pay_member.specs.declared.outcome.Outcome.{Outcome}
 use Rattle.pay_member.specs.declared.outcome.Outcome.TheVariants as outcome
 use Rattle.pay_member.specs.declared.reply.Reply.{Reply}
@@ -27,7 +30,7 @@ use Rattle.pay_member.specs.Events.{events}
 use Rattle.pay_member.specs.Refusal.{refusal, turn_refusal}
 use Rattle.pay_member.specs.Reply.{took_by}
 use Rattle.pay_member.specs.Member.{MemberFields}
-use Rattle.pay_member.specs.Bringing.{opened_in, event_of, event_in, answered, answer_to, want_for, want_after, with_taken}
+use Rattle.pay_member.specs.Bringing.{event_of, event_in, opened_in, answered, answer_to, incoming_at, outcome_of, outcome_to, want_for, want_after, with_taken}
 use Rattle.pay_member.proofs.Members.{events-push}
 
 -- ---- what taking a frame for this member answers
@@ -224,38 +227,30 @@ key_known g own before f = go (turn (next f.from before) f.number) where
   go (Ok x) = λ is. cc
   go (Err fault) = λ is. cc
 
--- ---- where no frame opened
+-- so is every answer to a frame
+pub key_named : (g : GenesisFields) (own : ℕ) (before : List channel.Event) (i : Result Incoming LinkFault) → outcome_to g own before i ≢ outcome.WrongKey
+key_named g own before (Ok (Message o)) = key_known g own before o.frame
+key_named g own before (Ok (Want from number)) = λ is. cc
+key_named g own before (Err fault) = λ is. cc
 
-pub none_wanted : (k : KeyFields) (after : List channel.Event) (bytes : List ℕ) → opened_in k bytes ≡ None → want_after k after bytes ≡ None
+pub of_frame : (g : GenesisFields) (k : KeyFields) (before : List channel.Event) (f : FrameFields) → outcome_of g k before (Ok f) ≡ outcome_to g k.own before (incoming_at k f)
+unfolding outcome_of
+of_frame g k before f = refl
+
+pub of_fault : (g : GenesisFields) (k : KeyFields) (before : List channel.Event) (fault : FrameFault) → outcome.Frame fault ≡ outcome_of g k before (Err fault)
+unfolding outcome_of
+of_fault g k before fault = refl
+
+-- ---- what bytes are, by what is found in them
+
+pub want_found :
+    (k : KeyFields) (after : List channel.Event) (bytes : List ℕ) (found : Option FrameFields) → opened_in k bytes ≡ found
+    → option_map (want_for k after) found ≡ want_after k after bytes
 unfolding want_after
-none_wanted k after bytes none = ap (option_map (want_for k after)) none
+want_found k after bytes found is = sym (ap (option_map (want_for k after)) is)
 
-pub none_taken : (k : KeyFields) (before : List channel.Event) (bytes : List ℕ) → opened_in k bytes ≡ None → before ≡ before ++ option_to_list (event_in k before bytes)
+pub event_found :
+    (k : KeyFields) (before : List channel.Event) (bytes : List ℕ) (found : Option FrameFields) → opened_in k bytes ≡ found
+    → option_and_then (event_of before) found ≡ event_in k before bytes
 unfolding event_in
-none_taken k before bytes none =
-    sym (append-nil before) ∙ ap (λ (o : Option FrameFields). before ++ option_to_list (option_and_then (event_of before) o)) (sym none)
-
--- ---- where one did
-
-pub some_wanted :
-    (k : KeyFields) (after : List channel.Event) (bytes : List ℕ) (f : FrameFields) (want : List ℕ) → opened_in k bytes ≡ Some f
-    → want ≡ want_for k after f → Some want ≡ want_after k after bytes
-unfolding want_after
-some_wanted k after bytes f want some is = ap Some is ∙ sym (ap (option_map (want_for k after)) some)
-
-pub some_taken :
-    (k : KeyFields) (before : List channel.Event) (bytes : List ℕ) (f : FrameFields) → opened_in k bytes ≡ Some f
-    → event_in k before bytes ≡ event_of before f
-unfolding event_in
-some_taken k before bytes f some = ap (option_and_then (event_of before)) some
-
--- bytes are an event where what opened of them is
-pub event_opened :
-    (k : KeyFields) (before : List channel.Event) (bytes : List ℕ) (f : FrameFields) → opened_in k bytes ≡ Some f
-    → event_of before f ≢ None → event_in k before bytes ≢ None
-event_opened k before bytes f some is = λ none. is (sym (some_taken k before bytes f some) ∙ none)
-
-pub some_not_none : (k : KeyFields) (bytes : List ℕ) (f : FrameFields) → opened_in k bytes ≡ Some f → opened_in k bytes ≢ None
-some_not_none k bytes f some = λ none. no (sym some ∙ none) where
-  no : Some f ≡ None → ⊥
-  no same = cc
+event_found k before bytes found is = sym (ap (option_and_then (event_of before)) is)

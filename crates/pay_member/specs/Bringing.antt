@@ -1,5 +1,5 @@
 -- What bytes that are brought to a member are to it, and what it answers to them.
-use Rattle.std.specs.Prelude.{◌≡◌, ℕ, ◌==◌, Bool, true, false, if◌then◌else◌, List, Option, Some, None, option_and_then, option_map, Result, Ok, Err, ⊤}
+use Rattle.std.specs.Prelude.{◌≡◌, ◌≢◌, ℕ, ◌==◌, Bool, true, false, if◌then◌else◌, List, Option, Some, None, option_and_then, option_map, Result, Ok, Err, ⊤}
 use Rattle.pay_frame.specs.declared.fault.FrameFault.{FrameFault}
 use Rattle.pay_frame.specs.declared.kind.Kind.{Kind}
 use Rattle.pay_frame.specs.declared.kind.Kind.TheVariants as kind
@@ -8,13 +8,17 @@ use Rattle.pay_frame.specs.OneFrame.{IsOneReading, one_frame}
 use Rattle.pay_channel.specs.History as channel
 use Rattle.pay_channel.specs.Taken.{next}
 use Rattle.pay_link.specs.Genesis.{GenesisFields}
-use Rattle.pay_link.specs.Keys.{KeyFields, key_for}
+use Rattle.pay_link.specs.Keys.{KeyFields, IsPeer, key_for}
 use Rattle.pay_link.specs.Checked.{CheckedFields}
 use Rattle.pay_link.specs.Fronts.{turn}
 use Rattle.pay_link.specs.Opening.{OpenedFields, judgement}
 use Rattle.pay_link.specs.Sealing.{wanted}
 use Rattle.pay_link.specs.declared.link_fault.LinkFault.{LinkFault}
 use Rattle.pay_member.specs.declared.event.Event.TheVariants.{Taken}
+use Rattle.pay_member.specs.declared.brought.Brought.{Brought}
+use Rattle.pay_member.specs.declared.incoming.Incoming.{Incoming}
+use Rattle.pay_member.specs.declared.incoming.Incoming.TheVariants.{Want, Message}
+use Rattle.pay_member.specs.declared.received.Received.{Received}
 use Rattle.pay_member.specs.declared.outcome.Outcome.{Outcome}
 use Rattle.pay_member.specs.declared.outcome.Outcome.TheVariants.{Took, Wanted, Frame, Link, WrongKey}
 use Rattle.pay_member.specs.declared.reply.Reply.TheVariants as reply
@@ -29,25 +33,26 @@ is_want kind.Want = true
 
 -- ---- before the history is looked at
 
--- the opened frame, or what came of one that doesn't open or is a WANT
-abbrev pub judged : Result OpenedFields LinkFault → Result OpenedFields Outcome
-judged (Ok opened) =
+-- what a frame is that opened: a WANT, or a message
+abbrev pub incoming : OpenedFields → Incoming
+incoming opened =
     if is_want opened.frame.body.kind
-    then Err (Wanted opened.frame.from opened.frame.number)
-    else Ok opened
-judged (Err fault) = Err (Link fault)
+    then Want opened.frame.from opened.frame.number
+    else Message opened
 
--- the same of what bytes read as
-unfoldable pub opening : KeyFields → Result FrameFields FrameFault → Result OpenedFields Outcome
-opening k (Ok f) = judged (judgement k f)
-opening k (Err fault) = Err (Frame fault)
+abbrev pub incoming_of : Result OpenedFields LinkFault → Result Incoming LinkFault
+incoming_of (Ok opened) = Ok (incoming opened)
+incoming_of (Err fault) = Err fault
 
--- what bytes are to the member with these keys, by the one reading that they have
-pub record IsOpening (k : KeyFields) (bytes : List ℕ) (answer : Result OpenedFields Outcome)
-    : Type 0 where
-  pub reading : Result FrameFields FrameFault
-  pub reads : IsOneReading bytes reading
-  pub is : answer ≡ opening k reading
+-- what a frame is to the member with these keys, unless it is refused
+unfoldable pub incoming_at : KeyFields → FrameFields → Result Incoming LinkFault
+incoming_at k f = incoming_of (judgement k f)
+
+-- it is all of this frame, which a peer sent
+abbrev pub IsOfPeer : KeyFields → FrameFields → Incoming → Type 0
+IsOfPeer k f (Want from number) = IsPeer k from × (from ≡ f.from)
+IsOfPeer k f (Message opened) =
+    IsPeer k f.from × (opened.frame ≡ f) × (opened.frame.body.kind ≢ kind.Want)
 
 -- ---- computed
 
@@ -80,17 +85,36 @@ answered g own before f (Err fault) = Link fault
 unfoldable pub answer_to : GenesisFields → ℕ → List channel.Event → FrameFields → Outcome
 answer_to g own before f = answered g own before f (turn (next f.from before) f.number)
 
-abbrev pub outcome_of :
-    GenesisFields → ℕ → List channel.Event → Result OpenedFields Outcome → Outcome
-outcome_of g own before (Ok opened) = answer_to g own before opened.frame
-outcome_of g own before (Err outcome) = outcome
+-- to a frame
+abbrev pub outcome_to :
+    GenesisFields → ℕ → List channel.Event → Result Incoming LinkFault → Outcome
+outcome_to g own before (Ok (Message opened)) = answer_to g own before opened.frame
+outcome_to g own before (Ok (Want from number)) = Wanted from number
+outcome_to g own before (Err fault) = Link fault
+
+-- to what bytes read as
+unfoldable pub outcome_of :
+    GenesisFields → KeyFields → List channel.Event → Result FrameFields FrameFault → Outcome
+outcome_of g k before (Ok f) = outcome_to g k.own before (incoming_at k f)
+outcome_of g k before (Err fault) = Frame fault
 
 -- to bytes, by the one reading that they have
 pub record IsOutcome (g : GenesisFields) (k : KeyFields) (before : List channel.Event)
     (bytes : List ℕ) (outcome : Outcome) : Type 0 where
   pub reading : Result FrameFields FrameFault
   pub reads : IsOneReading bytes reading
-  pub is : outcome ≡ outcome_of g k.own before (opening k reading)
+  pub is : outcome ≡ outcome_of g k before reading
+
+-- where nothing is handed to the member
+abbrev pub answered_at_once : Outcome → Received
+answered_at_once outcome = record { outcome = outcome; next = None }
+
+-- with the WANT to the sender for the number that is next, if one is
+abbrev pub with_want : KeyFields → ℕ → Received → Brought
+with_want k from r = record {
+  outcome = r.outcome;
+  want = option_map (λ number. frame_bytes (wanted k from number)) r.next;
+}
 
 -- the WANT that goes with it, where a frame opened that is none: for what is next behind these
 -- events

@@ -9,7 +9,7 @@ use Rattle.pay_link.specs.Opening.{judgement}
 use Rattle.pay_link.specs.Sealing.{wanted}
 use Rattle.pay_member.specs.Events.{events}
 use Rattle.pay_member.specs.Member.{MemberFields}
-use Rattle.pay_member.specs.Bringing.{judged, unless_want, outcome_of, want_for, with_brought}
+use Rattle.pay_member.specs.Bringing.{incoming_at, unless_want, outcome_to, want_for, with_brought}
 
 -- the WANT to a peer for what is next from it
 unfoldable pub first_want : MemberFields → ℕ → List ℕ
@@ -19,7 +19,7 @@ first_want m peer = frame_bytes (wanted m.keys peer (next peer (events m.history
 unfoldable pub after_frame : ℕ → MemberFields → FrameFields → MemberFields
 after_frame stamp m f =
     with_brought m stamp
-    (outcome_of m.genesis m.keys.own (events m.history) (judged (judgement m.keys f)))
+    (outcome_to m.genesis m.keys.own (events m.history) (incoming_at m.keys f))
     (unless_want (judgement m.keys f))
 
 -- the WANT of its answer, if the frame opened and is none

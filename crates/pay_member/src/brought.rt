@@ -1,3 +1,5 @@
+ghost use Rattle.std.specs.Prelude.{◌≡◌, None};
+
 use crate::outcome::Outcome;
 use pay_link::WANT_LEN;
 
@@ -8,4 +10,16 @@ pub struct Brought {
     pub outcome: Outcome,
     /// The WANT to the sender of a frame that opened: it asks for what is next after the call.
     pub want: Option<[u8; WANT_LEN]>,
+}
+
+impl Brought {
+    /// The answer where nothing was handed to the member.
+    pub fn at_once(outcome: Outcome) -> Brought
+        ensures { result ≡ record { outcome = outcome; want = None } }
+    {
+        Brought {
+            outcome,
+            want: None,
+        }
+    }
 }

@@ -1,8 +1,9 @@
 ghost use Rattle.std.specs.Prelude.{◌≡◌, ◌≢◌, ◌<◌, ◌&&◌, ◌++◌, nat_lt, min, []};
 ghost use Rattle.std.specs.Prelude.{length, slice_get, slice_index, Some, None};
-ghost use Rattle.std.specs.Prelude.{MatchOption, IfOk, OnOk, OnErr, IsOkUnless};
-ghost use Rattle.std.specs.Option.{option_copied, option_map, option_to_list};
-ghost use Rattle.pay_link.specs.Keys.{IsKeysOf};
+ghost use Rattle.std.specs.Prelude.{MatchOption, IfOk, IfSome, OnOk, OnErr, IsOkUnless};
+ghost use Rattle.std.specs.Option.{option_and_then, option_copied, option_map, option_to_list};
+ghost use Rattle.pay_link.specs.Keys.{IsKeysOf, IsPeer};
+ghost use Rattle.pay_link.specs.Opening.{judgement};
 ghost use Rattle.pay_frame.specs.Lent.{fields_of};
 ghost use Rattle.pay_link.specs.Checked.{IsFor, bytes_of, checked_fields};
 ghost use Rattle.pay_link.specs.Fronts.{turn};
@@ -19,19 +20,22 @@ ghost use Rattle.pay_member.specs.Answer.{IsAnswer, asked, taken, told};
 ghost use Rattle.pay_member.specs.Reading.{state_of, fetched};
 ghost use Rattle.pay_member.specs.Legal.{Legal};
 ghost use Rattle.pay_member.specs.Member.{with_entry};
-ghost use Rattle.pay_member.specs.Bringing.{IsOutcome, answer_to, opened_in, event_in, event_of};
-ghost use Rattle.pay_member.specs.Bringing.{want_for, want_after, with_taken, with_brought};
+ghost use Rattle.pay_member.specs.Bringing.{IsOutcome, answer_to, event_in, event_of, incoming_at};
+ghost use Rattle.pay_member.specs.Bringing.{opened_in, outcome_to, unless_want, want_after};
+ghost use Rattle.pay_member.specs.Bringing.{with_brought, with_taken, with_want};
 ghost use Rattle.pay_member.specs.Serving.{after_frame, want_of};
 
 use crate::ask_fault::AskFault;
-use crate::bringing::{open_bytes, open_frame};
+use crate::bringing::open_frame;
 use crate::brought::Brought;
 use crate::entry::HistoryEntry;
 use crate::event::{Event, asked_is_kept, taken_is_kept};
 use crate::fault::MemberFault;
+use crate::incoming::Incoming;
 use crate::ledger::Ledger;
 use crate::outcome::Outcome;
 use crate::query_fault::QueryFault;
+use crate::received::Received;
 use crate::reply::Reply;
 use crate::standing::PaymentState;
 use crate::take_fault::TakeFault;
@@ -42,9 +46,9 @@ use pay_book::{Line, Settle};
 use pay_channel::EventRef;
 use pay_channel::laws::{a_channel_follows, nothing_at_first, one_event_more, taken_in_order};
 use pay_echo::Instance;
-use pay_frame::{Body, Bytes, FrameRef, GREATEST_VALUE, Kind, SEQS, one_frame_is};
+use pay_frame::{Body, Bytes, FrameRef, GREATEST_VALUE, Kind, SEQS, one_frame_is, read_one};
 use pay_hmac::Tagger;
-use pay_link::{Checked, Fronts, Genesis, Keys, LinkFault, Opened, laws, want};
+use pay_link::{Checked, Fronts, Genesis, Keys, LinkFault, Opened, laws};
 use std::alloc::{AllocError, Global};
 use std::marker::Model;
 
@@ -210,15 +214,13 @@ impl<I: Instance + Drop, B: Settle + Drop> Member<I, B> {
         ensures err { OnErr result (self.new ≡ self.old) }
     {
         one_frame_is();
-        laws::opened();
-        laws::owned();
-        match open_bytes(tagger, self.keys(), bytes) {
-            Ok(opened) => self.take_opened(alloc, stamp, tagger, &opened),
-            Err(outcome) => Ok(Brought {
-                outcome,
-                want: None,
-            }),
-        }
+        let frame = match read_one(bytes) {
+            Ok(frame) => frame,
+            Err(fault) => return Ok(Brought::at_once(Outcome::Frame(fault))),
+        };
+        let from = frame.from();
+        let received = self.bring_frame(alloc, stamp, tagger, frame)?;
+        Ok(received.with_want(tagger, self.keys(), from))
     }
 
     /// The same without the WANT, for whoever would send none: that spares its tag.
@@ -240,11 +242,9 @@ impl<I: Instance + Drop, B: Settle + Drop> Member<I, B> {
         ensures err { OnErr result (self.new ≡ self.old) }
     {
         one_frame_is();
-        laws::opened();
-        laws::owned();
-        match open_bytes(tagger, self.keys(), bytes) {
-            Ok(opened) => self.take_unanswered(alloc, stamp, &opened),
-            Err(outcome) => Ok(outcome),
+        match read_one(bytes) {
+            Ok(frame) => Ok(self.bring_frame(alloc, stamp, tagger, frame)?.outcome),
+            Err(fault) => Ok(Outcome::Frame(fault)),
         }
     }
 
@@ -274,9 +274,57 @@ impl<I: Instance + Drop, B: Settle + Drop> Member<I, B> {
         self.take_mine(alloc, stamp, owned)
     }
 
+    // Whether this is the next number from a member.
+    fn judge(&self, from: u16, number: u64) -> Result<(), LinkFault>
+        requires { from < length self.now.keys.keys }
+        ensures { result ≡ turn (next from (events self.now.history)) number }
+    {
+        self.fronts.judge(from, number)
+    }
+
+    // Takes a frame that was read already.
+    pub(crate) fn bring_frame<T: Tagger>(
+        &mut self,
+        alloc: Global,
+        stamp: u16,
+        tagger: &T,
+        frame: FrameRef<'_>,
+    ) -> Result<Received, AllocError>
+        ensures outcome { IfOk result (λ received. received.outcome
+            ≡ outcome_to self.old.genesis self.old.keys.own (events self.old.history)
+            (incoming_at self.old.keys (fields_of frame.entry))) }
+        ensures want { IfOk result (λ received.
+            (with_want self.old.keys (fields_of frame.entry).from received).want
+            ≡ want_of stamp self.old (fields_of frame.entry)) }
+        ensures peer { IfOk result (λ received. IfSome received.next (λ _.
+            IsPeer self.old.keys (fields_of frame.entry).from)) }
+        ensures after { OnOk result
+            (self.new ≡ after_frame stamp self.old (fields_of frame.entry)) }
+        ensures memory { OnErr result (option_and_then (event_of (events self.old.history))
+            (unless_want (judgement self.old.keys (fields_of frame.entry))) ≢ None) }
+        ensures err { OnErr result (self.new ≡ self.old) }
+    {
+        laws::opened();
+        laws::owned();
+        match open_frame(tagger, self.keys(), frame) {
+            Ok(Incoming::Message(opened)) => {
+                let from = opened.frame().from();
+                let outcome = self.take_opened(alloc, stamp, &opened)?;
+                Ok(Received {
+                    outcome,
+                    next: Some(self.next(from)),
+                })
+            }
+            Ok(Incoming::Want { from, number }) => {
+                Ok(Received::at_once(Outcome::Wanted { from, number }))
+            }
+            Err(fault) => Ok(Received::at_once(Outcome::Link(fault))),
+        }
+    }
+
     // Takes a frame that opened for this member and is no WANT. One that isn't the next from its
     // sender isn't owned first.
-    fn take_unanswered(
+    fn take_opened(
         &mut self,
         alloc: Global,
         stamp: u16,
@@ -299,70 +347,6 @@ impl<I: Instance + Drop, B: Settle + Drop> Member<I, B> {
         }
         let checked = opened.own(alloc)?;
         self.take_mine(alloc, stamp, checked)
-    }
-
-    // Whether this is the next number from a member.
-    fn judge(&self, from: u16, number: u64) -> Result<(), LinkFault>
-        requires { from < length self.now.keys.keys }
-        ensures { result ≡ turn (next from (events self.now.history)) number }
-    {
-        self.fronts.judge(from, number)
-    }
-
-    // Takes a frame that was read already.
-    pub(crate) fn bring_frame<T: Tagger>(
-        &mut self,
-        alloc: Global,
-        stamp: u16,
-        tagger: &T,
-        frame: FrameRef<'_>,
-    ) -> Result<Brought, AllocError>
-        ensures want { IfOk result (λ brought. brought.want
-            ≡ want_of stamp self.old (fields_of frame.entry)) }
-        ensures after { OnOk result
-            (self.new ≡ after_frame stamp self.old (fields_of frame.entry)) }
-        ensures err { OnErr result (self.new ≡ self.old) }
-    {
-        laws::opened();
-        laws::owned();
-        match open_frame(tagger, self.keys(), frame) {
-            Ok(opened) => self.take_opened(alloc, stamp, tagger, &opened),
-            Err(outcome) => Ok(Brought {
-                outcome,
-                want: None,
-            }),
-        }
-    }
-
-    /// Takes a frame that opened for this member and is no WANT, and answers with the WANT for what
-    /// is next. Memory can be refused only to a frame that is the next one, and leaves the member
-    /// unchanged.
-    fn take_opened<T: Tagger>(
-        &mut self,
-        alloc: Global,
-        stamp: u16,
-        tagger: &T,
-        opened: &Opened<'_>,
-    ) -> Result<Brought, AllocError>
-        requires mine { IsFor self.old.keys (checked_fields opened.now) }
-        requires kind { opened.now.frame.body.kind ≢ Kind.Want }
-        ensures outcome { IfOk result (λ brought. brought.outcome
-            ≡ answer_to self.old.genesis self.old.keys.own (events self.old.history)
-            opened.now.frame) }
-        ensures want { IfOk result (λ brought. brought.want
-            ≡ Some (want_for self.old.keys (events self.new.history) opened.now.frame)) }
-        ensures entry { IfOk result (λ brought. self.new
-            ≡ with_taken self.old stamp (checked_fields opened.now) brought.outcome) }
-        ensures memory { OnErr result
-            (event_of (events self.old.history) opened.now.frame ≢ None) }
-        ensures err { OnErr result (self.new ≡ self.old) }
-    {
-        let from = opened.frame().from();
-        let outcome = self.take_unanswered(alloc, stamp, opened)?;
-        Ok(Brought {
-            outcome,
-            want: Some(want(tagger, self.keys(), from, self.next(from))),
-        })
     }
 
     // Takes a frame that is for this member, and says what came of it.
@@ -462,7 +446,14 @@ impl<I: Instance + Drop, B: Settle + Drop> Member<I, B> {
         ensures { option_map (λ opened. opened.frame) result ≡ opened_in self.now.keys bytes.now }
     {
         one_frame_is();
-        open_bytes(tagger, self.keys(), bytes).ok()
+        match read_one(bytes) {
+            Ok(frame) => match open_frame(tagger, self.keys(), frame) {
+                Ok(Incoming::Message(opened)) => Some(opened),
+                Ok(Incoming::Want { .. }) => None,
+                Err(_) => None,
+            },
+            Err(_) => None,
+        }
     }
 
     /// All that the member took and replied, oldest first.

@@ -42,7 +42,9 @@ impl<I: Instance + Drop, B: Settle + Drop, T: Tagger> FrameHandler<Member<I, B>>
         frame: FrameRef<'_>,
         out: &mut Vec<u8>,
     ) -> Result<bool, AllocError> {
-        let brought = member.bring_frame(alloc, self.stamp, self.tagger, frame)?;
+        let from = frame.from();
+        let received = member.bring_frame(alloc, self.stamp, self.tagger, frame)?;
+        let brought = received.with_want(self.tagger, member.keys(), from);
         if let Some(want) = brought.want {
             out.extend_from_slice(&want)?;
         }

@@ -1,16 +1,18 @@
 -- The desk's seat was the fresh one with the last stamp, and is among those that the history bears out.
-use Rattle.std.proofs.Common.{◌≡◌, ◌≢◌, ℕ, ◌+◌, ◌-◌, ◌<◌, ◌≤◌, ◌==◌, Bool, true, false, nat_lt, Some, Option, Result, Ok, List, [], ◌∷◌, ◌++◌, length, slice_get, refl, sym, ap, ◌∙◌, subst, arith, append-nil}
-use Rattle.std.specs.List.{All, filter}
+use Rattle.std.proofs.Common.{◌≡◌, ◌≢◌, ℕ, ◌-◌, ◌==◌, Bool, true, false, nat_lt, Some, Option, Result, Ok, IfOk, List, [], ◌∷◌, ◌++◌, length, slice_get, refl, sym, ap, ◌∙◌, subst, arith}
 use Rattle.std.proofs.lemmas.Bool.{eq-eqb, ltb-true, ltb-false}
 use Rattle.std.proofs.lemmas.List.{get_or_at, length_push}
 use Rattle.std.proofs.lemmas.List.Elements.{All-get_or, filter-append}
 use Rattle.std.proofs.lemmas.Option.{slice_get-get_or}
+use Rattle.pay_desk.specs.declared.kept.Kept.{Kept}
 use Rattle.pay_io.specs.declared.stream_fault.StreamFault.{StreamFault}
 use Rattle.pay_member.specs.Member.{MemberFields}
-use Rattle.pay_node.specs.Closing.{AllSettled, IsKept, IsUnused, seats_with}
+use Rattle.pay_node.specs.Closing.{AllSettled, seats_with}
 use Rattle.pay_node.specs.Nodes.{AreFresh, NodeFields, fresh_seat}
 use Rattle.pay_node.specs.Seats.{Right, SeatFields}
-use Rattle.pay_net.specs.Running.{HasServed}
+use Rattle.pay_net.specs.declared.receipts.Receipts.{Receipts}
+use Rattle.pay_net.specs.declared.receipts.Receipts.TheVariants.{BorneOut}
+use Rattle.pay_net.specs.Running.{HasServed, IsClosed}
 
 -- ---- the last seat
 
@@ -34,12 +36,12 @@ last_is_fresh count seats others desk fresh is =
     (subst (λ (all : List SeatFields). slice_get all (length others) ≡ Some desk) (sym is) (at_end others desk)) in
     some_same desk (fresh_seat (count - 1)) (sym here ∙ fresh.each (count - 1) (omega arith))
 
-pub served_well : (n : NodeFields) (old fresh new : SeatFields) (input left before after : Option (List ℕ)) (ended : Result Unit StreamFault) (done : Unit)
-    → old ≡ fresh → ended ≡ Ok done → HasServed n old new input left before after ended
-    → HasServed n fresh new input left before after (Ok tt)
-served_well n old fresh new input left before after ended done same well served =
-    subst (λ (e : Result Unit StreamFault). HasServed n fresh new input left before after e) well
-    (subst (λ (seat : SeatFields). HasServed n seat new input left before after ended) same served)
+pub served_well : (n : NodeFields) (kept : List Kept) (old fresh new : SeatFields) (input left before after : Option (List ℕ)) (ended : Result Unit StreamFault) (done : Unit)
+    → old ≡ fresh → ended ≡ Ok done → HasServed n kept old new input left before after ended
+    → HasServed n kept fresh new input left before after (Ok tt)
+served_well n kept old fresh new input left before after ended done same well served =
+    subst (λ (e : Result Unit StreamFault). HasServed n kept fresh new input left before after e) well
+    (subst (λ (seat : SeatFields). HasServed n kept seat new input left before after ended) same served)
 
 -- ---- a seat among those that are settled
 
@@ -53,22 +55,34 @@ only_one (y ∷ xs) x seat is =
 alone : (desk : SeatFields) → seats_with desk.stamp (desk ∷ []) ≡ desk ∷ []
 alone desk = rw (eq-eqb desk.stamp desk.stamp refl) refl
 
-by_stamp : (m : MemberFields) (count : ℕ) (others : List SeatFields) (desk : SeatFields) (b : Bool) → nat_lt desk.stamp count ≡ b
-    → AllSettled m count (others ++ desk ∷ []) → Right m desk
-by_stamp m count others desk true below settled =
+by_stamp : (m : MemberFields) (base count : ℕ) (others : List SeatFields) (desk : SeatFields) (b : Bool) → nat_lt desk.stamp count ≡ b
+    → AllSettled m base count (others ++ desk ∷ []) → Right m base desk
+by_stamp m base count others desk true below settled =
     let kept = (settled desk.stamp).own (ltb-true desk.stamp count below) in
     let parts = filter-append (λ (s : SeatFields). s.stamp == desk.stamp) others (desk ∷ []) in
     let two : seats_with desk.stamp others ++ desk ∷ [] ≡ kept.seat ∷ [] =
     sym (parts ∙ ap (λ (last : List SeatFields). seats_with desk.stamp others ++ last) (alone desk)) ∙ kept.one in
-    subst (Right m) (only_one (seats_with desk.stamp others) desk kept.seat two) kept.right
-by_stamp m count others desk false above settled =
+    subst (Right m base) (only_one (seats_with desk.stamp others) desk kept.seat two) kept.right
+by_stamp m base count others desk false above settled =
     let unused = (settled desk.stamp).other (ltb-false desk.stamp count above) in
     let n = length_push others desk in
     let strange = All-get_or (λ (s : SeatFields). s.stamp ≢ desk.stamp) (others ++ desk ∷ []) (length others) desk (omega arith) unused.unseated in
     absurd (strange (ap (λ (s : SeatFields). s.stamp) (get_or_at others desk [] desk (length others) refl)))
 
-pub right_at_end : (m : MemberFields) (count : ℕ) (seats others : List SeatFields) (desk : SeatFields)
-    → seats ≡ others ++ desk ∷ [] → AllSettled m count seats → Right m desk
-right_at_end m count seats others desk is settled =
-    by_stamp m count others desk (nat_lt desk.stamp count) refl
-    (subst (λ (all : List SeatFields). AllSettled m count all) is settled)
+pub right_at_end : (m : MemberFields) (base count : ℕ) (seats others : List SeatFields) (desk : SeatFields)
+    → seats ≡ others ++ desk ∷ [] → AllSettled m base count seats → Right m base desk
+right_at_end m base count seats others desk is settled =
+    by_stamp m base count others desk (nat_lt desk.stamp count) refl
+    (subst (λ (all : List SeatFields). AllSettled m base count all) is settled)
+
+-- the same end, of what is the same
+pub closed_so :
+    {E : Type 0} (r : Result (MemberFields × Receipts) E) (n node : NodeFields) (k kept : List Kept) (input left b before a after : Option (List ℕ))
+    → n ≡ node → k ≡ kept → b ≡ before → a ≡ after
+    → IfOk r (λ ended. ended.1 ≡ BorneOut → IsClosed n k ended.0 input left b a)
+    → IfOk r (λ ended. ended.1 ≡ BorneOut → IsClosed node kept ended.0 input left before after)
+closed_so r n node k kept input left b before a after same_node same_kept same_before same_after closed =
+    subst (λ (x : Option (List ℕ)). IfOk r (λ ended. ended.1 ≡ BorneOut → IsClosed node kept ended.0 input left before x)) same_after
+    (subst (λ (x : Option (List ℕ)). IfOk r (λ ended. ended.1 ≡ BorneOut → IsClosed node kept ended.0 input left x a)) same_before
+    (subst (λ (x : List Kept). IfOk r (λ ended. ended.1 ≡ BorneOut → IsClosed node x ended.0 input left b a)) same_kept
+    (subst (λ (x : NodeFields). IfOk r (λ ended. ended.1 ≡ BorneOut → IsClosed x k ended.0 input left b a)) same_node closed)))

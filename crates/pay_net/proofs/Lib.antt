@@ -1,2 +1,3 @@
 mod Few
 mod Desks
+pub mod Starts

@@ -1,11 +1,11 @@
-use crate::guests::{Admission, Guests};
+use crate::guests::{Entry, Guests};
 use pay_book::Settle;
 use pay_echo::Instance;
 use pay_hmac::Tagger;
 use pay_io::{Reader, Writer};
-use pay_node::{Node, Seat};
-use pay_peers::{Claim, Lookout, write_peer};
-use std::alloc::Global;
+use pay_kept::{Behind, Keeper};
+use pay_node::{Beginning, Node, Seat};
+use pay_peers::{Admission, NodeContext, Observer, PeerEvent, write_peer};
 use std::net::{TcpListener, TcpStream};
 use std::sync::atomic::{AtomicBool, Ordering};
 use std::sync::{Mutex, Wait};
@@ -23,7 +23,7 @@ const PAUSE_MILLIS: u64 = 10;
 /// How long it sleeps where a connection was given up, before it looks for its place.
 const LEAVE_MILLIS: u64 = 1;
 
-/// Who answers those that connect.
+/// Who answers those that connect. Its threads know of it that it may be shared.
 pub(crate) trait Host {
     /// The place of a connection among those that stand, if it may. Where all are taken, one is given up and its place
     /// waited for.
@@ -36,50 +36,59 @@ pub(crate) trait Host {
     fn turn_away<R: Wait>(&self, rt: &R, place: usize);
 }
 
-/// What those who answer WANTs share: the node, and a seat for each peer.
+/// What those share who answer WANTs: a seat for each peer, the connections that stand, and who has to have kept the
+/// history before a frame is written.
 #[derive(Drop)]
-pub(crate) struct Answering<'a, I: Instance + Drop, B: Settle + Drop, T, L> {
-    pub alloc: Global,
-    pub node: &'a Node<I, B>,
+pub(crate) struct Answering<'a, R, I: Instance + Drop, B: Settle + Drop, S: Beginning, T, K, O> {
+    pub context: &'a NodeContext<'a, R, I, B, S, T>,
+    pub keeper: &'a K,
     pub seats: &'a [(u16, Mutex<Seat>)],
-    pub tagger: &'a T,
     pub guests: &'a Guests,
-    pub lookout: &'a L,
+    pub observer: &'a O,
     pub stop: &'a AtomicBool,
 }
 
 /// Has the connection at a place be a peer's, who so was heard.
 #[derive(Drop)]
-struct Claiming<'a, I: Instance + Drop, B: Settle + Drop, L> {
-    node: &'a Node<I, B>,
+struct Claiming<'a, I: Instance + Drop, B: Settle + Drop, S: Beginning, O> {
+    node: &'a Node<I, B, S>,
     guests: &'a Guests,
-    lookout: &'a L,
+    observer: &'a O,
     place: usize,
 }
 
-impl<I: Instance + Drop, B: Settle + Drop, L: Lookout> Claim for Claiming<'_, I, B, L> {
-    fn claim<R: Wait>(&self, rt: &R, peer: u16) -> bool {
+impl<I, B, S, O> Admission for Claiming<'_, I, B, S, O>
+where
+    I: Instance + Drop,
+    B: Settle + Drop,
+    S: Beginning,
+    O: Observer<PeerEvent>,
+{
+    fn admit<R: Wait>(&self, rt: &R, peer: u16) -> bool {
         let stands = self.guests.claim(rt, self.node, self.place, peer);
         if stands {
-            self.lookout.heard(peer);
+            self.observer.observe(peer, PeerEvent::Heard);
         }
         stands
     }
 }
 
-impl<I, B, T, L> Host for Answering<'_, I, B, T, L>
+impl<H, I, B, S, T, K, O> Host for Answering<'_, H, I, B, S, T, K, O>
 where
     I: Instance + Drop,
     B: Settle + Drop,
+    S: Beginning,
+    H: Wait,
     T: Tagger,
-    L: Lookout,
+    K: Keeper,
+    O: Observer<PeerEvent>,
 {
     fn admit<R: Wait + Clock>(&self, rt: &R, stream: &TcpStream) -> Option<usize> {
         for _ in rt.forever() {
-            match self.guests.admit(rt, self.node, self.stop, stream) {
-                Admission::At(place) => return Some(place),
-                Admission::Refused => return None,
-                Admission::Full => {}
+            match self.guests.admit(rt, self.context.node, self.stop, stream) {
+                Entry::At(place) => return Some(place),
+                Entry::Refused => return None,
+                Entry::Full => {}
             }
             thread::sleep(rt, Duration::from_millis(LEAVE_MILLIS));
         }
@@ -90,21 +99,18 @@ where
         if let Some(leave) = self.guests.leave(place) {
             let _ = stream.set_nodelay(true);
             let mut reader = Reader::new(stream);
-            let mut writer = Writer::new(stream);
-            let claim = Claiming {
-                node: self.node,
+            let mut writer = Behind::new(rt, self.keeper, self.context.node, Writer::new(stream));
+            let claiming = Claiming {
+                node: self.context.node,
                 guests: self.guests,
-                lookout: self.lookout,
+                observer: self.observer,
                 place,
             };
             let _ = write_peer(
-                rt,
-                self.alloc,
-                self.node,
+                self.context,
                 self.seats,
-                self.tagger,
                 leave,
-                &claim,
+                &claiming,
                 &mut reader,
                 &mut writer,
             );

@@ -1,6 +1,6 @@
 use crate::contact::Contact;
-use crate::news::{News, Onlooker};
-use pay_peers::Lookout;
+use crate::news::News;
+use pay_peers::{Observer, PeerEvent};
 use std::alloc::{AllocError, Global};
 use std::sync::atomic::{AtomicBool, Ordering};
 use std::sync::{Mutex, Wait};
@@ -10,7 +10,7 @@ use std::time::{Clock, Instant};
 #[derive(Drop)]
 pub(crate) struct Contacts<'a, R, O> {
     rt: &'a R,
-    onlooker: &'a O,
+    observer: &'a O,
     stop: &'a AtomicBool,
     peers: Vec<Mutex<Heard>>,
 }
@@ -22,12 +22,12 @@ struct Heard {
     last: Option<Instant>,
 }
 
-impl<'a, R: Wait + Clock, O: Onlooker> Contacts<'a, R, O> {
+impl<'a, R: Wait + Clock, O: Observer<News>> Contacts<'a, R, O> {
     /// None of so many was heard.
     pub(crate) fn new(
         rt: &'a R,
         alloc: Global,
-        onlooker: &'a O,
+        observer: &'a O,
         stop: &'a AtomicBool,
         members: u16,
     ) -> Result<Contacts<'a, R, O>, AllocError> {
@@ -40,7 +40,7 @@ impl<'a, R: Wait + Clock, O: Onlooker> Contacts<'a, R, O> {
         }
         Ok(Contacts {
             rt,
-            onlooker,
+            observer,
             stop,
             peers,
         })
@@ -50,35 +50,27 @@ impl<'a, R: Wait + Clock, O: Onlooker> Contacts<'a, R, O> {
     fn tell(&self, peer: u16, news: Option<News>) {
         if let Some(news) = news {
             if !self.stop.load(Ordering::SeqCst) {
-                self.onlooker.see(peer, news);
+                self.observer.observe(peer, news);
             }
         }
     }
 }
 
-impl<R: Wait + Clock, O: Onlooker> Lookout for Contacts<'_, R, O> {
-    fn heard(&self, peer: u16) {
+impl<R: Wait + Clock, O: Observer<News>> Observer<PeerEvent> for Contacts<'_, R, O> {
+    fn observe(&self, peer: u16, event: PeerEvent) {
         if let Some(heard) = self.peers.get(usize::from(peer)) {
             let mut heard = heard.lock(self.rt);
-            heard.last = Instant::now(self.rt).ok();
-            let news = heard.contact.hear();
-            self.tell(peer, news);
-        }
-    }
-
-    fn missed(&self, peer: u16) {
-        if let Some(heard) = self.peers.get(usize::from(peer)) {
-            let mut heard = heard.lock(self.rt);
-            let silence = silence_since(self.rt, heard.last);
-            let news = heard.contact.miss(silence);
-            self.tell(peer, news);
-        }
-    }
-
-    fn gave_up(&self, peer: u16) {
-        if let Some(heard) = self.peers.get(usize::from(peer)) {
-            let mut heard = heard.lock(self.rt);
-            let news = heard.contact.give_up();
+            let news = match event {
+                PeerEvent::Heard => {
+                    heard.last = Instant::now(self.rt).ok();
+                    heard.contact.hear()
+                }
+                PeerEvent::Missed => {
+                    let silence = silence_since(self.rt, heard.last);
+                    heard.contact.miss(silence)
+                }
+                PeerEvent::GaveUp => heard.contact.give_up(),
+            };
             self.tell(peer, news);
         }
     }

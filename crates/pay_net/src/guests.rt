@@ -2,7 +2,7 @@ use crate::connections::{shut, shut_all};
 use crate::guest_list::GuestList;
 use pay_book::Settle;
 use pay_echo::Instance;
-use pay_node::Node;
+use pay_node::{Beginning, Node};
 use std::alloc::{AllocError, Global};
 use std::net::{Shutdown, TcpStream};
 use std::sync::atomic::{AtomicBool, Ordering};
@@ -20,7 +20,7 @@ pub(crate) struct Guests {
 
 /// What became of a connection that wants a place.
 #[derive(Clone, Copy)]
-pub(crate) enum Admission {
+pub(crate) enum Entry {
     At(usize),
     /// All places are taken. One is given up, if none was so far.
     Full,
@@ -54,49 +54,57 @@ impl Guests {
     /// Gives a connection a place, unless all are shut or will be.
     ///
     /// The flag to stop is set before all are shut: so what is kept after it was looked at here is shut with them.
-    pub(crate) fn admit<R, I, B>(
+    pub(crate) fn admit<R, I, B, S>(
         &self,
         rt: &R,
-        node: &Node<I, B>,
+        node: &Node<I, B, S>,
         stop: &AtomicBool,
         stream: &TcpStream,
-    ) -> Admission
+    ) -> Entry
     where
         R: Wait,
         I: Instance + Drop,
         B: Settle + Drop,
+        S: Beginning,
     {
         let Ok(clone) = stream.try_clone() else {
-            return Admission::Refused;
+            return Entry::Refused;
         };
         let mut room = self.room.lock(rt);
         if stop.load(Ordering::SeqCst) {
-            return Admission::Refused;
+            return Entry::Refused;
         }
         let Some(free) = room.streams.iter().position(|kept| kept.is_none()) else {
             if room.list.len() == room.streams.len() {
                 let place = room.list.make_place();
                 self.give_up(rt, node, &*room, place);
             }
-            return Admission::Full;
+            return Entry::Full;
         };
         if room.list.enter(free).is_err() {
-            return Admission::Refused;
+            return Entry::Refused;
         }
         if let (Some(kept), Some(leave)) = (room.streams.get_mut(free), self.leave.get(free)) {
             leave.store(false, Ordering::SeqCst);
             *kept = Some(clone);
         }
-        Admission::At(free)
+        Entry::At(free)
     }
 
     /// Has a connection be a peer's, for which that one's older one is given up where it has two already. Answers
     /// whether it still stands.
-    pub(crate) fn claim<R, I, B>(&self, rt: &R, node: &Node<I, B>, place: usize, peer: u16) -> bool
+    pub(crate) fn claim<R, I, B, S>(
+        &self,
+        rt: &R,
+        node: &Node<I, B, S>,
+        place: usize,
+        peer: u16,
+    ) -> bool
     where
         R: Wait,
         I: Instance + Drop,
         B: Settle + Drop,
+        S: Beginning,
     {
         let mut room = self.room.lock(rt);
         if !room.list.has(place) {
@@ -131,11 +139,12 @@ impl Guests {
     }
 
     // Ends whatever the thread of a connection waits for that stands no more: then it gives the place back.
-    fn give_up<R, I, B>(&self, rt: &R, node: &Node<I, B>, room: &Room, place: Option<usize>)
+    fn give_up<R, I, B, S>(&self, rt: &R, node: &Node<I, B, S>, room: &Room, place: Option<usize>)
     where
         R: Wait,
         I: Instance + Drop,
         B: Settle + Drop,
+        S: Beginning,
     {
         let Some(place) = place else {
             return;

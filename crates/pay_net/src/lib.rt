@@ -3,6 +3,7 @@
 #![tactic(auto)]
 
 mod accepting;
+mod config;
 mod connections;
 mod contact;
 mod contacts;
@@ -17,11 +18,14 @@ mod ports;
 mod ports_fault;
 mod receipts;
 mod running;
+mod start;
 
 pub use accepting::MOST_CONNECTIONS;
-pub use news::{News, Onlooker};
+pub use config::NodeConfig;
+pub use news::News;
 pub use node_fault::NodeFault;
 pub use ports::Ports;
 pub use ports_fault::PortsFault;
 pub use receipts::Receipts;
 pub use running::run_node;
+pub use start::{NodeStart, StartFault};

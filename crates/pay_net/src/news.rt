@@ -8,8 +8,3 @@ pub enum News {
     /// It was dialed for the last time.
     GivenUp,
 }
-
-/// Who is told how a node gets on with its peers.
-pub trait Onlooker {
-    fn see(&self, peer: u16, news: News);
-}

@@ -1,5 +1,6 @@
 ghost use Rattle.std.specs.Prelude.{◌≡◌, ◌≢◌, ◌+◌, ◌-◌, ◌*◌, ◌<◌, ◌++◌, ◌∷◌, ℕ, List, Option, []};
 ghost use Rattle.std.specs.Prelude.{Some, IfErr, IfOk, length, slice_get};
+ghost use Rattle.pay_desk.specs.declared.kept.Kept.{Kept};
 ghost use Rattle.pay_desk.specs.Desk.{WritesAnswers};
 ghost use Rattle.pay_node.specs.Nodes.{AreFresh, IsOwn};
 ghost use Rattle.pay_node.specs.Seats.{SeatFields};
@@ -10,24 +11,27 @@ ghost use Rattle.pay_net.specs.declared.node_fault.NodeFault.TheVariants.{Close}
 ghost use Rattle.pay_net.specs.Running.{HasRun, HasServed, IsClosed, NamesPort, desk_from, node_of};
 
 use crate::accepting::{Answering, MOST_CONNECTIONS, accept_all};
+use crate::config::NodeConfig;
 use crate::connections::Connections;
 use crate::contacts::Contacts;
 use crate::dialing::Dialer;
 use crate::guests::Guests;
 use crate::listening::Listening;
-use crate::news::Onlooker;
+use crate::news::News;
 use crate::node_fault::NodeFault;
-use crate::ports::Ports;
 use crate::receipts::Receipts;
+use crate::start::NodeStart;
 use pay_book::Settle;
-use pay_desk::{Desk, run_desk};
+use pay_desk::{Desk, KeptValues, run_desk};
 use pay_echo::Instance;
 use pay_hmac::Tagger;
 use pay_io::{Input, Output, StreamFault};
+use pay_kept::{Behind, Keeper};
 use pay_member::Member;
-use pay_node::{CloseFault, Node, OpenGate, Seat};
-use pay_peers::{Ahead, Asking, Dials, NodeTeller, run_readers};
+use pay_node::{Beginning, CloseFault, Node, OpenGate, Seat};
+use pay_peers::{Asking, NodeContext, NodeTeller, Observer, run_readers};
 use std::alloc::{AllocError, Global};
+use std::marker::Brand;
 use std::net::{Net, TcpListener, TcpStream};
 use std::sync::atomic::{AtomicBool, Ordering};
 use std::sync::{Mutex, Wait};
@@ -47,14 +51,9 @@ struct Seats {
 
 /// What the threads of a node share.
 #[derive(Drop)]
-struct Running<'a, H, I: Instance + Drop, B: Settle + Drop, T, O> {
-    rt: &'a H,
-    alloc: Global,
-    node: &'a Node<I, B>,
-    tagger: &'a T,
-    ports: &'a Ports,
-    dials: Dials,
-    ahead: Ahead,
+struct Running<'a, H, I: Instance + Drop, B: Settle + Drop, S: Beginning, T, O, K> {
+    context: &'a NodeContext<'a, H, I, B, S, T>,
+    config: &'a NodeConfig<'a, O, K>,
     listening: &'a Listening,
     dialed: &'a Connections,
     guests: &'a Guests,
@@ -64,101 +63,137 @@ struct Running<'a, H, I: Instance + Drop, B: Settle + Drop, T, O> {
 
 /// Runs a member as a node among its peers until the input of its desk ends, and hands the member back, with whether
 /// its history was held against all that was told from the seats: memory may be refused for that, and the member is
-/// not to be lost then.
+/// not to be lost then. The desk goes on with what is kept of the member's payments.
 ///
-/// It listens on its own port, which the fault `Port` names where it can't be had, and dials those of all others, as
-/// often as `dials` says, with as many of their frames asked for as `ahead` says. The onlooker is told which peers are
-/// met, lost and given up. A fault of the desk ends it too, and is answered.
-pub fn run_node<H, I, B, T, O, In, Out>(
+/// It listens on its own port, which the fault `Port` names where it can't be had, and dials those of all others. A
+/// fault of the desk ends it too, and is answered. Nothing that follows from the history leaves the node before its
+/// keeper has kept that: where it can't, writes fail, and so does the end.
+pub fn run_node<H, I, B, T, O, K, In, Out>(
     rt: &H,
     alloc: Global,
-    member: Member<I, B>,
+    start: NodeStart<I, B>,
     tagger: &T,
-    ports: &Ports,
-    dials: Dials,
-    ahead: Ahead,
-    onlooker: &O,
+    config: &NodeConfig<'_, O, K>,
     reader: &mut In,
-    writer: &mut Out,
-) -> Result<(Member<I, B>, Receipts), NodeFault>
+    writer: Out,
+) -> (Result<(Member<I, B>, Receipts), NodeFault>, Out)
 where
     H: Threads + Wait + Clock + Net<Listener = TcpListener, Stream = TcpStream> + Sync,
     I: Instance + Drop + Send,
     B: Settle + Drop + Send,
     T: Tagger + Sync,
-    O: Onlooker + Sync,
+    O: Observer<News> + Sync,
+    K: Keeper + Sync,
     In: Input,
     Out: Output,
-    requires fresh { member.history ≡ [] }
-    requires ports { length ports.now ≡ length member.keys.keys }
-    ensures own { IfOk result (λ ended. IsOwn (node_of member) ended.0) }
-    ensures closed { IfOk result (λ ended. ended.1 ≡ BorneOut → IsClosed (node_of member) ended.0
+    requires ports { length config.now.ports.now ≡ length start.member.keys.keys }
+    ensures own { IfOk result.0 (λ ended. IsOwn (node_of start.member) ended.0) }
+    ensures closed { IfOk result.0 (λ ended. ended.1 ≡ BorneOut
+        → IsClosed (node_of start.member) start.kept ended.0
         (In.remaining reader.old) (In.remaining reader.new)
-        (Out.contents writer.old) (Out.contents writer.new)) }
-    ensures port { IfErr result (λ fault. (port : ℕ) → NamesPort fault port
-        → slice_get ports.now member.keys.own ≡ Some port) }
-    ensures kept { IfErr result (λ fault. fault ≢ Close Memory) }
+        (Out.contents writer) (Out.contents result.1)) }
+    ensures durable { IfOk result.0 (λ _. K.kept config.now.keeper.now (node_of start.member)) }
+    ensures port { IfErr result.0 (λ fault. (port : ℕ) → NamesPort fault port
+        → slice_get config.now.ports.now start.member.keys.own ≡ Some port) }
+    ensures kept { IfErr result.0 (λ fault. fault ≢ Close Memory) }
 {
-    let port = ports.port(member.keys().own());
-    let Ok(listening) = Listening::on(rt, port) else {
-        return Err(NodeFault::Port(port));
-    };
-    run_listening(
-        rt, alloc, member, tagger, ports, dials, ahead, onlooker, &listening, reader, writer,
-    )
+    run_begun::<H, I, B, Brand, T, O, K, In, Out>(rt, alloc, start, tagger, config, reader, writer)
 }
 
-// The same on a port that it has.
-fn run_listening<H, I, B, T, O, In, Out>(
+// The same, where the history that the node begins with is a type's.
+fn run_begun<H, I, B, S, T, O, K, In, Out>(
     rt: &H,
     alloc: Global,
-    member: Member<I, B>,
+    start: NodeStart<I, B>,
     tagger: &T,
-    ports: &Ports,
-    dials: Dials,
-    ahead: Ahead,
-    onlooker: &O,
-    listening: &Listening,
+    config: &NodeConfig<'_, O, K>,
     reader: &mut In,
-    writer: &mut Out,
-) -> Result<(Member<I, B>, Receipts), NodeFault>
+    writer: Out,
+) -> (Result<(Member<I, B>, Receipts), NodeFault>, Out)
 where
     H: Threads + Wait + Clock + Net<Listener = TcpListener, Stream = TcpStream> + Sync,
     I: Instance + Drop + Send,
     B: Settle + Drop + Send,
+    S: Beginning + Send + Sync,
     T: Tagger + Sync,
-    O: Onlooker + Sync,
+    O: Observer<News> + Sync,
+    K: Keeper + Sync,
     In: Input,
     Out: Output,
-    requires fresh { member.history ≡ [] }
-    ensures own { IfOk result (λ ended. IsOwn (node_of member) ended.0) }
-    ensures closed { IfOk result (λ ended. ended.1 ≡ BorneOut → IsClosed (node_of member) ended.0
+    requires beginning { start.member.history ≡ S.beginning }
+    requires ports { length config.now.ports.now ≡ length start.member.keys.keys }
+    ensures own { IfOk result.0 (λ ended. IsOwn (node_of start.member) ended.0) }
+    ensures closed { IfOk result.0 (λ ended. ended.1 ≡ BorneOut
+        → IsClosed (node_of start.member) start.kept ended.0
         (In.remaining reader.old) (In.remaining reader.new)
-        (Out.contents writer.old) (Out.contents writer.new)) }
-    ensures port { IfErr result (λ fault. (port : ℕ) → NamesPort fault port → ⊥) }
-    ensures kept { IfErr result (λ fault. fault ≢ Close Memory) }
+        (Out.contents writer) (Out.contents result.1)) }
+    ensures durable { IfOk result.0 (λ _. K.kept config.now.keeper.now (node_of start.member)) }
+    ensures port { IfErr result.0 (λ fault. (port : ℕ) → NamesPort fault port
+        → slice_get config.now.ports.now start.member.keys.own ≡ Some port) }
+    ensures kept { IfErr result.0 (λ fault. fault ≢ Close Memory) }
 {
+    let (member, kept) = start.into_parts();
     let members = member.keys().members();
-    let Ok((node, seats)) = Node::new(alloc, member, 2 * members - 1) else {
-        return Err(NodeFault::Engine(StreamFault::Memory));
+    let port = config.ports.port(member.keys().own());
+    let Ok(listening) = Listening::on(rt, port) else {
+        return (Err(NodeFault::Port(port)), writer);
     };
-    let seats = run_threads(
-        rt, alloc, &node, tagger, ports, dials, ahead, onlooker, listening, seats, reader, writer,
-    )?;
+    let Ok((node, seats)) = Node::<I, B, S>::new(alloc, member, 2 * members - 1) else {
+        return (Err(NodeFault::Engine(StreamFault::Memory)), writer);
+    };
+    let context = NodeContext {
+        rt,
+        alloc,
+        node: &node,
+        tagger,
+    };
+    let mut gated = Behind::new(rt, config.keeper, &node, writer);
+    let ran = run_threads(
+        &context, config, &listening, kept, seats, reader, &mut gated,
+    );
+    let writer = gated.into_inner();
+    let ended = finish(rt, alloc, config.keeper, node, ran);
+    (ended, writer)
+}
+
+// What is left of a node whose threads ended so: its history is kept once more, and then held against its seats.
+fn finish<R, I, B, S, K>(
+    rt: &R,
+    alloc: Global,
+    keeper: &K,
+    node: Node<I, B, S>,
+    ran: Result<Vec<Seat>, NodeFault>,
+) -> Result<(Member<I, B>, Receipts), NodeFault>
+where
+    R: Wait,
+    I: Instance + Drop,
+    B: Settle + Drop,
+    S: Beginning,
+    K: Keeper,
+    ensures own { IfOk result (λ ended. IsOwn node ended.0) }
+    ensures closed { (kept : List Kept) (input left before after : Option (List ℕ))
+        → IfOk ran (λ seats. HasRun node kept seats.items input left before after)
+        → IfOk result (λ ended. ended.1 ≡ BorneOut
+        → IsClosed node kept ended.0 input left before after) }
+    ensures durable { IfOk result (λ _. K.kept keeper.now node) }
+    ensures port { IfErr ran (λ fault. (port : ℕ) → NamesPort fault port → ⊥)
+        → IfErr result (λ fault. (port : ℕ) → NamesPort fault port → ⊥) }
+    ensures kept { IfErr ran (λ fault. fault ≢ Close Memory)
+        → IfErr result (λ fault. fault ≢ Close Memory) }
+{
+    let seats = ran?;
+    if !keeper.keep(rt, &node) {
+        return Err(NodeFault::Engine(StreamFault::Write));
+    }
     closed(alloc, node, seats.as_slice())
 }
 
 // Runs the threads of a node until the input of its desk ends, and hands all seats back.
-fn run_threads<H, I, B, T, O, In, Out>(
-    rt: &H,
-    alloc: Global,
-    node: &Node<I, B>,
-    tagger: &T,
-    ports: &Ports,
-    dials: Dials,
-    ahead: Ahead,
-    onlooker: &O,
+fn run_threads<H, I, B, S, T, O, K, In, Out>(
+    context: &NodeContext<'_, H, I, B, S, T>,
+    config: &NodeConfig<'_, O, K>,
     listening: &Listening,
+    kept: KeptValues,
     seats: Vec<Seat>,
     reader: &mut In,
     writer: &mut Out,
@@ -167,52 +202,50 @@ where
     H: Threads + Wait + Clock + Net<Listener = TcpListener, Stream = TcpStream> + Sync,
     I: Instance + Drop + Send,
     B: Settle + Drop + Send,
+    S: Beginning + Send + Sync,
     T: Tagger + Sync,
-    O: Onlooker + Sync,
+    O: Observer<News> + Sync,
+    K: Keeper + Sync,
     In: Input,
     Out: Output,
-    requires fresh { AreFresh node.now.seats seats.items }
-    requires count { node.now.seats + 1 ≡ 2 * length node.now.keys.keys }
-    ensures ran { IfOk result (λ seats. HasRun node.now seats.items
+    requires fresh { AreFresh context.now.node.now.seats seats.items }
+    requires count { context.now.node.now.seats + 1 ≡ 2 * length context.now.node.now.keys.keys }
+    ensures ran { IfOk result (λ seats. HasRun context.now.node.now kept seats.items
         (In.remaining reader.old) (In.remaining reader.new)
         (Out.contents writer.old) (Out.contents writer.new)) }
     ensures port { IfErr result (λ fault. (port : ℕ) → NamesPort fault port → ⊥) }
     ensures kept { IfErr result (λ fault. fault ≢ Close Memory) }
 {
-    let members = node.keys().members();
+    let NodeContext { rt, alloc, .. } = *context;
+    let members = context.node.keys().members();
     let dialed = Connections::new(alloc, members)?;
     let guests = Guests::new(alloc, MOST_CONNECTIONS)?;
     let stop = AtomicBool::new(false);
-    let contacts = Contacts::new(rt, alloc, onlooker, &stop, members)?;
+    let contacts = Contacts::new(rt, alloc, config.observer, &stop, members)?;
     let running = Running {
-        rt,
-        alloc,
-        node,
-        tagger,
-        ports,
-        dials,
-        ahead,
+        context,
+        config,
         listening,
         dialed: &dialed,
         guests: &guests,
         contacts: &contacts,
         stop: &stop,
     };
-    running.run_all(seats, reader, writer)
+    running.run_all(kept, seats, reader, writer)
 }
 
 // The member of a node that no thread calls any more, if it is the node's own and no receipt was found that it doesn't
 // bear out.
-fn closed<I: Instance + Drop, B: Settle + Drop>(
+fn closed<I: Instance + Drop, B: Settle + Drop, S: Beginning>(
     alloc: Global,
-    node: Node<I, B>,
+    node: Node<I, B, S>,
     seats: &[Seat],
 ) -> Result<(Member<I, B>, Receipts), NodeFault>
     ensures own { IfOk result (λ ended. IsOwn node ended.0) }
-    ensures closed { (input left before after : Option (List ℕ))
-        → HasRun node seats.now input left before after
+    ensures closed { (kept : List Kept) (input left before after : Option (List ℕ))
+        → HasRun node kept seats.now input left before after
         → IfOk result (λ ended. ended.1 ≡ BorneOut
-        → IsClosed node ended.0 input left before after) }
+        → IsClosed node kept ended.0 input left before after) }
     ensures port { IfErr result (λ fault. (port : ℕ) → NamesPort fault port → ⊥) }
     ensures kept { IfErr result (λ fault. fault ≢ Close Memory) }
 {
@@ -223,32 +256,36 @@ fn closed<I: Instance + Drop, B: Settle + Drop>(
     }
 }
 
-impl<'a, H, I, B, T, O> Running<'a, H, I, B, T, O>
+impl<'a, H, I, B, S, T, O, K> Running<'a, H, I, B, S, T, O, K>
 where
     H: Threads + Wait + Clock + Net<Listener = TcpListener, Stream = TcpStream> + Sync,
     I: Instance + Drop + Send,
     B: Settle + Drop + Send,
+    S: Beginning + Send + Sync,
     T: Tagger + Sync,
-    O: Onlooker + Sync,
+    O: Observer<News> + Sync,
+    K: Keeper + Sync,
 {
     // Gives each thread its seats, runs them, and hands all seats back.
     fn run_all<In: Input, Out: Output>(
         &self,
+        kept: KeptValues,
         seats: Vec<Seat>,
         reader: &mut In,
         writer: &mut Out,
     ) -> Result<Vec<Seat>, NodeFault>
-        requires fresh { AreFresh self.now.node.now.seats seats.items }
-        requires count { self.now.node.now.seats + 1 ≡ 2 * length self.now.node.now.keys.keys }
-        ensures ran { IfOk result (λ seats. HasRun self.now.node.now seats.items
+        requires fresh { AreFresh self.now.context.now.node.now.seats seats.items }
+        requires count { self.now.context.now.node.now.seats + 1
+            ≡ 2 * length self.now.context.now.node.now.keys.keys }
+        ensures ran { IfOk result (λ seats. HasRun self.now.context.now.node.now kept seats.items
             (In.remaining reader.old) (In.remaining reader.new)
             (Out.contents writer.old) (Out.contents writer.new)) }
         ensures port { IfErr result (λ fault. (port : ℕ) → NamesPort fault port → ⊥) }
         ensures kept { IfErr result (λ fault. fault ≢ Close Memory) }
     {
-        let keys = self.node.keys();
-        let seats = seated(self.alloc, keys.own(), keys.members(), seats)?;
-        let (seats, ended) = self.run(seats, reader, writer);
+        let keys = self.context.node.keys();
+        let seats = seated(self.context.alloc, keys.own(), keys.members(), seats)?;
+        let (seats, ended) = self.run(kept, seats, reader, writer);
         ended?;
         Ok(gathered(seats)?)
     }
@@ -256,11 +293,12 @@ where
     // Answers the lines of the desk while the workers run. Where no thread can be made they run last, and end at once.
     fn run<In: Input, Out: Output>(
         &self,
+        kept: KeptValues,
         seats: Seats,
         reader: &mut In,
         writer: &mut Out,
     ) -> (Seats, Result<(), StreamFault>)
-        ensures { HasServed self.now.node.now seats.desk result.0.desk
+        ensures { HasServed self.now.context.now.node.now kept seats.desk result.0.desk
             (In.remaining reader.old) (In.remaining reader.new)
             (Out.contents writer.old) (Out.contents writer.new) result.1 }
     {
@@ -270,9 +308,9 @@ where
             desk,
             left,
         } = seats;
-        let mut desk = self.desk(desk);
+        let mut desk = self.desk(kept, desk);
         let (_, ended) = thread::join_mut(
-            self.rt,
+            self.context.rt,
             &mut || self.work(&mut readers, writers.as_slice()),
             &mut || self.answer_lines(&mut desk, reader, writer),
         );
@@ -288,7 +326,7 @@ where
     // Reads from all peers and answers those who connect, until told to stop.
     fn work(&self, readers: &mut Vec<(u16, Asking)>, writers: &[(u16, Mutex<Seat>)]) {
         thread::join(
-            self.rt,
+            self.context.rt,
             || self.write(writers),
             || self.read(readers.as_mut_slice()),
         );
@@ -297,21 +335,18 @@ where
     // Reads from all peers, each in a thread of its own.
     fn read(&self, readers: &mut [(u16, Asking)]) {
         let dialer = Dialer {
-            rt: self.rt,
-            ports: self.ports,
+            rt: self.context.rt,
+            ports: self.config.ports,
             dialed: self.dialed,
             stop: self.stop,
         };
         run_readers(
-            self.rt,
-            self.alloc,
-            self.node,
-            self.tagger,
+            self.context,
             &OpenGate,
             &dialer,
             self.contacts,
-            self.dials,
-            self.ahead,
+            self.config.dials,
+            self.config.ahead,
             readers,
         );
     }
@@ -319,38 +354,47 @@ where
     // Answers those who connect, each in a thread of its own.
     fn write(&self, seats: &[(u16, Mutex<Seat>)]) {
         let answering = Answering {
-            alloc: self.alloc,
-            node: self.node,
+            context: self.context,
+            keeper: self.config.keeper,
             seats,
-            tagger: self.tagger,
             guests: self.guests,
-            lookout: self.contacts,
+            observer: self.contacts,
             stop: self.stop,
         };
-        accept_all(self.rt, &answering, self.stop, &self.listening.listener);
+        accept_all(
+            self.context.rt,
+            &answering,
+            self.stop,
+            &self.listening.listener,
+        );
     }
 }
 
 // The desk's thread is the caller's own, so nothing that it calls asks what another thread may have.
-impl<'a, H, I, B, T, O> Running<'a, H, I, B, T, O>
+impl<'a, H, I, B, S, T, O, K> Running<'a, H, I, B, S, T, O, K>
 where
     H: Wait,
     I: Instance + Drop,
     B: Settle + Drop,
+    S: Beginning,
+    K: Keeper,
 {
-    // A desk over the node, which calls it from this seat.
-    fn desk(&self, seat: Seat) -> Desk<NodeTeller<'a, H, I, B>>
-        ensures { result ≡ desk_from self.now.node.now seat }
+    // A desk over the node, which calls it from this seat and goes on with what is kept.
+    fn desk(&self, kept: KeptValues, seat: Seat) -> Desk<NodeTeller<'a, H, I, B, S, K>>
+        ensures { result ≡ desk_from self.now.context.now.node.now kept seat }
     {
-        let keys = self.node.keys();
-        let teller = NodeTeller::new(self.rt, self.node, seat);
-        Desk::new(self.alloc, teller, keys.members(), keys.own())
+        let NodeContext { rt, node, .. } = *self.context;
+        let keys = node.keys();
+        // a member asks for fewer values than there are numbers
+        let next = u32::try_from(kept.len()).unwrap_or(u32::MAX);
+        let teller = NodeTeller::new(rt, node, self.config.keeper, seat, next);
+        Desk::with_kept(teller, keys.members(), keys.own(), kept)
     }
 
     // Answers the lines of the desk, and then stops the workers.
     fn answer_lines<In: Input, Out: Output>(
         &self,
-        desk: &mut Desk<NodeTeller<'a, H, I, B>>,
+        desk: &mut Desk<NodeTeller<'a, H, I, B, S, K>>,
         reader: &mut In,
         writer: &mut Out,
     ) -> Result<(), StreamFault>
@@ -358,7 +402,7 @@ where
             (In.remaining reader.old) (In.remaining reader.new)
             (Out.contents writer.old) (Out.contents writer.new) result }
     {
-        let ended = run_desk(self.alloc, desk, reader, writer);
+        let ended = run_desk(self.context.alloc, desk, reader, writer);
         self.stop_workers();
         ended
     }
@@ -367,10 +411,11 @@ where
     fn stop_workers(&self) {
         self.stop.store(true, Ordering::SeqCst);
         self.listening.shut();
-        self.dialed.shut_all(self.rt);
-        self.guests.shut_all(self.rt);
+        let rt = self.context.rt;
+        self.dialed.shut_all(rt);
+        self.guests.shut_all(rt);
         for leave in self.guests.all_leave() {
-            self.node.stop_waiting(self.rt, leave);
+            self.context.node.stop_waiting(rt, leave);
         }
     }
 }

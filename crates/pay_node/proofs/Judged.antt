@@ -10,7 +10,7 @@ use Rattle.pay_member.specs.Member.{MemberFields}
 use Rattle.pay_node.specs.declared.receipt.Receipt.{Receipt}
 use Rattle.pay_node.specs.Receipts.{IsBorneOut, entries_after}
 use Rattle.pay_node.specs.Judging.{AreBorneOut, IsNextBorneOut}
-use Rattle.pay_node.specs.Seats.{SeatFields, Right, entries_told, entries_under}
+use Rattle.pay_node.specs.Seats.{SeatFields, Right, entries_told, entries_under, since}
 use Rattle.pay_node.proofs.Rights.{borne_out_bound}
 
 -- ---- pairs
@@ -57,6 +57,21 @@ ordered_on rs i least after r pairs before below is left ahead =
           (cases_eq k i)),
     )
 
+-- none saw less than a base, as the first didn't
+pub since_on :
+    (rs : List Receipt) (i base least after : ℕ) (r : Receipt) → base ≤ least → ((k : ℕ) (d : Receipt) → k < i → base ≤ (get_or rs k d).seen)
+    → i < length rs → r ≡ get_or rs i r → after ≡ entries_after r → least ≤ r.seen
+    → (base ≤ after) × ((k : ℕ) (d : Receipt) → k < i + 1 → base ≤ (get_or rs k d).seen)
+since_on rs i base least after r far before below is left ahead =
+    let first = seen_first r in (
+      omega (arith, left),
+      (λ k d within. ⊎_elim
+          (λ same. (let last : get_or rs k d ≡ r = ap (λ n. get_or rs n d) same ∙ get_or_default rs i d r below ∙ sym is in
+          subst (λ (x : Receipt). base ≤ x.seen) (sym last) (omega arith)))
+          (λ other. before k d (omega arith))
+          (cases_eq k i)),
+    )
+
 -- receipts that are borne out in order, the first behind so many entries
 record AreInOrder (m : MemberFields) (stamp least : ℕ) (rs : List Receipt) : Type 0 where
   ahead : All (λ (r : Receipt). least ≤ r.seen) rs
@@ -89,10 +104,13 @@ in_order_to m stamp least (r ∷ rs) are = (
   }),
 )
 
-pub right_is : (m : MemberFields) (seat : SeatFields) → entries_under seat.stamp m ≡ entries_told seat → AreBorneOut m seat.stamp 0 seat.receipts ↔ Right m seat
-right_is m seat counted = (
-  (λ are. (let all = in_order_from m seat.stamp 0 seat.receipts are in record { counted = counted; each = all.each; ordered = all.ordered })),
-  (λ right. in_order_to m seat.stamp 0 seat.receipts (record { ahead = (λ k d within. omega arith); each = right.each; ordered = right.ordered })),
+pub right_is : (m : MemberFields) (base : ℕ) (seat : SeatFields) → entries_under seat.stamp (since base m) ≡ entries_told seat
+    → AreBorneOut m seat.stamp base seat.receipts ↔ Right m base seat
+right_is m base seat counted = (
+  (λ are. (let all = in_order_from m seat.stamp base seat.receipts are in
+      record { counted = counted; each = λ k d within. (all.ahead k d within, all.each k d within); ordered = all.ordered })),
+  (λ right. in_order_to m seat.stamp base seat.receipts
+      (record { ahead = λ k d within. (right.each k d within).0; each = λ k d within. (right.each k d within).1; ordered = right.ordered })),
 )
 
 -- ---- the judge's steps
@@ -101,14 +119,14 @@ abbrev taken_to : MemberFields → List HistoryEntry → ℕ → MemberFields
 taken_to first h n = record first { history = take n h }
 
 pub judged_on :
-    (first was now : MemberFields) (h : List HistoryEntry) (stamp : ℕ) (rs : List Receipt) (i : ℕ) (r : Receipt)
+    (first was now : MemberFields) (h : List HistoryEntry) (stamp least : ℕ) (rs : List Receipt) (i : ℕ) (r : Receipt)
     → was ≡ record first { history = take (length was.history) h }
-    → AreBorneOut (record first { history = h }) stamp 0 rs ↔ AreBorneOut (record first { history = h }) stamp (length was.history) (drop i rs)
+    → AreBorneOut (record first { history = h }) stamp least rs ↔ AreBorneOut (record first { history = h }) stamp (length was.history) (drop i rs)
     → i < length rs → r ≡ get_or rs i r
     → IsNextBorneOut (record was { history = h }) stamp (length was.history) r → now ≡ record was { history = take (entries_after r) h }
     → (now ≡ record first { history = take (length now.history) h })
-    × (AreBorneOut (record first { history = h }) stamp 0 rs ↔ AreBorneOut (record first { history = h }) stamp (length now.history) (drop (i + 1) rs))
-judged_on first was now h stamp rs i r at before below here next after =
+    × (AreBorneOut (record first { history = h }) stamp least rs ↔ AreBorneOut (record first { history = h }) stamp (length now.history) (drop (i + 1) rs))
+judged_on first was now h stamp least rs i r at before below here next after =
     let m : MemberFields = record first { history = h } in
     let same : ◌≡◌ {A = MemberFields} (record was { history = h }) m = ap (λ (x : MemberFields). record x { history = h }) at in
     let borne : IsNextBorneOut m stamp (length was.history) r = subst (λ x. IsNextBorneOut x stamp (length was.history) r) same next in
@@ -116,32 +134,38 @@ judged_on first was now h stamp rs i r at before below here next after =
     let long : length now.history ≡ entries_after r = ap (λ (x : MemberFields). length x.history) after ∙ length-take-le (entries_after r) h bound in
     let place : now ≡ record first { history = take (entries_after r) h } = after ∙ ap (λ (x : MemberFields). record x { history = take (entries_after r) h }) at in
     let there : drop i rs ≡ r ∷ drop (i + 1) rs = drop_more rs i r below ∙ ap (λ x. x ∷ drop (i + 1) rs) (sym here) in
-    let step : AreBorneOut m stamp 0 rs ↔ AreBorneOut m stamp (entries_after r) (drop (i + 1) rs) = (
+    let step : AreBorneOut m stamp least rs ↔ AreBorneOut m stamp (entries_after r) (drop (i + 1) rs) = (
       (λ all. (subst (AreBorneOut m stamp (length was.history)) there (before.0 all)).1),
       (λ rest. before.1 (subst (AreBorneOut m stamp (length was.history)) (sym there) (borne, rest))),
     ) in (
       place ∙ ap (λ n. taken_to first h n) (sym long),
-      subst (λ n. AreBorneOut m stamp 0 rs ↔ AreBorneOut m stamp n (drop (i + 1) rs)) (sym long) step,
+      subst (λ n. AreBorneOut m stamp least rs ↔ AreBorneOut m stamp n (drop (i + 1) rs)) (sym long) step,
     )
 
-pub not_counted : (m : MemberFields) (seat : SeatFields) (a b : ℕ) → a ≡ entries_under seat.stamp m → b ≡ entries_told seat → a ≢ b → IsTrue false ↔ Right m seat
-not_counted m seat a b under told other = ((λ is. absurd (search rules)), (λ right. absurd (other (under ∙ right.counted ∙ sym told))))
+pub not_counted :
+    (m : MemberFields) (base : ℕ) (seat : SeatFields) (a b : ℕ) → a ≡ entries_under seat.stamp (since base m) → b ≡ entries_told seat → a ≢ b
+    → IsTrue false ↔ Right m base seat
+not_counted m base seat a b under told other = ((λ is. absurd (search rules)), (λ right. absurd (other (under ∙ right.counted ∙ sym told))))
 
 pub judged_so :
-    {E : Type 0} (m : MemberFields) (seat : SeatFields) (answer : Result Bool E) → entries_under seat.stamp m ≡ entries_told seat
-    → IfOk answer (λ says. IsTrue says ↔ AreBorneOut m seat.stamp 0 seat.receipts)
-    → IfOk answer (λ says. IsTrue says ↔ Right m seat)
-judged_so m seat (Ok says) counted is =
-    let law = right_is m seat counted in ((λ yes. law.0 (is.0 yes)), (λ right. is.1 (law.1 right)))
-judged_so m seat (Err error) counted is = tt
+    {E : Type 0} (m : MemberFields) (base : ℕ) (seat : SeatFields) (answer : Result Bool E) → entries_under seat.stamp (since base m) ≡ entries_told seat
+    → IfOk answer (λ says. IsTrue says ↔ AreBorneOut m seat.stamp base seat.receipts)
+    → IfOk answer (λ says. IsTrue says ↔ Right m base seat)
+judged_so m base seat (Ok says) counted is =
+    let law = right_is m base seat counted in ((λ yes. law.0 (is.0 yes)), (λ right. is.1 (law.1 right)))
+judged_so m base seat (Err error) counted is = tt
 
 pub judged_there :
-    {E : Type 0} (m fresh : MemberFields) (h : List HistoryEntry) (seat : SeatFields) (stamp : ℕ) (rs : List Receipt) (answer : Result Bool E)
-    → fresh ≡ record m { history = [] } → h ≡ m.history → stamp ≡ seat.stamp → rs ≡ seat.receipts
-    → IfOk answer (λ says. IsTrue says ↔ AreBorneOut (record fresh { history = h }) stamp 0 rs)
-    → IfOk answer (λ says. IsTrue says ↔ AreBorneOut m seat.stamp 0 seat.receipts)
-judged_there m fresh h seat stamp rs answer begun at under of is =
-    let same : ◌≡◌ {A = MemberFields} (record fresh { history = h }) m = ap (λ (x : MemberFields). record x { history = h }) begun ∙ ap (λ (l : List HistoryEntry). record m { history = l }) at in
-    subst (λ x. IfOk answer (λ says. IsTrue says ↔ AreBorneOut x seat.stamp 0 seat.receipts)) same
-    (subst (λ n. IfOk answer (λ says. IsTrue says ↔ AreBorneOut (record fresh { history = h }) n 0 seat.receipts)) under
-    (subst (λ l. IfOk answer (λ says. IsTrue says ↔ AreBorneOut (record fresh { history = h }) stamp 0 l)) of is))
+    {E : Type 0} (m fresh begun : MemberFields) (base : ℕ) (h : List HistoryEntry) (seat : SeatFields) (stamp : ℕ) (rs : List Receipt) (answer : Result Bool E)
+    → fresh ≡ record m { history = [] } → begun ≡ record fresh { history = take base h } → base ≤ length h
+    → h ≡ m.history → stamp ≡ seat.stamp → rs ≡ seat.receipts
+    → IfOk answer (λ says. IsTrue says ↔ AreBorneOut (record begun { history = h }) stamp (length begun.history) rs)
+    → IfOk answer (λ says. IsTrue says ↔ AreBorneOut m seat.stamp base seat.receipts)
+judged_there m fresh begun base h seat stamp rs answer none taken within at under of is =
+    let whole : MemberFields → MemberFields = λ x. record x { history = h } in
+    let same : whole begun ≡ m = ap whole taken ∙ ap whole none ∙ ap (λ (l : List HistoryEntry). record m { history = l }) at in
+    let long : length begun.history ≡ base = ap (λ (x : MemberFields). length x.history) taken ∙ length-take-le base h within in
+    subst (λ x. IfOk answer (λ says. IsTrue says ↔ AreBorneOut x seat.stamp base seat.receipts)) same
+    (subst (λ n. IfOk answer (λ says. IsTrue says ↔ AreBorneOut (whole begun) n base seat.receipts)) under
+    (subst (λ n. IfOk answer (λ says. IsTrue says ↔ AreBorneOut (whole begun) stamp n seat.receipts)) long
+    (subst (λ l. IfOk answer (λ says. IsTrue says ↔ AreBorneOut (whole begun) stamp (length begun.history) l)) of is)))

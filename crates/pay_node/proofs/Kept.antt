@@ -10,7 +10,7 @@ use Rattle.pay_node.specs.declared.receipt.Receipt.{Receipt}
 use Rattle.pay_node.specs.declared.shown.Shown.TheVariants as shown
 use Rattle.pay_node.specs.Keeping.{IsKeptFor, IsKeptOnce, mark_of}
 use Rattle.pay_node.specs.Receipts.{reading_receipt, shown_of}
-use Rattle.pay_node.specs.Seats.{Right, SeatFields, with_receipts}
+use Rattle.pay_node.specs.Seats.{Right, SeatFields, StaysRight, with_receipts}
 use Rattle.pay_node.specs.Sending.{sent_by}
 use Rattle.pay_node.proofs.Rights.{reading_stays, slice_get-last, slice_get-longer}
 
@@ -42,20 +42,20 @@ none_shown m n is = ap shown.Sent (sym (none_at (sent_by m) n is))
 -- ---- marks
 
 -- marks are no matter of a history
-right_marked : (m : MemberFields) (was seat : SeatFields) → seat.stamp ≡ was.stamp → seat.receipts ≡ was.receipts → Right m was → Right m seat
-right_marked m was seat stamp receipts right =
-    subst (λ (s : ℕ). Right m (record { stamp = s; receipts = seat.receipts; marks = seat.marks })) (sym stamp)
-    (subst (λ (rs : List Receipt). Right m (record { stamp = was.stamp; receipts = rs; marks = seat.marks })) (sym receipts)
+right_marked : (m : MemberFields) (base : ℕ) (was seat : SeatFields) → seat.stamp ≡ was.stamp → seat.receipts ≡ was.receipts → Right m base was → Right m base seat
+right_marked m base was seat stamp receipts right =
+    subst (λ (s : ℕ). Right m base (record { stamp = s; receipts = seat.receipts; marks = seat.marks })) (sym stamp)
+    (subst (λ (rs : List Receipt). Right m base (record { stamp = was.stamp; receipts = rs; marks = seat.marks })) (sym receipts)
     (record { counted = right.counted; each = right.each; ordered = right.ordered }))
 
 pub kept_stays :
     (m : MemberFields) (before after : SeatFields) (number : ℕ) (body : BodyFields) → slice_get (sent_by m) number ≡ Some body
     → after.stamp ≡ before.stamp → after.receipts ≡ before.receipts ++ reading_receipt (length m.history) (question.Sent number 1) (shown.Sent (body ∷ []))
-    → Right m before → Right m after
-kept_stays m before after number body sent stamp receipt right =
+    → StaysRight m before m after
+kept_stays m before after number body sent stamp receipt base within right =
     let more : List Receipt = reading_receipt (length m.history) (question.Sent number 1) (shown.Sent (body ∷ [])) in
-    right_marked m (with_receipts before more) after stamp receipt
-    (reading_stays m before (with_receipts before more) (question.Sent number 1) (shown.Sent (body ∷ [])) (one_shown m number body sent) refl right)
+    right_marked m base (with_receipts before more) after stamp receipt
+    (reading_stays m before (with_receipts before more) (question.Sent number 1) (shown.Sent (body ∷ [])) (one_shown m number body sent) refl base within right)
 
 pub kept_before : (m : MemberFields) (seat : SeatFields) (number : ℕ) (body : BodyFields) → slice_get (sent_by m) number ≡ Some body → IsKeptFor seat number body → IsKeptOnce m seat seat number body
 kept_before m seat number body sent kept = record {

@@ -1,6 +1,7 @@
 -- What a history bears out it still does with one entry more, and the call that made it is borne out too.
-use Rattle.std.proofs.Common.{◌≡◌, ◌≢◌, ℕ, ◌+◌, ◌<◌, ◌≤◌, Bool, false, cond, eqb, Some, Result, Ok, Err, IfOk, OnErr, List, [], ◌∷◌, ◌++◌, length, get_or, slice_get, refl, sym, ap, ◌∙◌, subst, arith, append-nil}
-use Rattle.std.proofs.lemmas.List.{take_all, take-append-le, get_or_append_left, get_or_at, length_push, length-append}
+use Rattle.std.proofs.Common.{◌≡◌, ◌≢◌, ℕ, ◌+◌, ◌<◌, ◌≤◌, Bool, false, cond, eqb, Some, Result, Ok, Err, IfOk, OnErr, List, [], ◌∷◌, ◌++◌, length, drop, get_or, slice_get, refl, sym, ap, ◌∙◌, subst, arith, append-nil}
+use Rattle.std.specs.List.{All}
+use Rattle.std.proofs.lemmas.List.{take_all, take-append-le, drop-append-le, get_or_append_left, get_or_at, length_push, length-append}
 use Rattle.std.proofs.lemmas.List.Elements.{All-push, All-weaker}
 use Rattle.std.proofs.lemmas.List.Quantifiers.{all_pairs_push}
 use Rattle.std.proofs.lemmas.List.Sums.{sum_by_push}
@@ -21,7 +22,7 @@ use Rattle.pay_node.specs.declared.receipt.Call.{Call}
 use Rattle.pay_node.specs.declared.receipt.Call.TheVariants.{Handed, Read}
 use Rattle.pay_node.specs.declared.receipt.Receipt.{Receipt}
 use Rattle.pay_node.specs.Receipts.{shown_of, IsBorneOut, has_entry, entries_after, receipts_of, reading_receipt}
-use Rattle.pay_node.specs.Seats.{SeatFields, with_receipts, entries_told, entries_under, Right}
+use Rattle.pay_node.specs.Seats.{SeatFields, with_receipts, entries_told, entries_under, since, Right, StaysRight}
 
 -- ---- longer histories
 
@@ -66,92 +67,108 @@ one b = cond b 1 0
 plus_none : (n : ℕ) → n + 0 ≡ n
 plus_none n = omega arith
 
+-- the entries from a base on, with one behind them
+under_more : (m : MemberFields) (base stamp : ℕ) (e : HistoryEntry) → base ≤ length m.history
+    → entries_under stamp (since base (with_entry m e)) ≡ entries_under stamp (since base m) + one (eqb e.stamp stamp)
+under_more m base stamp e within =
+    ap (λ (h : List HistoryEntry). entries_under stamp (record m { history = h })) (drop-append-le base m.history (e ∷ []) within)
+    ∙ sum_by_push (λ (x : HistoryEntry). one (eqb x.stamp stamp)) (drop base m.history) e
+
+-- a receipt that saw all before a base, and is borne out
+abbrev IsSince : MemberFields → ℕ → ℕ → Receipt → Type 0
+IsSince m base stamp r = (base ≤ r.seen) × IsBorneOut m stamp r.seen r.call
+
+since_more : (m : MemberFields) (e : HistoryEntry) (base stamp : ℕ) (rs : List Receipt) → All (IsSince m base stamp) rs → All (IsSince (with_entry m e) base stamp) rs
+since_more m e base stamp rs all =
+    All-weaker (IsSince m base stamp) (IsSince (with_entry m e) base stamp) (λ x is. (is.0, borne_out_more m e stamp x.seen x.call is.1)) rs all
+
 -- of a call that left no entry
-right_told : (m : MemberFields) (seat : SeatFields) (call : Call) → has_entry call ≡ false → IsBorneOut m seat.stamp (length m.history) call
-    → Right m seat → Right m (with_receipts seat (record { seen = length m.history; call = call } ∷ []))
-right_told m seat call none is right =
+right_told : (m : MemberFields) (base : ℕ) (seat : SeatFields) (call : Call) → base ≤ length m.history → has_entry call ≡ false
+    → IsBorneOut m seat.stamp (length m.history) call
+    → Right m base seat → Right m base (with_receipts seat (record { seen = length m.history; call = call } ∷ []))
+right_told m base seat call within none is right =
     let r : Receipt = record { seen = length m.history; call = call } in
     let told : entries_told (with_receipts seat (r ∷ [])) ≡ entries_told seat + one (has_entry call) = sum_by_push (λ (x : Receipt). one (has_entry x.call)) seat.receipts r in
     record {
       counted = right.counted ∙ sym (told ∙ ap (λ b. entries_told seat + one b) none ∙ plus_none (entries_told seat));
-      each = All-push (λ (x : Receipt). IsBorneOut m seat.stamp x.seen x.call) seat.receipts r right.each is;
+      each = All-push (IsSince m base seat.stamp) seat.receipts r right.each (within, is);
       ordered = all_pairs_push (λ (x later : Receipt). entries_after x ≤ later.seen) seat.receipts r right.ordered
-          (λ k d within. borne_out_bound m seat.stamp (get_or seat.receipts k d) (right.each k d within));
+          (λ k d below. borne_out_bound m seat.stamp (get_or seat.receipts k d) (right.each k d below).1);
     }
 
 -- of one that left an entry
-right_entered : (m : MemberFields) (seat : SeatFields) (event : Event) (reply : Reply) → Right m seat
-    → Right (with_entry m (record { stamp = seat.stamp; event = event; reply = reply })) (with_receipts seat (record { seen = length m.history; call = Handed event (Ok reply) } ∷ []))
-right_entered m seat event reply right =
+right_entered : (m : MemberFields) (base : ℕ) (seat : SeatFields) (event : Event) (reply : Reply) → base ≤ length m.history → Right m base seat
+    → Right (with_entry m (record { stamp = seat.stamp; event = event; reply = reply })) base
+    (with_receipts seat (record { seen = length m.history; call = Handed event (Ok reply) } ∷ []))
+right_entered m base seat event reply within right =
     let e : HistoryEntry = record { stamp = seat.stamp; event = event; reply = reply } in
     let r : Receipt = record { seen = length m.history; call = Handed event (Ok reply) } in
     let now : MemberFields = with_entry m e in
-    let under : entries_under seat.stamp now ≡ entries_under seat.stamp m + one (eqb seat.stamp seat.stamp) = sum_by_push (λ (x : HistoryEntry). one (eqb x.stamp seat.stamp)) m.history e in
+    let under = under_more m base seat.stamp e within in
     let told : entries_told (with_receipts seat (r ∷ [])) ≡ entries_told seat + 1 = sum_by_push (λ (x : Receipt). one (has_entry x.call)) seat.receipts r in
     record {
-      counted = under ∙ ap (λ b. entries_under seat.stamp m + one b) (eq-eqb seat.stamp seat.stamp refl) ∙ ap (λ n. n + 1) right.counted ∙ sym told;
-      each = All-push (λ (x : Receipt). IsBorneOut now seat.stamp x.seen x.call) seat.receipts r
-          (All-weaker (λ (x : Receipt). IsBorneOut m seat.stamp x.seen x.call) (λ (x : Receipt). IsBorneOut now seat.stamp x.seen x.call)
-          (λ x is. borne_out_more m e seat.stamp x.seen x.call is) seat.receipts right.each)
-          (slice_get-last m.history e);
+      counted = under ∙ ap (λ b. entries_under seat.stamp (since base m) + one b) (eq-eqb seat.stamp seat.stamp refl) ∙ ap (λ n. n + 1) right.counted ∙ sym told;
+      each = All-push (IsSince now base seat.stamp) seat.receipts r
+          (since_more m e base seat.stamp seat.receipts right.each) (within, slice_get-last m.history e);
       ordered = all_pairs_push (λ (x later : Receipt). entries_after x ≤ later.seen) seat.receipts r right.ordered
-          (λ k d within. borne_out_bound m seat.stamp (get_or seat.receipts k d) (right.each k d within));
+          (λ k d below. borne_out_bound m seat.stamp (get_or seat.receipts k d) (right.each k d below).1);
     }
 
 -- an entry under another stamp
-right_beside : (m : MemberFields) (seat : SeatFields) (e : HistoryEntry) → e.stamp ≢ seat.stamp → Right m seat → Right (with_entry m e) seat
-right_beside m seat e other right =
-    let now : MemberFields = with_entry m e in
-    let under : entries_under seat.stamp now ≡ entries_under seat.stamp m + one (eqb e.stamp seat.stamp) = sum_by_push (λ (x : HistoryEntry). one (eqb x.stamp seat.stamp)) m.history e in
+right_beside : (m : MemberFields) (base : ℕ) (seat : SeatFields) (e : HistoryEntry) → base ≤ length m.history → e.stamp ≢ seat.stamp
+    → Right m base seat → Right (with_entry m e) base seat
+right_beside m base seat e within other right =
+    let there : ℕ = entries_under seat.stamp (since base m) in
     record {
-      counted = under ∙ ap (λ b. entries_under seat.stamp m + one b) (ne_eqb e.stamp seat.stamp other) ∙ plus_none (entries_under seat.stamp m) ∙ right.counted;
-      each = All-weaker (λ (x : Receipt). IsBorneOut m seat.stamp x.seen x.call) (λ (x : Receipt). IsBorneOut now seat.stamp x.seen x.call)
-          (λ x is. borne_out_more m e seat.stamp x.seen x.call is) seat.receipts right.each;
+      counted = under_more m base seat.stamp e within ∙ ap (λ b. there + one b) (ne_eqb e.stamp seat.stamp other) ∙ plus_none there ∙ right.counted;
+      each = since_more m e base seat.stamp seat.receipts right.each;
       ordered = right.ordered;
     }
 
 -- ---- one call
 
 refused_stays : (m now : MemberFields) (seat : SeatFields) (event : Event) (fault : MemberFault) → refusal m.genesis m.keys (events m.history) event ≡ Some fault → now ≡ m
-    → Right m seat → Right now (with_receipts seat (record { seen = length m.history; call = Handed event (Err fault) } ∷ []))
-refused_stays m now seat event fault refused same right =
-    subst (λ x. Right x (with_receipts seat (record { seen = length m.history; call = Handed event (Err fault) } ∷ []))) (sym same)
-    (right_told m seat (Handed event (Err fault)) refl
+    → StaysRight m seat now (with_receipts seat (record { seen = length m.history; call = Handed event (Err fault) } ∷ []))
+refused_stays m now seat event fault refused same base within right =
+    subst (λ x. Right x base (with_receipts seat (record { seen = length m.history; call = Handed event (Err fault) } ∷ []))) (sym same)
+    (right_told m base seat (Handed event (Err fault)) within refl
     (omega arith, subst (λ h. refusal m.genesis m.keys (events h) event ≡ Some fault) (sym (take_all (length m.history) m.history (omega arith))) refused) right)
 
 pub own_stays :
     (m now : MemberFields) (seat after : SeatFields) (event : Event) (answer : Result Reply MemberFault) → IsAnswer m event answer
     → IfOk answer (λ reply. now ≡ with_entry m (record { stamp = seat.stamp; event = event; reply = reply })) → OnErr answer (now ≡ m)
     → after ≡ with_receipts seat (receipts_of (length m.history) event answer)
-    → Right m seat → Right now after
-own_stays m now seat after event (Ok reply) is entry same at right =
-    subst (Right now) (sym at)
-    (subst (λ x. Right x (with_receipts seat (record { seen = length m.history; call = Handed event (Ok reply) } ∷ []))) (sym entry) (right_entered m seat event reply right))
-own_stays m now seat after event (Err Memory) is entry same at right =
-    subst (Right now) (sym at)
-    (subst (λ (l : List Receipt). Right now (record seat { receipts = l })) (sym (append-nil seat.receipts)) (subst (λ x. Right x seat) (sym same) right))
-own_stays m now seat after event (Err Spent) is entry same at right = subst (Right now) (sym at) (refused_stays m now seat event Spent (is (λ other. cc)) same right)
-own_stays m now seat after event (Err TooLong) is entry same at right = subst (Right now) (sym at) (refused_stays m now seat event TooLong (is (λ other. cc)) same right)
-own_stays m now seat after event (Err (Repeat next)) is entry same at right =
-    subst (Right now) (sym at) (refused_stays m now seat event (Repeat next) (is (λ other. cc)) same right)
-own_stays m now seat after event (Err (Gap next)) is entry same at right =
-    subst (Right now) (sym at) (refused_stays m now seat event (Gap next) (is (λ other. cc)) same right)
-own_stays m now seat after event (Err WrongKey) is entry same at right = subst (Right now) (sym at) (refused_stays m now seat event WrongKey (is (λ other. cc)) same right)
-own_stays m now seat after event (Err NoAccount) is entry same at right = subst (Right now) (sym at) (refused_stays m now seat event NoAccount (is (λ other. cc)) same right)
+    → StaysRight m seat now after
+own_stays m now seat after event (Ok reply) is entry same at =
+    subst (StaysRight m seat now) (sym at)
+    (λ base within right. subst (λ x. Right x base (with_receipts seat (record { seen = length m.history; call = Handed event (Ok reply) } ∷ []))) (sym entry)
+    (right_entered m base seat event reply within right))
+own_stays m now seat after event (Err Memory) is entry same at =
+    subst (StaysRight m seat now) (sym at)
+    (λ base within right. subst (λ (l : List Receipt). Right now base (record seat { receipts = l })) (sym (append-nil seat.receipts))
+    (subst (λ x. Right x base seat) (sym same) right))
+own_stays m now seat after event (Err Spent) is entry same at = subst (StaysRight m seat now) (sym at) (refused_stays m now seat event Spent (is (λ other. cc)) same)
+own_stays m now seat after event (Err TooLong) is entry same at = subst (StaysRight m seat now) (sym at) (refused_stays m now seat event TooLong (is (λ other. cc)) same)
+own_stays m now seat after event (Err (Repeat next)) is entry same at =
+    subst (StaysRight m seat now) (sym at) (refused_stays m now seat event (Repeat next) (is (λ other. cc)) same)
+own_stays m now seat after event (Err (Gap next)) is entry same at =
+    subst (StaysRight m seat now) (sym at) (refused_stays m now seat event (Gap next) (is (λ other. cc)) same)
+own_stays m now seat after event (Err WrongKey) is entry same at = subst (StaysRight m seat now) (sym at) (refused_stays m now seat event WrongKey (is (λ other. cc)) same)
+own_stays m now seat after event (Err NoAccount) is entry same at = subst (StaysRight m seat now) (sym at) (refused_stays m now seat event NoAccount (is (λ other. cc)) same)
 
 pub others_stay :
     (m now : MemberFields) (stamp : ℕ) (event : Event) (answer : Result Reply MemberFault)
     → IfOk answer (λ reply. now ≡ with_entry m (record { stamp = stamp; event = event; reply = reply })) → OnErr answer (now ≡ m)
-    → (seat : SeatFields) → seat.stamp ≢ stamp → Right m seat → Right now seat
-others_stay m now stamp event (Ok reply) entry same seat other right =
-    subst (λ x. Right x seat) (sym entry) (right_beside m seat (record { stamp = stamp; event = event; reply = reply }) (λ is. other (sym is)) right)
-others_stay m now stamp event (Err fault) entry same seat other right = subst (λ x. Right x seat) (sym same) right
+    → (seat : SeatFields) → seat.stamp ≢ stamp → StaysRight m seat now seat
+others_stay m now stamp event (Ok reply) entry same seat other base within right =
+    subst (λ x. Right x base seat) (sym entry) (right_beside m base seat (record { stamp = stamp; event = event; reply = reply }) within (λ is. other (sym is)) right)
+others_stay m now stamp event (Err fault) entry same seat other base within right = subst (λ x. Right x base seat) (sym same) right
 
 pub reading_stays :
     (m : MemberFields) (seat after : SeatFields) (question : Question) (shown : Shown) → shown ≡ shown_of m question
     → after ≡ with_receipts seat (reading_receipt (length m.history) question shown)
-    → Right m seat → Right m after
-reading_stays m seat after question shown is at right =
-    subst (Right m) (sym at)
-    (right_told m seat (Read question shown) refl
+    → StaysRight m seat m after
+reading_stays m seat after question shown is at base within right =
+    subst (Right m base) (sym at)
+    (right_told m base seat (Read question shown) within refl
     (omega arith, subst (λ h. shown ≡ shown_of (record m { history = h }) question) (sym (take_all (length m.history) m.history (omega arith))) is) right)

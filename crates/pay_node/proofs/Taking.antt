@@ -1,44 +1,55 @@
--- What is answered of a frame that opened, by the member's answer.
-use Rattle.std.proofs.Common.{◌≡◌, ◌≢◌, ℕ, List, Result, Ok, Err, None, refl, sym, subst}
+-- What is answered of a frame, by the member's answer.
+use Rattle.std.proofs.Common.{◌≡◌, ◌≢◌, ℕ, List, Result, Ok, Err, None, refl, ap, ◌∙◌, subst}
+use Rattle.pay_frame.specs.declared.fault.FrameFault.{FrameFault}
+use Rattle.pay_frame.specs.Frame.{FrameFields}
+use Rattle.pay_frame.specs.OneFrame.{IsOneFrame, IsOneReading}
 use Rattle.pay_link.specs.Checked.{checked_fields}
 use Rattle.pay_link.specs.Opening.{OpenedFields}
+use Rattle.pay_link.specs.declared.link_fault.LinkFault.{LinkFault}
 use Rattle.pay_member.specs.declared.brought.Brought.{Brought}
 use Rattle.pay_member.specs.declared.event.Event.TheVariants.{Taken}
+use Rattle.pay_member.specs.declared.incoming.Incoming.{Incoming}
+use Rattle.pay_member.specs.declared.incoming.Incoming.TheVariants.{Message, Want}
+use Rattle.pay_member.specs.declared.received.Received.{Received}
 use Rattle.pay_member.specs.declared.take_fault.TakeFault.{TakeFault}
 use Rattle.pay_member.specs.declared.take_fault.TakeFault.TheVariants.{Memory}
 use Rattle.pay_member.specs.declared.took.Took.{Took}
-use Rattle.pay_member.specs.declared.outcome.Outcome.{Outcome}
+use Rattle.pay_member.specs.declared.outcome.Outcome.TheVariants as outcome
 use Rattle.pay_member.specs.Answer.{taken}
-use Rattle.pay_member.specs.Bringing.{IsOpening}
-use Rattle.pay_node.specs.Nodes.{NodeFields, IsAnswered, IsAnsweredAs, IsBrought, IsTaken, outcome_of, want_of}
+use Rattle.pay_member.specs.Bringing.{answered_at_once, with_want}
+use Rattle.pay_node.specs.Nodes.{NodeFields, IsAnswered, IsAnsweredAs, IsBrought, IsReceived, IsTaken, next_of, outcome_of}
 use Rattle.pay_node.specs.Seats.{SeatFields}
 
 pub taken_so :
-    (n : NodeFields) (before after : SeatFields) (opened : OpenedFields) (answer : Result Took TakeFault) (b : Brought)
-    → b.outcome ≡ outcome_of answer → answer ≢ Err Memory → b.want ≡ want_of n.keys opened.frame answer
+    (n : NodeFields) (before after : SeatFields) (opened : OpenedFields) (number : ℕ) (answer : Result Took TakeFault) (r : Received)
+    → r.outcome ≡ outcome_of answer → answer ≢ Err Memory → number ≡ opened.frame.number → r.next ≡ next_of number answer
     → (answer ≢ Err Memory → IsAnswered n before after (Taken (checked_fields opened)) (taken answer))
-    → IsTaken n before after opened b
-taken_so n before after opened answer b outcome memory want answered =
-    record { answer = answer; memory = memory; answered = answered memory; outcome = outcome; want = want }
+    → IsTaken n before after opened r
+taken_so n before after opened number answer r outcome memory is next answered =
+    record { answer = answer; memory = memory; answered = answered memory; outcome = outcome; next = next ∙ ap (λ m. next_of m answer) is }
 
-pub answered_ok :
-    (n : NodeFields) (before after : SeatFields) (answer : Result OpenedFields Outcome) (opened : OpenedFields) (b : Brought)
-    → answer ≡ Ok opened → IsTaken n before after opened b → IsAnsweredAs n before after answer b
-answered_ok n before after answer opened b is took = subst (λ a. IsAnsweredAs n before after a b) (sym is) took
+pub is_message :
+    (n : NodeFields) (before after : SeatFields) (i : Result Incoming LinkFault) (opened : OpenedFields) (r : Received)
+    → Ok (Message opened) ≡ i → IsTaken n before after opened r → IsAnsweredAs n before after i r
+is_message n before after i opened r is took = subst (λ x. IsAnsweredAs n before after x r) is took
 
-pub answered_err :
-    (n : NodeFields) (seat : SeatFields) (answer : Result OpenedFields Outcome) (b : Brought)
-    → answer ≡ Err b.outcome → b.want ≡ None → IsAnsweredAs n seat seat answer b
-answered_err n seat answer b is want = subst (λ a. IsAnsweredAs n seat seat a b) (sym is) (refl, want, refl)
+pub is_want :
+    (n : NodeFields) (seat : SeatFields) (i : Result Incoming LinkFault) (from number : ℕ) (r : Received)
+    → Ok (Want from number) ≡ i → r ≡ answered_at_once (outcome.Wanted from number) → IsAnsweredAs n seat seat i r
+is_want n seat i from number r is same = subst (λ x. IsAnsweredAs n seat seat x r) is (same, refl)
 
-pub brought_ok :
-    (n : NodeFields) (bytes : List ℕ) (before after : SeatFields) (answer : Result OpenedFields Outcome) (opened : OpenedFields) (b : Brought)
-    → IsOpening n.keys bytes answer → answer ≡ Ok opened → IsTaken n before after opened b → IsBrought n bytes before after b
-brought_ok n bytes before after answer opened b opening is took =
-    record { opened = Ok opened; opening = subst (IsOpening n.keys bytes) is opening; is = took }
+pub is_fault :
+    (n : NodeFields) (seat : SeatFields) (i : Result Incoming LinkFault) (fault : LinkFault) (r : Received)
+    → Err fault ≡ i → r ≡ answered_at_once (outcome.Link fault) → IsAnsweredAs n seat seat i r
+is_fault n seat i fault r is same = subst (λ x. IsAnsweredAs n seat seat x r) is (same, refl)
 
-pub brought_err :
-    (n : NodeFields) (bytes : List ℕ) (seat : SeatFields) (answer : Result OpenedFields Outcome) (b : Brought)
-    → IsOpening n.keys bytes answer → answer ≡ Err b.outcome → b.want ≡ None → IsBrought n bytes seat seat b
-brought_err n bytes seat answer b opening is want =
-    record { opened = Err b.outcome; opening = subst (IsOpening n.keys bytes) is opening; is = (refl, want, refl) }
+pub brought_frame :
+    (n : NodeFields) (bytes : List ℕ) (before after : SeatFields) (f : FrameFields) (r : Received) (from : ℕ) (b : Brought)
+    → IsOneFrame bytes f → IsReceived n before after f r → from ≡ f.from → b ≡ with_want n.keys from r → IsBrought n bytes before after b
+brought_frame n bytes before after f r from b one is sender same =
+    record { reading = Ok f; reads = one; is = (r, is, same ∙ ap (λ p. with_want n.keys p r) sender) }
+
+pub brought_fault :
+    (n : NodeFields) (bytes : List ℕ) (seat : SeatFields) (fault : FrameFault) (b : Brought)
+    → IsOneReading bytes (Err fault) → b ≡ record { outcome = outcome.Frame fault; want = None } → IsBrought n bytes seat seat b
+brought_fault n bytes seat fault b reads same = record { reading = Err fault; reads = reads; is = (same, refl) }

@@ -1,5 +1,5 @@
 -- The least stamp that isn't settled, found by going over stamps, seats and entries.
-use Rattle.std.proofs.Common.{◌≡◌, ◌≢◌, ◌⊎◌, inl, inr, ℕ, ◌<◌, ◌≤◌, ◌&&◌, ltb, true, false, cond, Option, Some, None, IfSome, List, [], ◌∷◌, refl, sym, ap, ◌∙◌, subst, arith}
+use Rattle.std.proofs.Common.{◌≡◌, ◌≢◌, ◌⊎◌, inl, inr, ℕ, ◌<◌, ◌≤◌, ◌&&◌, ltb, true, false, cond, Option, Some, None, IfSome, List, [], ◌∷◌, drop, refl, sym, ap, ◌∙◌, subst, arith}
 use Rattle.std.specs.Prelude.{nat_le}
 use Rattle.std.specs.List.{All, fold}
 use Rattle.std.proofs.lemmas.Bool.{cases_Bool, leb-true, leb-false, ltb-true, ltb-false}
@@ -94,27 +94,28 @@ apart_least : (count s n t : ℕ) → (count ≤ n → s ≤ n) → t < s → co
 apart_least count s n t least less above same = (let h = least (omega arith) in absurd (omega arith))
 
 verdict_of :
-    (m : MemberFields) (count : ℕ) (seats : List SeatFields) (first found : Option ℕ) → ((lower : ℕ) → lower < count → IsKept m lower seats)
-    → Found count stamp_of None seats first → Found count entry_stamp first m.history found → IfSome found (λ s. count ≤ s) → IsVerdict m count seats found
-verdict_of m count seats (Some q) None kept of_seats of_entries from = absurd (some_none q of_entries.0)
-verdict_of m count seats None None kept of_seats of_entries from = λ stamp. record {
+    (m : MemberFields) (base count : ℕ) (seats : List SeatFields) (first found : Option ℕ) → ((lower : ℕ) → lower < count → IsKept m base lower seats)
+    → Found count stamp_of None seats first → Found count entry_stamp first (drop base m.history) found → IfSome found (λ s. count ≤ s)
+    → IsVerdict m base count seats found
+verdict_of m base count seats (Some q) None kept of_seats of_entries from = absurd (some_none q of_entries.0)
+verdict_of m base count seats None None kept of_seats of_entries from = λ stamp. record {
   own = λ below. kept stamp below;
   other = λ above. record {
     unseated = All-weaker (λ s. s.stamp < count) (λ s. s.stamp ≢ stamp) (λ s less. apart_below count s.stamp stamp less above) seats of_seats.1;
-    nowhere = All-weaker (λ e. e.stamp < count) (λ e. e.stamp ≢ stamp) (λ e less. apart_below count e.stamp stamp less above) m.history of_entries.1;
+    nowhere = All-weaker (λ e. e.stamp < count) (λ e. e.stamp ≢ stamp) (λ e less. apart_below count e.stamp stamp less above) (drop base m.history) of_entries.1;
   };
 }
-verdict_of m count seats None (Some s) kept of_seats of_entries from = record {
+verdict_of m base count seats None (Some s) kept of_seats of_entries from = record {
   wrong = λ settled. (let unused = settled.other from in absurd (some_none s (sym (of_entries.0 unused.nowhere))));
   least = λ stamp less. record {
     own = λ below. kept stamp below;
     other = λ above. record {
       unseated = All-weaker (λ x. x.stamp < count) (λ x. x.stamp ≢ stamp) (λ x under. apart_below count x.stamp stamp under above) seats of_seats.1;
-      nowhere = All-weaker (λ e. count ≤ e.stamp → s ≤ e.stamp) (λ e. e.stamp ≢ stamp) (λ e least. apart_least count s e.stamp stamp least less above) m.history of_entries.2;
+      nowhere = All-weaker (λ e. count ≤ e.stamp → s ≤ e.stamp) (λ e. e.stamp ≢ stamp) (λ e least. apart_least count s e.stamp stamp least less above) (drop base m.history) of_entries.2;
     };
   };
 }
-verdict_of m count seats (Some q) (Some s) kept of_seats of_entries from = record {
+verdict_of m base count seats (Some q) (Some s) kept of_seats of_entries from = record {
   wrong = λ settled. (
       let unused = settled.other from in
       let same : q ≡ s = some_is q s (of_entries.0 unused.nowhere) in
@@ -123,18 +124,19 @@ verdict_of m count seats (Some q) (Some s) kept of_seats of_entries from = recor
     own = λ below. kept stamp below;
     other = λ above. record {
       unseated = All-weaker (λ x. count ≤ x.stamp → q ≤ x.stamp) (λ x. x.stamp ≢ stamp) (λ x least. (let over = of_entries.1 in apart_least count q x.stamp stamp least (omega arith) above)) seats of_seats.2;
-      nowhere = All-weaker (λ e. count ≤ e.stamp → s ≤ e.stamp) (λ e. e.stamp ≢ stamp) (λ e least. apart_least count s e.stamp stamp least less above) m.history of_entries.2;
+      nowhere = All-weaker (λ e. count ≤ e.stamp → s ≤ e.stamp) (λ e. e.stamp ≢ stamp) (λ e least. apart_least count s e.stamp stamp least less above) (drop base m.history) of_entries.2;
     };
   };
 }
 
 pub verdict :
-    (m : MemberFields) (count : ℕ) (seats : List SeatFields) (history : List HistoryEntry) (first found : Option ℕ) → ((lower : ℕ) → lower < count → IsKept m lower seats)
-    → first ≡ fold (λ least (s : SeatFields). lesser count least s.stamp) None seats → history ≡ m.history
-    → found ≡ fold (λ least (e : HistoryEntry). lesser count least e.stamp) first history → IsVerdict m count seats found
-verdict m count seats history first found kept is_first at is_found =
+    (m : MemberFields) (base count : ℕ) (seats : List SeatFields) (history : List HistoryEntry) (first found : Option ℕ)
+    → ((lower : ℕ) → lower < count → IsKept m base lower seats)
+    → first ≡ fold (λ least (s : SeatFields). lesser count least s.stamp) None seats → history ≡ drop base m.history
+    → found ≡ fold (λ least (e : HistoryEntry). lesser count least e.stamp) first history → IsVerdict m base count seats found
+verdict m base count seats history first found kept is_first at is_found =
     let of_seats = subst (Found count stamp_of None seats) (sym is_first) (found_in count stamp_of None seats) in
-    let found_there : found ≡ least_in count entry_stamp first m.history = is_found ∙ ap (least_in count entry_stamp first) at in
-    let of_entries = subst (Found count entry_stamp first m.history) (sym found_there) (found_in count entry_stamp first m.history) in
+    let found_there : found ≡ least_in count entry_stamp first (drop base m.history) = is_found ∙ ap (least_in count entry_stamp first) at in
+    let of_entries = subst (Found count entry_stamp first (drop base m.history)) (sym found_there) (found_in count entry_stamp first (drop base m.history)) in
     let from = subst (λ o. IfSome o (λ s. count ≤ s)) (sym is_first) (found_from count stamp_of None seats tt) in
-    verdict_of m count seats first found kept of_seats of_entries (subst (λ o. IfSome o (λ s. count ≤ s)) (sym found_there) (found_from count entry_stamp first m.history from))
+    verdict_of m base count seats first found kept of_seats of_entries (subst (λ o. IfSome o (λ s. count ≤ s)) (sym found_there) (found_from count entry_stamp first (drop base m.history) from))

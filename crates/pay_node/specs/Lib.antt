@@ -1,8 +1,10 @@
+pub mod Requests
 pub mod Shown
 pub mod Receipts
 pub mod Seats
 pub mod Sending
 pub mod Nodes
+pub mod Gathering
 pub mod Judging
 pub mod Faults
 pub mod Closing

@@ -1,24 +1,31 @@
 -- What a node's calls answer, and what they leave at their seat.
 use Rattle.std.specs.Prelude.{◌≡◌, ◌≢◌, ℕ, ◌+◌, ◌<◌, List, [], length, slice_get, Option, Some, None, Result, Ok, Err}
-use Rattle.pay_frame.specs.Frame.{FrameFields, frame_bytes}
+use Rattle.pay_frame.specs.declared.fault.FrameFault.{FrameFault}
+use Rattle.pay_frame.specs.Frame.{FrameFields}
+use Rattle.pay_frame.specs.OneFrame.{IsOneReading}
+use Rattle.pay_channel.specs.Prefix.{IsPrefix}
 use Rattle.pay_link.specs.Genesis.{GenesisFields}
 use Rattle.pay_link.specs.Keys.{KeyFields}
 use Rattle.pay_link.specs.Checked.{checked_fields}
 use Rattle.pay_link.specs.Opening.{OpenedFields}
-use Rattle.pay_link.specs.Sealing.{wanted}
+use Rattle.pay_link.specs.declared.link_fault.LinkFault.{LinkFault}
 use Rattle.pay_link.specs.declared.link_fault.LinkFault.TheVariants as link
 use Rattle.pay_member.specs.declared.brought.Brought.{Brought}
+use Rattle.pay_member.specs.declared.entry.HistoryEntry.{HistoryEntry}
 use Rattle.pay_member.specs.declared.event.Event.{Event}
 use Rattle.pay_member.specs.declared.event.Event.TheVariants.{Taken}
 use Rattle.pay_member.specs.declared.fault.MemberFault.{MemberFault}
+use Rattle.pay_member.specs.declared.incoming.Incoming.{Incoming}
+use Rattle.pay_member.specs.declared.incoming.Incoming.TheVariants.{Message, Want}
 use Rattle.pay_member.specs.declared.outcome.Outcome.{Outcome}
 use Rattle.pay_member.specs.declared.outcome.Outcome.TheVariants as outcome
+use Rattle.pay_member.specs.declared.received.Received.{Received}
 use Rattle.pay_member.specs.declared.reply.Reply.{Reply}
 use Rattle.pay_member.specs.declared.take_fault.TakeFault.{TakeFault}
 use Rattle.pay_member.specs.declared.take_fault.TakeFault.TheVariants.{Memory, WrongKey, Repeat, Gap}
 use Rattle.pay_member.specs.declared.took.Took.{Took}
 use Rattle.pay_member.specs.Answer.{IsAnswer, taken}
-use Rattle.pay_member.specs.Bringing.{IsOpening}
+use Rattle.pay_member.specs.Bringing.{answered_at_once, incoming_at, with_want}
 use Rattle.pay_member.specs.Legal.{Legal}
 use Rattle.pay_member.specs.Member.{MemberFields}
 use Rattle.pay_node.specs.declared.question.Question.{Question}
@@ -26,22 +33,28 @@ use Rattle.pay_node.specs.declared.shown.Shown.{Shown}
 use Rattle.pay_node.specs.Receipts.{shown_of, receipts_of, reading_receipt}
 use Rattle.pay_node.specs.Seats.{SeatFields, with_receipts}
 
--- What is known of a node without its lock: its group's genesis, the keys with which it opens frames, and how many
--- seats it has.
+-- What is known of a node without its lock: its group's genesis, the keys with which it opens frames, how many seats
+-- it has, and the history that its member began with.
 pub record NodeFields : Type 0 where
   pub genesis : GenesisFields
   pub keys : KeyFields
   pub seats : ℕ
+  pub beginning : List HistoryEntry
+
+-- how many entries it began with: the seats tell of those after them
+abbrev pub base_of : NodeFields → ℕ
+base_of n = length n.beginning
 
 -- A node that no thread calls any more, and its member.
 pub record StoppedFields : Type 0 where
   pub member : MemberFields
   pub node : NodeFields
 
--- a member of the node's group, with the node's keys
+-- A member of the node's group, with the node's keys, whose history begins with the node's: nothing was taken back.
 pub record IsOwn (n : NodeFields) (m : MemberFields) : Type 0 where
   pub genesis : m.genesis ≡ n.genesis
   pub keys : m.keys ≡ n.keys
+  pub begun : IsPrefix n.beginning m.history
 
 -- a seat from which nothing was called
 abbrev pub fresh_seat : ℕ → SeatFields
@@ -80,29 +93,46 @@ outcome_of (Err (Gap next)) = outcome.Link (link.Gap next)
 outcome_of (Err WrongKey) = outcome.WrongKey
 outcome_of (Err Memory) = outcome.WrongKey
 
--- the WANT that goes with it, for the number behind the frame's or for the one that was next
-abbrev pub want_of : KeyFields → FrameFields → Result Took TakeFault → Option (List ℕ)
-want_of k f (Ok took) = Some (frame_bytes (wanted k f.from (f.number + 1)))
-want_of k f (Err (Repeat next)) = Some (frame_bytes (wanted k f.from next))
-want_of k f (Err (Gap next)) = Some (frame_bytes (wanted k f.from next))
-want_of k f (Err WrongKey) = None
-want_of k f (Err Memory) = None
+-- the number that is next from its sender: the one behind the frame's, or the one that was next
+abbrev pub next_of : ℕ → Result Took TakeFault → Option ℕ
+next_of number (Ok took) = Some (number + 1)
+next_of number (Err (Repeat next)) = Some next
+next_of number (Err (Gap next)) = Some next
+next_of number (Err WrongKey) = None
+next_of number (Err Memory) = None
 
 -- A frame that opened was handed to the member, whose answer this is; that memory was refused is no answer.
-pub record IsTaken (n : NodeFields) (before after : SeatFields) (opened : OpenedFields) (b : Brought) : Type 0 where
+pub record IsTaken (n : NodeFields) (before after : SeatFields) (opened : OpenedFields) (r : Received) : Type 0 where
   pub answer : Result Took TakeFault
   pub memory : answer ≢ Err Memory
   pub answered : IsAnswered n before after (Taken (checked_fields opened)) (taken answer)
-  pub outcome : b.outcome ≡ outcome_of answer
-  pub want : b.want ≡ want_of n.keys opened.frame answer
+  pub outcome : r.outcome ≡ outcome_of answer
+  pub next : r.next ≡ next_of opened.frame.number answer
 
 -- what doesn't open, or is a WANT, is answered at once and leaves no receipt
-abbrev pub IsAnsweredAs : NodeFields → SeatFields → SeatFields → Result OpenedFields Outcome → Brought → Type 0
-IsAnsweredAs n before after (Ok opened) b = IsTaken n before after opened b
-IsAnsweredAs n before after (Err o) b = (b.outcome ≡ o) × (b.want ≡ None) × (after ≡ before)
+abbrev pub IsAnsweredAs : NodeFields → SeatFields → SeatFields → Result Incoming LinkFault → Received → Type 0
+IsAnsweredAs n before after (Ok (Message opened)) r = IsTaken n before after opened r
+IsAnsweredAs n before after (Ok (Want from number)) r =
+    (r ≡ answered_at_once (outcome.Wanted from number)) × (after ≡ before)
+IsAnsweredAs n before after (Err fault) r = (r ≡ answered_at_once (outcome.Link fault)) × (after ≡ before)
+
+-- a frame was received from a seat, and this is the answer
+abbrev pub IsReceived : NodeFields → SeatFields → SeatFields → FrameFields → Received → Type 0
+IsReceived n before after f r = IsAnsweredAs n before after (incoming_at n.keys f) r
+
+-- the frame is one for the member
+abbrev pub IsMessage : KeyFields → FrameFields → Type 0
+IsMessage k f = (opened : OpenedFields) × (incoming_at k f ≡ Ok (Message opened))
+
+-- what is answered of bytes that read so, with the WANT to the sender of a frame for the number that is next
+abbrev pub IsBroughtAs : NodeFields → SeatFields → SeatFields → Result FrameFields FrameFault → Brought → Type 0
+IsBroughtAs n before after (Ok f) b =
+    (r : Received) × IsReceived n before after f r × (b ≡ with_want n.keys f.from r)
+IsBroughtAs n before after (Err fault) b =
+    (b ≡ record { outcome = outcome.Frame fault; want = None }) × (after ≡ before)
 
 -- bytes by the one reading that they have
 pub record IsBrought (n : NodeFields) (bytes : List ℕ) (before after : SeatFields) (b : Brought) : Type 0 where
-  pub opened : Result OpenedFields Outcome
-  pub opening : IsOpening n.keys bytes opened
-  pub is : IsAnsweredAs n before after opened b
+  pub reading : Result FrameFields FrameFault
+  pub reads : IsOneReading bytes reading
+  pub is : IsBroughtAs n before after reading b

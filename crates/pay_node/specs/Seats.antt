@@ -1,5 +1,5 @@
 -- Seats, and when a history bears out all that a seat was told.
-use Rattle.std.specs.Prelude.{◌≡◌, ℕ, ◌≤◌, ◌==◌, List, ◌++◌, Option}
+use Rattle.std.specs.Prelude.{◌≡◌, ℕ, ◌≤◌, ◌==◌, List, ◌++◌, Option, drop, length}
 use Rattle.std.specs.List.{All, AllPairs, count_by}
 use Rattle.pay_member.specs.Member.{MemberFields}
 use Rattle.pay_node.specs.declared.receipt.Receipt.{Receipt}
@@ -23,9 +23,18 @@ entries_told seat = count_by (λ r. has_entry r.call) seat.receipts
 abbrev pub entries_under : ℕ → MemberFields → ℕ
 entries_under stamp m = count_by (λ e. e.stamp == stamp) m.history
 
--- The history has as many entries under the seat's stamp as the seat was told of, each receipt is borne out by it,
--- and none saw fewer entries than there were when one before it was answered.
-pub record Right (m : MemberFields) (seat : SeatFields) : Type 0 where
-  pub counted : entries_under seat.stamp m ≡ entries_told seat
-  pub each : All (λ r. IsBorneOut m seat.stamp r.seen r.call) seat.receipts
+-- the member without the entries that it began with
+abbrev pub since : ℕ → MemberFields → MemberFields
+since base m = record m { history = drop base m.history }
+
+-- From the base on, the history has as many entries under the seat's stamp as the seat was told of. Each receipt saw
+-- those before the base and is borne out by the history, and none saw fewer entries than there were when one before it
+-- was answered.
+pub record Right (m : MemberFields) (base : ℕ) (seat : SeatFields) : Type 0 where
+  pub counted : entries_under seat.stamp (since base m) ≡ entries_told seat
+  pub each : All (λ r. (base ≤ r.seen) × IsBorneOut m seat.stamp r.seen r.call) seat.receipts
   pub ordered : AllPairs (λ r later. entries_after r ≤ later.seen) seat.receipts
+
+-- If this seat was right by this member, from whatever base, that one is by that member.
+abbrev pub StaysRight : MemberFields → SeatFields → MemberFields → SeatFields → Type 0
+StaysRight m seat now after = (base : ℕ) → base ≤ length m.history → Right m base seat → Right now base after

@@ -1,11 +1,11 @@
 //! Whether all seats of a node agree with its member's history.
 
-ghost use Rattle.std.specs.Prelude.{◌≡◌, ◌↔◌, ◌≢◌, None, IfOk, IsTrue};
+ghost use Rattle.std.specs.Prelude.{◌≡◌, ◌↔◌, ◌≢◌, ◌≤◌, None, IfOk, IsTrue, length};
 ghost use Rattle.std.specs.List.{All, fold};
 ghost use Rattle.pay_node.specs.Closing.{IsKept, IsVerdict, lesser};
 ghost use Rattle.pay_node.specs.Judging.{EachBorneOut};
 
-use crate::judging::is_right;
+use crate::judging::{entries_since, is_right};
 use crate::once::bears_out_each;
 use crate::seat::Seat;
 use pay_book::Settle;
@@ -13,40 +13,45 @@ use pay_echo::Instance;
 use pay_member::{HistoryEntry, Member};
 use std::alloc::{AllocError, Global};
 
-/// The least stamp that isn't settled, if there is one.
+/// The least stamp that isn't settled from a base on, if there is one.
 pub(crate) fn least_wrong<I: Instance + Drop, B: Settle + Drop>(
     alloc: Global,
     member: &Member<I, B>,
+    base: usize,
     count: u16,
     seats: &[Seat],
 ) -> Result<Option<u16>, AllocError>
-    ensures { IfOk result (λ found. IsVerdict member.now count seats.now found) }
+    requires { base ≤ length member.now.history }
+    ensures { IfOk result (λ found. IsVerdict member.now base count seats.now found) }
 {
-    let is_each_known = bears_out_each(alloc, member, seats)?;
+    let is_each_known = bears_out_each(alloc, member, base, seats)?;
     for stamp in 0..count {
-        if !is_kept(alloc, member, seats, stamp, is_each_known)? {
+        if !is_kept(alloc, member, base, seats, stamp, is_each_known)? {
             return Ok(Some(stamp));
         }
     }
     let of_seats = least_of_seats(seats, count);
-    Ok(least_of_entries(of_seats, member.history(), count))
+    let since = entries_since(member.history(), base);
+    Ok(least_of_entries(of_seats, since, count))
 }
 
 // Whether one seat has a stamp, and is right.
 fn is_kept<I: Instance + Drop, B: Settle + Drop>(
     alloc: Global,
     member: &Member<I, B>,
+    base: usize,
     seats: &[Seat],
     stamp: u16,
     is_each_known: bool,
 ) -> Result<bool, AllocError>
-    requires { IsTrue is_each_known → All (λ s. EachBorneOut member.now s) seats.now }
-    ensures { IfOk result (λ says. IsTrue says ↔ IsKept member.now stamp seats.now) }
+    requires within { base ≤ length member.now.history }
+    requires known { IsTrue is_each_known → All (λ s. EachBorneOut member.now s) seats.now }
+    ensures { IfOk result (λ says. IsTrue says ↔ IsKept member.now base stamp seats.now) }
 {
     let mut met = false;
     for seat in seats {
         if seat.stamp() == stamp {
-            if met || !is_right(alloc, member, seat, is_each_known)? {
+            if met || !is_right(alloc, member, base, seat, is_each_known)? {
                 return Ok(false);
             }
             met = true;

@@ -1,8 +1,8 @@
 //! Whether a history bears out what a seat was told.
 
-ghost use Rattle.std.specs.Prelude.{◌≡◌, ◌↔◌, ◌≤◌, ◌==◌, [], length, take, slice_get, IfOk, IfSome};
+ghost use Rattle.std.specs.Prelude.{◌≡◌, ◌↔◌, ◌≤◌, ◌==◌, drop, length, take, slice_get, IfOk, IfSome};
 ghost use Rattle.std.specs.Prelude.{IsTrue};
-ghost use Rattle.std.specs.List.{AllPairs, count_by};
+ghost use Rattle.std.specs.List.{All, AllPairs, count_by};
 ghost use Rattle.pay_member.specs.Events.{events};
 ghost use Rattle.pay_member.specs.Legal.{Legal};
 ghost use Rattle.pay_member.specs.Refusal.{refusal};
@@ -22,31 +22,40 @@ use pay_echo::Instance;
 use pay_member::{Event, HistoryEntry, Member, MemberFault, Reply};
 use std::alloc::{AllocError, Global};
 
-/// Whether a member's history bears out all that a seat was told. It is replayed where nobody knows yet that it bears
-/// out each receipt.
+/// Whether a member's history bears out all that a seat was told, from a base on. It is replayed where nobody knows yet
+/// that it bears out each receipt.
 pub(crate) fn is_right<I: Instance + Drop, B: Settle + Drop>(
     alloc: Global,
     member: &Member<I, B>,
+    base: usize,
     seat: &Seat,
     is_each_known: bool,
 ) -> Result<bool, AllocError>
-    requires { IsTrue is_each_known → EachBorneOut member.now seat.now }
-    ensures { IfOk result (λ says. IsTrue says ↔ Right member.now seat.now) }
+    requires within { base ≤ length member.now.history }
+    requires known { IsTrue is_each_known → EachBorneOut member.now seat.now }
+    ensures { IfOk result (λ says. IsTrue says ↔ Right member.now base seat.now) }
 {
-    if entries_under(member.history(), seat.stamp()) != entries_told(seat.receipts()) {
+    let history = member.history();
+    let receipts = seat.receipts();
+    let stamp = seat.stamp();
+    let since = entries_since(history, base);
+    if entries_under(since, stamp) != entries_told(receipts) {
         return Ok(false);
     }
-    if is_each_known && are_in_order(seat.receipts()) {
+    if is_each_known && are_in_order(base, receipts) {
         return Ok(true);
     }
     let mut fresh = anew(alloc, member)?;
-    are_borne_out(
-        alloc,
-        &mut fresh,
-        member.history(),
-        seat.stamp(),
-        seat.receipts(),
-    )
+    replay_to(alloc, &mut fresh, history, base)?;
+    are_borne_out(alloc, &mut fresh, history, stamp, receipts)
+}
+
+/// The entries of a history from a base on.
+pub(crate) fn entries_since(history: &[HistoryEntry], base: usize) -> &[HistoryEntry]
+    requires { base ≤ length history.now }
+    ensures { result.now ≡ drop base history.now }
+{
+    &history[base..]
 }
 
 /// How many entries have a stamp.
@@ -75,11 +84,14 @@ fn entries_told(receipts: &[Receipt]) -> usize
     count
 }
 
-// Whether none saw less than there was once the one before it was answered. Where it says no, nothing is known.
-fn are_in_order(receipts: &[Receipt]) -> bool
-    ensures { IsTrue result → AllPairs (λ r later. entries_after r ≤ later.seen) receipts.now }
+// Whether none saw less than there was once the one before it was answered, and the first no less than a base. Where it
+// says no, nothing is known.
+fn are_in_order(base: usize, receipts: &[Receipt]) -> bool
+    ensures since { IsTrue result → All (λ r. base ≤ r.seen) receipts.now }
+    ensures ordered { IsTrue result
+        → AllPairs (λ r later. entries_after r ≤ later.seen) receipts.now }
 {
-    let mut least = 0;
+    let mut least = base;
     for receipt in receipts {
         let Some(after) = after(receipt) else {
             return false;
@@ -112,8 +124,8 @@ fn is_of_entry(call: &Call) -> bool
     }
 }
 
-// Whether a legal history bears out receipts, one after the other, and none saw less than there was before it. A
-// member that took nothing is brought up to each.
+// Whether a legal history bears out receipts, one after the other, and none saw less than there was before it, nor the
+// first less than the member took. That is brought up to each.
 fn are_borne_out<I: Instance + Drop, B: Settle + Drop>(
     alloc: Global,
     member: &mut Member<I, B>,
@@ -122,9 +134,10 @@ fn are_borne_out<I: Instance + Drop, B: Settle + Drop>(
     receipts: &[Receipt],
 ) -> Result<bool, AllocError>
     requires legal { Legal member.old.genesis member.old.keys history.now }
-    requires fresh { member.old.history ≡ [] }
+    requires begun { member.old.history ≡ take (length member.old.history) history.now }
     ensures { IfOk result (λ says. IsTrue says
-        ↔ AreBorneOut (record member.old { history = history.now }) stamp 0 receipts.now) }
+        ↔ AreBorneOut (record member.old { history = history.now }) stamp
+        (length member.old.history) receipts.now) }
 {
     for receipt in receipts {
         if !is_next_borne_out(alloc, member, history, stamp, receipt)? {

@@ -4,9 +4,12 @@
 //! against the member's history: it is one that a single thread could have made, with these very calls.
 #![tactic(auto)]
 
+mod beginning;
+mod begun;
 mod close_fault;
 mod closing;
 mod gate;
+mod gatherer;
 mod judging;
 mod marks;
 mod node;
@@ -14,14 +17,17 @@ mod once;
 mod question;
 mod receipt;
 mod replaying;
+mod request;
 mod same;
 mod seat;
 mod showing;
 mod shown;
 mod stopped;
 
+pub use beginning::{Beginning, NoHistory};
 pub use close_fault::CloseFault;
 pub use gate::{Gate, OpenGate};
+pub use gatherer::Gatherer;
 pub use node::{MOST_SEATS, Node};
 pub use question::Question;
 pub use receipt::{Call, Receipt};

@@ -1,36 +1,41 @@
-ghost use Rattle.std.specs.Prelude.{◌≡◌, ◌≢◌, ◌↔◌, ◌+◌, ◌<◌, ◌≤◌, ◌^◌, Ok, Err, [], IfOk, IfErr, IfSome};
-ghost use Rattle.std.specs.Prelude.{IsTrue, OnErr, false};
+ghost use Rattle.std.specs.Prelude.{◌≡◌, ◌≢◌, ◌↔◌, ◌+◌, ◌<◌, ◌≤◌, ◌^◌, Ok, Err, IfOk, IfErr, IfSome};
+ghost use Rattle.std.specs.Prelude.{IsTrue, OnErr, OnOk, false};
+ghost use Rattle.pay_frame.specs.Frame.{FrameFields};
 ghost use Rattle.pay_frame.specs.Lent.{fields_of};
+ghost use Rattle.pay_frame.specs.OneFrame.{IsOneFrame};
 ghost use Rattle.pay_link.specs.Keys.{IsPeer};
-ghost use Rattle.pay_link.specs.Opening.{OpenedFields, judgement};
 ghost use Rattle.pay_member.specs.declared.event.Event.TheVariants.{Ask, Query, Taken};
 ghost use Rattle.pay_member.specs.Answer.{asked, taken, told};
-ghost use Rattle.pay_member.specs.Bringing.{IsOpening, judged};
 ghost use Rattle.pay_member.specs.Legal.{Legal};
 ghost use Rattle.std.specs.Sync.Mutex.{mutex_guard_value};
 ghost use Rattle.pay_node.specs.Closing.{AllSettled, IsFault};
+ghost use Rattle.pay_node.specs.Gathering.{IsGathered};
 ghost use Rattle.pay_node.specs.Keeping.{IsFetched};
 ghost use Rattle.pay_node.specs.Sending.{HasSent, IsCountSent, IsSentAt};
-ghost use Rattle.pay_node.specs.Nodes.{AreFresh, IsAnswered, IsAnsweredAs, IsBrought, IsOwn};
-ghost use Rattle.pay_node.specs.Nodes.{IsShown, IsTaken, outcome_of, want_of};
+ghost use Rattle.pay_node.specs.Nodes.{AreFresh, IsAnswered, IsBrought, IsMessage, IsOwn};
+ghost use Rattle.pay_node.specs.Nodes.{IsReceived, IsShown, IsTaken, base_of, next_of, outcome_of};
 
+use crate::beginning::Beginning;
+use crate::begun::Begun;
 use crate::close_fault::CloseFault;
 use crate::gate::Gate;
+use crate::gatherer::Gatherer;
 use crate::question::Question;
+use crate::request::Account;
 use crate::seat::Seat;
-use crate::showing::{copy_of_statement, state_of, statement_of};
-use crate::shown::{Bodies, SettledCounts, Shown, Statement};
+use crate::showing::show;
+use crate::shown::{Shown, Statement};
 use crate::stopped::Stopped;
 use pay_book::Settle;
 use pay_channel::laws::{one_event_more, taken_in_order};
 use pay_echo::Instance;
-use pay_frame::{Body, Bytes, FrameRef, Kind};
+use pay_frame::{Body, Bytes, FrameRef, Kind, read_one};
 use pay_hmac::Tagger;
-use pay_link::{Checked, Genesis, Keys, LinkFault, Opened, want};
+use pay_link::{Checked, Genesis, Keys, LinkFault, Opened};
 use pay_member::laws::events_in_order;
 use pay_member::{
-    AskFault, Brought, Member, Outcome, PaymentState, QueryFault, TakeFault, Told, Took,
-    open_bytes, open_frame,
+    AskFault, Brought, Incoming, Member, Outcome, PaymentState, QueryFault, Received, TakeFault,
+    Told, Took, open_frame,
 };
 use std::alloc::{AllocError, Global};
 use std::marker::Model;
@@ -45,15 +50,15 @@ pub const MOST_SEATS: u16 = 256;
 /// A call locks the member for one event or one reading. Bytes are read, opened and answered outside of the lock,
 /// with the node's own keys. Whatever is answered is answered by a member of the node's own group that has its keys.
 #[derive(Drop)]
-pub struct Node<I: Instance + Drop, B: Settle + Drop> {
-    member: Mutex<Member<I, B>>,
+pub struct Node<I: Instance + Drop, B: Settle + Drop, S: Beginning> {
+    member: Mutex<Begun<I, B, S>>,
     changed: Condvar,
     genesis: Genesis,
     keys: Keys,
     seats: u16,
 }
 
-impl<I: Instance + Drop, B: Settle + Drop> Model for Node<I, B> {
+impl<I: Instance + Drop, B: Settle + Drop, S: Beginning> Model for Node<I, B, S> {
     ghost use Rattle.pay_member.specs.Legal.{Legal};
     ghost use Rattle.pay_node.specs.Closing.{AllSettled, IsFault};
     ghost use Rattle.pay_node.specs.Keeping.{IsFetched};
@@ -61,40 +66,58 @@ impl<I: Instance + Drop, B: Settle + Drop> Model for Node<I, B> {
 
     ghost Value = { NodeFields };
 
-    ghost view = { λ n. record { genesis = n.genesis; keys = n.keys; seats = n.seats } };
+    ghost view = { λ n. record {
+      genesis = n.genesis;
+      keys = n.keys;
+      seats = n.seats;
+      beginning = S.beginning;
+    } };
 }
 
-impl<I: Instance + Drop, B: Settle + Drop> Node<I, B> {
-    /// A node of a member that took nothing, and its seats. Where memory is refused, the member comes back.
+impl<I: Instance + Drop, B: Settle + Drop, S: Beginning> Node<I, B, S> {
+    /// A node of a member, which goes on from the history that it has, and the node's seats. Where memory is refused, the
+    /// member comes back.
     pub fn new(
         alloc: Global,
         member: Member<I, B>,
         seats: u16,
-    ) -> Result<(Node<I, B>, Vec<Seat>), (Member<I, B>, AllocError)>
-        requires fresh { member.history ≡ [] }
+    ) -> Result<(Node<I, B, S>, Vec<Seat>), (Member<I, B>, AllocError)>
+        requires beginning { member.history ≡ S.beginning }
         requires few { seats ≤ MOST_SEATS }
-        ensures node { IfOk result (λ made.
-            made.0 ≡ record { genesis = member.genesis; keys = member.keys; seats = seats }) }
+        ensures node { IfOk result (λ made. made.0 ≡ record {
+          genesis = member.genesis;
+          keys = member.keys;
+          seats = seats;
+          beginning = member.history;
+        }) }
         ensures seats { IfOk result (λ made. AreFresh seats made.1.items) }
         ensures err { IfErr result (λ back. back.0 ≡ member) }
     {
         match parts(alloc, &member, seats) {
-            Ok((genesis, keys, made)) => Ok((Node::of_parts(member, genesis, keys, seats), made)),
+            Ok((genesis, keys, made)) => {
+                let begun = Begun::new(member);
+                Ok((Node::of_parts(begun, genesis, keys, seats), made))
+            }
             Err(error) => Err((member, error)),
         }
     }
 
     /// A node whose lock holds this member. No call answers where the genesis or the keys aren't the member's.
     pub(crate) fn of_parts(
-        member: Member<I, B>,
+        begun: Begun<I, B, S>,
         genesis: Genesis,
         keys: Keys,
         seats: u16,
-    ) -> Node<I, B>
-        ensures { result ≡ record { genesis = genesis; keys = keys; seats = seats } }
+    ) -> Node<I, B, S>
+        ensures { result ≡ record {
+          genesis = genesis;
+          keys = keys;
+          seats = seats;
+          beginning = S.beginning;
+        } }
     {
         Node {
-            member: Mutex::new(member),
+            member: Mutex::new(begun),
             changed: Condvar::new(),
             genesis,
             keys,
@@ -109,11 +132,12 @@ impl<I: Instance + Drop, B: Settle + Drop> Node<I, B> {
         &self.keys
     }
 
-    /// Reads and opens bytes, and hands the frame that they are to the member.
+    /// Reads and opens bytes, and hands the frame that they are to the member. A frame that opens and is no WANT is
+    /// answered with the WANT for what is next from its sender.
     ///
     /// Bytes that don't open, and a WANT, are answered at once, whatever memory there is: no lock is taken, and no
     /// receipt is left.
-    #[tactic(auto, using(crate::proofs::Taking::brought_ok, crate::proofs::Taking::brought_err))]
+    #[tactic(auto, using(crate::proofs::Taking::brought_frame, crate::proofs::Taking::brought_fault))]
     pub fn bring<R: Wait, T: Tagger, G: Gate>(
         &self,
         rt: &R,
@@ -127,19 +151,19 @@ impl<I: Instance + Drop, B: Settle + Drop> Node<I, B> {
             IsBrought self.now bytes.now seat.old seat.new brought) }
         ensures err { OnErr result (seat.new ≡ seat.old) }
         ensures memory { OnErr result
-            ((opened : OpenedFields) × IsOpening self.now.keys bytes.now (Ok opened)) }
+            ((f : FrameFields) × IsOneFrame bytes.now f × IsMessage self.now.keys f) }
     {
-        match open_bytes(tagger, &self.keys, bytes) {
-            Ok(opened) => self.take_opened(rt, alloc, seat, tagger, gate, &opened),
-            Err(outcome) => Ok(Brought {
-                outcome,
-                want: None,
-            }),
-        }
+        let frame = match read_one(bytes) {
+            Ok(frame) => frame,
+            Err(fault) => return Ok(Brought::at_once(Outcome::Frame(fault))),
+        };
+        let from = frame.from();
+        let received = self.bring_frame(rt, alloc, seat, tagger, gate, frame)?;
+        Ok(received.with_want(tagger, &self.keys, from))
     }
 
-    /// The same of a frame that was read already.
-    #[tactic(auto, using(crate::proofs::Taking::answered_ok, crate::proofs::Taking::answered_err))]
+    /// The same of a frame that was read already, without the WANT: the answer has the number that it would ask for.
+    #[tactic(auto, using(crate::proofs::Taking::is_message, crate::proofs::Taking::is_want, crate::proofs::Taking::is_fault))]
     pub fn bring_frame<R: Wait, T: Tagger, G: Gate>(
         &self,
         rt: &R,
@@ -148,19 +172,20 @@ impl<I: Instance + Drop, B: Settle + Drop> Node<I, B> {
         tagger: &T,
         gate: &G,
         frame: FrameRef<'_>,
-    ) -> Result<Brought, AllocError>
-        ensures brought { IfOk result (λ brought. IsAnsweredAs self.now seat.old seat.new
-            (judged (judgement self.now.keys (fields_of frame.entry))) brought) }
+    ) -> Result<Received, AllocError>
+        ensures received { IfOk result (λ received.
+            IsReceived self.now seat.old seat.new (fields_of frame.entry) received) }
+        ensures peer { IfOk result (λ received. IfSome received.next (λ _.
+            IsPeer self.now.keys (fields_of frame.entry).from)) }
         ensures err { OnErr result (seat.new ≡ seat.old) }
-        ensures memory { OnErr result ((opened : OpenedFields)
-            × (judged (judgement self.now.keys (fields_of frame.entry)) ≡ Ok opened)) }
+        ensures memory { OnErr result (IsMessage self.now.keys (fields_of frame.entry)) }
     {
         match open_frame(tagger, &self.keys, frame) {
-            Ok(opened) => self.take_opened(rt, alloc, seat, tagger, gate, &opened),
-            Err(outcome) => Ok(Brought {
-                outcome,
-                want: None,
-            }),
+            Ok(Incoming::Message(opened)) => self.take_opened(rt, alloc, seat, gate, &opened),
+            Ok(Incoming::Want { from, number }) => {
+                Ok(Received::at_once(Outcome::Wanted { from, number }))
+            }
+            Err(fault) => Ok(Received::at_once(Outcome::Link(fault))),
         }
     }
 
@@ -178,9 +203,9 @@ impl<I: Instance + Drop, B: Settle + Drop> Node<I, B> {
     {
         let copy = value.copy(alloc)?;
         seat.make_room()?;
-        let mut member = self.locked(rt);
-        let answer = seat.ask(alloc, &mut *member, value, copy);
-        drop(member);
+        let mut begun = self.locked(rt);
+        let answer = begun.hand_in(alloc, seat, value, copy);
+        drop(begun);
         // what is asked for is sent
         if answer.is_ok() {
             self.changed.notify_all();
@@ -201,8 +226,30 @@ impl<I: Instance + Drop, B: Settle + Drop> Node<I, B> {
         ensures memory { result ≡ Err QueryFault.Memory → seat.new ≡ seat.old }
     {
         seat.make_room()?;
-        let mut member = self.locked(rt);
-        seat.query(alloc, &mut *member, account)
+        let mut begun = self.locked(rt);
+        let account = Account(account);
+        begun.hand_in(alloc, seat, account, account)
+    }
+
+    /// Reads of the member what a question asks for.
+    fn read<R: Wait>(
+        &self,
+        rt: &R,
+        alloc: Global,
+        seat: &mut Seat,
+        question: Question,
+    ) -> Result<Shown, AllocError>
+        ensures shown { IfOk result (λ shown.
+            IsShown self.now seat.old seat.new question shown) }
+        ensures err { OnErr result (seat.new ≡ seat.old) }
+    {
+        seat.make_room()?;
+        let begun = self.locked(rt);
+        let member = begun.member();
+        let shown = show(alloc, member, question)?;
+        let copy = shown.copy(alloc)?;
+        seat.note(member, question, copy)?;
+        Ok(shown)
     }
 
     /// Copies of the bodies that the member sent to all, from a place on: at most `max`, and at most 16.
@@ -218,12 +265,10 @@ impl<I: Instance + Drop, B: Settle + Drop> Node<I, B> {
             (Question.Sent from max) (Shown.Sent bodies.items)) }
         ensures err { OnErr result (seat.new ≡ seat.old) }
     {
-        seat.make_room()?;
-        let member = self.locked(rt);
-        let bodies = Bodies::new(member.fetch(alloc, from, max)?);
-        let copy = bodies.copy(alloc)?;
-        seat.note(&*member, Question::Sent { from, max }, Shown::Sent(copy))?;
-        Ok(bodies.into_vec())
+        match self.read(rt, alloc, seat, Question::Sent { from, max })? {
+            Shown::Sent(bodies) => Ok(bodies.into_vec()),
+            Shown::State(_) | Shown::Statement(_) | Shown::Fronts(_) => unreachable!(),
+        }
     }
 
     /// A copy of the body that the member sent at a place of all, if it is there. However often it is fetched from a
@@ -240,8 +285,8 @@ impl<I: Instance + Drop, B: Settle + Drop> Node<I, B> {
         ensures err { OnErr result (seat.new ≡ seat.old) }
     {
         seat.make_room()?;
-        let member = self.locked(rt);
-        seat.note_once(alloc, &*member, number)
+        let begun = self.locked(rt);
+        seat.note_once(alloc, begun.member(), number)
     }
 
     /// How far the payment under a number of an account has come.
@@ -257,15 +302,10 @@ impl<I: Instance + Drop, B: Settle + Drop> Node<I, B> {
             → IsShown self.now seat.old seat.new (Question.State owner seq) (Shown.State result) }
         ensures memory { result ≡ Err QueryFault.Memory → seat.new ≡ seat.old }
     {
-        seat.make_room()?;
-        let member = self.locked(rt);
-        let answer = state_of(&*member, owner, seq);
-        seat.note(
-            &*member,
-            Question::State { owner, seq },
-            Shown::State(answer),
-        )?;
-        answer
+        match self.read(rt, alloc, seat, Question::State { owner, seq })? {
+            Shown::State(answer) => answer,
+            Shown::Sent(_) | Shown::Statement(_) | Shown::Fronts(_) => unreachable!(),
+        }
     }
 
     /// The lines of an account's statement, and its balance.
@@ -281,16 +321,10 @@ impl<I: Instance + Drop, B: Settle + Drop> Node<I, B> {
             (Shown.Statement result) }
         ensures memory { result ≡ Err QueryFault.Memory → seat.new ≡ seat.old }
     {
-        seat.make_room()?;
-        let member = self.locked(rt);
-        let answer = statement_of(alloc, &*member, account)?;
-        let copy = copy_of_statement(alloc, &answer)?;
-        seat.note(
-            &*member,
-            Question::Statement(account),
-            Shown::Statement(copy),
-        )?;
-        answer
+        match self.read(rt, alloc, seat, Question::Statement(account))? {
+            Shown::Statement(answer) => answer,
+            Shown::Sent(_) | Shown::State(_) | Shown::Fronts(_) => unreachable!(),
+        }
     }
 
     /// How many entries are settled of each account.
@@ -304,19 +338,30 @@ impl<I: Instance + Drop, B: Settle + Drop> Node<I, B> {
             Question.Fronts (Shown.Fronts fronts.items)) }
         ensures err { OnErr result (seat.new ≡ seat.old) }
     {
-        seat.make_room()?;
-        let member = self.locked(rt);
-        let fronts = SettledCounts::new(member.fronts(alloc)?);
-        let copy = fronts.copy(alloc)?;
-        seat.note(&*member, Question::Fronts, Shown::Fronts(copy))?;
-        Ok(fronts.into_vec())
+        match self.read(rt, alloc, seat, Question::Fronts)? {
+            Shown::Fronts(fronts) => Ok(fronts.into_vec()),
+            Shown::Sent(_) | Shown::State(_) | Shown::Statement(_) => unreachable!(),
+        }
+    }
+
+    /// Lends the member to a gatherer, with all that it took by now. No receipt is left. After refused memory nothing
+    /// is known of the gatherer.
+    pub fn lend<R: Wait, G: Gatherer>(&self, rt: &R, gatherer: &mut G) -> Result<(), AllocError>
+        ensures { OnOk result (IsGathered G.gathers self.now gatherer.old gatherer.new) }
+    {
+        let begun = self.locked(rt);
+        let member = begun.member();
+        // for its clause alone: the history is legal
+        let _history = member.history();
+        gatherer.gather(member)
     }
 
     /// How many bodies the member sent to all by now. No receipt is left, so closing doesn't judge this answer.
     pub fn sent_len<R: Wait>(&self, rt: &R) -> u64
         ensures { IsCountSent self.now result }
     {
-        let member = self.locked(rt);
+        let begun = self.locked(rt);
+        let member = begun.member();
         // for its clause alone: the history is legal
         let _history = member.history();
         member.sent_len()
@@ -328,11 +373,12 @@ impl<I: Instance + Drop, B: Settle + Drop> Node<I, B> {
     pub fn wait_until_sent<R: Wait>(&self, rt: &R, place: u64, stop: &AtomicBool) -> bool
         ensures { IsTrue result → IsSentAt self.now place }
     {
-        let member = self.changed.wait_while(
+        let begun = self.changed.wait_while(
             rt,
             self.member.lock(rt),
-            |member| self.has_to_wait(member, place, stop),
+            |begun| self.has_to_wait(begun, place, stop),
         );
+        let member = begun.member();
         // for its clause alone: the history is legal
         let _history = member.history();
         member.sent(place).is_some()
@@ -340,44 +386,46 @@ impl<I: Instance + Drop, B: Settle + Drop> Node<I, B> {
 
     // Whether a body at a place has still to be waited for. Whose member it is is looked at last, which
     // no wake-up in vain comes to.
-    fn has_to_wait(&self, member: &Member<I, B>, place: u64, stop: &AtomicBool) -> bool
-        ensures { result ≡ false → IsOwn self.now member.now }
+    fn has_to_wait(&self, begun: &Begun<I, B, S>, place: u64, stop: &AtomicBool) -> bool
+        ensures { result ≡ false → IsOwn self.now begun.now }
     {
-        (member.sent(place).is_none() && !stop.load(Ordering::SeqCst)) || !self.is_own(member)
+        let is_sent = begun.member().sent(place).is_some();
+        (!is_sent && !stop.load(Ordering::SeqCst)) || !self.is_own(begun)
     }
 
     /// Tells those to stop who wait for what the member has still to send: a writer then has no
     /// answer. No clause can say so, for none names a flag or what a lock keeps; it is tested.
     pub fn stop_waiting<R: Wait>(&self, rt: &R, stop: &AtomicBool) {
-        let member = self.member.lock(rt);
+        let begun = self.member.lock(rt);
         stop.store(true, Ordering::SeqCst);
-        drop(member);
+        drop(begun);
         self.changed.notify_all();
     }
 
     // Locks the member, which is the node's own: whoever found another one there would wait for it.
-    fn locked<R: Wait>(&self, rt: &R) -> MutexGuard<'_, Member<I, B>>
+    fn locked<R: Wait>(&self, rt: &R) -> MutexGuard<'_, Begun<I, B, S>>
         ensures { IsOwn self.now (mutex_guard_value result) }
     {
         self.changed
-            .wait_while(rt, self.member.lock(rt), |member| !self.is_own(member))
+            .wait_while(rt, self.member.lock(rt), |begun| !self.is_own(begun))
     }
 
     // Whether a member is of the node's group, and has its keys.
-    fn is_own(&self, member: &Member<I, B>) -> bool
-        ensures { IsTrue result ↔ IsOwn self.now member.now }
+    fn is_own(&self, begun: &Begun<I, B, S>) -> bool
+        ensures { IsTrue result ↔ IsOwn self.now begun.now }
     {
+        let member = begun.member();
         self.genesis.is_same(member.genesis()) && self.keys.is_same(member.keys())
     }
 
     /// Takes the member out of the lock, once no thread calls the node any more.
-    pub fn stop(self) -> Stopped<I, B>
+    pub fn stop(self) -> Stopped<I, B, S>
         ensures node { result.node ≡ self }
         ensures legal { Legal result.member.genesis result.member.keys result.member.history }
     {
         let member = self.member.into_inner();
         // for its clause alone: the history is legal
-        let _history = member.history();
+        let _history = member.member().history();
         Stopped {
             member,
             genesis: self.genesis,
@@ -391,35 +439,34 @@ impl<I: Instance + Drop, B: Settle + Drop> Node<I, B> {
         self,
         alloc: Global,
         seats: &[Seat],
-    ) -> Result<Member<I, B>, (CloseFault, Stopped<I, B>)>
+    ) -> Result<Member<I, B>, (CloseFault, Stopped<I, B, S>)>
         ensures own { IfOk result (IsOwn self) }
-        ensures closed { IfOk result (λ member. AllSettled member self.seats seats.now) }
+        ensures closed { IfOk result (λ member.
+            AllSettled member (base_of self) self.seats seats.now) }
         ensures fault { IfErr result (λ back. IsFault self back.1.member seats.now back.0) }
         ensures back { IfErr result (λ back. back.1.node ≡ self) }
     {
         self.stop().close(alloc, seats)
     }
 
-    // Takes a frame that opened, and answers with the WANT for what is next.
+    // Takes a frame that opened, and answers which number is next from its sender.
     #[tactic(auto, using(crate::proofs::Taking::taken_so))]
-    fn take_opened<R: Wait, T: Tagger, G: Gate>(
+    fn take_opened<R: Wait, G: Gate>(
         &self,
         rt: &R,
         alloc: Global,
         seat: &mut Seat,
-        tagger: &T,
         gate: &G,
         opened: &Opened<'_>,
-    ) -> Result<Brought, AllocError>
-        requires peer { IsPeer self.now.keys opened.now.frame.from }
-        requires kind { opened.now.frame.body.kind ≢ Kind.Want }
-        ensures taken { IfOk result (λ brought.
-            IsTaken self.now seat.old seat.new opened.now brought) }
+    ) -> Result<Received, AllocError>
+        requires { opened.now.frame.body.kind ≢ Kind.Want }
+        ensures taken { IfOk result (λ received.
+            IsTaken self.now seat.old seat.new opened.now received) }
         ensures err { OnErr result (seat.new ≡ seat.old) }
     {
         let checked = opened.own(alloc)?;
         let answer = self.take(rt, alloc, seat, gate, checked);
-        brought_of(tagger, &self.keys, opened, answer)
+        received_of(opened.frame().number(), answer)
     }
 
     // Hands a frame to the member, between the gate's two calls.
@@ -463,10 +510,10 @@ impl<I: Instance + Drop, B: Settle + Drop> Node<I, B> {
         ensures memory { result ≡ Err TakeFault.Memory → seat.new ≡ seat.old }
     {
         taken_in_order();
-        let mut member = self.locked(rt);
-        let answer = seat.take(alloc, &mut *member, checked, copy);
+        let mut begun = self.locked(rt);
+        let answer = begun.hand_in(alloc, seat, checked, copy);
         // as many frames came from one member as there are entries at most, and these can be counted
-        let entries = member.history().len();
+        let entries = begun.member().history().len();
         prove!(entries < usize::MAX);
         answer
     }
@@ -505,36 +552,23 @@ fn parts<I: Instance + Drop, B: Settle + Drop>(
     Ok((genesis, keys, made))
 }
 
-// The answer to a frame that opened, by the member's, with the WANT for what is next.
-fn brought_of<T: Tagger>(
-    tagger: &T,
-    keys: &Keys,
-    opened: &Opened<'_>,
-    answer: Result<Took, TakeFault>,
-) -> Result<Brought, AllocError>
-    requires peer { IsPeer keys.now opened.now.frame.from }
-    requires next { IfOk answer (λ _. opened.now.frame.number + 1 < 2 ^ 64) }
+// The answer to a frame of a number that opened, by the member's.
+fn received_of(number: u64, answer: Result<Took, TakeFault>) -> Result<Received, AllocError>
+    requires { IfOk answer (λ _. number + 1 < 2 ^ 64) }
     ensures memory { IfOk result (λ _. answer ≢ Err TakeFault.Memory) }
-    ensures outcome { IfOk result (λ brought. brought.outcome ≡ outcome_of answer) }
-    ensures want { IfOk result (λ brought.
-        brought.want ≡ want_of keys.now opened.now.frame answer) }
+    ensures outcome { IfOk result (λ received. received.outcome ≡ outcome_of answer) }
+    ensures next { IfOk result (λ received. received.next ≡ next_of number answer) }
     ensures err { OnErr result (answer ≡ Err TakeFault.Memory) }
 {
-    let from = opened.frame().from();
     let (outcome, next) = match answer {
-        Ok(took) => (Outcome::Took(took), opened.frame().number() + 1),
+        Ok(took) => (Outcome::Took(took), number + 1),
         Err(TakeFault::Repeat(next)) => (Outcome::Link(LinkFault::Repeat(next)), next),
         Err(TakeFault::Gap(next)) => (Outcome::Link(LinkFault::Gap(next)), next),
+        Err(TakeFault::WrongKey) => return Ok(Received::at_once(Outcome::WrongKey)),
         Err(TakeFault::Memory) => return Err(AllocError),
-        Err(TakeFault::WrongKey) => {
-            return Ok(Brought {
-                outcome: Outcome::WrongKey,
-                want: None,
-            });
-        }
     };
-    Ok(Brought {
+    Ok(Received {
         outcome,
-        want: Some(want(tagger, keys, from, next)),
+        next: Some(next),
     })
 }

@@ -13,24 +13,33 @@ use pay_echo::Instance;
 use pay_member::{HistoryEntry, Member};
 use std::alloc::{AllocError, Global};
 
-/// Whether a member's history bears out each receipt of all seats. Where it says no, nothing is known: one may be
-/// wrong, or stand out of its seat's order.
+/// Whether a member's history bears out each receipt of all seats, which saw all entries before a base. Where it says no,
+/// nothing is known: one may be wrong, or stand out of its seat's order.
 pub(crate) fn bears_out_each<I: Instance + Drop, B: Settle + Drop>(
     alloc: Global,
     member: &Member<I, B>,
+    base: usize,
     seats: &[Seat],
 ) -> Result<bool, AllocError>
     ensures { IfOk result (λ says. IsTrue says → All (λ s. EachBorneOut member.now s) seats.now) }
 {
     let mut fresh = anew(alloc, member)?;
     let mut counts = vec![in alloc; 0; seats.len()]?;
-    count_all(alloc, member, &mut fresh, seats, counts.as_mut_slice())
+    count_all(
+        alloc,
+        member,
+        base,
+        &mut fresh,
+        seats,
+        counts.as_mut_slice(),
+    )
 }
 
 // The same, with a member that took nothing yet and a count for each seat.
 fn count_all<I: Instance + Drop, B: Settle + Drop>(
     alloc: Global,
     member: &Member<I, B>,
+    base: usize,
     fresh: &mut Member<I, B>,
     seats: &[Seat],
     counts: &mut [usize],
@@ -41,7 +50,7 @@ fn count_all<I: Instance + Drop, B: Settle + Drop>(
     ensures { IfOk result (λ says. IsTrue says → All (λ s. EachBorneOut member.now s) seats.now) }
 {
     let history = member.history();
-    for place in 0..history.len() + 1 {
+    for place in base..history.len() + 1 {
         replay_to(alloc, fresh, history, place)?;
         if !count_here(alloc, fresh, history, seats, counts)? {
             return Ok(false);

@@ -1,21 +1,21 @@
 ghost use Rattle.std.specs.Prelude.{◌≡◌, ◌≢◌, ◌↔◌, ◌+◌, ◌<◌, ℕ, Some, Err, [], ◌++◌, IfOk, IsTrue};
 ghost use Rattle.std.specs.Prelude.{OnErr, OnOk, length, max, vec_len, vec_capacity};
-ghost use Rattle.pay_member.specs.Answer.{IsAnswer, asked, taken, told};
+ghost use Rattle.pay_member.specs.Answer.{IsAnswer};
 ghost use Rattle.pay_member.specs.Legal.{Legal};
 ghost use Rattle.pay_member.specs.Member.{with_entry};
 ghost use Rattle.pay_node.specs.Keeping.{IsKeptFor, IsNoted, mark_of};
 ghost use Rattle.pay_node.specs.Receipts.{reading_receipt, receipts_of, shown_of};
-ghost use Rattle.pay_node.specs.Seats.{Right, SeatFields, with_receipts};
+ghost use Rattle.pay_node.specs.Seats.{SeatFields, StaysRight, with_receipts};
 
 use crate::marks::Marks;
 use crate::question::Question;
 use crate::receipt::{Call, Receipt};
+use crate::request::Request;
 use crate::shown::{Bodies, Shown};
 use pay_book::Settle;
 use pay_echo::Instance;
-use pay_frame::{Body, Bytes};
-use pay_link::Checked;
-use pay_member::{AskFault, Event, Member, MemberFault, QueryFault, Reply, TakeFault, Told, Took};
+use pay_frame::Body;
+use pay_member::{Event, Member, MemberFault, Reply};
 use std::alloc::{AllocError, Global};
 use std::marker::Model;
 
@@ -73,103 +73,34 @@ impl Seat {
         self.receipts.reserve(1)
     }
 
-    /// Has the member broadcast a value, and keeps the receipt of the answer with a copy of the value.
+    /// Hands a request to a member, and keeps the receipt of the answer with a copy of the request.
     ///
     /// What was right stays so: this seat's receipts, and those of every seat with another stamp.
-    pub(crate) fn ask<I: Instance + Drop, B: Settle + Drop>(
+    pub(crate) fn hand_in<I: Instance + Drop, B: Settle + Drop, Q: Request + Drop>(
         &mut self,
         alloc: Global,
         member: &mut Member<I, B>,
-        value: Bytes,
-        copy: Bytes,
-    ) -> Result<u32, AskFault>
-        requires copy { copy ≡ value }
-        ensures answer { IsAnswer member.old (Event.Ask value) (asked result) }
-        ensures entry { IfOk (asked result) (λ reply. member.new ≡ with_entry member.old
-            (record { stamp = self.old.stamp; event = Event.Ask value; reply = reply })) }
-        ensures err { OnErr result (member.new ≡ member.old) }
+        request: Q,
+        copy: Q,
+    ) -> Result<Q::Reply, Q::Fault>
+        requires copy { copy ≡ request }
+        ensures answer { IsAnswer member.old (Q.event request) (Q.answer result) }
+        ensures entry { IfOk (Q.answer result) (λ reply. member.new ≡ with_entry member.old
+            (record { stamp = self.old.stamp; event = Q.event request; reply = reply })) }
+        ensures err { OnErr (Q.answer result) (member.new ≡ member.old) }
         ensures receipt { self.new ≡ with_receipts self.old
-            (receipts_of (length member.old.history) (Event.Ask value) (asked result)) }
-        ensures legal { result ≢ Err AskFault.Memory
-            → Legal member.old.genesis member.old.keys member.old.history }
-        ensures own { Right member.old self.old → Right member.new self.new }
+            (receipts_of (length member.old.history) (Q.event request) (Q.answer result)) }
+        ensures legal { Legal member.old.genesis member.old.keys member.old.history }
+        ensures own { StaysRight member.old self.old member.new self.new }
         ensures others { (seat : SeatFields) → seat.stamp ≢ self.old.stamp
-            → Right member.old seat → Right member.new seat }
+            → StaysRight member.old seat member.new seat }
     {
-        self.receipts.reserve(1)?;
         let seen = member.history().len();
-        let answer = member.ask(alloc, self.stamp, value);
-        keep(
-            &mut self.receipts,
-            seen,
-            Event::Ask(copy),
-            reply_asked(answer),
-        );
-        answer
-    }
-
-    /// Hands a frame to the member, and keeps the receipt of the answer with a copy of the frame. What was right stays
-    /// so.
-    pub(crate) fn take<I: Instance + Drop, B: Settle + Drop>(
-        &mut self,
-        alloc: Global,
-        member: &mut Member<I, B>,
-        checked: Checked,
-        copy: Checked,
-    ) -> Result<Took, TakeFault>
-        requires copy { copy ≡ checked }
-        ensures answer { IsAnswer member.old (Event.Taken checked) (taken result) }
-        ensures entry { IfOk (taken result) (λ reply. member.new ≡ with_entry member.old
-            (record { stamp = self.old.stamp; event = Event.Taken checked; reply = reply })) }
-        ensures err { OnErr result (member.new ≡ member.old) }
-        ensures receipt { self.new ≡ with_receipts self.old
-            (receipts_of (length member.old.history) (Event.Taken checked) (taken result)) }
-        ensures legal { result ≢ Err TakeFault.Memory
-            → Legal member.old.genesis member.old.keys member.old.history }
-        ensures own { Right member.old self.old → Right member.new self.new }
-        ensures others { (seat : SeatFields) → seat.stamp ≢ self.old.stamp
-            → Right member.old seat → Right member.new seat }
-    {
-        self.receipts.reserve(1)?;
-        let seen = member.history().len();
-        let answer = member.take(alloc, self.stamp, checked);
-        keep(
-            &mut self.receipts,
-            seen,
-            Event::Taken(copy),
-            reply_taken(answer),
-        );
-        answer
-    }
-
-    /// Has the member tell the state of an account, and keeps the receipt of the answer. What was right stays so.
-    pub(crate) fn query<I: Instance + Drop, B: Settle + Drop>(
-        &mut self,
-        alloc: Global,
-        member: &mut Member<I, B>,
-        account: u16,
-    ) -> Result<Told, QueryFault>
-        ensures answer { IsAnswer member.old (Event.Query account) (told result) }
-        ensures entry { IfOk (told result) (λ reply. member.new ≡ with_entry member.old
-            (record { stamp = self.old.stamp; event = Event.Query account; reply = reply })) }
-        ensures err { OnErr result (member.new ≡ member.old) }
-        ensures receipt { self.new ≡ with_receipts self.old
-            (receipts_of (length member.old.history) (Event.Query account) (told result)) }
-        ensures legal { result ≢ Err QueryFault.Memory
-            → Legal member.old.genesis member.old.keys member.old.history }
-        ensures own { Right member.old self.old → Right member.new self.new }
-        ensures others { (seat : SeatFields) → seat.stamp ≢ self.old.stamp
-            → Right member.old seat → Right member.new seat }
-    {
-        self.receipts.reserve(1)?;
-        let seen = member.history().len();
-        let answer = member.query(alloc, self.stamp, account);
-        keep(
-            &mut self.receipts,
-            seen,
-            Event::Query(account),
-            reply_told(answer),
-        );
+        if self.receipts.reserve(1).is_err() {
+            return Err(Q::memory());
+        }
+        let answer = request.hand_in(alloc, self.stamp, member);
+        keep(&mut self.receipts, seen, copy.into_event(), Q::told(answer));
         answer
     }
 
@@ -186,7 +117,7 @@ impl Seat {
         ensures err { OnErr result (self.new ≡ self.old) }
         ensures legal { OnOk result (Legal member.now.genesis member.now.keys
             member.now.history) }
-        ensures own { Right member.now self.old → Right member.now self.new }
+        ensures own { StaysRight member.now self.old member.now self.new }
     {
         let seen = member.history().len();
         self.receipts.push(Receipt {
@@ -209,7 +140,7 @@ impl Seat {
         ensures err { OnErr result (self.new ≡ self.old) }
         ensures legal { OnOk result (Legal member.now.genesis member.now.keys
             member.now.history) }
-        ensures own { Right member.now self.old → Right member.now self.new }
+        ensures own { StaysRight member.now self.old member.now self.new }
     {
         let seen = member.history().len();
         match member.sent(number as u64) {
@@ -288,24 +219,4 @@ fn keep(receipts: &mut Vec<Receipt>, seen: usize, event: Event, answer: Result<R
             call: Call::Handed { event, answer },
         });
     }
-}
-
-// What a receipt keeps of the answer to each call.
-
-fn reply_asked(answer: Result<u32, AskFault>) -> Result<Reply, MemberFault>
-    ensures { result ≡ asked answer }
-{
-    Ok(Reply::Asked(answer?))
-}
-
-fn reply_taken(answer: Result<Took, TakeFault>) -> Result<Reply, MemberFault>
-    ensures { result ≡ taken answer }
-{
-    Ok(Reply::Took(answer?))
-}
-
-fn reply_told(answer: Result<Told, QueryFault>) -> Result<Reply, MemberFault>
-    ensures { result ≡ told answer }
-{
-    Ok(Reply::Told(answer?))
 }

@@ -30,8 +30,8 @@ pub(crate) fn show<I: Instance + Drop, B: Settle + Drop>(
     }
 }
 
-/// How far a payment has come, if there is its account.
-pub(crate) fn state_of<I: Instance + Drop, B: Settle + Drop>(
+// How far a payment has come, if there is its account.
+fn state_of<I: Instance + Drop, B: Settle + Drop>(
     member: &Member<I, B>,
     owner: u16,
     seq: u32,
@@ -45,8 +45,8 @@ pub(crate) fn state_of<I: Instance + Drop, B: Settle + Drop>(
     }
 }
 
-/// An account's lines and its balance, if there is one.
-pub(crate) fn statement_of<I: Instance + Drop, B: Settle + Drop>(
+// An account's lines and its balance, if there is one.
+fn statement_of<I: Instance + Drop, B: Settle + Drop>(
     alloc: Global,
     member: &Member<I, B>,
     account: u16,
@@ -58,18 +58,5 @@ pub(crate) fn statement_of<I: Instance + Drop, B: Settle + Drop>(
         Ok(Ok(Statement::new(lines, member.balance(account))))
     } else {
         Ok(Err(QueryFault::NoAccount))
-    }
-}
-
-/// An equal answer.
-pub(crate) fn copy_of_statement(
-    alloc: Global,
-    answer: &Result<Statement, QueryFault>,
-) -> Result<Result<Statement, QueryFault>, AllocError>
-    ensures { IfOk result (λ copy. copy ≡ answer.now) }
-{
-    match answer {
-        Ok(statement) => Ok(Ok(statement.copy(alloc)?)),
-        Err(fault) => Ok(Err(*fault)),
     }
 }

@@ -19,6 +19,21 @@ pub enum Shown {
     Fronts(SettledCounts),
 }
 
+impl Shown {
+    /// An equal answer, unless memory is refused.
+    pub(crate) fn copy(&self, alloc: Global) -> Result<Shown, AllocError>
+        ensures { IfOk result (λ copy. copy ≡ self.now) }
+    {
+        match self {
+            Shown::Sent(bodies) => Ok(Shown::Sent(bodies.copy(alloc)?)),
+            Shown::State(answer) => Ok(Shown::State(*answer)),
+            Shown::Statement(Ok(statement)) => Ok(Shown::Statement(Ok(statement.copy(alloc)?))),
+            Shown::Statement(Err(fault)) => Ok(Shown::Statement(Err(*fault))),
+            Shown::Fronts(counts) => Ok(Shown::Fronts(counts.copy(alloc)?)),
+        }
+    }
+}
+
 /// Bodies that a member sent to all. Contracts see them as a list.
 #[derive(Drop)]
 pub struct Bodies {

@@ -1,7 +1,9 @@
 ghost use Rattle.std.specs.Prelude.{◌≡◌, ◌↔◌, IfErr, IfOk, IsTrue};
 ghost use Rattle.pay_node.specs.Closing.{AllSettled, IsFault};
-ghost use Rattle.pay_node.specs.Nodes.{IsOwn};
+ghost use Rattle.pay_node.specs.Nodes.{IsOwn, base_of};
 
+use crate::beginning::Beginning;
+use crate::begun::Begun;
 use crate::close_fault::CloseFault;
 use crate::closing::least_wrong;
 use crate::node::Node;
@@ -16,41 +18,46 @@ use std::marker::Model;
 /// A node that no thread calls any more, with its member out of the lock. So what is said of its member is about
 /// the very one that is handed out or started again.
 #[derive(Drop)]
-pub struct Stopped<I: Instance + Drop, B: Settle + Drop> {
-    pub(crate) member: Member<I, B>,
+pub struct Stopped<I: Instance + Drop, B: Settle + Drop, S: Beginning> {
+    pub(crate) member: Begun<I, B, S>,
     pub(crate) genesis: Genesis,
     pub(crate) keys: Keys,
     pub(crate) seats: u16,
 }
 
-impl<I: Instance + Drop, B: Settle + Drop> Model for Stopped<I, B> {
+impl<I: Instance + Drop, B: Settle + Drop, S: Beginning> Model for Stopped<I, B, S> {
     ghost use Rattle.pay_node.specs.Nodes.{StoppedFields};
 
     ghost Value = { StoppedFields };
 
     ghost view = { λ s. record {
       member = s.member;
-      node = record { genesis = s.genesis; keys = s.keys; seats = s.seats };
+      node = record {
+        genesis = s.genesis;
+        keys = s.keys;
+        seats = s.seats;
+        beginning = S.beginning;
+      };
     } };
 }
 
-impl<I: Instance + Drop, B: Settle + Drop> Stopped<I, B> {
+impl<I: Instance + Drop, B: Settle + Drop, S: Beginning> Stopped<I, B, S> {
     /// The member as the last call left it.
     pub fn member(&self) -> &Member<I, B>
         ensures { result.now ≡ self.now.member }
     {
-        &self.member
+        self.member.member()
     }
 
     /// The member, whatever was told from the seats.
     pub fn into_member(self) -> Member<I, B>
         ensures { result ≡ self.member }
     {
-        self.member
+        self.member.into_member()
     }
 
     /// The node, with its member under the lock again.
-    pub fn start(self) -> Node<I, B>
+    pub fn start(self) -> Node<I, B, S>
         ensures { result ≡ self.node }
     {
         Node::of_parts(self.member, self.genesis, self.keys, self.seats)
@@ -64,18 +71,20 @@ impl<I: Instance + Drop, B: Settle + Drop> Stopped<I, B> {
         self,
         alloc: Global,
         seats: &[Seat],
-    ) -> Result<Member<I, B>, (CloseFault, Stopped<I, B>)>
+    ) -> Result<Member<I, B>, (CloseFault, Stopped<I, B, S>)>
         ensures member { IfOk result (λ member. member ≡ self.member) }
         ensures own { IfOk result (λ _. IsOwn self.node self.member) }
-        ensures closed { IfOk result (λ _. AllSettled self.member self.node.seats seats.now) }
+        ensures closed { IfOk result (λ _. AllSettled self.member (base_of self.node)
+            self.node.seats seats.now) }
         ensures fault { IfErr result (λ back. IsFault self.node self.member seats.now back.0) }
         ensures back { IfErr result (λ back. back.1 ≡ self) }
     {
         if !self.has_own() {
             return Err((CloseFault::Mismatch(0), self));
         }
-        match least_wrong(alloc, &self.member, self.seats, seats) {
-            Ok(None) => Ok(self.member),
+        let base = self.member.base();
+        match least_wrong(alloc, self.member.member(), base, self.seats, seats) {
+            Ok(None) => Ok(self.member.into_member()),
             Ok(Some(stamp)) => Err((CloseFault::Mismatch(stamp), self)),
             Err(_) => Err((CloseFault::Memory, self)),
         }
@@ -85,6 +94,7 @@ impl<I: Instance + Drop, B: Settle + Drop> Stopped<I, B> {
     fn has_own(&self) -> bool
         ensures { IsTrue result ↔ IsOwn self.now.node self.now.member }
     {
-        self.genesis.is_same(self.member.genesis()) && self.keys.is_same(self.member.keys())
+        let member = self.member.member();
+        self.genesis.is_same(member.genesis()) && self.keys.is_same(member.keys())
     }
 }

@@ -1,6 +1,7 @@
 -- Asking ahead by one frame.
 use Rattle.std.proofs.Common.{◌≡◌, ℕ, ◌+◌, ◌-◌, ◌^◌, ◌<◌, ◌≤◌, cond, ltb, Bool, true, false, if◌then◌else◌, List, [], ◌∷◌, ◌++◌, Option, Some, None, Result, Ok, Err, refl, sym, ap, ◌∙◌, subst, arith, append-nil, length}
 use Rattle.std.proofs.lemmas.Bool.{lt-ltb}
+use Rattle.std.specs.Option.{option_map}
 use Rattle.std.specs.Str.{bytes_eq}
 use Rattle.std.specs.Prelude.{◌==◌, nat_lt}
 use Rattle.pay_frame.specs.Frame.{FrameFields, frame_bytes}
@@ -9,15 +10,17 @@ use Rattle.pay_link.specs.Opening.{OpenedFields, judgement, opened_fields, right
 use Rattle.pay_link.specs.Sealing.{wanted}
 use Rattle.pay_link.specs.declared.link_fault.LinkFault.{LinkFault}
 use Rattle.pay_link.specs.declared.link_fault.LinkFault.TheVariants.{NotForMe, UnknownSender, UnknownOwner, BadTag, Repeat, Gap}
-use Rattle.pay_member.specs.declared.brought.Brought.{Brought}
+use Rattle.pay_member.specs.declared.incoming.Incoming.{Incoming}
+use Rattle.pay_member.specs.declared.incoming.Incoming.TheVariants.{Message, Want}
+use Rattle.pay_member.specs.declared.received.Received.{Received}
 use Rattle.pay_member.specs.declared.outcome.Outcome.{Outcome}
 use Rattle.pay_member.specs.declared.outcome.Outcome.TheVariants.{Took, Wanted, Frame, Link, WrongKey}
 use Rattle.pay_member.specs.declared.take_fault.TakeFault.{TakeFault}
 use Rattle.pay_member.specs.declared.take_fault.TakeFault.TheVariants as fault
 use Rattle.pay_member.specs.declared.took.Took.{Took as Reply}
-use Rattle.pay_member.specs.Bringing.{is_want, judged}
+use Rattle.pay_member.specs.Bringing.{incoming_at, incoming_of, is_want}
 use Rattle.pay_member.specs.Serving.{bytes_of}
-use Rattle.pay_node.specs.Nodes.{IsAnsweredAs, NodeFields, outcome_of, want_of}
+use Rattle.pay_node.specs.Nodes.{IsAnsweredAs, NodeFields, next_of, outcome_of}
 use Rattle.pay_node.specs.Seats.{SeatFields}
 use Rattle.pay_peers.specs.declared.asking.Asking.{Asking}
 use Rattle.pay_peers.specs.declared.window.Window.{Window}
@@ -29,12 +32,12 @@ use Rattle.pay_peers.proofs.Wants.{OpenedIs}
 
 -- ---- what is answered before the history is looked at tells no next number
 
-NoNext : Result OpenedFields Outcome → Type 0
-NoNext (Ok o) = Unit {0}
-NoNext (Err o) = (number : ℕ) → next_told o number ≡ None
+NoNext : Result Incoming LinkFault → Type 0
+NoNext (Ok i) = Unit {0}
+NoNext (Err fault) = (number : ℕ) → next_told (Link fault) number ≡ None
 
 early : Result OpenedFields LinkFault → Type 0
-early j = NoNext (judged j)
+early j = NoNext (incoming_of j)
 
 pick : (b : Bool) (x y : Result OpenedFields LinkFault) → early x → early y → early (if b then x else y)
 pick true x y one other = one
@@ -56,14 +59,9 @@ bad_tag : early (Err BadTag)
 unfolding NoNext early
 bad_tag number = refl
 
-want_or : (b : Bool) (o : OpenedFields) → NoNext (if b then Err (Wanted o.frame.from o.frame.number) else Ok o)
-unfolding NoNext
-want_or true o = λ number. refl
-want_or false o = tt
-
 opened_early : (o : OpenedFields) → early (Ok o)
-unfolding early
-opened_early o = want_or (is_want o.frame.body.kind) o
+unfolding NoNext early
+opened_early o = tt
 
 tells_none : (k : KeyFields) (f : FrameFields) → early (judgement k f)
 unfolding judgement
@@ -77,6 +75,10 @@ tells_none k f =
     not_for_me
 
 -- ---- what is answered of a frame that opened
+
+-- the WANT to a peer for a number, if there is one
+abbrev want_to : KeyFields → ℕ → Option ℕ → Option (List ℕ)
+want_to k from next = option_map (λ number. frame_bytes (wanted k from number)) next
 
 -- the WANT of a number, and no more
 alone : (k : KeyFields) (peer number : ℕ) (numbers : List ℕ) → numbers ≡ number ∷ [] → wants k peer numbers ≡ frame_bytes (wanted k peer number)
@@ -107,7 +109,7 @@ next_is number below = ap (λ b. cond b (Some (number + 1)) None) (lt-ltb number
 -- of a frame that was handed in
 of_answer :
     (k : KeyFields) (peer : ℕ) (w : Window) (f : FrameFields) (answer : Result Reply TakeFault) → w.asked ≡ w.due + 1 → f.from ≡ peer → f.number ≡ w.due
-    → IsInOrder w (outcome_of answer) → IsSame k peer w (next_told (outcome_of answer) f.number) (want_of k f answer)
+    → IsInOrder w (outcome_of answer) → IsSame k peer w (next_told (outcome_of answer) f.number) (want_to k f.from (next_of f.number answer))
 of_answer k peer w f (Ok took) one sender due order =
     same_some k peer w (f.number + 1) _ _ one (omega arith) (omega arith) (next_is f.number (omega arith)) (ap (λ p. Some (frame_bytes (wanted k p (f.number + 1)))) sender)
 of_answer k peer w f (Err (fault.Repeat next)) one sender due order =
@@ -118,41 +120,53 @@ of_answer k peer w f (Err fault.Memory) one sender due order = same_none k peer 
 
 -- ---- both ways
 
-opened_frame : OpenedIs → (k : KeyFields) (f : FrameFields) (o : OpenedFields) → judgement k f ≡ Ok o → o.frame ≡ f
-opened_frame law k f o is = ap (λ (x : OpenedFields). x.frame) ((law k f o).0 is).1
+-- a message is the frame
+frame_is : OpenedIs → (k : KeyFields) (f : FrameFields) (o : OpenedFields) → incoming_at k f ≡ Ok (Message o) → o.frame ≡ f
+unfolding incoming_at
+frame_is law k f o is = at (judgement k f) refl is where
+  same_message : (x : OpenedFields) → ◌≡◌ {A = Result Incoming LinkFault} (Ok (Message x)) (Ok (Message o)) → x ≡ o
+  same_message x same = cc
 
--- what a judged frame came from
-record IsFrom (j : Result OpenedFields LinkFault) (o : OpenedFields) : Type 0 where
-  is : j ≡ Ok o
+  no_want : (from number : ℕ) → ◌≡◌ {A = Result Incoming LinkFault} (Ok (Want from number)) (Ok (Message o)) → ⊥
+  no_want from number same = cc
 
-ok_same : (x o : OpenedFields) → ◌≡◌ {A = Result OpenedFields Outcome} (Ok x) (Ok o) → x ≡ o
-ok_same x o is = cc
+  no_fault : (fault : LinkFault) → ◌≡◌ {A = Result Incoming LinkFault} (Err fault) (Ok (Message o)) → ⊥
+  no_fault fault same = cc
 
-judged_from : (j : Result OpenedFields LinkFault) (o : OpenedFields) → judged j ≡ Ok o → IsFrom j o
-judged_from (Ok x) o is = go (is_want x.frame.body.kind) is where
-  go : (b : Bool) → (if b then Err (Wanted x.frame.from x.frame.number) else Ok x) ≡ Ok o → IsFrom (Ok x) o
-  go true same = absurd cc
-  go false same = record { is = ap Ok (ok_same x o same) }
-judged_from (Err fault) o is = absurd cc
+  here : (x : OpenedFields) (asks : Bool) → judgement k f ≡ Ok x
+      → ◌≡◌ {A = Result Incoming LinkFault} (Ok (cond asks (Want x.frame.from x.frame.number) (Message x))) (Ok (Message o)) → o.frame ≡ f
+  here x true opens same = absurd (no_want x.frame.from x.frame.number same)
+  here x false opens same =
+      sym (ap (λ (y : OpenedFields). y.frame) (same_message x same)) ∙ ap (λ (y : OpenedFields). y.frame) ((law k f x).0 opens).1
+
+  at : (j : Result OpenedFields LinkFault) → judgement k f ≡ j → incoming_of j ≡ Ok (Message o) → o.frame ≡ f
+  at (Ok x) opens same = here x (is_want x.frame.body.kind) opens same
+  at (Err fault) opens same = absurd (no_fault fault same)
 
 same_ways :
-    OpenedIs → (n : NodeFields) (peer : ℕ) (before : SeatFields) (after : SeatFields) (w : Window) (f : FrameFields) (b : Brought) (r : Result OpenedFields Outcome)
-    → judged (judgement n.keys f) ≡ r → NoNext r → IsAnsweredAs n before after r b → w.asked ≡ w.due + 1 → f.from ≡ peer → f.number ≡ w.due
-    → IsInOrder w b.outcome → IsSame n.keys peer w (next_told b.outcome f.number) b.want
+    OpenedIs → (n : NodeFields) (peer : ℕ) (before : SeatFields) (after : SeatFields) (w : Window) (f : FrameFields) (r : Received) (i : Result Incoming LinkFault)
+    → incoming_at n.keys f ≡ i → NoNext i → IsAnsweredAs n before after i r → w.asked ≡ w.due + 1 → f.from ≡ peer → f.number ≡ w.due
+    → IsInOrder w r.outcome → IsSame n.keys peer w (next_told r.outcome f.number) (want_to n.keys f.from r.next)
 unfolding NoNext
-same_ways law n peer before after w f b (Ok o) at none is one sender due order =
-    let frame : o.frame ≡ f = opened_frame law n.keys f o (judged_from (judgement n.keys f) o at).is in
+same_ways law n peer before after w f r (Ok (Message o)) at none is one sender due order =
+    let frame : o.frame ≡ f = frame_is law n.keys f o at in
     let in_order : IsInOrder w (outcome_of is.answer) = subst (IsInOrder w) is.outcome order in
     let same = of_answer n.keys peer w f is.answer one sender due in_order in
-    let want : b.want ≡ want_of n.keys f is.answer = is.want ∙ ap (λ x. want_of n.keys x is.answer) frame in
-    subst (λ o. IsSame n.keys peer w (next_told o f.number) b.want) (sym is.outcome) (subst (λ x. IsSame n.keys peer w (next_told (outcome_of is.answer) f.number) x) (sym want) same)
-same_ways law n peer before after w f b (Err o) at none is one sender due order =
-    same_none n.keys peer w (next_told b.outcome f.number) b.want one (ap (λ x. next_told x f.number) is.0 ∙ none f.number) is.1
+    let want : want_to n.keys f.from r.next ≡ want_to n.keys f.from (next_of f.number is.answer) =
+    ap (want_to n.keys f.from) (is.next ∙ ap (λ (x : FrameFields). next_of x.number is.answer) frame) in
+    subst (λ o. IsSame n.keys peer w (next_told o f.number) (want_to n.keys f.from r.next)) (sym is.outcome)
+    (subst (λ x. IsSame n.keys peer w (next_told (outcome_of is.answer) f.number) x) (sym want) same)
+same_ways law n peer before after w f r (Ok (Want from number)) at none is one sender due order =
+    same_none n.keys peer w (next_told r.outcome f.number) (want_to n.keys f.from r.next) one
+    (ap (λ (x : Received). next_told x.outcome f.number) is.0) (ap (λ (x : Received). want_to n.keys f.from x.next) is.0)
+same_ways law n peer before after w f r (Err fault) at none is one sender due order =
+    same_none n.keys peer w (next_told r.outcome f.number) (want_to n.keys f.from r.next) one
+    (ap (λ (x : Received). next_told x.outcome f.number) is.0 ∙ none f.number) (ap (λ (x : Received). want_to n.keys f.from x.next) is.0)
 
 pub by_one : OpenedIs → AheadByOne
-unfolding early
+unfolding early incoming_at
 by_one law n peer before after f text one fed order =
-    let same = same_ways law n peer before.seat after.seat before.window f fed.brought (judged (judgement n.keys f)) refl (tells_none n.keys f) fed.is one fed.due.sender fed.due.number order in (
-      record { brought = fed.brought; is = fed.is; want = fed.asks ∙ same.text },
+    let same = same_ways law n peer before.seat after.seat before.window f fed.received (incoming_of (judgement n.keys f)) refl (tells_none n.keys f) fed.is one fed.due.sender fed.due.number order in (
+      record { received = fed.received; is = fed.is; want = fed.asks ∙ same.text },
       subst (λ (w : Window). w.asked ≡ w.due + 1) (sym fed.window) same.one,
     )

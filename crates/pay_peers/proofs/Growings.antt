@@ -4,10 +4,11 @@ use Rattle.std.proofs.Common.{◌≡◌, List, [], ◌∷◌, ◌++◌, Option, 
 use Rattle.pay_engine.specs.declared.engine_fault.EngineFault.{EngineFault}
 use Rattle.pay_engine.specs.declared.engine_fault.EngineFault.TheVariants.{Memory, Frame, Read, Write, Bound}
 use Rattle.pay_frame.specs.Frame.{FrameFields}
-use Rattle.pay_link.specs.Opening.{OpenedFields, judgement}
-use Rattle.pay_member.specs.declared.brought.Brought.{Brought}
-use Rattle.pay_member.specs.declared.outcome.Outcome.{Outcome}
-use Rattle.pay_member.specs.Bringing.{judged}
+use Rattle.pay_link.specs.declared.link_fault.LinkFault.{LinkFault}
+use Rattle.pay_member.specs.declared.incoming.Incoming.{Incoming}
+use Rattle.pay_member.specs.declared.incoming.Incoming.TheVariants.{Message, Want}
+use Rattle.pay_member.specs.declared.received.Received.{Received}
+use Rattle.pay_member.specs.Bringing.{incoming_at}
 use Rattle.pay_node.specs.declared.receipt.Receipt.{Receipt}
 use Rattle.pay_node.specs.Nodes.{IsAnsweredAs, NodeFields}
 use Rattle.pay_node.specs.Seats.{SeatFields, with_receipts}
@@ -25,14 +26,15 @@ grows_on a b c one two = record {
 same_grows : (a b : SeatFields) → b ≡ a → Grows a b
 same_grows a b same = record { more = []; is = same ∙ ap (λ (l : List Receipt). record a { receipts = l }) (sym (append-nil a.receipts)) }
 
-answered_grows : (n : NodeFields) (before after : SeatFields) (r : Result OpenedFields Outcome) (b : Brought) → IsAnsweredAs n before after r b → Grows before after
-answered_grows n before after (Ok opened) b is = record { more = _; is = is.answered.receipt }
-answered_grows n before after (Err o) b is = same_grows before after is.2
+answered_grows : (n : NodeFields) (before after : SeatFields) (i : Result Incoming LinkFault) (r : Received) → IsAnsweredAs n before after i r → Grows before after
+answered_grows n before after (Ok (Message opened)) r is = record { more = _; is = is.answered.receipt }
+answered_grows n before after (Ok (Want from number)) r is = same_grows before after is.1
+answered_grows n before after (Err fault) r is = same_grows before after is.1
 
 fed_grows : (n : NodeFields) (peer ahead : ℕ) (before after : Asking) (fs : List FrameFields) (text : List ℕ) → Steps (feeding_ahead n peer ahead) before after fs text → Grows before.seat after.seat
 fed_grows n peer ahead before after [] text are = same_grows before.seat after.seat (ap (λ (s : Asking). s.seat) are.0)
 fed_grows n peer ahead before after (f ∷ fs) text are =
-    grows_on before.seat are.0.seat after.seat (answered_grows n before.seat are.0.seat (judged (judgement n.keys f)) are.3.brought are.3.is) (fed_grows n peer ahead are.0 after fs are.2 are.4)
+    grows_on before.seat are.0.seat after.seat (answered_grows n before.seat are.0.seat (incoming_at n.keys f) are.3.received are.3.is) (fed_grows n peer ahead are.0 after fs are.2 are.4)
 
 pub run_grows : (n : NodeFields) (peer ahead : ℕ) (start : Start Asking) (asking : Asking) (left after : Option (List ℕ)) (r : Result ⊤ EngineFault) → HasFedAhead n peer ahead start asking left after r → Grows start.state.seat asking.seat
 run_grows n peer ahead start asking left after (Ok _) (inl is) = fed_grows n peer ahead start.state asking is.0.frames is.0.text is.0.handled

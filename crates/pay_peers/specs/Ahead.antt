@@ -4,15 +4,13 @@ use Rattle.std.specs.List.{flat_map}
 use Rattle.pay_engine.specs.declared.engine_fault.EngineFault.{EngineFault}
 use Rattle.pay_frame.specs.Frame.{FrameFields, frame_bytes}
 use Rattle.pay_link.specs.Keys.{KeyFields}
-use Rattle.pay_link.specs.Opening.{judgement}
 use Rattle.pay_link.specs.Sealing.{wanted}
 use Rattle.pay_link.specs.declared.link_fault.LinkFault.TheVariants.{NotForMe, UnknownSender, UnknownOwner, BadTag, Repeat, Gap}
-use Rattle.pay_member.specs.declared.brought.Brought.{Brought}
+use Rattle.pay_member.specs.declared.received.Received.{Received}
 use Rattle.pay_member.specs.declared.outcome.Outcome.{Outcome}
 use Rattle.pay_member.specs.declared.outcome.Outcome.TheVariants.{Took, Wanted, Frame, Link, WrongKey}
-use Rattle.pay_member.specs.Bringing.{judged}
 use Rattle.pay_engine.specs.Handling.{Handling, HasHandled, Start}
-use Rattle.pay_node.specs.Nodes.{IsAnsweredAs, NodeFields}
+use Rattle.pay_node.specs.Nodes.{IsReceived, NodeFields}
 use Rattle.pay_peers.specs.declared.asking.Asking.{Asking}
 use Rattle.pay_peers.specs.Window.{asked_behind, window_behind}
 
@@ -43,10 +41,10 @@ pub record IsDue (peer : ℕ) (s : Asking) (f : FrameFields) : Type 0 where
 pub record IsFedAhead (n : NodeFields) (peer ahead : ℕ) (before after : Asking) (f : FrameFields) (text : List ℕ)
     : Type 0 where
   pub due : IsDue peer before f
-  pub brought : Brought
-  pub is : IsAnsweredAs n before.seat after.seat (judged (judgement n.keys f)) brought
-  pub window : after.window ≡ window_behind ahead before.window (next_told brought.outcome f.number)
-  pub asks : text ≡ wants n.keys peer (asked_behind ahead before.window (next_told brought.outcome f.number))
+  pub received : Received
+  pub is : IsReceived n before.seat after.seat f received
+  pub window : after.window ≡ window_behind ahead before.window (next_told received.outcome f.number)
+  pub asks : text ≡ wants n.keys peer (asked_behind ahead before.window (next_told received.outcome f.number))
 
 -- Each frame that is due is brought, and more are asked for; the stream is left behind any other frame.
 abbrev pub feeding_ahead : NodeFields → ℕ → ℕ → Handling Asking

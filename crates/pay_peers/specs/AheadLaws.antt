@@ -51,5 +51,5 @@ abbrev pub AheadByOne : Type 0
 AheadByOne =
     (n : NodeFields) (peer : ℕ) (before after : Asking) (f : FrameFields) (text : List ℕ)
     → before.window.asked ≡ before.window.due + 1
-    → (fed : IsFedAhead n peer 1 before after f text) → IsInOrder before.window fed.brought.outcome
+    → (fed : IsFedAhead n peer 1 before after f text) → IsInOrder before.window fed.received.outcome
     → IsFed n before.seat after.seat f text × (after.window.asked ≡ after.window.due + 1)

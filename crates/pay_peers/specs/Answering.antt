@@ -1,13 +1,12 @@
 -- What the WANT of a peer is answered.
-use Rattle.std.specs.Prelude.{◌≡◌, ◌⊎◌, ℕ, List, [], Option, Result, Err, ⊤}
+use Rattle.std.specs.Prelude.{◌≡◌, ◌⊎◌, ℕ, List, [], Option, Result, Ok, ⊤}
 use Rattle.std.specs.List.{Any}
 use Rattle.pay_engine.specs.declared.engine_fault.EngineFault.{EngineFault}
 use Rattle.pay_frame.specs.Frame.{BodyFields, FrameFields, frame_bytes}
 use Rattle.pay_link.specs.Keys.{KeyFields}
-use Rattle.pay_link.specs.Opening.{judgement}
 use Rattle.pay_link.specs.Sealing.{sealed}
-use Rattle.pay_member.specs.declared.outcome.Outcome.TheVariants.{Wanted}
-use Rattle.pay_member.specs.Bringing.{judged}
+use Rattle.pay_member.specs.declared.incoming.Incoming.TheVariants.{Want}
+use Rattle.pay_member.specs.Bringing.{incoming_at}
 use Rattle.pay_engine.specs.Handling.{Handling, HasHandled}
 use Rattle.pay_node.specs.Keeping.{IsShownOnce}
 use Rattle.pay_node.specs.Nodes.{NodeFields}
@@ -28,7 +27,7 @@ pub record IsSentTo (n : NodeFields) (to number : ℕ) (bytes : List ℕ) : Type
 
 -- The frame is a WANT that opens, of a peer which has a seat among these.
 pub record IsWant {X : Type 0} (k : KeyFields) (seats : List (ℕ × X)) (f : FrameFields) (from number : ℕ) : Type 0 where
-  pub opens : judged (judgement k f) ≡ Err (Wanted from number)
+  pub opens : incoming_at k f ≡ Ok (Want from number)
   pub seated : Any (λ s. s.0 ≡ from) seats
 
 -- the frame that such a WANT asks for

@@ -3,24 +3,23 @@ use Rattle.std.specs.Prelude.{◌≡◌, ℕ, List, [], Option, Result, ⊤}
 use Rattle.pay_engine.specs.declared.engine_fault.EngineFault.{EngineFault}
 use Rattle.pay_frame.specs.Frame.{FrameFields, frame_bytes}
 use Rattle.pay_link.specs.Keys.{KeyFields}
-use Rattle.pay_link.specs.Opening.{judgement}
 use Rattle.pay_link.specs.Sealing.{wanted}
-use Rattle.pay_member.specs.declared.brought.Brought.{Brought}
-use Rattle.pay_member.specs.Bringing.{judged}
+use Rattle.pay_member.specs.declared.received.Received.{Received}
+use Rattle.pay_member.specs.Bringing.{with_want}
 use Rattle.pay_member.specs.Serving.{bytes_of}
 use Rattle.pay_engine.specs.Handling.{Handling, HasHandled, Start, never}
-use Rattle.pay_node.specs.Nodes.{IsAnsweredAs, NodeFields}
+use Rattle.pay_node.specs.Nodes.{IsReceived, NodeFields}
 use Rattle.pay_node.specs.Seats.{SeatFields}
 
 -- the WANT to a peer for all that it sent
 unfoldable pub want_for_all : KeyFields → ℕ → List ℕ
 want_for_all k peer = frame_bytes (wanted k peer 0)
 
--- a frame was brought from a seat, and this is the WANT of the answer, if there is one
+-- a frame was brought from a seat, and this is the WANT for the number that is next, if one is
 pub record IsFed (n : NodeFields) (before after : SeatFields) (f : FrameFields) (text : List ℕ) : Type 0 where
-  pub brought : Brought
-  pub is : IsAnsweredAs n before after (judged (judgement n.keys f)) brought
-  pub want : text ≡ bytes_of brought.want
+  pub received : Received
+  pub is : IsReceived n before after f received
+  pub want : text ≡ bytes_of (with_want n.keys f.from received).want
 
 -- each frame is brought, and its WANT written; no frame ends it, and a fault has no text
 abbrev pub feeding : NodeFields → Handling SeatFields

@@ -4,92 +4,70 @@ ghost use Rattle.std.specs.Prelude.{IfOk, IfSome};
 ghost use Rattle.pay_link.specs.Keys.{IsPeer};
 ghost use Rattle.pay_peers.specs.Answering.{IsSentFrom, IsSentTo};
 
+use crate::context::NodeContext;
 use crate::wanted::Wanted;
 use pay_book::Settle;
 use pay_echo::Instance;
 use pay_hmac::Tagger;
 use pay_link::seal;
-use pay_node::{Node, Seat};
-use std::alloc::{AllocError, Global};
+use pay_node::{Beginning, Seat};
+use std::alloc::AllocError;
+use std::sync::Wait;
 use std::sync::atomic::AtomicBool;
-use std::sync::{Mutex, Wait};
 
 /// The frame that a WANT asks for, once its body is sent, or none once it is told to stop.
-pub(crate) fn answer_want<I, B, R, T>(
-    rt: &R,
-    alloc: Global,
-    node: &Node<I, B>,
-    tagger: &T,
+pub(crate) fn answer_want<I, B, S, R, T>(
+    context: &NodeContext<'_, R, I, B, S, T>,
     stop: &AtomicBool,
     wanted: &Wanted<'_>,
 ) -> Result<Option<Vec<u8>>, AllocError>
 where
     I: Instance + Drop,
     B: Settle + Drop,
+    S: Beginning,
     R: Wait,
     T: Tagger,
-    requires { IsPeer node.now.keys wanted.now.from }
+    requires { IsPeer context.now.node.now.keys wanted.now.from }
     ensures { IfOk result (λ reply. IfSome reply (λ bytes.
-        IsSentTo node.now wanted.now.from wanted.now.number bytes.items)) }
+        IsSentTo context.now.node.now wanted.now.from wanted.now.number bytes.items)) }
 {
-    if !node.wait_until_sent(rt, wanted.number, stop) {
+    if !context
+        .node
+        .wait_until_sent(context.rt, wanted.number, stop)
+    {
         return Ok(None);
     }
-    sealed_for(
-        rt,
-        alloc,
-        node,
-        wanted.seat,
-        tagger,
-        wanted.from,
-        wanted.number,
-    )
+    let mut seat = wanted.seat.lock(context.rt);
+    sealed_from(context, &mut *seat, wanted.from, wanted.number)
 }
 
-// The frame to a peer with the body at a place of what was sent, if it is there.
-fn sealed_for<I, B, R, T>(
-    rt: &R,
-    alloc: Global,
-    node: &Node<I, B>,
-    seat: &Mutex<Seat>,
-    tagger: &T,
-    to: u16,
-    number: u64,
-) -> Result<Option<Vec<u8>>, AllocError>
-where
-    I: Instance + Drop,
-    B: Settle + Drop,
-    R: Wait,
-    T: Tagger,
-    requires { IsPeer node.now.keys to }
-    ensures { IfOk result (λ reply. IfSome reply (λ bytes.
-        IsSentTo node.now to number bytes.items)) }
-{
-    let mut seat = seat.lock(rt);
-    sealed_from(rt, alloc, node, &mut *seat, tagger, to, number)
-}
-
-// The same from a seat that is lent: what is sealed is what a receipt of the number shows.
-fn sealed_from<I, B, R, T>(
-    rt: &R,
-    alloc: Global,
-    node: &Node<I, B>,
+// The frame to a peer with the body at a place of what was sent, if it is there: what is sealed is
+// what a receipt of the number shows at this seat.
+fn sealed_from<I, B, S, R, T>(
+    context: &NodeContext<'_, R, I, B, S, T>,
     seat: &mut Seat,
-    tagger: &T,
     to: u16,
     number: u64,
 ) -> Result<Option<Vec<u8>>, AllocError>
 where
     I: Instance + Drop,
     B: Settle + Drop,
+    S: Beginning,
     R: Wait,
     T: Tagger,
-    requires { IsPeer node.now.keys to }
+    requires { IsPeer context.now.node.now.keys to }
     ensures { IfOk result (λ reply. IfSome reply (λ bytes.
-        IsSentFrom node.now to number seat.old seat.new bytes.items)) }
+        IsSentFrom context.now.node.now to number seat.old seat.new bytes.items)) }
 {
-    match node.fetch_once(rt, alloc, seat, number as usize)? {
-        Some(body) => Ok(Some(seal(alloc, tagger, node.keys(), to, number, &body)?)),
+    let alloc = context.alloc;
+    let found = context
+        .node
+        .fetch_once(context.rt, alloc, seat, number as usize)?;
+    match found {
+        Some(body) => {
+            let keys = context.node.keys();
+            Ok(Some(seal(alloc, context.tagger, keys, to, number, &body)?))
+        }
         None => Ok(None),
     }
 }

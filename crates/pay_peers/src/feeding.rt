@@ -13,24 +13,25 @@ use pay_frame::{FrameFault, FrameRef};
 use pay_hmac::Tagger;
 use pay_io::{Input, Output};
 use pay_link::want;
-use pay_node::{Gate, Node, Seat};
+use pay_node::{Beginning, Gate, Node, Seat};
 use std::alloc::{AllocError, Global};
 use std::sync::Wait;
 
 /// Brings each frame to a node from a seat, and writes the WANT of the answer.
 #[derive(Drop)]
-struct FromPeer<'a, R, I: Instance + Drop, B: Settle + Drop, T, G> {
+struct FromPeer<'a, R, I: Instance + Drop, B: Settle + Drop, S: Beginning, T, G> {
     rt: &'a R,
-    node: &'a Node<I, B>,
+    node: &'a Node<I, B, S>,
     tagger: &'a T,
     gate: &'a G,
 }
 
-impl<R, I, B, T, G> FrameHandler<Seat> for FromPeer<'_, R, I, B, T, G>
+impl<R, I, B, S, T, G> FrameHandler<Seat> for FromPeer<'_, R, I, B, S, T, G>
 where
     R: Wait,
     I: Instance + Drop,
     B: Settle + Drop,
+    S: Beginning,
     T: Tagger,
     G: Gate,
 {
@@ -51,9 +52,11 @@ where
         frame: FrameRef<'_>,
         out: &mut Vec<u8>,
     ) -> Result<bool, AllocError> {
-        let brought = self
+        let from = frame.from();
+        let received = self
             .node
             .bring_frame(self.rt, alloc, seat, self.tagger, self.gate, frame)?;
+        let brought = received.with_want(self.tagger, self.node.keys(), from);
         match brought.want {
             None => Ok(true),
             Some(want) => {
@@ -74,10 +77,10 @@ where
 /// A fault in the frames ends it, and is returned. Where a read failed or no more may be made, all
 /// frames that were read were brought. After another fault a prefix of them was, and a prefix of
 /// their WANTs is written.
-pub fn read_peer<I, B, R, T, G, In, Out>(
+pub fn read_peer<I, B, S, R, T, G, In, Out>(
     rt: &R,
     alloc: Global,
-    node: &Node<I, B>,
+    node: &Node<I, B, S>,
     seat: &mut Seat,
     tagger: &T,
     gate: &G,
@@ -88,6 +91,7 @@ pub fn read_peer<I, B, R, T, G, In, Out>(
 where
     I: Instance + Drop,
     B: Settle + Drop,
+    S: Beginning,
     R: Wait,
     T: Tagger,
     G: Gate,

@@ -4,13 +4,14 @@
 //! It stands on the calls of a [`Node`](pay_node::Node) alone: each is made from a seat, which keeps its receipt.
 #![tactic(auto)]
 
+mod admission;
 mod answering;
 mod asking;
 mod batches;
-mod claim;
+mod context;
 mod feeding;
 pub mod laws;
-mod lookout;
+mod observer;
 mod patience;
 mod readers;
 mod reading_ahead;
@@ -19,10 +20,11 @@ mod wanted;
 mod window;
 mod writing;
 
+pub use admission::Admission;
 pub use asking::Asking;
-pub use claim::Claim;
+pub use context::NodeContext;
 pub use feeding::read_peer;
-pub use lookout::Lookout;
+pub use observer::{Observer, PeerEvent};
 pub use patience::{Dials, MOST_IDLE};
 pub use readers::{Dial, Dialed, run_readers};
 pub use reading_ahead::read_ahead;

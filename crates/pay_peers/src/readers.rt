@@ -4,7 +4,8 @@ ghost use Rattle.std.specs.Prelude.{◌≡◌};
 ghost use Rattle.pay_peers.specs.Growing.{EachGrows, Grows, HasGrown};
 
 use crate::asking::Asking;
-use crate::lookout::{Hearing, Lookout};
+use crate::context::NodeContext;
+use crate::observer::{Hearing, Observer, PeerEvent};
 use crate::patience::{Dials, Patience};
 use crate::reading_ahead::read_ahead;
 use crate::window::Ahead;
@@ -12,8 +13,7 @@ use pay_book::Settle;
 use pay_echo::Instance;
 use pay_hmac::Tagger;
 use pay_io::{Input, Output};
-use pay_node::{Gate, Node};
-use std::alloc::Global;
+use pay_node::{Beginning, Gate};
 use std::sync::Wait;
 use std::thread;
 use std::thread::Threads;
@@ -38,16 +38,13 @@ pub enum Dialed<In, Out> {
 
 /// Runs a worker for each peer and its seat, which dials and feeds the node from what it gets, with
 /// as many frames asked for as `ahead` says, again and again, until it is told to stop or dialed as
-/// often in a row for nothing as `dials` says. Tells the lookout what comes of each peer. Returns
+/// often in a row for nothing as `dials` says. Tells the observer what comes of each peer. Returns
 /// once all have ended.
-pub fn run_readers<H, I, B, T, G, D, L, In, Out>(
-    rt: &H,
-    alloc: Global,
-    node: &Node<I, B>,
-    tagger: &T,
+pub fn run_readers<H, I, B, S, T, G, D, O, In, Out>(
+    context: &NodeContext<'_, H, I, B, S, T>,
     gate: &G,
     dial: &D,
-    lookout: &L,
+    observer: &O,
     dials: Dials,
     ahead: Ahead,
     pairs: &mut [(u16, Asking)],
@@ -56,134 +53,104 @@ where
     H: Threads + Wait + Clock + Sync,
     I: Instance + Drop + Send,
     B: Settle + Drop + Send,
+    S: Beginning + Send + Sync,
     T: Tagger + Sync,
     G: Gate + Sync,
     D: Dial<In, Out> + Sync,
-    L: Lookout + Sync,
+    O: Observer<PeerEvent> + Sync,
     In: Input + Drop + Send,
     Out: Output + Drop + Send,
     ensures { EachGrows pairs.old pairs.new }
 {
+    let workers = Workers {
+        context,
+        gate,
+        dial,
+        observer,
+        dials,
+        ahead,
+    };
     let threads = pairs.len().max(1);
     thread::for_each_mut(
-        rt,
+        context.rt,
         pairs,
         threads,
         &|_, pair: &mut (u16, Asking)|
             ensures { HasGrown pair.entry.now pair.exit.now }
-        {
-            keep_reading(
-                rt,
-                alloc,
-                node,
-                tagger,
-                gate,
-                dial,
-                lookout,
-                dials,
-                ahead,
-                pair.0,
-                &mut pair.1,
-            )
-        },
+        { workers.keep_reading(pair.0, &mut pair.1) },
     );
 }
 
-// One worker.
-fn keep_reading<H, I, B, T, G, D, L, In, Out>(
-    rt: &H,
-    alloc: Global,
-    node: &Node<I, B>,
-    tagger: &T,
-    gate: &G,
-    dial: &D,
-    lookout: &L,
+/// What all workers share.
+#[derive(Drop)]
+struct Workers<'a, H, I: Instance + Drop, B: Settle + Drop, S: Beginning, T, G, D, O> {
+    context: &'a NodeContext<'a, H, I, B, S, T>,
+    gate: &'a G,
+    dial: &'a D,
+    observer: &'a O,
     dials: Dials,
     ahead: Ahead,
-    peer: u16,
-    asking: &mut Asking,
-)
+}
+
+impl<H, I, B, S, T, G, D, O> Workers<'_, H, I, B, S, T, G, D, O>
 where
     H: Wait + Clock,
     I: Instance + Drop,
     B: Settle + Drop,
+    S: Beginning,
     T: Tagger,
     G: Gate,
-    D: Dial<In, Out>,
-    L: Lookout,
-    In: Input + Drop,
-    Out: Output + Drop,
-    ensures { Grows asking.old.seat asking.new.seat }
+    O: Observer<PeerEvent>,
 {
-    let mut patience = Patience::new(dials);
-    for _ in rt.forever() {
-        if patience.is_over() {
-            lookout.gave_up(peer);
-            return;
+    // One worker.
+    fn keep_reading<In, Out>(&self, peer: u16, asking: &mut Asking)
+    where
+        D: Dial<In, Out>,
+        In: Input + Drop,
+        Out: Output + Drop,
+        ensures { Grows asking.old.seat asking.new.seat }
+    {
+        let mut patience = Patience::new(self.dials);
+        for _ in self.context.rt.forever() {
+            if patience.is_over() {
+                self.observer.observe(peer, PeerEvent::GaveUp);
+                return;
+            }
+            let met = match self.dial.dial(peer) {
+                Dialed::Stop => return,
+                Dialed::Failed => false,
+                Dialed::Streams(reader, writer) => self.feed(peer, asking, reader, writer),
+            };
+            if !met {
+                self.observer.observe(peer, PeerEvent::Missed);
+            }
+            thread::sleep(self.context.rt, Duration::from_millis(patience.note(met)));
         }
-        let met = match dial.dial(peer) {
-            Dialed::Stop => return,
-            Dialed::Failed => false,
-            Dialed::Streams(reader, writer) => feed(
-                rt,
-                alloc,
-                node,
-                tagger,
-                &Hearing::new(gate, lookout, peer),
-                ahead,
-                peer,
-                asking,
-                reader,
-                writer,
-            ),
-        };
-        if !met {
-            lookout.missed(peer);
-        }
-        thread::sleep(rt, Duration::from_millis(patience.note(met)));
     }
-}
 
-// Feeds the node from one connection. Answers whether a frame came that opened.
-fn feed<H, I, B, T, G, In, Out>(
-    rt: &H,
-    alloc: Global,
-    node: &Node<I, B>,
-    tagger: &T,
-    gate: &G,
-    ahead: Ahead,
-    peer: u16,
-    asking: &mut Asking,
-    reader: In,
-    writer: Out,
-) -> bool
-where
-    H: Wait,
-    I: Instance + Drop,
-    B: Settle + Drop,
-    T: Tagger,
-    G: Gate,
-    In: Input + Drop,
-    Out: Output + Drop,
-    ensures { Grows asking.old.seat asking.new.seat }
-{
-    if !node.keys().is_peer(peer) {
-        return false;
+    // Feeds the node from one connection. Answers whether a frame came that opened.
+    fn feed<In, Out>(&self, peer: u16, asking: &mut Asking, reader: In, writer: Out) -> bool
+    where
+        In: Input + Drop,
+        Out: Output + Drop,
+        ensures { Grows asking.old.seat asking.new.seat }
+    {
+        if !self.context.node.keys().is_peer(peer) {
+            return false;
+        }
+        let mut reader = reader;
+        let mut writer = writer;
+        let before = asking.seat.receipts().len();
+        let gate = Hearing::new(self.gate, self.observer, peer);
+        let _ = read_ahead(
+            self.context,
+            &gate,
+            peer,
+            self.ahead,
+            asking,
+            &mut reader,
+            &mut writer,
+        );
+        asking.seat.receipts().len() > before
     }
-    let mut reader = reader;
-    let mut writer = writer;
-    let before = asking.seat.receipts().len();
-    let _ = read_ahead(
-        rt,
-        alloc,
-        node,
-        asking,
-        tagger,
-        gate,
-        peer,
-        ahead,
-        &mut reader,
-        &mut writer,
-    );
-    asking.seat.receipts().len() > before
 }

@@ -10,6 +10,7 @@ ghost use Rattle.pay_peers.specs.Window.{first_window, row_of};
 
 use crate::asking::Asking;
 use crate::batches::MOST_AT_ONCE;
+use crate::context::NodeContext;
 use crate::window::{Ahead, Asks};
 use pay_book::Settle;
 use pay_echo::Instance;
@@ -19,31 +20,30 @@ use pay_hmac::Tagger;
 use pay_io::{Input, Output};
 use pay_link::{Keys, LinkFault, want};
 use pay_member::Outcome;
-use pay_node::{Gate, Node};
+use pay_node::{Beginning, Gate};
 use std::alloc::{AllocError, Global};
 use std::sync::Wait;
 
 /// Brings the frames of a peer that are due, and asks for more.
 #[derive(Drop)]
-struct FromPeerAhead<'a, R, I: Instance + Drop, B: Settle + Drop, T, G> {
-    rt: &'a R,
-    node: &'a Node<I, B>,
-    tagger: &'a T,
+struct FromPeerAhead<'a, R, I: Instance + Drop, B: Settle + Drop, S: Beginning, T, G> {
+    context: &'a NodeContext<'a, R, I, B, S, T>,
     gate: &'a G,
     peer: u16,
     ahead: Ahead,
-    ghost is_peer: { IsPeer node.now.keys peer },
+    ghost is_peer: { IsPeer context.now.node.now.keys peer },
 }
 
-impl<R, I, B, T, G> FrameHandler<Asking> for FromPeerAhead<'_, R, I, B, T, G>
+impl<R, I, B, S, T, G> FrameHandler<Asking> for FromPeerAhead<'_, R, I, B, S, T, G>
 where
     R: Wait,
     I: Instance + Drop,
     B: Settle + Drop,
+    S: Beginning,
     T: Tagger,
     G: Gate,
 {
-    ghost handling = { λ a. feeding_ahead a.node.now a.peer a.ahead.count };
+    ghost handling = { λ a. feeding_ahead a.context.now.node.now a.peer a.ahead.count };
 
     ghost has_room = { λ _ _ _. Unit {0} };
 
@@ -65,19 +65,20 @@ where
         if frame.from() != self.peer || number != asking.window.due {
             return Ok(false);
         }
-        let brought = self.node.bring_frame(
-            self.rt,
+        let context = self.context;
+        let received = context.node.bring_frame(
+            context.rt,
             alloc,
             &mut asking.seat,
-            self.tagger,
+            context.tagger,
             self.gate,
             frame,
         )?;
-        match next_told(&brought.outcome, number) {
+        match next_told(&received.outcome, number) {
             None => Ok(true),
             Some(next) => {
                 let asks = asking.window.move_to(next, self.ahead);
-                ask_for(self.tagger, self.node.keys(), self.peer, asks, out)?;
+                ask_for(context.tagger, context.node.keys(), self.peer, asks, out)?;
                 Ok(true)
             }
         }
@@ -136,30 +137,28 @@ fn ask_for<T: Tagger>(
 /// name of another member. A fault in the frames ends it, and is returned. Where a read failed or
 /// no more may be made, all frames that were read were brought. After another fault a prefix of
 /// them was, and a prefix of their WANTs is written.
-pub fn read_ahead<I, B, R, T, G, In, Out>(
-    rt: &R,
-    alloc: Global,
-    node: &Node<I, B>,
-    asking: &mut Asking,
-    tagger: &T,
+pub fn read_ahead<I, B, S, R, T, G, In, Out>(
+    context: &NodeContext<'_, R, I, B, S, T>,
     gate: &G,
     peer: u16,
     ahead: Ahead,
+    asking: &mut Asking,
     reader: &mut In,
     writer: &mut Out,
 ) -> Result<(), EngineFault>
 where
     I: Instance + Drop,
     B: Settle + Drop,
+    S: Beginning,
     R: Wait,
     T: Tagger,
     G: Gate,
     In: Input,
     Out: Output,
-    requires { IsPeer node.now.keys peer }
-    ensures fed { HasFedAhead node.now peer ahead.count
+    requires { IsPeer context.now.node.now.keys peer }
+    ensures fed { HasFedAhead context.now.node.now peer ahead.count
         (record {
-          first = want_for_all node.now.keys peer;
+          first = want_for_all context.now.node.now.keys peer;
           state = record { seat = asking.old.seat; window = first_window };
           input = In.remaining reader.old;
           before = Out.contents writer.old;
@@ -169,14 +168,12 @@ where
         Out.failure_count reader.old reader.new writer.old writer.new result }
 {
     let from_peer = FromPeerAhead {
-        rt,
-        node,
-        tagger,
+        context,
         gate,
         peer,
         ahead,
     };
     asking.begin();
-    let first = want(tagger, node.keys(), peer, 0);
-    handle_stream(alloc, &from_peer, asking, &first, reader, writer)
+    let first = want(context.tagger, context.node.keys(), peer, 0);
+    handle_stream(context.alloc, &from_peer, asking, &first, reader, writer)
 }

@@ -5,21 +5,26 @@ use pay_book::{Line, Settle};
 use pay_desk::{Teller, TellerFault};
 use pay_echo::Instance;
 use pay_frame::Bytes;
+use pay_kept::Keeper;
 use pay_member::{AskFault, PaymentState, QueryFault, Told};
-use pay_node::{Node, Seat};
+use pay_node::{Beginning, Node, Seat};
 use std::alloc::Global;
 use std::marker::Model;
 use std::sync::Wait;
 
-/// A node as a desk's teller, which calls it from a seat of its own.
+/// A node as a desk's teller, which calls it from a seat of its own. The node's keeper takes the id of each value before
+/// that is asked for.
 #[derive(Drop)]
-pub struct NodeTeller<'a, R, I: Instance + Drop, B: Settle + Drop> {
+pub struct NodeTeller<'a, R, I: Instance + Drop, B: Settle + Drop, S: Beginning, K> {
     rt: &'a R,
-    node: &'a Node<I, B>,
+    node: &'a Node<I, B, S>,
+    keeper: &'a K,
     seat: Seat,
+    next: u32,
 }
 
-impl<'a, R, I: Instance + Drop, B: Settle + Drop> Model for NodeTeller<'a, R, I, B> {
+impl<'a, R, I: Instance + Drop, B: Settle + Drop, S: Beginning, K> Model
+    for NodeTeller<'a, R, I, B, S, K> {
     ghost use Rattle.pay_peers.specs.Telling.{TellerFields};
 
     ghost Value = { TellerFields };
@@ -27,12 +32,25 @@ impl<'a, R, I: Instance + Drop, B: Settle + Drop> Model for NodeTeller<'a, R, I,
     ghost view = { λ t. record { node = t.node.now; seat = t.seat } };
 }
 
-impl<'a, R, I: Instance + Drop, B: Settle + Drop> NodeTeller<'a, R, I, B> {
-    /// A teller that keeps the receipts of its calls at this seat of the node.
-    pub fn new(rt: &'a R, node: &'a Node<I, B>, seat: Seat) -> NodeTeller<'a, R, I, B>
+impl<'a, R, I: Instance + Drop, B: Settle + Drop, S: Beginning, K> NodeTeller<'a, R, I, B, S, K> {
+    /// A teller that keeps the receipts of its calls at this seat of the node, whose member asked for as many values as
+    /// the number `next` says.
+    pub fn new(
+        rt: &'a R,
+        node: &'a Node<I, B, S>,
+        keeper: &'a K,
+        seat: Seat,
+        next: u32,
+    ) -> NodeTeller<'a, R, I, B, S, K>
         ensures { result ≡ record { node = node.now; seat = seat } }
     {
-        NodeTeller { rt, node, seat }
+        NodeTeller {
+            rt,
+            node,
+            keeper,
+            seat,
+            next,
+        }
     }
 
     /// The seat with all its receipts, for the node's closing.
@@ -43,14 +61,25 @@ impl<'a, R, I: Instance + Drop, B: Settle + Drop> NodeTeller<'a, R, I, B> {
     }
 }
 
-impl<R: Wait, I: Instance + Drop, B: Settle + Drop> Teller for NodeTeller<'_, R, I, B> {
+impl<R, I, B, S, K> Teller for NodeTeller<'_, R, I, B, S, K>
+where
+    R: Wait,
+    I: Instance + Drop,
+    B: Settle + Drop,
+    S: Beginning,
+    K: Keeper,
+{
     ghost says = { TellerSays };
 
     ghost asked = { λ t. values_told t.seat.receipts };
 
-    fn ask(&mut self, alloc: Global, value: Bytes) -> Result<u32, TellerFault> {
+    fn ask(&mut self, alloc: Global, id: u64, value: Bytes) -> Result<u32, TellerFault> {
+        self.keeper.order(self.rt, self.next, id)?;
         match self.node.ask(self.rt, alloc, &mut self.seat, value) {
-            Ok(seq) => Ok(seq),
+            Ok(seq) => {
+                self.next = seq.saturating_add(1);
+                Ok(seq)
+            }
             Err(AskFault::Spent) => Err(TellerFault::Spent),
             Err(AskFault::Memory) => Err(TellerFault::Memory),
             // the value is short enough, by what the call requires

@@ -8,8 +8,8 @@ ghost use Rattle.pay_peers.specs.Answering.{IsWant};
 
 use pay_frame::FrameRef;
 use pay_hmac::Tagger;
-use pay_link::{Keys, laws};
-use pay_member::{Outcome, open_frame};
+use pay_link::Keys;
+use pay_member::{Incoming, open_frame};
 use pay_node::Seat;
 use std::sync::Mutex;
 
@@ -34,11 +34,8 @@ pub(crate) fn open_want<'a, T: Tagger>(
     ensures none { IfNone result ((from number : ℕ)
         → ¬ (IsWant keys.now seats.now (fields_of frame.entry) from number)) }
 {
-    laws::opened();
-    let (from, number) = match open_frame(tagger, keys, frame) {
-        Err(Outcome::Wanted { from, number }) => (from, number),
-        Err(Outcome::Took(_) | Outcome::Frame(_) | Outcome::Link(_) | Outcome::WrongKey) | Ok(_) =>
-            return None,
+    let Ok(Incoming::Want { from, number }) = open_frame(tagger, keys, frame) else {
+        return None;
     };
     match seat_of(seats, from) {
         Some(seat) => Some(Wanted { seat, from, number }),

@@ -13,7 +13,7 @@ use Rattle.pay_link.specs.Genesis.{GenesisFields}
 use Rattle.pay_link.specs.Keys.{KeyFields}
 use Rattle.pay_link.specs.Sealing.{tagged_bytes}
 use Rattle.pay_link.specs.TestKeys.{pair_key}
-use Rattle.pay_member.specs.Bringing.{opening, outcome_of}
+use Rattle.pay_member.specs.Bringing.{outcome_of}
 use Rattle.pay_text.specs.Answers.{Answers}
 use Rattle.pay_text.specs.Lines.{lines_within}
 use Rattle.pay_world.specs.declared.event.WorldEvent.{WorldEvent}
@@ -99,7 +99,7 @@ behind_exists : (g : GenesisFields) (k : KeyFields) (before : List Event) (es : 
 behind_exists g k before es (event.Ask i v) can room = (_, refl)
 behind_exists g k before es (event.Bring i bytes) can room =
     let read = can room in
-    (Brought (outcome_of g k.own before (opening k read.0)), record { reading = read.0; reads = read.1; is = refl })
+    (Brought (outcome_of g k before read.0), record { reading = read.0; reads = read.1; is = refl })
 
 module _ (c : ScriptGroup) where
   reply_exists : (es : List WorldEvent) (e : WorldEvent) → CanRead es e → length es < MOST_EVENTS → (reply : WorldReply) × IsReplyTo c es e reply

@@ -7,7 +7,7 @@ use Rattle.pay_channel.specs.History.{Event}
 use Rattle.pay_link.specs.Genesis.{GenesisFields}
 use Rattle.pay_link.specs.Keys.{KeyFields}
 use Rattle.pay_member.specs.declared.outcome.Outcome.{Outcome}
-use Rattle.pay_member.specs.Bringing.{IsOutcome, opening, outcome_of}
+use Rattle.pay_member.specs.Bringing.{IsOutcome, outcome_of}
 use Rattle.pay_text.specs.Answers.{Answers, Either, IsOver}
 use Rattle.pay_text.specs.Lines.{lines_within}
 use Rattle.pay_world.specs.declared.event.WorldEvent.{WorldEvent}
@@ -58,7 +58,7 @@ true_false same = cc
 
 outcome_one : OneReading → (g : GenesisFields) (k : KeyFields) (before : List Event) (bytes : List ℕ) (one other : Outcome) → IsOutcome g k before bytes one → IsOutcome g k before bytes other → one ≡ other
 outcome_one unique g k before bytes one other x y =
-    x.is ∙ ap (λ r. outcome_of g k.own before (opening k r)) (unique bytes x.reading y.reading x.reads y.reads) ∙ sym y.is
+    x.is ∙ ap (outcome_of g k before) (unique bytes x.reading y.reading x.reads y.reads) ∙ sym y.is
 
 brought_one : OneReading → (g : GenesisFields) (k : KeyFields) (before : List Event) (bytes : List ℕ) (one other : WorldReply) → IsBroughtTo g k before bytes one → IsBroughtTo g k before bytes other → one ≡ other
 brought_one unique g k before bytes (Brought one) (Brought other) x y = ap Brought (outcome_one unique g k before bytes one other x y)

@@ -16,8 +16,10 @@ use Rattle.pay_link.specs.Opening.{judgement, opened_fields}
 use Rattle.pay_link.specs.Sealing.{sealed, tagged_bytes}
 use Rattle.pay_link.specs.TestKeys.{pair_key, test_key, test_keys_of}
 use Rattle.pay_member.specs.declared.outcome.Outcome.{Outcome}
-use Rattle.pay_member.specs.declared.outcome.Outcome.TheVariants.{Took, Wanted}
-use Rattle.pay_member.specs.Bringing.{IsOutcome, answer_to, answered, is_want, judged, opened_in, opening, outcome_of, unless_want}
+use Rattle.pay_member.specs.declared.incoming.Incoming.TheVariants as message
+use Rattle.pay_member.specs.declared.incoming.Incoming.TheVariants.{Message}
+use Rattle.pay_member.specs.declared.outcome.Outcome.TheVariants.{Took}
+use Rattle.pay_member.specs.Bringing.{IsOutcome, answer_to, answered, incoming_at, incoming_of, is_want, opened_in, outcome_of, outcome_to, unless_want}
 use Rattle.pay_member.specs.Reply.{took_by}
 use Rattle.pay_sim.specs.TestFrames.{test_frame, test_tag}
 
@@ -75,11 +77,11 @@ module _ (links : Links) (members from to number : ℕ) (body : BodyFields) (her
         let count : length (test_keys_of members to).keys ≡ members = length-map-range_with_len (test_key to) 0 members in
         links.opens (test_keys_of members from) (test_keys_of members to) number body ((omega arith), other) (links.shared members from to here there) (omega arith)
 
-    opening_is : opening (test_keys_of members to) (Ok (test_sealed members from to number body)) ≡ Ok (opened_fields (test_keys_of members to) (test_sealed members from to number body))
-    unfolding opening
-    opening_is =
+    incoming_is : incoming_at (test_keys_of members to) (test_sealed members from to number body) ≡ Ok (Message (opened_fields (test_keys_of members to) (test_sealed members from to number body)))
+    unfolding incoming_at
+    incoming_is =
         let o = opened_fields (test_keys_of members to) (test_sealed members from to number body) in
-        ap judged judged_is ∙ ap (λ b. cond b (Err (Wanted from number)) (Ok o)) (not_want body.kind kind)
+        ap incoming_of judged_is ∙ ap (λ b. Ok (cond b (message.Want from number) (Message o))) (not_want body.kind kind)
 
     pub opened_is : opened_in (test_keys_of members to) (test_frame from to number body) ≡ Some (test_sealed members from to number body)
     unfolding opened_in
@@ -90,10 +92,10 @@ module _ (links : Links) (members from to number : ℕ) (body : BodyFields) (her
         ∙ ap (λ b. cond b None (Some (test_sealed members from to number body))) (not_want body.kind kind)
 
     outcome_is : (g : GenesisFields) (before : List Event) → number ≡ next from before
-        → outcome_of g to before (opening (test_keys_of members to) (Ok (test_sealed members from to number body))) ≡ Took (took_by g to before (From from body))
-    unfolding answer_to
+        → outcome_of g (test_keys_of members to) before (Ok (test_sealed members from to number body)) ≡ Took (took_by g to before (From from body))
+    unfolding answer_to outcome_of
     outcome_is g before is =
-        ap (outcome_of g to before) opening_is
+        ap (outcome_to g to before) incoming_is
         ∙ ap (answered g to before (test_sealed members from to number body)) ((links.in_turn (next from before) number).1 is)
 
     -- so it is what comes of its bytes
@@ -101,6 +103,6 @@ module _ (links : Links) (members from to number : ℕ) (body : BodyFields) (her
         → IsOutcome g (test_keys_of members to) before (test_frame from to number body) outcome → outcome ≡ Took (took_by g to before (From from body))
     taken_is g before outcome is x =
         x.is
-        ∙ ap (λ r. outcome_of g to before (opening (test_keys_of members to) r))
+        ∙ ap (outcome_of g (test_keys_of members to) before)
         (links.unique (test_frame from to number body) x.reading (Ok (test_sealed members from to number body)) x.reads one_frame_of)
         ∙ outcome_is g before is

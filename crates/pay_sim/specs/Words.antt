@@ -2,9 +2,7 @@
 use Rattle.std.specs.Prelude.{ℕ, Bool, ◌==◌, List, [], ◌∷◌, ◌++◌, decimal, codes, slice_index, if◌then◌else◌}
 use Rattle.std.specs.List.{flat_map, range_with_len}
 use Rattle.pay_frame.specs.Fault.{number_of, name_of}
-use Rattle.pay_link.specs.declared.link_fault.LinkFault.{LinkFault}
-use Rattle.pay_link.specs.declared.link_fault.LinkFault.TheVariants.{NotForMe, UnknownSender, UnknownOwner, BadTag, Repeat, Gap}
-use Rattle.pay_link.specs.Faults.{link_fault_number, link_fault_name}
+use Rattle.pay_link.specs.Words.{link_words}
 use Rattle.pay_book.specs.Book.{Standing}
 use Rattle.pay_member.specs.declared.fault.MemberFault.TheVariants as member
 use Rattle.pay_member.specs.declared.outcome.Outcome.{Outcome}
@@ -36,26 +34,12 @@ took_words t =
     codes "took" ++ if_so t.echo (codes " echo") ++ if_so t.ready (codes " ready")
     ++ if_so t.deliver (codes " deliver") ++ settle_words t.settled
 
--- ` next M`, where a refusal says which number is next
-abbrev pub next_words : LinkFault → List ℕ
-next_words NotForMe = []
-next_words UnknownSender = []
-next_words UnknownOwner = []
-next_words BadTag = []
-next_words (Repeat next) = codes " next " ++ decimal next
-next_words (Gap next) = codes " next " ++ decimal next
-
--- `refused link C NAME`, and which number is next
-abbrev pub link_words : LinkFault → List ℕ
-link_words fault =
-    refused_words (codes "link") (link_fault_number fault) (link_fault_name fault) ++ next_words fault
-
 -- what came of bytes that were brought to a member
 unfoldable pub outcome_words : Outcome → List ℕ
 outcome_words (Took t) = took_words t
 outcome_words (Wanted from number) = codes "wanted " ++ decimal from ++ codes " " ++ decimal number
 outcome_words (Frame fault) = refused_words (codes "frame") (number_of fault) (name_of fault)
-outcome_words (Link fault) = link_words fault
+outcome_words (Link fault) = codes "refused link " ++ link_words fault
 outcome_words WrongKey =
     refused_words (codes "member") (member_fault_number member.WrongKey) (member_fault_name member.WrongKey)
 

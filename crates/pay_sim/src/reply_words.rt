@@ -1,7 +1,8 @@
 //! What a script prints of replies, written behind what is written already.
 
 ghost use Rattle.std.specs.Prelude.{◌≡◌, ◌++◌, OnOk, codes, decimal};
-ghost use Rattle.pay_sim.specs.Words.{if_so, link_words, next_words, outcome_words, refused_words};
+ghost use Rattle.pay_link.specs.Words.{link_words};
+ghost use Rattle.pay_sim.specs.Words.{if_so, outcome_words, refused_words};
 ghost use Rattle.pay_sim.specs.Words.{reply_line, reply_words, settle_words, took_words};
 
 use pay_link::LinkFault;
@@ -100,25 +101,11 @@ fn push_wanted(out: &mut Vec<u8>, from: u16, number: u64) -> Result<(), AllocErr
 }
 
 fn push_link(out: &mut Vec<u8>, fault: LinkFault) -> Result<(), AllocError>
-    ensures { OnOk result (out.new.items ≡ out.old.items ++ link_words fault) }
+    ensures { OnOk result (out.new.items
+        ≡ out.old.items ++ codes "refused link " ++ link_words fault) }
 {
-    push_refused(out, "link", fault.number(), fault.name())?;
-    push_next(out, fault)
-}
-
-fn push_next(out: &mut Vec<u8>, fault: LinkFault) -> Result<(), AllocError>
-    ensures { OnOk result (out.new.items ≡ out.old.items ++ next_words fault) }
-{
-    let next = match fault {
-        LinkFault::Repeat(next) => next,
-        LinkFault::Gap(next) => next,
-        LinkFault::NotForMe
-        | LinkFault::UnknownSender
-        | LinkFault::UnknownOwner
-        | LinkFault::BadTag => return Ok(()),
-    };
-    push_word(out, " next ")?;
-    push_number(out, next)
+    push_word(out, "refused link ")?;
+    fault.push_words(out)
 }
 
 /// Who or what refused it (`at`: a member, a frame or a link), and the fault's number and name.

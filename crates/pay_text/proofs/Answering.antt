@@ -10,14 +10,14 @@ use Rattle.pay_text.specs.Answers.{Answers}
 use Rattle.pay_text.specs.Engine.{AnswersAll, AnswersFirst, Went, Goes}
 
 module _ {A : Type 0} (says : A → Option (List ℕ) → List ℕ → Bool → A → Type 0) where
-  answers_one : (a new : A) (line : Option (List ℕ)) (text : List ℕ) (on : Bool) → says a line text on new → Answers says a (line ∷ []) text on new
+  pub answers_one : (a new : A) (line : Option (List ℕ)) (text : List ℕ) (on : Bool) → says a line text on new → Answers says a (line ∷ []) text on new
   answers_one a new line text true said = (text, [], true, new, said, sym (append-nil text), (refl, refl, refl))
   answers_one a new line text false said = (text, [], false, new, said, sym (append-nil text), record { silent = refl; over = refl; same = refl })
 
-  answers_last : (a new : A) (line : Option (List ℕ)) (others : List (Option (List ℕ))) (text : List ℕ) → says a line text false new → Answers says a (line ∷ others) text false new
+  pub answers_last : (a new : A) (line : Option (List ℕ)) (others : List (Option (List ℕ))) (text : List ℕ) → says a line text false new → Answers says a (line ∷ others) text false new
   answers_last a new line others text said = (text, [], false, new, said, sym (append-nil text), record { silent = refl; over = refl; same = refl })
 
-  answers_join : (a mid new : A) (first others : List (Option (List ℕ))) (text more : List ℕ) (on : Bool) → Answers says a first text true mid → Answers says mid others more on new → Answers says a (first ++ others) (text ++ more) on new
+  pub answers_join : (a mid new : A) (first others : List (Option (List ℕ))) (text more : List ℕ) (on : Bool) → Answers says a first text true mid → Answers says mid others more on new → Answers says a (first ++ others) (text ++ more) on new
   answers_join a mid new [] others text more on (silent, goes, same) rest =
       subst (λ (t : List ℕ). Answers says a others (t ++ more) on new) (sym silent) (subst (λ (b : A). Answers says b others more on new) same rest)
   answers_join a mid new (line ∷ first) others text more on (front, back, true, next, said, parts, after) rest =

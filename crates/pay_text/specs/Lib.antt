@@ -4,4 +4,5 @@ pub mod Lines
 pub mod Cutting
 pub mod Answers
 pub mod Engine
+pub mod Outbox
 pub mod Pairs

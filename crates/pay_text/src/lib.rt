@@ -7,6 +7,7 @@ mod cutter;
 mod engine;
 mod laws;
 mod numbers;
+mod outbox;
 mod pairs;
 mod words;
 mod writing;

@@ -22,7 +22,8 @@ use Rattle.pay_link.specs.Opening.{Opens, judgement, opened_fields}
 use Rattle.pay_link.specs.Sealing.{sealed, tagged_bytes}
 use Rattle.pay_link.specs.declared.link_fault.LinkFault.{LinkFault}
 use Rattle.pay_link.specs.declared.link_fault.LinkFault.TheVariants.{Gap, Repeat}
-use Rattle.pay_member.specs.Bringing.{IsOutcome, answer_to, answered, event_in, is_want, judged, opened_in, opening, outcome_of, with_brought}
+use Rattle.pay_member.specs.declared.incoming.Incoming.TheVariants.{Message}
+use Rattle.pay_member.specs.Bringing.{IsOutcome, answer_to, answered, event_in, incoming_at, incoming_of, is_want, opened_in, outcome_of, outcome_to, with_brought}
 use Rattle.pay_member.specs.Events.{events}
 use Rattle.pay_member.specs.Group.{group_in}
 use Rattle.pay_member.specs.Laws.{EventIn, OpenedIn}
@@ -242,7 +243,7 @@ module _ (w : WorldFields) (from to number : ℕ) (giver taker : MemberFields) (
       CorrectIsTold → SentMayCome → SealedOpens → IsFrame (sealed giver.keys to number body)
       → (fault : LinkFault) → turn (next from (events taker.history)) number ≡ Err fault
       → IsOutcome taker.genesis taker.keys (events taker.history) (frame_of w from to number) (Link fault)
-  unfolding opening answer_to
+  unfolding incoming_at outcome_of answer_to
   passed_outcome correct may_come opens fits fault is =
       let f : FrameFields = sealed giver.keys to number body in
       let mine = is_for correct may_come in
@@ -251,13 +252,13 @@ module _ (w : WorldFields) (from to number : ℕ) (giver taker : MemberFields) (
       let judges : Judged to =
       subst Judged taker_own
       (opens giver.keys taker.keys number body mine.sender (ap (key_for giver.keys) taker_own ∙ mine.key) mine.owner) in
-      let opened : opening taker.keys (Ok f) ≡ Ok (opened_fields taker.keys f) =
-      ap judged judges ∙ cond-false _ _ _ (not_want body.kind (comes correct may_come).3) in
+      let comes_so : incoming_at taker.keys f ≡ Ok (Message (opened_fields taker.keys f)) =
+      ap incoming_of judges ∙ ap Ok (cond-false _ _ _ (not_want body.kind (comes correct may_come).3)) in
       let turned : turn (next giver.keys.own before) number ≡ Err fault = ap (λ i. turn (next i before) number) giver_own ∙ is in
       record {
         reading = Ok f;
         reads = passing_one fits;
-        is = sym (ap (outcome_of taker.genesis taker.keys.own before) opened ∙ ap (answered taker.genesis taker.keys.own before f) turned);
+        is = sym (ap (outcome_to taker.genesis taker.keys.own before) comes_so ∙ ap (answered taker.genesis taker.keys.own before f) turned);
       }
 
   -- and it changes nothing

@@ -33,7 +33,7 @@ use pay_frame::{Body, Bytes, FrameRef, one_answer, read_one};
 use pay_hmac::Tagger;
 use pay_hmac::laws::tag_length;
 use pay_link::laws::sealed_opens;
-use pay_link::{Checked, Genesis, Keys, LinkFault, sealed};
+use pay_link::{Checked, Genesis, Keys, sealed, turn};
 use pay_member::laws::{events_in_order, what_is_brought, what_opens};
 use pay_member::{AskFault, Member, Outcome};
 use std::alloc::{AllocError, Global};
@@ -386,19 +386,6 @@ fn share_key(one: &Keys, other: &Keys) -> bool
     one.is_peer(other.own())
         && other.is_peer(one.own())
         && one.key(other.own()) == other.key(one.own())
-}
-
-// Whether a number is the next one, as a member judges it.
-fn turn(next: u64, number: u64) -> Result<(), LinkFault>
-    ensures { result ≡ turn next number }
-{
-    if number == next {
-        Ok(())
-    } else if number < next {
-        Err(LinkFault::Repeat(next))
-    } else {
-        Err(LinkFault::Gap(next))
-    }
 }
 
 // Asks the member at a place, if there is one, to broadcast a value.

@@ -1,14 +1,14 @@
 -- What the words of the program ask for. Which words a command takes is what `clap` says of simple commands.
-use Rattle.std.specs.Prelude.{◌≡◌, List, [], Option, Some, None, true, false, codes, map, option_map, if◌then◌else◌}
+use Rattle.std.specs.Prelude.{◌≡◌, Bool, List, [], Option, Some, None, true, false, codes, map, option_map, if◌then◌else◌}
 use Rattle.std.specs.Option.{option_map_or, unwrap_or}
 use Rattle.std.specs.Str.{bytes_eq}
 use Rattle.clap.specs.Words.{App, Row, Rule, Text, all_of, app_of, first_of, new_app, new_rule, rule_of, subcommand_of, with_rule, with_subcommand}
 use Rattle.clap.specs.declared.builder.Arg.{Arg}
-use Rattle.clap.specs.declared.builder.action.ArgAction.TheVariants.{Append}
+use Rattle.clap.specs.declared.builder.action.ArgAction.TheVariants.{Append, SetTrue}
 use Rattle.clap.specs.declared.builder.Command.{Command}
 use Rattle.clap.specs.declared.builder.command.Command.TheViews.{out-Command}
 use Rattle.payd.specs.declared.words.Job.{Job}
-use Rattle.payd.specs.declared.words.Job.TheVariants.{Check, Desk, Node, Audit, Statement, Journal, Sim}
+use Rattle.payd.specs.declared.words.Job.TheVariants.{Check, Desk, Node, Export, Audit, Statement, Journal, Sim}
 
 -- an option that takes a word
 abbrev pub option_rule : Text → Rule
@@ -17,6 +17,10 @@ option_rule name = record (new_rule name) { long = Some name; value_names = 1 }
 -- one without which the words aren't read
 abbrev pub required_rule : Text → Rule
 required_rule name = record (option_rule name) { required = true }
+
+-- an option that takes none
+abbrev pub flag_rule : Text → Rule
+flag_rule name = record (new_rule name) { long = Some name; action = Some SetTrue }
 
 -- `check`, which takes a genesis, keys and a count of threads
 abbrev pub check_app : App
@@ -29,16 +33,28 @@ check_app =
 abbrev pub desk_app : App
 desk_app = with_rule (with_rule (new_app (codes "desk")) (required_rule (codes "genesis"))) (required_rule (codes "keys"))
 
--- `node`, which needs both, and ports, and takes dials and how many frames are asked for ahead
+-- `node`, which needs both, and ports, and takes dials, how many frames are asked for ahead, and a folder, with which it
+-- may stay
 abbrev pub node_app : App
 node_app =
     with_rule
     (with_rule
     (with_rule
+    (with_rule
+    (with_rule
     (with_rule (with_rule (new_app (codes "node")) (required_rule (codes "genesis"))) (required_rule (codes "keys")))
     (required_rule (codes "ports")))
     (option_rule (codes "dials")))
-    (option_rule (codes "ahead"))
+    (option_rule (codes "ahead")))
+    (option_rule (codes "data")))
+    (flag_rule (codes "stay"))
+
+-- `export`, which needs both, and a folder
+abbrev pub export_app : App
+export_app =
+    with_rule
+    (with_rule (with_rule (new_app (codes "export")) (required_rule (codes "genesis"))) (required_rule (codes "keys")))
+    (required_rule (codes "data"))
 
 -- the names of one or more files
 abbrev pub files_rule : Rule
@@ -81,7 +97,9 @@ payd_app =
     (with_subcommand
     (with_subcommand
     (with_subcommand
+    (with_subcommand
     (with_subcommand (with_subcommand (with_subcommand payd_alone check_app.top) desk_app.top) node_app.top)
+    export_app.top)
     audit_app.top)
     statement_app.top)
     journal_app.top)
@@ -97,12 +115,13 @@ pub record IsArgument (o : Arg) (r : Rule) : Type 0 where
   pub rule : rule_of o ≡ r
   pub global : o.global ≡ false
 
--- a command, and what it is given: the names of files, an account, a date, and the words that say the threads of a
--- check or an audit, and of a node its dials and how many frames it asks for ahead
+-- a command, and what it is given: the names of files and of a folder, an account, a date, and the words that say the
+-- threads of a check or an audit, and of a node its dials, how many frames it asks for ahead, and whether it stays
 pub data Asked : Type 0 where
   check : Option Text → Option Text → Option Text → Asked
   desk : Text → Text → Asked
-  node : Text → Text → Text → Option Text → Option Text → Asked
+  node : Text → Text → Text → Option Text → Option Text → Option Text → Bool → Asked
+  exported : Text → Text → Text → Asked
   audit : List Text → Option Text → Asked
   statement : Text → Option Text → Asked
   journal : Text → Option Text → Asked
@@ -114,8 +133,10 @@ asked (Check genesis keys jobs) =
     check (option_map (λ name. name.now) genesis) (option_map (λ name. name.now) keys)
     (option_map (λ word. word.now) jobs)
 asked (Desk genesis keys) = desk genesis.now keys.now
-asked (Node genesis keys ports dials ahead) =
-    node genesis.now keys.now ports.now (option_map (λ word. word.now) dials) (option_map (λ word. word.now) ahead)
+asked (Node words) =
+    node words.genesis.now words.keys.now words.ports.now (option_map (λ word. word.now) words.dials)
+    (option_map (λ word. word.now) words.ahead) (option_map (λ name. name.now) words.folder) words.stays
+asked (Export genesis keys folder) = exported genesis.now keys.now folder.now
 asked (Audit files jobs) =
     audit (map (λ name. name.now) files.items) (option_map (λ word. word.now) jobs)
 asked (Statement export account) = statement export.now (option_map (λ word. word.now) account)
@@ -134,10 +155,18 @@ named option rows = unwrap_or (first_of option rows) []
 abbrev pub desk_asked : List Row → Asked
 desk_asked rows = desk (named (codes "genesis") rows) (named (codes "keys") rows)
 
+-- whether a flag is given
+abbrev pub is_set : Text → List Row → Bool
+is_set flag rows = option_map_or (λ word. bytes_eq word (codes "true")) (first_of flag rows) false
+
 abbrev pub node_asked : List Row → Asked
 node_asked rows =
     node (named (codes "genesis") rows) (named (codes "keys") rows) (named (codes "ports") rows)
-    (first_of (codes "dials") rows) (first_of (codes "ahead") rows)
+    (first_of (codes "dials") rows) (first_of (codes "ahead") rows) (first_of (codes "data") rows)
+    (is_set (codes "stay") rows)
+
+abbrev pub export_asked : List Row → Asked
+export_asked rows = exported (named (codes "genesis") rows) (named (codes "keys") rows) (named (codes "data") rows)
 
 abbrev pub files_of : List Row → List Text
 files_of rows = unwrap_or (all_of (codes "files") rows) []
@@ -155,6 +184,7 @@ abbrev pub asked_of : Text → List Row → Asked
 asked_of name rows =
     if bytes_eq name (codes "desk") then desk_asked rows
     else if bytes_eq name (codes "node") then node_asked rows
+    else if bytes_eq name (codes "export") then export_asked rows
     else if bytes_eq name (codes "audit") then audit_asked rows
     else if bytes_eq name (codes "statement") then statement_asked rows
     else if bytes_eq name (codes "journal") then journal_asked rows

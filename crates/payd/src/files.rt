@@ -14,8 +14,12 @@ use pay_link::{Genesis, Keys, test_keys};
 use std::alloc::Global;
 use std::fs::OpenFile;
 use std::io::Read;
+use std::os::unix::fs::PermissionsExt;
 use std::rt::Files;
 use std::{fs, io};
+
+/// Who but a file's owner may do something with it.
+const OTHERS: u32 = 0o077;
 
 /// A file of more bytes counts as one that can't be read.
 const MOST_BYTES: u64 = 1_073_741_824;
@@ -138,6 +142,15 @@ pub(crate) fn export_of<'a, F: NamedFiles>(
 {
     let bytes = files.bytes_of(alloc, name)?;
     Ok(read_export(alloc, bytes.as_slice())?)
+}
+
+/// Says on standard error where others than the owner may do something with the file of keys of this name.
+pub(crate) fn warn_of_keys(rt: &(impl Files + Eprint), name: &str) {
+    if let Ok(metadata) = fs::metadata(rt, name) {
+        if metadata.permissions().mode() & OTHERS != 0 {
+            let _ = eprintln!(rt; "payd: others may read the keys in {name}: chmod 600 {name}");
+        }
+    }
 }
 
 /// The bytes of the file of this name, or one byte more than there may be.

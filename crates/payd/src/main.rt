@@ -1,7 +1,6 @@
 //! The program `payd`: its words lead to an engine, and how the engine ended to a status.
 #![tactic(auto)]
 
-ghost use Rattle.std.specs.Prelude.{◌≡◌, length};
 ghost use Rattle.pay_link.specs.Keys.{IsKeysOf};
 
 mod ahead;
@@ -9,21 +8,26 @@ mod batches;
 mod dates;
 mod dials;
 mod files;
+mod folders;
+mod helps;
 mod jobs;
+mod keeping;
+mod nodes;
 mod ports;
 mod saying;
+mod staying;
 mod stop;
 mod texts;
 mod words;
 
-use ahead::ahead_of;
 use batches::verdict_over;
 use clap::error::ErrorKind;
 use dates::date_of;
-use dials::dials_of;
 use files::{NamedFiles, export_of, genesis_of, keys_of};
+use helps::NOT_UTF8;
 use jobs::jobs_of;
-use pay_audit::{Verdict, write_export};
+use nodes::{export, serve_node};
+use pay_audit::Verdict;
 use pay_cli::run_check;
 use pay_desk::{Desk, OneMember, Teller, run_desk};
 use pay_echo::MaskInstance;
@@ -33,24 +37,17 @@ use pay_io::{Reader, StreamFault, Writer, write_text};
 use pay_journal::journal_text;
 use pay_link::{Genesis, Keys};
 use pay_member::Member;
-use pay_net::{NodeFault, Ports, Receipts, run_node};
-use pay_node::CloseFault;
-use pay_peers::{Ahead, Dials};
 use pay_pending::WaitingBook;
 use pay_sim::{SimEnd, run_sim};
-use ports::ports_of;
-use saying::Saying;
 use std::alloc::{AllocError, AllocGlobal, Global};
-use std::net::{Net, TcpListener, TcpStream};
 use std::process::ExitCode;
 use std::rt::{Env, Files};
-use std::sync::Wait;
 use std::thread::Threads;
 use std::time::Clock;
 use std::{env, io};
 use stop::Stop;
 use texts::statement_said;
-use words::{Job, NOT_UTF8, job_of};
+use words::{Job, job_of};
 
 /// A member, in the forms of its parts that the program runs.
 type OwnMember = Member<MaskInstance, WaitingBook>;
@@ -70,18 +67,14 @@ fn main(rt: HostRuntime) -> ExitCode {
             },
         ) => status_of(&rt, check(alloc, &rt, genesis, keys, jobs)),
         Ok(Job::Desk { genesis, keys }) => status_of(&rt, serve_desk(alloc, &rt, genesis, keys)),
+        Ok(Job::Node(words)) => status_of(&rt, serve_node(alloc, &rt, words)),
         Ok(
-            Job::Node {
+            Job::Export {
                 genesis,
                 keys,
-                ports,
-                dials,
-                ahead,
+                folder,
             },
-        ) => status_of(
-            &rt,
-            serve_node(alloc, &rt, genesis, keys, ports, dials, ahead),
-        ),
+        ) => status_of(&rt, export(alloc, &rt, genesis, keys, folder)),
         Ok(Job::Audit { files, jobs }) => {
             status_of_audit(&rt, audit(alloc, &rt, &rt, files.as_slice(), jobs))
         }
@@ -169,80 +162,6 @@ fn answer_lines<T: Teller + Drop>(
     let mut reader = Reader::new(rt.reader());
     let mut writer = Writer::new(io::writer(rt));
     run_desk(alloc, &mut desk, &mut reader, &mut writer)
-}
-
-/// Answers the lines on standard input, once the words and the files are read, while the member meets its peers; then
-/// writes its export, also where memory was refused for a look at what the node had answered.
-fn serve_node<'a, R>(
-    alloc: Global,
-    rt: &R,
-    genesis: &'a str,
-    keys: &'a str,
-    ports: &'a str,
-    dials: Option<&'a str>,
-    ahead: Option<&'a str>,
-) -> Result<(), Stop<'a>>
-where
-    R: Files + Input + Print + Eprint + Threads + Wait + Clock + Sync,
-    R: Net<Listener = TcpListener, Stream = TcpStream>,
-{
-    let dials = dials_of(dials)?;
-    let ahead = ahead_of(ahead)?;
-    let genesis = genesis_of(alloc, rt, Some(genesis))?;
-    let keys = keys_of(alloc, rt, &genesis, Some(keys))?;
-    let ports = ports_of(alloc, rt, &genesis, ports)?;
-    let (member, receipts) = meet_peers(alloc, rt, genesis, keys, &ports, dials, ahead)?;
-    conclude(rt, &member, receipts)
-}
-
-/// Answers the lines on standard input while a fresh member meets its peers, and hands it back.
-fn meet_peers<R>(
-    alloc: Global,
-    rt: &R,
-    genesis: Genesis,
-    keys: Keys,
-    ports: &Ports,
-    dials: Dials,
-    ahead: Ahead,
-) -> Result<(OwnMember, Receipts), NodeFault>
-where
-    R: Input + Print + Eprint + Threads + Wait + Clock + Sync,
-    R: Net<Listener = TcpListener, Stream = TcpStream>,
-    requires keys { IsKeysOf genesis keys }
-    requires ports { length ports.now ≡ genesis.members }
-{
-    let tagger = tagger_of(alloc, &keys)?;
-    let member = Member::new(alloc, genesis, keys)?;
-    let mut reader = Reader::new(rt.reader());
-    let mut writer = Writer::new(io::writer(rt));
-    run_node(
-        rt,
-        alloc,
-        member,
-        &tagger,
-        ports,
-        dials,
-        ahead,
-        &Saying { rt },
-        &mut reader,
-        &mut writer,
-    )
-}
-
-/// Writes the export of a member that has met its peers, and says whether its receipts were judged.
-fn conclude<'a>(rt: &impl Print, member: &OwnMember, receipts: Receipts) -> Result<(), Stop<'a>> {
-    print_export(rt, member)?;
-    match receipts {
-        Receipts::BorneOut => Ok(()),
-        Receipts::Unjudged => Err(Stop::Close(CloseFault::Memory)),
-    }
-}
-
-/// Writes a member's export as a line. It takes no memory, so that memory which is refused at the end loses nothing.
-fn print_export(rt: &impl Print, member: &OwnMember) -> Result<(), StreamFault> {
-    let mut writer = Writer::new(io::writer(rt));
-    write_export(member, &mut writer).map_err(|_| StreamFault::Write)?;
-    write_text(&mut writer, b"\n")
 }
 
 /// Says what is wrong with the exports in the files of these names, if anything is.

@@ -1,6 +1,13 @@
-//! What is said of a node's peers.
+//! What is said of a node: of its member, and of its peers.
 
-use pay_net::{News, Onlooker};
+use crate::OwnMember;
+use pay_net::News;
+use pay_peers::Observer;
+
+/// What is said of a member that no folder keeps.
+const IN_MEMORY: &str =
+    "without --data the member lives in memory alone: what ends the node before its input does \
+loses its account";
 
 /// Says on standard error what becomes of a node's peers, a line each time.
 #[derive(Drop)]
@@ -8,12 +15,58 @@ pub(crate) struct Saying<'a, R> {
     pub(crate) rt: &'a R,
 }
 
-impl<R: Eprint> Onlooker for Saying<'_, R> {
+impl<R: Eprint> Observer<News> for Saying<'_, R> {
     // Where it can't be said, the node goes on.
-    fn see(&self, peer: u16, news: News) {
+    fn observe(&self, peer: u16, news: News) {
         let word = word_of(news);
         let _ = eprintln!(self.rt; "payd: peer {peer} {word}");
     }
+}
+
+/// Says that a member is lost with its node.
+pub(crate) fn say_in_memory(rt: &impl Eprint) {
+    let _ = eprintln!(rt; "payd: {IN_MEMORY}");
+}
+
+/// What a member's log has at the start.
+#[derive(Clone, Copy, Debug)]
+pub(crate) enum Found {
+    /// It was made just now.
+    Nothing,
+    /// So many entries, by which so many payments of all accounts are settled.
+    History { entries: usize, payments: u64 },
+}
+
+impl Found {
+    /// What the log of this member has, which may be new.
+    pub(crate) fn of(member: &OwnMember, is_new: bool) -> Found {
+        if is_new {
+            return Found::Nothing;
+        }
+        Found::History {
+            entries: member.history().len(),
+            payments: settled(member),
+        }
+    }
+}
+
+/// Says what the log had at the start.
+pub(crate) fn say_start(rt: &impl Eprint, found: Found) {
+    let _ = match found {
+        Found::Nothing => eprintln!(rt; "payd: log: new"),
+        Found::History { entries, payments } => {
+            eprintln!(rt; "payd: log: {entries} entries of {payments} payments, started again")
+        }
+    };
+}
+
+// How many payments of all accounts are settled.
+fn settled(member: &OwnMember) -> u64 {
+    let mut sum: u64 = 0;
+    for account in 0..member.genesis().members() {
+        sum = sum.saturating_add(u64::from(member.front(account)));
+    }
+    sum
 }
 
 fn word_of(news: News) -> &'static str {

@@ -1,13 +1,14 @@
 ghost use Rattle.std.specs.Prelude.{◌≡◌};
 ghost use Rattle.pay_engine.specs.declared.engine_fault.EngineFault.TheVariants.{Memory};
 ghost use Rattle.pay_engine.specs.EngineFault.{engine_of};
-ghost use Rattle.payd.specs.declared.stop.Stop.TheVariants.{Engine, Export, Genesis, Keys, Ports};
+ghost use Rattle.payd.specs.declared.stop.Stop.TheVariants.{Engine, Export, Genesis, Keys, Log, Ports};
 ghost use Rattle.payd.specs.Stops.{node_stop};
 
 use pay_audit::ExportFault;
 use pay_engine::EngineFault;
 use pay_io::StreamFault;
 use pay_link::{GenesisFault, KeysFault};
+use pay_log::LogFault;
 use pay_net::{NodeFault, PortsFault};
 use pay_node::CloseFault;
 use std::alloc::AllocError;
@@ -29,6 +30,12 @@ pub(crate) enum Stop<'a> {
     Export(ExportFault),
     #[error("close {0}")]
     Close(CloseFault),
+    /// The log in the folder isn't read, or the folder isn't to be had.
+    #[error("log {0}")]
+    Log(LogFault),
+    /// A node is to stay that has no folder.
+    #[error("stay: only with --data")]
+    Stay,
     /// The own port can't be had.
     #[error("port {0}")]
     Port(u16),
@@ -110,6 +117,14 @@ impl<'a> From<PortsFault> for Stop<'a> {
     }
 }
 
+impl<'a> From<LogFault> for Stop<'a> {
+    ghost from_gives = { λ fault stop. stop ≡ Log fault };
+
+    fn from(fault: LogFault) -> Stop<'a> {
+        Stop::Log(fault)
+    }
+}
+
 impl<'a> From<NodeFault> for Stop<'a> {
     ghost from_gives = { λ fault stop. stop ≡ node_stop fault };
 
@@ -141,12 +156,15 @@ impl Stop<'_> {
             | Stop::Ports(PortsFault::Memory)
             | Stop::Export(ExportFault::Memory)
             | Stop::Close(CloseFault::Memory)
+            | Stop::Log(LogFault::Memory | LogFault::Disk | LogFault::Held)
             | Stop::Port(_)
             | Stop::Clock => 3,
             Stop::Genesis(_)
             | Stop::Keys(_)
             | Stop::Ports(_)
             | Stop::Export(_)
+            | Stop::Log(_)
+            | Stop::Stay
             | Stop::File(_)
             | Stop::Dials(_)
             | Stop::Ahead(_)

@@ -4,11 +4,17 @@ ghost use Rattle.clap.specs.Words.{subcommand_of, subcommand_rows_of};
 ghost use Rattle.payd.specs.Job.{IsArgument, IsCommand, account_rule, asked, asked_by, asked_in};
 ghost use Rattle.payd.specs.Job.{asked_of};
 ghost use Rattle.payd.specs.Job.{audit_app, audit_asked, check_app, check_asked, desk_app};
-ghost use Rattle.payd.specs.Job.{desk_asked, export_rule, files_of, files_rule, journal_app};
+ghost use Rattle.payd.specs.Job.{desk_asked, export_app, export_asked, export_rule, files_of};
+ghost use Rattle.payd.specs.Job.{files_rule, flag_rule, is_set, journal_app};
 ghost use Rattle.payd.specs.Job.{journal_asked, named, node_app, node_asked, option_rule};
 ghost use Rattle.payd.specs.Job.{payd_alone, payd_app, required_rule, statement_app};
 ghost use Rattle.payd.specs.Job.{statement_asked};
 
+use crate::helps::{
+    ABOUT, AUDIT_ABOUT, AUDIT_HELP, CHECK_ABOUT, CHECK_HELP, DESK_ABOUT, DESK_HELP, EXPORT_ABOUT,
+    EXPORT_HELP, JOURNAL_ABOUT, JOURNAL_HELP, NODE_ABOUT, NODE_HELP, SIM_ABOUT, SIM_HELP,
+    STATEMENT_ABOUT, STATEMENT_HELP, VERSION,
+};
 use clap::{Arg, ArgAction, ArgMatches, Command, Error};
 use std::alloc::{AllocError, Global};
 
@@ -28,14 +34,13 @@ pub(crate) enum Job<'a> {
         genesis: &'a str,
         keys: &'a str,
     },
-    /// Answer these lines over a node of that member among its peers, each on the port that the file of
-    /// this name says, and dialed as often, and asked for as many frames ahead, as these words say.
-    Node {
+    /// Answer these lines over a node of that member among its peers, as these words say.
+    Node(NodeWords<'a>),
+    /// Write the export of that member by the folder of this name.
+    Export {
         genesis: &'a str,
         keys: &'a str,
-        ports: &'a str,
-        dials: Option<&'a str>,
-        ahead: Option<&'a str>,
+        folder: &'a str,
     },
     /// Say what is wrong with the exports in the files of these names, if anything is, read by as many
     /// threads as this word says.
@@ -57,183 +62,20 @@ pub(crate) enum Job<'a> {
     Sim,
 }
 
-/// What is said where a word isn't UTF-8, which `clap` never sees.
-pub(crate) const NOT_UTF8: &str =
-    "error: a word is not UTF-8\n\nFor more information, try '--help'.";
-
-const VERSION: &str = "0.1.0";
-
-const ABOUT: &str = "A payment ledger without consensus";
-
-const CHECK_ABOUT: &str =
-    "Reads frames on standard input and writes what a member would make of each";
-
-const CHECK_HELP: &str = "\
-Input: frames, one after the other, as members send them. Without --genesis there are four members, of
-whom one may lie. Without --keys they are judged by member 1, or by member 0 of one alone, with the
-test keys, which anyone can name: 30 zero bytes, then the lesser and the greater of the pair.
-
---jobs says how many threads judge, 1 to 8; without it as many as there are processors, 8 at most. The
-text is the same. They share what one read gives, 1 MiB at most; with 1 no thread is started.
-
-Output: a line for each frame, numbered from 1.
-  K ok KIND from P number M owner A seq S value L   taken: the next frame from P
-  K want from P number M                            P asks for the frame numbered M
-  K refused C NAME                                  1 NotForMe, 2 UnknownSender, 3 UnknownOwner, 4 BadTag
-  K refused C NAME next M                           5 Repeat, 6 Gap: M is the next number from P
-  K fault C NAME                                    no frame; the last line
-
-Status: 0 at the input's end, 1 after a fault, 2 for words or a file that can't be read, 3 where memory,
-a read or a write fails, or after 1,000,000 reads.
-
-Example: payd check < examples/frames.bin";
-
-const DESK_ABOUT: &str =
-    "Reads commands on standard input and answers each, for an account's owner";
-
-const DESK_HELP: &str = "\
-Input: a command a line, words with one blank between them and decimal numbers, 1,024 bytes at
-most.
-  PAY ID TO AMOUNT   pays an account, once under this ID: the same line again has the same answer
-  PAYS ID TO AMOUNT ..
-                     the same, of 1 to 32 payments in one value
-  BALANCE A          an account's balance
-  STATE OWNER SEQ    what became of the payment under a number of an account
-  STATEMENT A        all that settled of an account, and what was paid to it
-  FRONT              how many entries of each account are settled
-
-Output: the answer to each line.
-  asked ID seq S                  the value has the number S
-  balance A B
-  state OWNER SEQ WORD            unknown, asked, waiting or settled
-  out SEQ to PAYEE AMOUNT, void SEQ, in OWNER SEQ AMOUNT, end A balance B
-  front F0 F1 ..
-  refused C NAME                  1 BadLine, 2 NoAccount, 3 ZeroOrSelf, 4 IdUsed, 5 Spent, 0 Memory
-
-The member meets no peer: a payment settles only where the member is the only one of its group.
-
-Status: 0 at the input's end, 2 for words or a file that can't be read, 3 where memory, a read or a
-write fails, or after 1,000,000 reads.
-
-Example: payd desk --genesis examples/genesis.json --keys examples/keys-0.json < examples/desk.txt";
-
-const NODE_ABOUT: &str =
-    "Answers an account's owner as desk does, over a member that meets its peers on this machine";
-
-const NODE_HELP: &str = "\
-Input and output: as those of payd desk. At the end of the input the node stops, and its export is one
-line more, which payd audit reads. A member without its export has lost its account.
-
-The script payd, which runs this program, holds a node's input. It ends that at the first SIGINT, SIGTERM
-or SIGHUP, and waits for the export. It has three options more:
-  --export FILE   the export goes to this file, which must not be there before
-  --lines FILE    the lines come from this file; a named pipe is read until a signal
-  --stay          at the end of the lines the node goes on, until a signal
-
-The member listens on its own port of 127.0.0.1 and dials those of all others, a thousand times some
-10 milliseconds apart and again after each connection that brought a frame. So a group's nodes are
-started within a few seconds, or with --dials:
-  --dials COUNT    a peer is given up behind so many dials in a row that brought no frame
-  --dials always   no peer is given up
-The pauses then grow from 10 milliseconds to a second, each twice the one before. Standard error has a
-line when a peer is met, is lost and is given up: payd: peer 2 met. Ports below those that
-the system gives out by itself, mostly 32768 and more, are best.
-
-Of each peer as many as 64 frames are asked for before the first of them is there, or with --ahead:
-  --ahead COUNT    so many, from 1 to 64; with 1 each frame takes the way to the peer and back
-
-Status: 0 at the input's end, 1 where what was told isn't borne out by the member's history, 2 for words
-or a file that can't be read, 3 where memory, a read, a write or the own port fails, or after 1,000,000
-reads.
-
-Example: payd node --genesis examples/genesis.json --keys examples/keys-0.json --ports examples/ports.json";
-
-const AUDIT_ABOUT: &str =
-    "Reads exports of members and says what is wrong with them, if anything is";
-
-const AUDIT_HELP: &str = "\
-Input: a file of JSON for each export.
-
---jobs says how many threads read and settle exports, 1 to 8; without it as many as there are processors,
-8 at most. The verdict is the same. As many exports as threads are in memory at once; with 1 no thread is
-started.
-
-Output: one line, in which exports are named by their places from 0: the first of these that there is.
-  clean
-  1 genesis X                 X begins otherwise than export 0
-  2 front X account A         it isn't what the lists of X allow
-  3 balance X account A       it isn't that at the front of X
-  4 fork X Y owner A seq S    X and Y have different values there
-
-Status: 0 where it is clean, 1 where it isn't, 2 for words or a file that can't be read, 3 where memory or
-the write fails.
-
-Example: payd audit member-0.json member-1.json";
-
-const STATEMENT_ABOUT: &str =
-    "Reads an export of a member and writes the statement of an account, or of each";
-
-const STATEMENT_HELP: &str = "\
-Input: a file of JSON with an export. Without an account there are the statements of all, in order.
-
-Output: what a desk answers to STATEMENT.
-  out SEQ to PAYEE AMOUNT, void SEQ, in OWNER SEQ AMOUNT, end A balance B
-
-It follows from what the accounts began with and from their lists alone. Whether the front and the
-balances of the export are right too is what payd audit says.
-
-Status: 0 where it is written, 2 for words or a file that can't be read, or an account that isn't there,
-3 where memory or the write fails.
-
-Example: payd statement examples/export-0.json 3";
-
-const JOURNAL_ABOUT: &str =
-    "Reads an export of a member and writes what settled as plain-text accounting";
-
-const JOURNAL_HELP: &str = "\
-Input: a file of JSON with an export. Each export of a group tells of all its accounts, so one is enough.
-
-Output: a journal that hledger and ledger read. The first transaction has what each account opened with,
-against equity:opening; then each settled payment is one, account by account and in the order of the
-payer's statement. Its code is the payer's account and the entry's number there. A settled entry that
-moves nothing is a comment. Amounts have no unit, as those of the payments have none.
-
-  --date YYYY-MM-DD   the date of all transactions, from the year 1400 on: an export has no dates, and
-                      without the option it is today's in UTC
-
-It follows from what the accounts began with and from their lists alone, as payd statement does.
-
-Status: 0 where it is written, 2 for words or a file that can't be read, or a word that is no date, 3
-where memory, the clock or the write fails.
-
-Example: payd journal examples/export-0.json --date 2026-01-31";
-
-const SIM_ABOUT: &str =
-    "Plays the script of a group's day on standard input, and writes what each command prints";
-
-const SIM_HELP: &str = "\
-Input: a first line that says the group, as JSON with members, faults, opening and liars, and then a
-command a line, 4,096 bytes at most. An empty line is none.
-  ask I PAYEE AMOUNT                   member I is asked to pay
-  asks I PAYEE AMOUNT ..               the same, of 1 to 32 payments in one value
-  bring FROM TO M                      frame M of FROM's list is brought to TO
-  lie FROM TO M KIND OWNER SEQ VALUE   that frame is tagged and brought to TO; M may be next
-  raw TO HEX                           bytes are brought to TO; - is none
-  all                                  all that is untaken between correct members is brought
-  show                                 the book of each correct member
-
-Output: what came of each command.
-  asked I seq S
-  took, took echo ready deliver settle K, wanted P M, ignored, absent
-  refused WHERE C NAME                 a member, a frame or a link refuses it
-  brought COUNT, converged             converged: each took all that the others sent
-  member I fronts F0 F1 .. balances B0 B1 ..
-  forged K, bad line L, limit          the last line of a run that ends there
-
-Status: 0 at the input's end, 1 after a forged frame, 2 for words or a line that can't be read, 3 where
-memory, a read or a write fails, after 1,000,000 reads, or before the 1,000,001st event.
-
-Example: payd sim < examples/honest-day.txt";
+/// The words of a node.
+#[derive(Clone, Copy, Debug)]
+pub(crate) struct NodeWords<'a> {
+    /// The names of the files of genesis, keys and ports.
+    pub(crate) genesis: &'a str,
+    pub(crate) keys: &'a str,
+    pub(crate) ports: &'a str,
+    /// How often a peer is dialed, and how many of its frames are asked for ahead.
+    pub(crate) dials: Option<&'a str>,
+    pub(crate) ahead: Option<&'a str>,
+    /// The folder in which the member is kept, if one is named, and whether it stays when the lines end.
+    pub(crate) folder: Option<&'a str>,
+    pub(crate) stays: bool,
+}
 
 /// What the words ask for, the program's name the first of them; or help, the version, or what is
 /// wrong with them. Without a command it is `check`.
@@ -281,6 +123,8 @@ fn command_job<'a>(
         Ok(desk_job(command))
     } else if name == "node" {
         Ok(node_job(command))
+    } else if name == "export" {
+        Ok(export_job(command))
     } else if name == "audit" {
         audit_job(alloc, command)
     } else if name == "statement" {
@@ -319,12 +163,25 @@ fn desk_job<'a>(desk: &ArgMatches<'a>) -> Job<'a>
 fn node_job<'a>(node: &ArgMatches<'a>) -> Job<'a>
     ensures { asked result ≡ node_asked (rows_of (found_of node.now)) }
 {
-    Job::Node {
+    Job::Node(NodeWords {
         genesis: named(node, "genesis"),
         keys: named(node, "keys"),
         ports: named(node, "ports"),
         dials: given(node, "dials"),
         ahead: given(node, "ahead"),
+        folder: given(node, "data"),
+        stays: is_set(node, "stay"),
+    })
+}
+
+/// The job of `export` with these options.
+fn export_job<'a>(export: &ArgMatches<'a>) -> Job<'a>
+    ensures { asked result ≡ export_asked (rows_of (found_of export.now)) }
+{
+    Job::Export {
+        genesis: named(export, "genesis"),
+        keys: named(export, "keys"),
+        folder: named(export, "data"),
     }
 }
 
@@ -377,6 +234,16 @@ fn given<'a>(matches: &ArgMatches<'a>, option: &str) -> Option<&'a str>
     matches.get_str(option)
 }
 
+/// Whether a flag was given.
+fn is_set(matches: &ArgMatches, flag: &str) -> bool
+    ensures { result ≡ is_set flag.now (rows_of (found_of matches.now)) }
+{
+    match given(matches, flag) {
+        Some(word) => word == "true",
+        None => false,
+    }
+}
+
 /// What a required option names: the words aren't read without it.
 fn named<'a>(matches: &ArgMatches<'a>, option: &str) -> &'a str
     ensures { result.now ≡ named option.now (rows_of (found_of matches.now)) }
@@ -391,6 +258,7 @@ fn payd<'a>(alloc: Global) -> Result<Command<'a>, AllocError>
     let program = with_command(Ok(payd_alone(alloc)), check(alloc));
     let program = with_command(program, desk(alloc));
     let program = with_command(program, node(alloc));
+    let program = with_command(program, exporting(alloc));
     let program = with_command(program, audit(alloc));
     let program = with_command(program, statement(alloc));
     let program = with_command(program, journal(alloc));
@@ -459,7 +327,28 @@ fn node<'a>(alloc: Global) -> Result<Command<'a>, AllocError>
             "ahead",
             "COUNT",
             "How many frames are asked for ahead, from 1 to 64",
+        ))?
+        .arg(option(
+            alloc,
+            "data",
+            "FOLDER",
+            "The folder in which the member is kept",
+        ))?
+        .arg(flag(
+            alloc,
+            "stay",
+            "Goes on at the end of the lines, with a folder",
         ))
+}
+
+/// The command `export` and its options.
+fn exporting<'a>(alloc: Global) -> Result<Command<'a>, AllocError>
+    ensures { IfOk result (λ command. IsCommand command export_app) }
+{
+    titled(alloc, "export", EXPORT_ABOUT, EXPORT_HELP)
+        .arg(required_file(alloc, "genesis", "A file of JSON with the genesis"))?
+        .arg(required_file(alloc, "keys", "A file of JSON with the keys of the member"))?
+        .arg(required_folder(alloc, "data", "The folder in which the member is kept"))
 }
 
 /// The command `audit`, its files and its options.
@@ -515,6 +404,23 @@ fn required_file<'a>(alloc: Global, name: &'a str, help: &'a str) -> Arg<'a>
     ensures { IsArgument result (required_rule name.entry.now) }
 {
     file_option(alloc, name, help).required(true)
+}
+
+/// An option that takes the name of a folder, and that has to be there.
+fn required_folder<'a>(alloc: Global, name: &'a str, help: &'a str) -> Arg<'a>
+    ensures { IsArgument result (required_rule name.entry.now) }
+{
+    option(alloc, name, "FOLDER", help).required(true)
+}
+
+/// An option that takes no word.
+fn flag<'a>(alloc: Global, name: &'a str, help: &'a str) -> Arg<'a>
+    ensures { IsArgument result (flag_rule name.entry.now) }
+{
+    Arg::new(alloc, name)
+        .long(name)
+        .action(ArgAction::SetTrue)
+        .help(help)
 }
 
 /// The name of a file with an export.

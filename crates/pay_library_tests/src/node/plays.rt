@@ -5,7 +5,7 @@ use crate::node::step::{Group, Row, Step, Whose};
 use crate::node::trial::{Tried, fault_at_closing, meets, node_of};
 use pay_book::PlainBook;
 use pay_echo::MaskInstance;
-use pay_node::{CloseFault, Seat, Stopped};
+use pay_node::{CloseFault, NoHistory, Seat, Stopped};
 use std::alloc::Global;
 use std::sync::Wait;
 
@@ -127,7 +127,10 @@ fn seats_agree_or_not(rt: HostRuntime) {
 }
 
 // Closes a node with the seats of another one, if that is refused: the fault, and the node behind it.
-fn refused(alloc: Global, node: Tried) -> Option<(CloseFault, Stopped<MaskInstance, PlainBook>)> {
+fn refused(
+    alloc: Global,
+    node: Tried,
+) -> Option<(CloseFault, Stopped<MaskInstance, PlainBook, NoHistory>)> {
     let others = others(alloc)?;
     node.close(alloc, others.as_slice()).err()
 }

@@ -7,11 +7,11 @@ use pay_frame::{Body, Bytes};
 use pay_hmac::HmacSha256;
 use pay_link::{Genesis, test_keys};
 use pay_member::{AskFault, Member, Outcome, QueryFault};
-use pay_node::{Call, CloseFault, MOST_SEATS, Node, OpenGate, Receipt, Seat, Stopped};
+use pay_node::{Call, CloseFault, MOST_SEATS, NoHistory, Node, OpenGate, Receipt, Seat, Stopped};
 use std::alloc::Global;
 use std::sync::Wait;
 
-pub(crate) type Tried = Node<MaskInstance, PlainBook>;
+pub(crate) type Tried = Node<MaskInstance, PlainBook, NoHistory>;
 
 /// The node of a group's member, and its seats, if there is such a member and memory isn't refused.
 pub(crate) fn node_of(alloc: Global, group: Group) -> Option<(Tried, Vec<Seat>)> {
@@ -36,9 +36,9 @@ pub(crate) fn fault_at_closing(alloc: Global, node: Tried, seats: &[Seat]) -> Op
 fn refused_at_last(
     alloc: Global,
     fault: CloseFault,
-    node: Stopped<MaskInstance, PlainBook>,
+    node: Stopped<MaskInstance, PlainBook, NoHistory>,
     seats: &[Seat],
-) -> Option<(CloseFault, Stopped<MaskInstance, PlainBook>)> {
+) -> Option<(CloseFault, Stopped<MaskInstance, PlainBook, NoHistory>)> {
     if fault == CloseFault::Memory {
         node.close(alloc, seats).err()
     } else {

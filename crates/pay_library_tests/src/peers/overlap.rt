@@ -8,7 +8,7 @@ use pay_hmac::{HmacSha256, Tagger};
 use pay_io::{Reader, Writer};
 use pay_member::MemberFault;
 use pay_node::{Call, Gate, Receipt, Seat};
-use pay_peers::{Ahead, Asking, Dial, Dialed, Dials, run_readers};
+use pay_peers::{Ahead, Asking, Dial, Dialed, Dials, NodeContext, run_readers};
 use std::alloc::Global;
 use std::sync::Wait;
 use std::sync::atomic::{AtomicBool, Ordering};
@@ -207,11 +207,14 @@ fn run<R: Threads + Wait + Clock + Sync>(
         second_given: AtomicBool::new(false),
     };
     let told = Told::new();
-    run_readers(
+    let context = NodeContext {
         rt,
         alloc,
         node,
-        &gate,
+        tagger: &gate,
+    };
+    run_readers(
+        &context,
         &gate,
         &dial,
         &told,

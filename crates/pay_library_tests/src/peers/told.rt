@@ -1,6 +1,6 @@
 //! What workers tell of their peers.
 
-use pay_peers::Lookout;
+use pay_peers::{Observer, PeerEvent};
 use std::sync::atomic::{AtomicU64, Ordering};
 
 /// Counts what workers tell of their peers.
@@ -30,16 +30,13 @@ impl Told {
     }
 }
 
-impl Lookout for Told {
-    fn heard(&self, _peer: u16) {
-        self.heard.fetch_add(1, Ordering::SeqCst);
-    }
-
-    fn missed(&self, _peer: u16) {
-        self.missed.fetch_add(1, Ordering::SeqCst);
-    }
-
-    fn gave_up(&self, _peer: u16) {
-        self.gave_up.fetch_add(1, Ordering::SeqCst);
+impl Observer<PeerEvent> for Told {
+    fn observe(&self, _peer: u16, event: PeerEvent) {
+        let count = match event {
+            PeerEvent::Heard => &self.heard,
+            PeerEvent::Missed => &self.missed,
+            PeerEvent::GaveUp => &self.gave_up,
+        };
+        count.fetch_add(1, Ordering::SeqCst);
     }
 }

@@ -1,4 +1,4 @@
-use Rattle.std.proofs.Common.{◌≡◌, ℕ, [], Err, true, false, arith, rules}
+use Rattle.std.proofs.Common.{◌≡◌, ap, ℕ, [], Err, true, false, arith, rules}
 use Rattle.std.proofs.lemmas.Grind.{common_steps}
 use Rattle.pay_engine.specs.declared.engine_fault.EngineFault.{EngineFault}
 use Rattle.pay_engine.specs.declared.engine_fault.EngineFault.TheVariants.{Memory, Write}
@@ -21,10 +21,12 @@ pub loop-init : goal.loop-init
 loop-init g c =
     let contents = g.Out.Output.contents in
     let start : Start g.row.S.Denot = record { first = c.args.first.now; state = c.args.state.now; input = g.In.Input.remaining c.args.reader.now; before = contents c.args.writer.now } in
-    let empty = c.in_ok-read.ensures.empty in
+    let empty : c.in_ok-read.read.bytes ≡ [] = ap (λ b. b.bytes) c.in_ok-read.ensures.empty in
     record {
-      handling = at_start (g.H.FrameHandler.handling c.args.handler.now) start (contents c.write_text.new.writer) c.in_ok-read.read (c.stream_grows.ensures.nothing []) empty c.in_ok-write_text.ensures.ok;
+      handling = at_start (g.H.FrameHandler.handling c.args.handler.now) start (contents c.write_text.new.writer) c.in_ok-read.read.bytes (c.stream_grows.ensures.nothing []) empty c.in_ok-write_text.ensures.ok;
       begins = rw empty c.nothing_is_a_beginning.ensures.law;
+      least = search rules;
+      most_room = search rules;
       calls = search rules;
       most = search rules;
       reads = search rules;
@@ -37,7 +39,7 @@ read_once-requires-clause-room g c = λ n le.
     let going = c.loop.invariant.handling in
     let few = going.few in
     let Room : g.row.S.Denot → ℕ → Type 0 = λ s m. g.H.FrameHandler.has_room c.args.handler.now s m in
-    let count = c.frame_sizes.ensures.count going.read c.loop.work.read going.frames going.cut in
+    let count = c.frame_sizes.ensures.count going.read c.loop.work.read.bytes going.frames going.cut in
     room_after h Room (λ s t f text m. g.met.H.FrameHandler.keeps_room c.args.handler.now s t f text m) c.args.state.now c.loop.state going.frames going.text n going.handled (c.requires.room _ (omega arith))
 
 pub returns-in_err-read_once-clause-handled : goal.returns-in_err-read_once-clause-handled
@@ -57,6 +59,8 @@ loop-preserved g c =
     record {
       handling = rw on at (c.in_ok-read_once.ensures.handles _ _ c.loop.invariant.handling);
       begins = c.in_ok-read_once.ensures.begins on;
+      least = search rules;
+      most_room = search rules;
       calls = search rules;
       most = search rules;
       reads = search rules;

@@ -1,5 +1,7 @@
 use Rattle.std.proofs.Common.{◌≡◌, ◌+◌, ◌≤◌}
 use Rattle.pay_io.specs.Device.{RoseBy}
+use Rattle.pay_frame.specs.declared.limits.TheConstants.{CUTTER_ROOM}
+use Rattle.pay_engine.specs.declared.limits.TheConstants.{GREATEST_READ}
 use Rattle.pay_frame.specs.Reading.{IsProperBeginning}
 use Rattle.pay_engine.specs.Handling.{InProgress}
 use Rattle.pay_engine.proofs.stream.handle_stream.Given as goal
@@ -12,8 +14,10 @@ invariant-loop g l =
     record {
       handling : InProgress (g.H.FrameHandler.handling l.handler)
           (record { first = l.first; state = l.fn.state; input = remaining l.fn.reader; before = contents l.fn.writer })
-          l.state (remaining l.reader) (contents l.writer) l.work.read l.counter;
-      begins : IsProperBeginning l.work.read;
+          l.state (remaining l.reader) (contents l.writer) l.work.read.bytes l.counter;
+      begins : IsProperBeginning l.work.read.bytes;
+      least : CUTTER_ROOM ≤ l.work.read.room;
+      most_room : l.work.read.room ≤ GREATEST_READ;
       calls : RoseBy l.counter (g.In.Input.call_count l.fn.reader) (g.In.Input.call_count l.reader);
       most : g.In.Input.call_count l.reader ≤ g.In.Input.call_count l.fn.reader + l.counter;
       reads : g.In.Input.failure_count l.reader ≡ g.In.Input.failure_count l.fn.reader;

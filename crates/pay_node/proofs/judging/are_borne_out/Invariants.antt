@@ -7,4 +7,4 @@ abbrev pub invariant-loop-receipt : goal.invariant-loop-receipt
 invariant-loop-receipt g l =
     let m : MemberFields = record l.fn.member { history = l.history } in
     (l.member ≡ record l.fn.member { history = take (length l.member.history) l.history })
-    × (AreBorneOut m l.stamp 0 l.receipts ↔ AreBorneOut m l.stamp (length l.member.history) (drop l.receipt-index l.receipts))
+    × (AreBorneOut m l.stamp (length l.fn.member.history) l.receipts ↔ AreBorneOut m l.stamp (length l.member.history) (drop l.receipt-index l.receipts))

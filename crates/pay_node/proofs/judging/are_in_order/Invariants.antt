@@ -8,3 +8,4 @@ abbrev pub invariant-loop-receipt : goal.invariant-loop-receipt
 invariant-loop-receipt l =
     AllPairs (λ (r later : Receipt). entries_after r ≤ later.seen) (take l.receipt-index l.receipts)
     × ((k : ℕ) (d : Receipt) → k < l.receipt-index → entries_after (get_or l.receipts k d) ≤ l.least)
+    × (l.base ≤ l.least) × ((k : ℕ) (d : Receipt) → k < l.receipt-index → l.base ≤ (get_or l.receipts k d).seen)

@@ -26,7 +26,7 @@ returns-in_err-may_follow-clause-reads g c =
     let some : is_nothing c.args.cutter.now.line ≡ false = sym c.is_empty.ensures ∙ c.if-is_empty.false in
     let e : StreamFault = c.in_err-may_follow.field-0.0 in
     let same : c.from_residual.result ≡ Err e = search rules in
-    rw same (λ old input before reads going. last_goes g.A.Answerer.says g.A.Answerer.gives_up c.args.cutter.now.bound c.args.cutter.now.line old c.args.answerer.now c.answer_line.new.answerer input _ _ before _ _ reads (Err e) going consumed end some (c.in_err-may_follow.ensures.goes []))
+    rw same (λ old input before reads going. last_goes g.A.Answerer.says g.A.Answerer.gives_up c.args.cutter.now.bound c.args.cutter.now.line old c.args.answerer.now c.answer_last.new.answerer input _ _ before _ _ reads (Err e) going consumed end some c.in_err-may_follow.ensures.goes)
 
 pub returns-then-count-eq0-clause-reads : goal.returns-then-count-eq0-clause-reads
 returns-then-count-eq0-clause-reads g c =
@@ -36,7 +36,7 @@ returns-then-count-eq0-clause-reads g c =
     let consumed : Consumes (remaining c.args.reader.now) (remaining c.read.new.self) [] = rw none at bytes.0 in
     let end : IsAtEnd (remaining c.read.new.self) = bytes.1 none (omega arith) in
     let some : is_nothing c.args.cutter.now.line ≡ false = sym c.is_empty.ensures ∙ c.if-is_empty.false in
-    λ old input before reads going. last_writes g.A.Answerer.says g.A.Answerer.gives_up c.args.cutter.now.bound c.args.cutter.now.line old c.args.answerer.now c.answer_line.new.answerer input _ _ before _ _ reads c.in_ok-may_follow.may_follow going consumed end some (c.in_ok-may_follow.ensures.goes [])
+    λ old input before reads going. last_writes g.A.Answerer.says g.A.Answerer.gives_up c.args.cutter.now.bound c.args.cutter.now.line old c.args.answerer.now c.answer_last.new.answerer input _ _ before _ _ reads c.in_ok-may_follow.may_follow going consumed end some c.in_ok-may_follow.ensures.goes
 
 pub returns-in_err-take_piece-clause-reads : goal.returns-in_err-take_piece-clause-reads
 returns-in_err-take_piece-clause-reads g c =

@@ -1,6 +1,7 @@
 use Rattle.std.proofs.Common.{◌≡◌, ℕ, Ok, Err, rules, sym, ap, subst, arith}
 use Rattle.std.proofs.lemmas.Grind.{common_steps}
 use Rattle.pay_io.specs.declared.stream_fault.StreamFault.{StreamFault}
+use Rattle.pay_io.specs.declared.stream_fault.StreamFault.TheVariants.{Memory}
 use Rattle.pay_text.specs.Cutting.{Begun}
 use Rattle.pay_text.specs.Engine.{IsGoing, Writes}
 use Rattle.pay_text.proofs.Rounds.{going_at_start, broken}
@@ -10,11 +11,20 @@ pub loop-init : goal.loop-init
 loop-init g c = record {
   going = going_at_start g.A.Answerer.says g.A.Answerer.gives_up c.args.bound c.args.answerer.now (g.R.Input.remaining c.args.reader.now) (g.W.Output.contents c.args.writer.now) c.in_ok-cutter.cutter.line (ap (λ (s : Begun). s.line) c.in_ok-cutter.ensures);
   bound = ap (λ (s : Begun). s.bound) c.in_ok-cutter.ensures;
+  empty = c.in_ok-outbox.ensures;
   calls = search rules;
   most = search rules;
   reads = search rules;
   writes = search rules;
 }
+
+pub returns-in_err-outbox-clause-text : goal.returns-in_err-outbox-clause-text
+returns-in_err-outbox-clause-text g c =
+    let says = g.A.Answerer.says in
+    let gives_up = g.A.Answerer.gives_up in
+    let memory : c.from_residual-in_err-outbox.result ≡ Err Memory = search rules in
+    rw memory (broken says gives_up c.args.bound c.in_ok-cutter.cutter.line c.args.answerer.now c.args.answerer.now _ _ _ _ 0
+    (going_at_start says gives_up c.args.bound c.args.answerer.now (g.R.Input.remaining c.args.reader.now) (g.W.Output.contents c.args.writer.now) c.in_ok-cutter.cutter.line (ap (λ (s : Begun). s.line) c.in_ok-cutter.ensures)))
 
 pub returns-in_err-at_end-clause-text : goal.returns-in_err-at_end-clause-text
 returns-in_err-at_end-clause-text g c =

@@ -1,4 +1,4 @@
-use Rattle.std.proofs.Common.{◌≡◌, ◌+◌, ◌≤◌}
+use Rattle.std.proofs.Common.{◌≡◌, [], ◌+◌, ◌≤◌}
 use Rattle.pay_io.specs.Device.{RoseBy}
 use Rattle.pay_text.specs.Engine.{IsGoing}
 use Rattle.pay_text.proofs.engine.run_lines.Given as goal
@@ -11,6 +11,7 @@ invariant-loop g l =
     record {
       going : IsGoing g.A.Answerer.says l.bound l.cutter.line l.fn.answerer l.answerer (remaining l.fn.reader) (remaining l.reader) (contents l.fn.writer) (contents l.writer) l.counter;
       bound : l.cutter.bound ≡ l.bound;
+      empty : l.outbox ≡ [];
       calls : RoseBy l.counter (g.R.Input.call_count l.fn.reader) (g.R.Input.call_count l.reader);
       most : g.R.Input.call_count l.reader ≤ g.R.Input.call_count l.fn.reader + l.counter;
       reads : g.R.Input.failure_count l.reader ≡ g.R.Input.failure_count l.fn.reader;

@@ -1,68 +1,23 @@
-use Rattle.std.proofs.Common.{◌≡◌, ◌+◌, ◌∷◌, ◌++◌, ℕ, List, [], Option, Some, Ok, Err, true, false, rules, subst, sym, ap, ◌∙◌, drop, get_or}
-use Rattle.pay_text.specs.Cutting.{Begun, grown, lines_after}
-use Rattle.pay_text.specs.Engine.{Went, Goes}
-use Rattle.pay_text.proofs.Answering.{first_further, all_further, went_further}
-use Rattle.pay_text.proofs.Following.{at_feed, at_other, other_byte}
+use Rattle.std.proofs.Common.{◌≡◌, ◌++◌, List, ℕ, ap, subst, ◌∙◌, inl, inr}
+use Rattle.std.specs.Prelude.{OnOk}
+use Rattle.pay_io.specs.Device.{counted}
+use Rattle.pay_text.specs.Cutting.{lines_after}
+use Rattle.pay_text.specs.Outbox.{GoesPut}
+use Rattle.pay_text.proofs.Waiting.{goes_written}
 use Rattle.pay_text.proofs.engine.take_piece.Goals as goal
-use Rattle.pay_text.proofs.engine.take_piece.Goals.{then-byte-ne10, else-byte-ne10+in_ok-answer_line+else-not-branch}
 
-pub returns-in_err-answer_line-clause-goes : goal.returns-in_err-answer_line-clause-goes
-returns-in_err-answer_line-clause-goes g c = λ more.
-    let bound = c.args.cutter.now.bound in
-    let piece = c.args.piece.now in
-    let i = c.loop-byte.byte-index in
-    let begun = c.loop-byte.cutter.line in
-    let left : List (Option (List ℕ)) = lines_after bound (Some []) (drop (i + 1) piece ++ more) in
-    let same : c.from_residual.result ≡ Err c.in_err-answer_line.field-0.0 = search rules in
-    let next = at_feed bound begun piece more i c.loop-byte-test.true c.if-byte-ne10.false in
-    let went = subst (λ (ls : List (Option (List ℕ))). Went g.A.Answerer.says (lines_after bound c.args.cutter.now.line (piece ++ more)) ls c.args.answerer.now c.loop-byte.answerer (g.W.Output.contents c.args.writer.now) (g.W.Output.contents c.loop-byte.writer)) next (c.loop-byte.invariant.went more) in
-    rw same (first_further g.A.Answerer.says g.A.Answerer.gives_up _ (begun ∷ left) _ _ _ _ _ _ went (c.in_err-answer_line.ensures.goes left))
+pub returns-clause-goes : goal.returns-clause-goes
+returns-clause-goes g c = λ more.
+    let says = g.A.Answerer.says in
+    let gives_up = g.A.Answerer.gives_up in
+    let contents = g.W.Output.contents in
+    let made = c.answer_lines-answered in
+    let goes = subst (λ (waited : List ℕ). GoesPut says gives_up (lines_after c.args.cutter.now.bound c.args.cutter.now.line (c.args.piece.now ++ more)) (lines_after c.args.cutter.now.bound c.answer_lines-answered.new.cutter.line more) c.args.answerer.now made.new.answerer (contents c.args.writer.now) (contents made.new.writer) waited made.new.outbox made.result) c.requires (made.ensures.goes more) in
+    goes_written says gives_up (lines_after c.args.cutter.now.bound c.args.cutter.now.line (c.args.piece.now ++ more)) (lines_after c.args.cutter.now.bound c.answer_lines-answered.new.cutter.line more) c.args.answerer.now made.new.answerer _ _ _ made.new.outbox made.result c.written.result goes c.written.ensures.written
 
-pub returns-then-not-branch-clause-goes : goal.returns-then-not-branch-clause-goes
-returns-then-not-branch-clause-goes g c = λ more.
-    let bound = c.args.cutter.now.bound in
-    let piece = c.args.piece.now in
-    let i = c.loop-byte.byte-index in
-    let begun = c.loop-byte.cutter.line in
-    let left : List (Option (List ℕ)) = lines_after bound (Some []) (drop (i + 1) piece ++ more) in
-    let off : c.in_ok-answer_line.field-0 ≡ false = search rules in
-    let next = at_feed bound begun piece more i c.loop-byte-test.true c.if-byte-ne10.false in
-    let went = subst (λ (ls : List (Option (List ℕ))). Went g.A.Answerer.says (lines_after bound c.args.cutter.now.line (piece ++ more)) ls c.args.answerer.now c.loop-byte.answerer (g.W.Output.contents c.args.writer.now) (g.W.Output.contents c.loop-byte.writer)) next (c.loop-byte.invariant.went more) in
-    let goes : Goes g.A.Answerer.says g.A.Answerer.gives_up (begun ∷ left) left c.loop-byte.answerer c.answer_line.new.answerer (g.W.Output.contents c.loop-byte.writer) (g.W.Output.contents c.answer_line.new.writer) (Ok false) = rw off at c.in_ok-answer_line.ensures.goes left in
-    all_further g.A.Answerer.says _ (begun ∷ left) _ _ _ _ _ _ false went goes
-
-pub loop-byte-preserved : goal.loop-byte-preserved
-loop-byte-preserved g c = elim c.if-byte-ne10.branch [
-  | then-byte-ne10 w ↦
-      let bound = c.args.cutter.now.bound in
-      let piece = c.args.piece.now in
-      let i = c.loop-byte.byte-index in
-      let begun = c.loop-byte.cutter.line in
-      let b = get_or piece i 0 in
-      let line : c.if-byte-ne10.cutter.line ≡ grown bound begun b = ap (λ (s : Begun). s.line) (w.cutter-is ∙ w.push.ensures) ∙ ap (λ (n : ℕ). grown n begun b) c.loop-byte.invariant.bound in
-      record {
-        went = λ more.
-            let next : lines_after bound begun (drop i piece ++ more) ≡ lines_after bound c.if-byte-ne10.cutter.line (drop (i + 1) piece ++ more) =
-            at_other bound begun piece more i c.loop-byte-test.true (other_byte b w.if-byte-ne10.true) ∙ ap (λ l. lines_after bound l (drop (i + 1) piece ++ more)) (sym line) in
-            rw (w.answerer-is, w.writer-is) (subst (λ (ls : List (Option (List ℕ))). Went g.A.Answerer.says (lines_after bound c.args.cutter.now.line (piece ++ more)) ls c.args.answerer.now c.loop-byte.answerer (g.W.Output.contents c.args.writer.now) (g.W.Output.contents c.loop-byte.writer)) next (c.loop-byte.invariant.went more));
-        bound = ap (λ (s : Begun). s.bound) (w.cutter-is ∙ w.push.ensures) ∙ c.loop-byte.invariant.bound;
-        written = ap g.W.Output.failure_count w.writer-is ∙ c.loop-byte.invariant.written;
-      }
-  | else-byte-ne10+in_ok-answer_line+else-not-branch w ↦
-      let bound = c.args.cutter.now.bound in
-      let piece = c.args.piece.now in
-      let i = c.loop-byte.byte-index in
-      let begun = c.loop-byte.cutter.line in
-      let on : w.in_ok-answer_line.field-0 ≡ true = search rules in
-      let line : c.if-byte-ne10.cutter.line ≡ Some [] = ap (λ (s : Begun). s.line) (w.cutter-is ∙ w.in_ok-answer_line.ensures.cutter) in
-      record {
-        went = λ more.
-            let left : List (Option (List ℕ)) = lines_after bound (Some []) (drop (i + 1) piece ++ more) in
-            let next = at_feed bound begun piece more i c.loop-byte-test.true w.if-byte-ne10.false in
-            let went = subst (λ (ls : List (Option (List ℕ))). Went g.A.Answerer.says (lines_after bound c.args.cutter.now.line (piece ++ more)) ls c.args.answerer.now c.loop-byte.answerer (g.W.Output.contents c.args.writer.now) (g.W.Output.contents c.loop-byte.writer)) next (c.loop-byte.invariant.went more) in
-            let goes : Went g.A.Answerer.says (begun ∷ left) left c.loop-byte.answerer w.answer_line.new.answerer (g.W.Output.contents c.loop-byte.writer) (g.W.Output.contents w.answer_line.new.writer) = rw on at w.in_ok-answer_line.ensures.goes left in
-            rw (w.answerer-is, w.writer-is, line) (went_further g.A.Answerer.says _ (begun ∷ left) left _ _ _ _ _ _ went goes);
-        bound = ap (λ (s : Begun). s.bound) (w.cutter-is ∙ w.in_ok-answer_line.ensures.cutter) ∙ c.loop-byte.invariant.bound;
-        written = ap g.W.Output.failure_count w.writer-is ∙ w.in_ok-answer_line.ensures.all_written ∙ c.loop-byte.invariant.written;
-      }
-]
+pub returns-clause-write : goal.returns-clause-write
+returns-clause-write g c = λ failed.
+    elim (c.written.ensures.write failed) [
+      | inl (before, silent) ↦ silent ∙ c.answer_lines-answered.ensures.write before
+      | inr (on, ok, rose) ↦ rose ∙ ap counted (subst (λ r. OnOk r (g.W.Output.failure_count c.answer_lines-answered.new.writer ≡ g.W.Output.failure_count c.args.writer.now)) ok c.answer_lines-answered.ensures.all_written)
+    ]

@@ -8,4 +8,6 @@ returns c =
     let two = one_argument_more _ _ _ _ _ one c.required_file-2.ensures c.in_ok-arg-2.ensures in
     let three = one_argument_more _ _ _ _ _ two c.required_file-3.ensures c.in_ok-arg-3.ensures in
     let four = one_argument_more _ _ _ _ _ three c.option.ensures c.in_ok-arg-4.ensures in
-    IfOk-weaker c.arg-5.result _ _ (λ r h. one_argument_more _ _ _ _ _ four c.option-2.ensures h) c.arg-5.ensures
+    let five = one_argument_more _ _ _ _ _ four c.option-2.ensures c.in_ok-arg-5.ensures in
+    let six = one_argument_more _ _ _ _ _ five c.option-3.ensures c.in_ok-arg-6.ensures in
+    IfOk-weaker c.arg-7.result _ _ (λ r h. one_argument_more _ _ _ _ _ six c.flag.ensures h) c.arg-7.ensures

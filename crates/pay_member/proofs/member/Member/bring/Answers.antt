@@ -1,106 +1,94 @@
-use Rattle.std.proofs.Common.{◌++◌, Option, Ok, Err, refl, sym, ap, ◌∙◌, subst}
-use Rattle.std.specs.Option.{option_to_list}
-use Rattle.pay_channel.specs.History as channel
-use Rattle.pay_link.specs.Keys.{KeyFields}
-use Rattle.pay_link.specs.Checked.{CheckedFields, checked_fields}
+use Rattle.std.proofs.Common.{Err, Ok, sym, ap, ◌∙◌, subst}
+use Rattle.std.specs.Prelude.{IfSome}
+use Rattle.pay_frame.specs.Lent.{fields_of}
+use Rattle.pay_link.specs.Keys.{KeyFields, IsPeer}
+use Rattle.pay_member.specs.declared.brought.Brought.{Brought}
+use Rattle.pay_member.specs.Bringing.{incoming_at, with_want}
 use Rattle.pay_member.specs.Events.{events}
 use Rattle.pay_member.specs.Member.{MemberFields}
-use Rattle.pay_member.specs.Bringing.{IsOpening, outcome_of, want_for, with_taken, with_brought}
-use Rattle.pay_member.proofs.Ledgers.{on_err_by}
-use Rattle.pay_member.proofs.Openings.{HasOpened, none_opened, key_unnamed, has_opened, some_opened, opened_checked, no_want_opened, opened_is_for}
-use Rattle.pay_member.proofs.Bringings.{events_taken, key_known, none_wanted, none_taken, some_wanted, some_taken, event_opened}
-use Rattle.pay_member.proofs.Servings.{if_ok, if_ok_both}
+use Rattle.pay_member.proofs.Openings.{frame_in, no_frame_in}
+use Rattle.pay_member.proofs.Bringings.{key_named, of_fault, of_frame}
+use Rattle.pay_member.proofs.Servings.{entry_of_bytes, events_of_bytes, events_of_none, keys_after, memory_of_bytes, on_err, want_of_bytes, want_of_none}
 use Rattle.pay_member.proofs.member.Member.bring.Goals as goal
 
--- ---- no frame opened
+-- ---- no frame
 
-pub returns-in-Err-clause-own_key : goal.returns-in-Err-clause-own_key
-returns-in-Err-clause-own_key g c =
-    let is = subst (λ (k : KeyFields). IsOpening k c.args.bytes.now (Err c.in-Err.outcome)) c.keys.ensures.value c.in-Err.ensures.opening in
-    key_unnamed c.args.self.now.keys c.args.bytes.now c.in-Err.outcome is
+pub returns-in-Err-clause-outcome : goal.returns-in-Err-clause-outcome
+returns-in-Err-clause-outcome g c =
+    let m = c.args.self.now in
+    record {
+      reading = Err c.in-Err.fault;
+      reads = c.in-Err.ensures.one;
+      is = ap (λ (b : Brought). b.outcome) c.at_once.ensures ∙ of_fault m.genesis m.keys (events m.history) c.in-Err.fault;
+    }
 
 pub returns-in-Err-clause-want : goal.returns-in-Err-clause-want
 returns-in-Err-clause-want g c =
-    let is = subst (λ (k : KeyFields). IsOpening k c.args.bytes.now (Err c.in-Err.outcome)) c.keys.ensures.value c.in-Err.ensures.opening in
-    let none = none_opened c.one_frame_is.ensures.law c.one_frame_is.ensures.none c.args.self.now.keys c.args.bytes.now c.in-Err.outcome is in
-    sym (none_wanted c.args.self.now.keys (events c.args.self.now.history) c.args.bytes.now none)
-
-pub returns-in-Err-clause-entry : goal.returns-in-Err-clause-entry
-returns-in-Err-clause-entry g c =
-    let is = subst (λ (k : KeyFields). IsOpening k c.args.bytes.now (Err c.in-Err.outcome)) c.keys.ensures.value c.in-Err.ensures.opening in
-    let none = none_opened c.one_frame_is.ensures.law c.one_frame_is.ensures.none c.args.self.now.keys c.args.bytes.now c.in-Err.outcome is in
-    sym (ap (with_brought c.args.self.now c.args.stamp c.in-Err.outcome) none)
+    let k = c.args.self.now.keys in
+    let none = no_frame_in c.one_frame_is.ensures.none k c.args.bytes.now c.in-Err.fault c.in-Err.ensures.one in
+    ap (λ (b : Brought). b.want) c.at_once.ensures ∙ want_of_none k (events c.args.self.now.history) c.args.bytes.now none
 
 pub returns-in-Err-clause-events : goal.returns-in-Err-clause-events
 returns-in-Err-clause-events g c =
-    let is = subst (λ (k : KeyFields). IsOpening k c.args.bytes.now (Err c.in-Err.outcome)) c.keys.ensures.value c.in-Err.ensures.opening in
-    let none = none_opened c.one_frame_is.ensures.law c.one_frame_is.ensures.none c.args.self.now.keys c.args.bytes.now c.in-Err.outcome is in
-    none_taken c.args.self.now.keys (events c.args.self.now.history) c.args.bytes.now none
+    let k = c.args.self.now.keys in
+    events_of_none k (events c.args.self.now.history) c.args.bytes.now (no_frame_in c.one_frame_is.ensures.none k c.args.bytes.now c.in-Err.fault c.in-Err.ensures.one)
 
--- ---- a frame opened, and is no WANT
+-- ---- a frame
 
-pub take_opened-requires : goal.take_opened-requires
-take_opened-requires g c =
-    let o = c.in-Ok.opened in
-    let has = subst (λ (k : KeyFields). HasOpened k c.args.bytes.now o) c.keys.ensures.value (has_opened c.keys.result.now c.args.bytes.now o c.in-Ok.ensures.opening) in
+pub returns-in_err-received-clause-memory : goal.returns-in_err-received-clause-memory
+returns-in_err-received-clause-memory g c =
+    let f = fields_of c.in-Ok.frame in
+    let m = c.args.self.now in
+    let found = frame_in c.one_frame_is.ensures.law m.keys c.args.bytes.now f c.in-Ok.ensures.one in
+    on_err c.from_residual.result (memory_of_bytes m.keys (events m.history) f c.args.bytes.now found c.in_err-received.ensures.memory)
+
+pub with_want-requires : goal.with_want-requires
+with_want-requires g c =
+    let f = fields_of c.in-Ok.frame in
+    let m = c.args.self.now in
+    let keys = c.keys.ensures.value ∙ ap (λ (x : MemberFields). x.keys) c.in_ok-received.ensures.after ∙ keys_after c.args.stamp m f in
+    subst (λ (k : KeyFields). IfSome c.in_ok-received.received.next (λ _. IsPeer k c.from-from.result)) (sym keys)
+    (subst (λ p. IfSome c.in_ok-received.received.next (λ _. IsPeer m.keys p)) (sym c.from-from.ensures.value) c.in_ok-received.ensures.peer)
+
+pub returns-clause-outcome : goal.returns-clause-outcome
+returns-clause-outcome g c =
+    let f = fields_of c.in-Ok.frame in
+    let m = c.args.self.now in
     record {
-      mine = opened_is_for c.opened.ensures c.owned.ensures.kept c.args.self.now.keys c.args.bytes.now o has;
-      kind = no_want_opened c.args.self.now.keys c.args.bytes.now o has;
+      reading = Ok f;
+      reads = c.in-Ok.ensures.one;
+      is = ap (λ (b : Brought). b.outcome) c.with_want.ensures ∙ c.in_ok-received.ensures.outcome ∙ sym (of_frame m.genesis m.keys (events m.history) f);
     }
 
-pub returns-in-Ok-clause-outcome : goal.returns-in-Ok-clause-outcome
-returns-in-Ok-clause-outcome g c =
+pub returns-clause-own_key : goal.returns-clause-own_key
+returns-clause-own_key g c =
+    let f = fields_of c.in-Ok.frame in
     let m = c.args.self.now in
-    let is = subst (λ (k : KeyFields). IsOpening k c.args.bytes.now (Ok c.in-Ok.opened)) c.keys.ensures.value c.in-Ok.ensures.opening in
-    if_ok c.take_opened.result
-    (λ x outcome. record { reading = is.reading; reads = is.reads; is = outcome ∙ ap (outcome_of m.genesis m.keys.own (events m.history)) is.is })
-    c.take_opened.ensures.outcome
+    let told = ap (λ (b : Brought). b.outcome) c.with_want.ensures ∙ c.in_ok-received.ensures.outcome in
+    λ wrong. key_named m.genesis m.keys.own (events m.history) (incoming_at m.keys f) (sym told ∙ wrong)
 
-pub returns-in-Ok-clause-own_key : goal.returns-in-Ok-clause-own_key
-returns-in-Ok-clause-own_key g c =
+pub returns-clause-want : goal.returns-clause-want
+returns-clause-want g c =
+    let f = fields_of c.in-Ok.frame in
     let m = c.args.self.now in
-    if_ok c.take_opened.result
-    (λ x outcome wrong. key_known m.genesis m.keys.own (events m.history) c.in-Ok.opened.frame (sym outcome ∙ wrong))
-    c.take_opened.ensures.outcome
+    let keys = c.keys.ensures.value ∙ ap (λ (x : MemberFields). x.keys) c.in_ok-received.ensures.after ∙ keys_after c.args.stamp m f in
+    let found = frame_in c.one_frame_is.ensures.law m.keys c.args.bytes.now f c.in-Ok.ensures.one in
+    ap (λ (b : Brought). b.want) c.with_want.ensures
+    ∙ (λ i. (with_want (keys i) (c.from-from.ensures.value i) c.in_ok-received.received).want)
+    ∙ c.in_ok-received.ensures.want
+    ∙ want_of_bytes c.args.stamp m c.bring_frame.new.self f c.args.bytes.now c.in_ok-received.ensures.after found
 
-pub returns-in-Ok-clause-want : goal.returns-in-Ok-clause-want
-returns-in-Ok-clause-want g c =
-    let o = c.in-Ok.opened in
-    let k = c.args.self.now.keys in
-    let after = events c.take_opened.new.self.history in
-    let has = subst (λ (k : KeyFields). HasOpened k c.args.bytes.now o) c.keys.ensures.value (has_opened c.keys.result.now c.args.bytes.now o c.in-Ok.ensures.opening) in
-    let some = some_opened c.one_frame_is.ensures.law k c.args.bytes.now o has in
-    if_ok c.take_opened.result
-    (λ x want. want ∙ some_wanted k after c.args.bytes.now o.frame (want_for k after o.frame) some refl)
-    c.take_opened.ensures.want
-
-pub returns-in-Ok-clause-entry : goal.returns-in-Ok-clause-entry
-returns-in-Ok-clause-entry g c =
+pub returns-clause-entry : goal.returns-clause-entry
+returns-clause-entry g c =
+    let f = fields_of c.in-Ok.frame in
     let m = c.args.self.now in
-    let o = c.in-Ok.opened in
-    let has = subst (λ (k : KeyFields). HasOpened k c.args.bytes.now o) c.keys.ensures.value (has_opened c.keys.result.now c.args.bytes.now o c.in-Ok.ensures.opening) in
-    let some = some_opened c.one_frame_is.ensures.law m.keys c.args.bytes.now o has in
-    let checked = opened_checked c.opened.ensures m.keys c.args.bytes.now o has in
-    if_ok c.take_opened.result
-    (λ x entry. entry ∙ ap (λ (y : CheckedFields). with_taken m c.args.stamp y x.outcome) checked ∙ sym (ap (with_brought m c.args.stamp x.outcome) some))
-    c.take_opened.ensures.entry
+    let found = frame_in c.one_frame_is.ensures.law m.keys c.args.bytes.now f c.in-Ok.ensures.one in
+    let told = ap (λ (b : Brought). b.outcome) c.with_want.ensures ∙ c.in_ok-received.ensures.outcome in
+    entry_of_bytes c.args.stamp m c.bring_frame.new.self f c.args.bytes.now c.with_want.result.outcome c.in_ok-received.ensures.after told found
 
-pub returns-in-Ok-clause-events : goal.returns-in-Ok-clause-events
-returns-in-Ok-clause-events g c =
+pub returns-clause-events : goal.returns-clause-events
+returns-clause-events g c =
+    let f = fields_of c.in-Ok.frame in
     let m = c.args.self.now in
-    let o = c.in-Ok.opened in
-    let has = subst (λ (k : KeyFields). HasOpened k c.args.bytes.now o) c.keys.ensures.value (has_opened c.keys.result.now c.args.bytes.now o c.in-Ok.ensures.opening) in
-    let some = some_opened c.one_frame_is.ensures.law m.keys c.args.bytes.now o has in
-    if_ok_both c.take_opened.result
-    (λ x outcome entry. ap (λ (y : MemberFields). events y.history) (entry ∙ ap (with_taken m c.args.stamp (checked_fields o)) outcome)
-    ∙ events_taken m c.args.stamp (checked_fields o)
-    ∙ ap (λ (e : Option channel.Event). events m.history ++ option_to_list e) (sym (some_taken m.keys (events m.history) c.args.bytes.now o.frame some)))
-    c.take_opened.ensures.outcome c.take_opened.ensures.entry
-
-pub returns-in-Ok-clause-memory : goal.returns-in-Ok-clause-memory
-returns-in-Ok-clause-memory g c =
-    let o = c.in-Ok.opened in
-    let has = subst (λ (k : KeyFields). HasOpened k c.args.bytes.now o) c.keys.ensures.value (has_opened c.keys.result.now c.args.bytes.now o c.in-Ok.ensures.opening) in
-    let m = c.args.self.now in
-    let some = some_opened c.one_frame_is.ensures.law m.keys c.args.bytes.now o has in
-    on_err_by c.take_opened.result (event_opened m.keys (events m.history) c.args.bytes.now o.frame some) c.take_opened.ensures.memory
+    let found = frame_in c.one_frame_is.ensures.law m.keys c.args.bytes.now f c.in-Ok.ensures.one in
+    events_of_bytes c.args.stamp m c.bring_frame.new.self f c.args.bytes.now c.in_ok-received.ensures.after found

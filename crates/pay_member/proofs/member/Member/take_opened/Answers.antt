@@ -1,30 +1,43 @@
-use Rattle.std.proofs.Common.{◌≡◌, ◌<◌, Some, length, sym, ap, ◌∙◌, subst}
-use Rattle.pay_frame.specs.Frame.{FrameFields, frame_bytes}
+use Rattle.std.proofs.Common.{◌<◌, length, sym, ap, ◌∙◌, subst}
+use Rattle.pay_frame.specs.Frame.{FrameFields}
 use Rattle.pay_channel.specs.Taken.{next}
-use Rattle.pay_link.specs.Keys.{KeyFields, IsPeer}
-use Rattle.pay_link.specs.Checked.{checked_fields}
-use Rattle.pay_link.specs.Sealing.{wanted}
+use Rattle.pay_link.specs.Checked.{CheckedFields, IsFor}
+use Rattle.pay_link.specs.Fronts.{turn}
 use Rattle.pay_member.specs.Events.{events}
-use Rattle.pay_member.specs.Member.{MemberFields}
-use Rattle.pay_member.proofs.Bringings.{keys_kept}
+use Rattle.pay_member.specs.Bringing.{with_taken, answer_to}
+use Rattle.pay_member.proofs.Bringings.{judged_not}
+use Rattle.pay_member.proofs.Servings.{if_ok}
 use Rattle.pay_member.proofs.member.Member.take_opened.Goals as goal
 
-pub want-requires : goal.want-requires
-want-requires g c =
-    let keys = c.keys.ensures.value ∙ ap (λ (x : MemberFields). x.keys) c.in_ok-outcome.ensures.entry ∙ keys_kept c.args.self.now c.args.stamp (checked_fields c.args.opened.now) c.in_ok-outcome.outcome in
-    let from = c.from-from.ensures.value ∙ ap (λ (x : FrameFields). x.from) c.frame.ensures.value in
-    subst (λ (k : KeyFields). IsPeer k c.from-from.result) (sym keys) (subst (λ p. IsPeer c.args.self.now.keys p) (sym from) c.requires.mine.sender)
+pub judge-requires : goal.judge-requires
+judge-requires g c =
+    let from = c.from.ensures.value ∙ ap (λ (x : FrameFields). x.from) c.frame-frame.ensures.value in
+    subst (λ p. p < length c.args.self.now.keys.keys) (sym from) c.requires.mine.sender.0
 
-pub next-requires : goal.next-requires
-next-requires g c =
-    let keys = ap (λ (x : MemberFields). x.keys) c.in_ok-outcome.ensures.entry ∙ keys_kept c.args.self.now c.args.stamp (checked_fields c.args.opened.now) c.in_ok-outcome.outcome in
-    let from = c.from-from.ensures.value ∙ ap (λ (x : FrameFields). x.from) c.frame.ensures.value in
-    let members : length c.args.self.now.keys.keys ≡ c.take_unanswered.new.self.genesis.members = ap (λ (k : KeyFields). length k.keys) (sym keys) ∙ c.keys.ensures.limits in
-    subst (λ n. c.from-from.result < n) members (subst (λ p. p < length c.args.self.now.keys.keys) (sym from) c.requires.mine.sender.0)
+-- ---- one that isn't the next
 
-pub returns-clause-want : goal.returns-clause-want
-returns-clause-want g c =
-    let keys = c.keys.ensures.value ∙ ap (λ (x : MemberFields). x.keys) c.in_ok-outcome.ensures.entry ∙ keys_kept c.args.self.now c.args.stamp (checked_fields c.args.opened.now) c.in_ok-outcome.outcome in
-    let from = c.from-from.ensures.value ∙ ap (λ (x : FrameFields). x.from) c.frame.ensures.value in
-    let number = c.next.ensures ∙ ap (λ p. next p (events c.take_unanswered.new.self.history)) from in
-    ap Some (c.want.ensures.bytes ∙ (λ i. frame_bytes (wanted (keys i) (from i) (number i))))
+pub returns-in-Err-clause-outcome : goal.returns-in-Err-clause-outcome
+returns-in-Err-clause-outcome g c =
+    let m = c.args.self.now in
+    let from = c.from.ensures.value ∙ ap (λ (x : FrameFields). x.from) c.frame-frame.ensures.value in
+    let number = c.number.ensures.value ∙ ap (λ (x : FrameFields). x.number) c.frame-frame.ensures.value in
+    judged_not m.genesis m.keys.own (events m.history) c.args.opened.now.frame c.in-Err.fault
+    (sym (λ i. turn (next (from i) (events m.history)) (number i)) ∙ sym c.in-Err.ensures)
+
+-- ---- the next
+
+pub take_mine-requires : goal.take_mine-requires
+take_mine-requires g c = subst (λ (x : CheckedFields). IsFor c.args.self.now.keys x) (sym c.in_ok-checked.ensures) c.requires.mine
+
+pub returns-clause-outcome : goal.returns-clause-outcome
+returns-clause-outcome g c =
+    let m = c.args.self.now in
+    if_ok c.take_mine.result
+    (λ x outcome. outcome ∙ ap (λ (y : CheckedFields). answer_to m.genesis m.keys.own (events m.history) y.frame) c.in_ok-checked.ensures)
+    c.take_mine.ensures.outcome
+
+pub returns-clause-entry : goal.returns-clause-entry
+returns-clause-entry g c =
+    if_ok c.take_mine.result
+    (λ x entry. entry ∙ ap (λ (y : CheckedFields). with_taken c.args.self.now c.args.stamp y x) c.in_ok-checked.ensures)
+    c.take_mine.ensures.entry

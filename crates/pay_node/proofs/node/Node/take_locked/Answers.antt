@@ -6,6 +6,6 @@ use Rattle.pay_node.proofs.node.Node.take_locked.Goals as goal
 
 pub returns-clause-next : goal.returns-clause-next
 returns-clause-next g c =
-    let at = c.history-entries.ensures.value ∙ ap (λ (m : MemberFields). m.history) c.deref.ensures in
-    has_next c.taken_in_order.ensures.count c.deref_mut.result.now c.take-answer.new.member c.args.seat.now.stamp c.args.checked c.take-answer.result c.take-answer.ensures.answer c.take-answer.ensures.entry
+    let at = c.history-entries.ensures.value ∙ ap (λ (m : MemberFields). m.history) (c.member.ensures.member ∙ c.deref.ensures) in
+    has_next c.taken_in_order.ensures.count c.deref_mut.result.now c.hand_in-answer.new.self c.args.seat.now.stamp c.args.checked c.hand_in-answer.result c.hand_in-answer.ensures.answer c.hand_in-answer.ensures.entry
     (subst (λ (h : List HistoryEntry). length h < 2 ^ 64) at c.history-entries.type_inv.0)

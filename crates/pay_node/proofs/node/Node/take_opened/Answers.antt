@@ -6,8 +6,8 @@ use Rattle.pay_node.proofs.node.Node.take_opened.Goals as goal
 pub returns-clause-taken : goal.returns-clause-taken
 returns-clause-taken g c = grind (arith, taken_so)
 
-pub brought_of-requires-clause-next : goal.brought_of-requires-clause-next
-brought_of-requires-clause-next g c = grind (arith, common_steps)
+pub received_of-requires : goal.received_of-requires
+received_of-requires g c = grind (arith, common_steps)
 
 pub returns-clause-err : goal.returns-clause-err
 returns-clause-err g c = grind (arith, common_steps)

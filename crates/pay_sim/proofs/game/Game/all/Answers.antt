@@ -1,4 +1,4 @@
-use Rattle.std.proofs.Common.{◌≡◌, ◌-◌, ℕ, length, Err, arith, rules}
+use Rattle.std.proofs.Common.{◌≡◌, ◌-◌, length, Err, rules}
 use Rattle.pay_sim.proofs.Bringing.{told_all, told_broken}
 use Rattle.pay_sim.proofs.game.Game.all.Goals as goal
 

@@ -1,0 +1,4 @@
+pub mod Agreed
+pub mod Begins
+pub mod Counting
+pub mod Vouching

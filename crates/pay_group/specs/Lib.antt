@@ -1,0 +1,3 @@
+pub mod Backing
+pub mod Laws
+pub mod Listed

@@ -1,0 +1,96 @@
+ghost use Rattle.std.specs.Prelude.{◌≡◌, ◌<◌, IfOk, length};
+ghost use Rattle.std.specs.Io.{WritesAtMost};
+ghost use Rattle.std.specs.Io.KnownBytes.{WriteAppends};
+ghost use Rattle.pay_io.specs.Device.{counted, failures_after};
+
+use crate::keeper::Keeper;
+use pay_book::Settle;
+use pay_echo::Instance;
+use pay_io::{DeviceFailed, Output};
+use pay_node::{Beginning, Node};
+use std::sync::Wait;
+
+/// An output that is written to only once its keeper has kept all of the node's history; where that fails, its writes
+/// fail.
+///
+/// It owns the output: of a struct that holds a `&mut`, nothing is known after an engine had it.
+#[derive(Drop)]
+pub struct Behind<'a, R, K, I: Instance + Drop, B: Settle + Drop, S: Beginning, W> {
+    rt: &'a R,
+    keeper: &'a K,
+    node: &'a Node<I, B, S>,
+    inner: W,
+    calls: u64,
+    failures: u64,
+}
+
+impl<'a, R, K, I: Instance + Drop, B: Settle + Drop, S: Beginning, W> Behind<'a, R, K, I, B, S, W> {
+    /// Nothing was written yet.
+    pub fn new(
+        rt: &'a R,
+        keeper: &'a K,
+        node: &'a Node<I, B, S>,
+        inner: W,
+    ) -> Behind<'a, R, K, I, B, S, W>
+        ensures inner { result.inner ≡ inner }
+        ensures calls { result.calls ≡ 0 }
+        ensures failures { result.failures ≡ 0 }
+    {
+        Behind {
+            rt,
+            keeper,
+            node,
+            inner,
+            calls: 0,
+            failures: 0,
+        }
+    }
+
+    /// The output itself.
+    pub fn into_inner(self) -> W
+        ensures { result ≡ self.entry.inner }
+    {
+        let Behind { inner, .. } = self;
+        inner
+    }
+}
+
+impl<R: Wait, K: Keeper, I: Instance + Drop, B: Settle + Drop, S: Beginning, W: Output> Output
+    for Behind<'_, R, K, I, B, S, W> {
+    ghost contents = { λ b. W.contents b.inner };
+
+    ghost call_count = { λ b. b.calls };
+
+    ghost failure_count = { λ b. b.failures };
+
+    fn write(&mut self, bytes: &[u8]) -> Result<usize, DeviceFailed>
+        ensures gated { IfOk result (λ _. K.kept self.old.keeper.now self.old.node.now) }
+        ensures bound { WritesAtMost result bytes.now }
+        ensures some { IfOk result (λ count. 0 < length bytes.now → 0 < count) }
+        ensures bytes { WriteAppends (W.contents self.old.inner) (W.contents self.new.inner)
+            result bytes.now }
+        ensures called { self.new.calls ≡ counted self.old.calls }
+        ensures failed { self.new.failures ≡ failures_after self.old.failures result }
+    {
+        self.calls = self.calls.saturating_add(1);
+        if !self.keeper.keep(self.rt, self.node) {
+            self.failures = self.failures.saturating_add(1);
+            return Err(DeviceFailed);
+        }
+        match self.inner.write(bytes) {
+            Ok(count) => Ok(count),
+            Err(_) => {
+                self.failures = self.failures.saturating_add(1);
+                Err(DeviceFailed)
+            }
+        }
+    }
+
+    fn calls(&self) -> u64 {
+        self.calls
+    }
+
+    fn failures(&self) -> u64 {
+        self.failures
+    }
+}

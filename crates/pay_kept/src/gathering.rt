@@ -1,0 +1,109 @@
+//! A log that is brought up to a node's history.
+
+ghost use Rattle.std.specs.Prelude.{◌≡◌, ◌≤◌, List, ℕ, IfSome, MatchOption, None, length, true};
+ghost use Rattle.pay_kept.specs.Following.{HasGathered};
+ghost use Rattle.pay_kept.specs.Kept.{IsKept};
+
+use crate::following::Following;
+use pay_book::Settle;
+use pay_echo::Instance;
+use pay_log::Device;
+use pay_member::Member;
+use pay_node::{Beginning, Gatherer, Node};
+use std::alloc::{AllocError, Global};
+use std::sync::{Mutex, Wait};
+
+/// A log that gathers from a node's member, with the ids of the owner's payments. These are locked while the member
+/// is: an ask that is gathered has its id there, since that is noted before the node is asked.
+#[derive(Drop)]
+struct Gathering<'a, R, D: Device> {
+    rt: &'a R,
+    alloc: Global,
+    ids: &'a Mutex<Vec<u64>>,
+    slot: Option<Following<D>>,
+    has_all: bool,
+}
+
+impl<R: Wait, D: Device + Drop> Gatherer for Gathering<'_, R, D> {
+    ghost gathers = { λ old member new. MatchOption old.slot (new.slot ≡ None)
+        (λ before. IfSome new.slot (λ after. (after.log ≡ before.log)
+        × ((ids : List ℕ) × HasGathered ids member.history before.count after.count
+        before.pending.items after.pending.items)
+        × (new.has_all ≡ true → length member.history ≤ after.count))) };
+
+    fn gather<I: Instance + Drop, B: Settle + Drop>(
+        &mut self,
+        member: &Member<I, B>,
+    ) -> Result<(), AllocError> {
+        let Some(following) = self.slot.take() else {
+            return Ok(());
+        };
+        let ids = self.ids.lock(self.rt);
+        let (following, answer) = following.gather(self.alloc, member, &*ids);
+        self.slot = Some(following);
+        self.has_all = answer?;
+        Ok(())
+    }
+}
+
+/// How far one step came.
+#[derive(Clone, Copy, Debug, PartialEq, Eq)]
+pub(crate) enum Step {
+    /// All that the history had is on the disk.
+    Done,
+    /// Some of it is.
+    More,
+    /// Memory was refused; the log is as it was.
+    NoMemory,
+    /// There is no log any more.
+    Failed,
+}
+
+/// Gathers from the node's member, and writes what was gathered. A log that fails is gone from its slot.
+pub(crate) fn bring_up<R, I, B, S, D>(
+    rt: &R,
+    alloc: Global,
+    node: &Node<I, B, S>,
+    ids: &Mutex<Vec<u64>>,
+    slot: &mut Option<Following<D>>,
+) -> Step
+where
+    R: Wait,
+    I: Instance + Drop,
+    B: Settle + Drop,
+    S: Beginning,
+    D: Device + Drop,
+    ensures { result ≡ Step.Done → IsKept D.is_known D.seen D.may_leave node.now }
+{
+    let mut gathering = Gathering {
+        rt,
+        alloc,
+        ids,
+        slot: slot.take(),
+        has_all: false,
+    };
+    let lent = node.lend(rt, &mut gathering);
+    let Gathering {
+        slot: gathered,
+        has_all,
+        ..
+    } = gathering;
+    let Some(following) = gathered else {
+        return Step::Failed;
+    };
+    if lent.is_err() {
+        *slot = Some(following);
+        return Step::NoMemory;
+    }
+    match following.flush(alloc) {
+        Ok(following) => {
+            *slot = Some(following);
+            if has_all { Step::Done } else { Step::More }
+        }
+        Err(Some(following)) => {
+            *slot = Some(following);
+            Step::NoMemory
+        }
+        Err(None) => Step::Failed,
+    }
+}

@@ -1,0 +1,50 @@
+ghost use Rattle.std.specs.Prelude.{IsTrue};
+ghost use Rattle.pay_node.specs.Nodes.{NodeFields};
+
+use pay_book::Settle;
+use pay_echo::Instance;
+use pay_node::{Beginning, Node};
+use std::alloc::AllocError;
+use std::sync::Wait;
+
+/// Who knows whether a node's history is on the disk.
+pub trait Keeper {
+    // What its yes says of a node.
+    ghost kept: { Self → NodeFields → Type 0 };
+
+    /// Waits until all that the node's history had when it was called is on the disk. Answers `false` where that failed:
+    /// from then on nothing leaves the node.
+    fn keep<R: Wait, I: Instance + Drop, B: Settle + Drop, S: Beginning>(
+        &self,
+        rt: &R,
+        node: &Node<I, B, S>,
+    ) -> bool
+        ensures { IsTrue result → kept self.now node.now };
+
+    /// Takes the id of the owner's next payment, before the node is asked for it: its value will have this number, if it
+    /// gets one.
+    fn order<R: Wait>(&self, rt: &R, seq: u32, id: u64) -> Result<(), AllocError>;
+}
+
+/// A node whose member lives in memory alone: nothing is kept, and nothing waits.
+#[derive(Clone, Copy, Debug)]
+pub struct Unkept;
+
+impl Keeper for Unkept {
+    ghost kept = { λ _ _. Unit {0} };
+
+    fn keep<R: Wait, I: Instance + Drop, B: Settle + Drop, S: Beginning>(
+        &self,
+        _rt: &R,
+        _node: &Node<I, B, S>,
+    ) -> bool
+        ensures kept { IsTrue result → Unit {0} }
+        ensures always { IsTrue result }
+    {
+        true
+    }
+
+    fn order<R: Wait>(&self, _rt: &R, _seq: u32, _id: u64) -> Result<(), AllocError> {
+        Ok(())
+    }
+}

@@ -1,0 +1,275 @@
+//! A node's history in a log: on a disk that fails at each of its calls, and with threads that wait for one sync.
+
+ghost use Rattle.std.specs.Prelude.{[], IfOk};
+ghost use Rattle.pay_link.specs.Keys.{IsKeysOf};
+
+use crate::logs::FailingDisk;
+use pay_book::PlainBook;
+use pay_echo::MaskInstance;
+use pay_frame::Bytes;
+use pay_hmac::HmacSha256;
+use pay_kept::{Keeper, Kept, Restarted, restart};
+use pay_link::{Genesis, Keys, test_keys};
+use pay_log::{Device, DeviceFault, DiskFailed, LogFault};
+use pay_member::{Event, Member};
+use pay_node::{MOST_SEATS, NoHistory, Node, Seat};
+use pay_record::log_header;
+use std::alloc::Global;
+use std::process::Abort;
+use std::sync::atomic::{AtomicU32, Ordering};
+use std::sync::{Mutex, Wait};
+use std::test::Fail;
+use std::thread;
+use std::thread::Threads;
+use std::time::{Clock, Duration};
+
+/// A payment to oneself, which moves nothing.
+const VALUE: &[u8] = &[1, 0, 0, 0, 0, 0, 0, 0, 0, 0, 5];
+
+/// The ids of the owner's payments.
+const IDS: &[u64] = &[7, 70, 700];
+
+/// How many calls a disk has in a run that asks for each of them: two of the recovery, and two a payment.
+const CALLS: usize = 8;
+
+/// How often a disk looks whether others have asked, a millisecond apart.
+const TURNS: u32 = 20_000;
+
+type Tried = Node<MaskInstance, PlainBook, NoHistory>;
+
+type Started<'a, R> = Restarted<MaskInstance, PlainBook, Shared<'a, R>>;
+
+/// A disk that outlives its log. A sync waits until no asks are missing.
+#[derive(Drop)]
+struct Shared<'a, R> {
+    rt: &'a R,
+    disk: &'a Mutex<FailingDisk>,
+    missing: &'a AtomicU32,
+}
+
+impl<R: Wait + Clock> Device for Shared<'_, R> {
+    ghost is_known = { λ f. ⊥ };
+
+    ghost seen = { λ f. [] };
+
+    ghost may_leave = { λ f c. ⊥ };
+
+    ghost moment = { λ f. 0 };
+
+    ghost left_since = { λ f t c. ⊥ };
+
+    ghost counts_now = { λ f t c le now. now };
+
+    ghost only_now = { λ f c left. left };
+
+    fn read(&mut self, alloc: Global, from: usize, most: usize) -> Result<Vec<u8>, DeviceFault> {
+        self.disk.lock(self.rt).read(alloc, from, most)
+    }
+
+    fn append(&mut self, bytes: &[u8]) -> Result<(), DiskFailed> {
+        self.disk.lock(self.rt).append(bytes)
+    }
+
+    fn cut(&mut self, len: usize) -> Result<(), DiskFailed> {
+        self.disk.lock(self.rt).cut(len)
+    }
+
+    fn sync(&mut self) -> Result<(), DiskFailed> {
+        for _ in 0..TURNS {
+            if self.missing.load(Ordering::SeqCst) == 0 {
+                break;
+            }
+            thread::sleep(self.rt, Duration::from_millis(1));
+        }
+        self.disk.lock(self.rt).sync()
+    }
+}
+
+/// A member alone, with its one account.
+fn alone(alloc: Global) -> Result<(Genesis, Keys), Fail>
+    ensures { IfOk result (λ made. IsKeysOf made.0 made.1) }
+{
+    let genesis = Genesis::new(alloc, 1, 0, &[100])?;
+    if genesis.members() == 0 {
+        return Err(Fail::new("nobody"));
+    }
+    let keys = test_keys(alloc, &genesis, 0)?;
+    Ok((genesis, keys))
+}
+
+/// A disk with a log of no record, whose call of this number fails, where so many bytes of an append are written.
+fn new_disk(alloc: Global, fails: usize, torn: usize) -> Result<FailingDisk, Fail> {
+    let (genesis, keys) = alone(alloc)?;
+    let header = log_header(alloc, &genesis, &keys)?;
+    Ok(FailingDisk::new(header.encode(alloc)?, fails, torn))
+}
+
+/// What starts again on a disk.
+fn start<'a, R: Wait + Clock>(
+    rt: &'a R,
+    alloc: Global,
+    disk: &'a Mutex<FailingDisk>,
+    missing: &'a AtomicU32,
+) -> Result<Result<Started<'a, R>, LogFault>, Fail> {
+    let (genesis, keys) = alone(alloc)?;
+    let device = Shared { rt, disk, missing };
+    Ok(restart(alloc, device, &HmacSha256, &genesis, &keys))
+}
+
+/// A node of a member that took nothing, with so many seats.
+fn node_of(
+    alloc: Global,
+    member: Member<MaskInstance, PlainBook>,
+    seats: u16,
+) -> Result<(Tried, Vec<Seat>), Fail> {
+    if !member.history().is_empty() || seats > MOST_SEATS {
+        return Err(Fail::new("no new member"));
+    }
+    match Node::new(alloc, member, seats) {
+        Ok(made) => Ok(made),
+        Err((_, error)) => Err(error.into()),
+    }
+}
+
+/// Asks the node to pay, and says whether that is kept.
+fn pays<R: Wait, K: Keeper>(
+    rt: &R,
+    alloc: Global,
+    node: &Tried,
+    seat: &mut Seat,
+    kept: &K,
+) -> Result<bool, Fail> {
+    let value = Bytes::from_slice(alloc, VALUE)?;
+    node.ask(rt, alloc, seat, value)?;
+    Ok(kept.keep(rt, node))
+}
+
+/// What a run leaves on its disk.
+#[derive(Drop)]
+struct Ended {
+    bytes: Vec<u8>,
+    acknowledged: usize,
+    // whether nothing was kept, and nothing asked of the disk, behind the first failure
+    stops: bool,
+}
+
+/// Pays under each id on a disk whose call of this number fails.
+fn crashed<R: Wait + Clock>(
+    rt: &R,
+    alloc: Global,
+    fails: usize,
+    torn: usize,
+) -> Result<Ended, Fail> {
+    let disk = Mutex::new(new_disk(alloc, fails, torn)?);
+    let missing = AtomicU32::new(0);
+    let mut acknowledged = 0;
+    let mut stops = true;
+    if let Ok(started) = start(rt, alloc, &disk, &missing)? {
+        let Restarted {
+            member,
+            ids,
+            following,
+        } = started;
+        let kept = Kept::new(alloc, following, ids);
+        let (node, mut seats) = node_of(alloc, member, 1)?;
+        let Some(mut seat) = seats.pop() else {
+            return Err(Fail::new("no seat"));
+        };
+        for (seq, id) in IDS.iter().enumerate() {
+            let failed = kept.has_failed(rt);
+            let calls = disk.lock(rt).calls;
+            kept.order(rt, seq as u32, *id)?;
+            if pays(rt, alloc, &node, &mut seat, &kept)? {
+                acknowledged = seq + 1;
+                stops = stops && !failed;
+            }
+            stops = stops && (!failed || disk.lock(rt).calls == calls);
+        }
+    }
+    let bytes = disk.lock(rt).bytes.to_vec(alloc)?;
+    Ok(Ended {
+        bytes,
+        acknowledged,
+        stops,
+    })
+}
+
+/// How many payments a member has that starts again from these bytes, if their ids are those that were ordered.
+fn payments_on<R: Wait + Clock>(
+    rt: &R,
+    alloc: Global,
+    bytes: Vec<u8>,
+) -> Result<Option<usize>, Fail> {
+    let disk = Mutex::new(FailingDisk::new(bytes, usize::MAX, 0));
+    let missing = AtomicU32::new(0);
+    let Restarted { member, ids, .. } = start(rt, alloc, &disk, &missing)??;
+    let mut asks: usize = 0;
+    for entry in member.history() {
+        match &entry.event {
+            Event::Ask(value) if value.as_slice() == VALUE => asks = asks.saturating_add(1),
+            _ => return Ok(None),
+        }
+    }
+    let is_right = asks == ids.len() && asks <= IDS.len() && ids.as_slice() == &IDS[..asks];
+    Ok(is_right.then_some(asks))
+}
+
+#[test]
+fn failing_disk_loses_no_kept_payment(rt: HostRuntime) -> Result<(), Fail> {
+    for fails in 0..=CALLS {
+        for torn in 0..70 {
+            let ended = crashed(&rt, rt.alloc(), fails, torn)?;
+            assert!(rt; ended.stops, "call {fails}, {torn} bytes");
+            let kept = ended.acknowledged;
+            let read = payments_on(&rt, rt.alloc(), ended.bytes)?;
+            let is_right = read == Some(kept) || read == Some(kept.saturating_add(1));
+            assert!(rt; is_right, "call {fails}, {torn} bytes");
+            assert!(rt; fails < CALLS || kept == IDS.len(), "nothing fails");
+        }
+    }
+    Ok(())
+}
+
+/// Pays from each of three seats at once. The first sync waits until all have asked.
+fn paid_at_once<R: Wait + Threads + Clock + Sync>(
+    rt: &R,
+    alloc: Global,
+) -> Result<(bool, usize, Vec<u8>), Fail> {
+    let disk = Mutex::new(new_disk(alloc, usize::MAX, 0)?);
+    let missing = AtomicU32::new(0);
+    let Restarted {
+        member,
+        ids,
+        following,
+    } = start(rt, alloc, &disk, &missing)??;
+    let kept = Kept::new(alloc, following, ids);
+    let (node, seats) = node_of(alloc, member, 3)?;
+    missing.store(3, Ordering::SeqCst);
+    let answers = thread::map_vec(
+        rt,
+        seats,
+        &|mut seat: Seat| {
+            let Ok(value) = Bytes::from_slice(alloc, VALUE) else {
+                return false;
+            };
+            let asked = node.ask(rt, alloc, &mut seat, value).is_ok();
+            missing.fetch_sub(1, Ordering::SeqCst);
+            asked && kept.keep(rt, &node)
+        },
+    )?;
+    let all = answers.iter().all(|answer| *answer);
+    let calls = disk.lock(rt).calls;
+    let bytes = disk.lock(rt).bytes.to_vec(alloc)?;
+    Ok((all, calls, bytes))
+}
+
+#[test]
+fn those_that_wait_share_a_sync(rt: HostRuntime) -> Result<(), Fail> {
+    for _ in 0..20 {
+        let (all, calls, bytes) = paid_at_once(&rt, rt.alloc())?;
+        assert!(rt; all);
+        // a cut and a sync of the recovery, and an append and a sync of one or two groups
+        assert!(rt; calls == 4 || calls == 6, "{calls} calls");
+    }
+    Ok(())
+}

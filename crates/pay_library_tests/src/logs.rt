@@ -1,0 +1,286 @@
+//! A log over a disk that fails at each of its calls, and a log's file that is cut or changed at each of its bytes.
+
+ghost use Rattle.std.specs.Prelude.{[]};
+
+use pay_log::{
+    Device, DeviceFault, DiskFailed, Folder, Header, Log, LogFault, MOST_PAYLOAD, Mismatch,
+    OpenedFile, Payloads, recover,
+};
+use std::alloc::Global;
+use std::fs;
+use std::process::Abort;
+use std::test::Fail;
+
+/// Where the log stands, below the folder that tests run in.
+const FOLDER: &str = "folder-of-a-log";
+
+const FILE: &str = "folder-of-a-log/log";
+
+const KEY: [u8; 32] = [7; 32];
+
+const HEADER: Header = Header {
+    genesis: [1; 32],
+    member: 2,
+    keys: [3; 32],
+};
+
+/// What is appended, each in one chunk: of 45, 40 and 49 bytes behind the header's 75.
+const TEXTS: &[&str] = &["first", "", "the third"];
+
+/// Where each chunk ends in the file, the header before them.
+const ENDS: &[usize] = &[75, 120, 160, 209];
+
+/// A disk whose call of this number fails, counted from 0: of an append so many bytes are written. It keeps what a crash
+/// leaves.
+#[derive(Drop)]
+pub(crate) struct FailingDisk {
+    pub(crate) bytes: Vec<u8>,
+    fails: usize,
+    torn: usize,
+    pub(crate) calls: usize,
+}
+
+impl FailingDisk {
+    pub(crate) fn new(bytes: Vec<u8>, fails: usize, torn: usize) -> FailingDisk {
+        FailingDisk {
+            bytes,
+            fails,
+            torn,
+            calls: 0,
+        }
+    }
+
+    // Whether this call fails.
+    fn is_failing(&mut self) -> bool {
+        let fails = self.calls == self.fails;
+        self.calls = self.calls.saturating_add(1);
+        fails
+    }
+}
+
+impl Device for FailingDisk {
+    ghost is_known = { λ f. ⊥ };
+
+    ghost seen = { λ f. [] };
+
+    ghost may_leave = { λ f c. ⊥ };
+
+    ghost moment = { λ f. 0 };
+
+    ghost left_since = { λ f t c. ⊥ };
+
+    ghost counts_now = { λ f t c le now. now };
+
+    ghost only_now = { λ f c left. left };
+
+    fn read(&mut self, alloc: Global, from: usize, most: usize) -> Result<Vec<u8>, DeviceFault> {
+        let end = from.saturating_add(most).min(self.bytes.len());
+        let from = from.min(end);
+        Ok(self.bytes[from..end].to_vec(alloc)?)
+    }
+
+    fn append(&mut self, bytes: &[u8]) -> Result<(), DiskFailed> {
+        let fails = self.is_failing();
+        let len = if fails {
+            self.torn.min(bytes.len())
+        } else {
+            bytes.len()
+        };
+        let Ok(()) = self.bytes.extend_from_slice(&bytes[..len]) else {
+            return Err(DiskFailed);
+        };
+        if fails { Err(DiskFailed) } else { Ok(()) }
+    }
+
+    fn cut(&mut self, len: usize) -> Result<(), DiskFailed> {
+        if self.is_failing() {
+            return Err(DiskFailed);
+        }
+        self.bytes.truncate(len);
+        Ok(())
+    }
+
+    fn sync(&mut self) -> Result<(), DiskFailed> {
+        if self.is_failing() {
+            Err(DiskFailed)
+        } else {
+            Ok(())
+        }
+    }
+}
+
+fn append_text<D: Device>(alloc: Global, log: &mut Log<D>, text: &str) -> Result<(), LogFault> {
+    let payload = text.as_bytes();
+    if payload.len() > MOST_PAYLOAD {
+        return Err(LogFault::Disk);
+    }
+    log.append(alloc, payload)
+}
+
+/// How many texts a list of payloads has, if it is a beginning of all texts.
+fn texts_in(payloads: &Payloads) -> Option<usize> {
+    for (place, payload) in payloads.items.iter().enumerate() {
+        if place >= TEXTS.len() || payload.as_slice() != TEXTS[place].as_bytes() {
+            return None;
+        }
+    }
+    Some(payloads.items.len())
+}
+
+/// What is read again of a file on a disk that doesn't fail.
+fn texts_on(alloc: Global, bytes: &[u8]) -> Result<Option<usize>, Fail> {
+    let mut disk = FailingDisk {
+        bytes: bytes.to_vec(alloc)?,
+        fails: usize::MAX,
+        torn: 0,
+        calls: 0,
+    };
+    let mut payloads = Payloads::new(alloc);
+    recover(alloc, &mut disk, &KEY, &HEADER, &mut payloads)?;
+    Ok(texts_in(&payloads))
+}
+
+/// The log behind a crash at the call of this number, where so many bytes of an append were written, with how many texts
+/// were acknowledged, and whether each call failed after one had.
+fn crashed(alloc: Global, fails: usize, torn: usize) -> Result<(Vec<u8>, usize, bool), Fail> {
+    let mut disk = FailingDisk {
+        bytes: HEADER.encode(alloc)?,
+        fails,
+        torn,
+        calls: 0,
+    };
+    let mut payloads = Payloads::new(alloc);
+    let Ok(end) = recover(alloc, &mut disk, &KEY, &HEADER, &mut payloads) else {
+        return Ok((HEADER.encode(alloc)?, 0, true));
+    };
+    let mut log = Log::new(disk, KEY, end);
+    let mut acknowledged = 0;
+    let mut has_failed = false;
+    let mut stops = true;
+    for (place, text) in TEXTS.iter().enumerate() {
+        match append_text(alloc, &mut log, text) {
+            Ok(()) => {
+                stops = stops && !has_failed;
+                acknowledged = place + 1;
+            }
+            Err(_) => has_failed = true,
+        }
+    }
+    let disk = log.into_device();
+    Ok((disk.bytes, acknowledged, stops))
+}
+
+#[test]
+fn failing_disk_loses_no_acknowledged_text(rt: HostRuntime) -> Result<(), Fail> {
+    for fails in 0..9 {
+        for torn in 0..50 {
+            let (bytes, acknowledged, stops) = crashed(rt.alloc(), fails, torn)?;
+            assert!(rt; stops, "call {fails}");
+            let read = texts_on(rt.alloc(), &bytes)?;
+            let is_right = read == Some(acknowledged)
+                || read == Some(acknowledged.saturating_add(1));
+            assert!(rt; is_right, "call {fails}, {torn} bytes");
+        }
+    }
+    Ok(())
+}
+
+/// What the file on the disk reads as, and how long it is then.
+fn texts_in_file(rt: &HostRuntime) -> Result<(Result<Option<usize>, LogFault>, usize), Fail> {
+    let alloc = rt.alloc();
+    let folder = Folder::lock(rt, alloc, FOLDER)?;
+    let OpenedFile { mut file, .. } = folder.open_log(rt, alloc, FOLDER, &HEADER)?;
+    let mut payloads = Payloads::new(alloc);
+    let read = recover(alloc, &mut file, &KEY, &HEADER, &mut payloads);
+    let texts = match read {
+        Ok(_) => Ok(texts_in(&payloads)),
+        Err(fault) => Err(fault),
+    };
+    Ok((texts, fs::read(rt, FILE)?.len()))
+}
+
+/// Makes a log of all texts anew, opened again for each of them.
+fn make_log(rt: &HostRuntime) -> Result<bool, Fail> {
+    let alloc = rt.alloc();
+    if fs::exists(rt, FOLDER)? {
+        fs::remove_dir_all(rt, FOLDER)?;
+    }
+    let mut is_right = true;
+    for (place, text) in TEXTS.iter().enumerate() {
+        let folder = Folder::lock(rt, alloc, FOLDER)?;
+        let OpenedFile { mut file, is_new } = folder.open_log(rt, alloc, FOLDER, &HEADER)?;
+        let mut payloads = Payloads::new(alloc);
+        let end = recover(alloc, &mut file, &KEY, &HEADER, &mut payloads)?;
+        is_right = is_right && is_new == (place == 0) && texts_in(&payloads) == Some(place);
+        append_text(alloc, &mut Log::new(file, KEY, end), text)?;
+    }
+    Ok(is_right)
+}
+
+/// What a file of so many bytes reads as.
+fn cut_reads_as(len: usize) -> (Result<Option<usize>, LogFault>, usize) {
+    if len < ENDS[0] {
+        (Err(LogFault::Foreign(Mismatch::NoLog)), len)
+    } else if len < ENDS[1] {
+        (Ok(Some(0)), ENDS[0])
+    } else if len < ENDS[2] {
+        (Ok(Some(1)), ENDS[1])
+    } else if len < ENDS[3] {
+        (Ok(Some(2)), ENDS[2])
+    } else {
+        (Ok(Some(3)), len)
+    }
+}
+
+/// What a file reads as in which a bit of this byte is turned.
+fn turned_reads_as(at: usize) -> (Result<Option<usize>, LogFault>, usize) {
+    let fault = match at {
+        0..8 => LogFault::Foreign(Mismatch::NoLog),
+        8 => LogFault::Foreign(Mismatch::Version),
+        9..41 => LogFault::Foreign(Mismatch::Genesis),
+        41..43 => LogFault::Foreign(Mismatch::Member),
+        43..75 => LogFault::Foreign(Mismatch::Keys),
+        75..120 => LogFault::Damaged(0),
+        120..160 => LogFault::Damaged(1),
+        _ => return (Ok(Some(2)), ENDS[2]),
+    };
+    (Err(fault), ENDS[3])
+}
+
+#[test]
+fn log_on_a_disk_is_cut_and_turned_at_each_byte(rt: HostRuntime) -> Result<(), Fail> {
+    assert!(rt; make_log(&rt)?);
+    let bytes = fs::read(&rt, FILE)?;
+    assert_eq!(rt; bytes.len(), ENDS[3]);
+    for len in 0..=bytes.len() {
+        fs::write(&rt, FILE, &bytes[..len])?;
+        let is_right = texts_in_file(&rt)? == cut_reads_as(len);
+        assert!(rt; is_right, "cut at {len}");
+    }
+    for at in 0..bytes.len() {
+        let mut turned = bytes.to_vec(rt.alloc())?;
+        turned[at] ^= 1 << (at % 8);
+        fs::write(&rt, FILE, turned.as_slice())?;
+        let is_right = texts_in_file(&rt)? == turned_reads_as(at);
+        assert!(rt; is_right, "turned at {at}");
+    }
+    fs::remove_dir_all(&rt, FOLDER)?;
+    Ok(())
+}
+
+#[test]
+fn folder_has_one_owner(rt: HostRuntime) -> Result<(), Fail> {
+    let alloc = rt.alloc();
+    let name = "folder-of-another-log";
+    if fs::exists(&rt, name)? {
+        fs::remove_dir_all(&rt, name)?;
+    }
+    let folder = Folder::lock(&rt, alloc, name)?;
+    let again = Folder::lock(&rt, alloc, name).err();
+    assert_eq!(rt; again, Some(LogFault::Held));
+    fs::write(&rt, "folder-of-another-log/else", "text")?;
+    let opened = folder.open_log(&rt, alloc, name, &HEADER).err();
+    assert_eq!(rt; opened, Some(LogFault::Foreign(Mismatch::NoLog)));
+    fs::remove_dir_all(&rt, name)?;
+    Ok(())
+}

@@ -1,0 +1,291 @@
+//! Whose a connection is: told once, when its first WANT opens; and what becomes of the WANTs that come on it.
+
+use crate::node::step::Group;
+use crate::node::trial::{Tried, node_of};
+use crate::peers::rows::{FOUR, PAYMENT, SEND, WANT, WANT_FROM_2, WANT_OF_0, WANT_OF_2};
+use pay_frame::Bytes;
+use pay_hmac::HmacSha256;
+use pay_io::{Output, Reader, Writer};
+use pay_node::Seat;
+use pay_peers::{Admission, NodeContext, write_peer};
+use std::alloc::Global;
+use std::sync::atomic::{AtomicBool, AtomicU64, Ordering};
+use std::sync::{Mutex, Wait};
+
+/// Counts how often a connection was admitted, for whom last, and lets it go on or not.
+#[derive(Drop)]
+pub(crate) struct Admissions {
+    goes_on: bool,
+    count: AtomicU64,
+    peer: AtomicU64,
+}
+
+impl Admissions {
+    pub(crate) fn new(goes_on: bool) -> Admissions {
+        Admissions {
+            goes_on,
+            count: AtomicU64::new(0),
+            peer: AtomicU64::new(u64::MAX),
+        }
+    }
+
+    // How often, and for whom last.
+    fn told(&self) -> (u64, u64) {
+        (
+            self.count.load(Ordering::SeqCst),
+            self.peer.load(Ordering::SeqCst),
+        )
+    }
+}
+
+impl Admission for Admissions {
+    fn admit<R: Wait>(&self, _rt: &R, peer: u16) -> bool {
+        self.count.fetch_add(1, Ordering::SeqCst);
+        self.peer.store(u64::from(peer), Ordering::SeqCst);
+        self.goes_on
+    }
+}
+
+/// What comes on a connection to member 1 of four, and what comes of it.
+struct Row {
+    frames: &'static [&'static [u8]],
+    goes_on: bool,
+    came: Came,
+}
+
+/// How often a connection was admitted, and for whom last; how many bytes were written in how many calls; and how many
+/// receipts are left in the seats of members 0 and 2.
+#[derive(Clone, Copy, Debug, PartialEq, Eq)]
+struct Came {
+    admitted: (u64, u64),
+    bytes: usize,
+    calls: u64,
+    receipts: (usize, usize),
+}
+
+/// The length of each reply, a frame with a payment.
+const REPLY: usize = 67;
+
+/// Nobody asked for it, and nothing was written.
+const NOTHING: Came = Came {
+    admitted: (0, u64::MAX),
+    bytes: 0,
+    calls: 0,
+    receipts: (0, 0),
+};
+
+// Replies behind the first go out together, and a repeated WANT leaves no receipt.
+const ROWS: &[Row] = &[
+    Row {
+        frames: &[SEND],
+        goes_on: true,
+        came: NOTHING,
+    },
+    Row {
+        frames: &[WANT, WANT],
+        goes_on: false,
+        came: Came {
+            admitted: (1, 0),
+            ..NOTHING
+        },
+    },
+    Row {
+        frames: &[SEND, WANT],
+        goes_on: true,
+        came: Came {
+            admitted: (1, 0),
+            bytes: REPLY,
+            calls: 1,
+            receipts: (1, 0),
+        },
+    },
+    Row {
+        frames: &[SEND, WANT, WANT],
+        goes_on: true,
+        came: Came {
+            admitted: (1, 0),
+            bytes: 2 * REPLY,
+            calls: 2,
+            receipts: (1, 0),
+        },
+    },
+    Row {
+        frames: &[WANT, WANT_OF_0],
+        goes_on: true,
+        came: Came {
+            admitted: (1, 0),
+            bytes: 2 * REPLY,
+            calls: 2,
+            receipts: (2, 0),
+        },
+    },
+    Row {
+        frames: &[WANT, WANT_OF_2, SEND, WANT_OF_0],
+        goes_on: true,
+        came: Came {
+            admitted: (1, 0),
+            bytes: 3 * REPLY,
+            calls: 2,
+            receipts: (3, 0),
+        },
+    },
+    Row {
+        frames: &[WANT, WANT, WANT_OF_0, WANT, WANT_OF_0],
+        goes_on: true,
+        came: Came {
+            admitted: (1, 0),
+            bytes: 5 * REPLY,
+            calls: 2,
+            receipts: (2, 0),
+        },
+    },
+    Row {
+        frames: &[WANT_FROM_2],
+        goes_on: true,
+        came: Came {
+            admitted: (1, 2),
+            bytes: REPLY,
+            calls: 1,
+            receipts: (0, 1),
+        },
+    },
+    Row {
+        frames: &[WANT, WANT_OF_0, WANT_FROM_2],
+        goes_on: true,
+        came: Came {
+            admitted: (1, 0),
+            bytes: 3 * REPLY,
+            calls: 2,
+            receipts: (2, 1),
+        },
+    },
+    Row {
+        frames: &[WANT_FROM_2, WANT_OF_0],
+        goes_on: true,
+        came: Came {
+            admitted: (1, 2),
+            bytes: 2 * REPLY,
+            calls: 2,
+            receipts: (1, 1),
+        },
+    },
+];
+
+// These frames, one behind the other.
+fn joined(alloc: Global, frames: &[&[u8]]) -> Option<Vec<u8>> {
+    let mut bytes = Vec::new(alloc);
+    for frame in frames {
+        bytes.extend_from_slice(frame).ok()?;
+    }
+    Some(bytes)
+}
+
+// Whether a node is asked for two payments.
+fn asks_twice<R: Wait>(rt: &R, alloc: Global, node: &Tried, seat: &mut Seat) -> bool {
+    for _ in 0..2 {
+        let Ok(value) = Bytes::from_slice(alloc, PAYMENT) else {
+            return false;
+        };
+        if node.ask(rt, alloc, seat, value).is_err() {
+            return false;
+        }
+    }
+    true
+}
+
+// The number of bytes that a node writes for those that come, and in how many calls.
+fn written<R: Wait>(
+    rt: &R,
+    alloc: Global,
+    node: &Tried,
+    seats: &[(u16, Mutex<Seat>)],
+    admissions: &Admissions,
+    frames: &[u8],
+) -> Option<(usize, u64)> {
+    let mut reader = Reader::new(frames);
+    let mut writer: Writer<Vec<u8>> = Writer::new(Vec::new(alloc));
+    let stop = AtomicBool::new(false);
+    let context = NodeContext {
+        rt,
+        alloc,
+        node,
+        tagger: &HmacSha256,
+    };
+    let ended = write_peer(&context, seats, &stop, admissions, &mut reader, &mut writer);
+    let calls = writer.calls();
+    ended.is_ok().then_some((writer.into_inner().len(), calls))
+}
+
+// How many receipts a peer's seat has.
+fn receipts_in<R: Wait>(rt: &R, seat: &Mutex<Seat>) -> usize {
+    seat.lock(rt).receipts().len()
+}
+
+// What comes of a connection to a node.
+fn came_of<R: Wait>(
+    rt: &R,
+    alloc: Global,
+    node: &Tried,
+    writing: &[(u16, Mutex<Seat>); 2],
+    row: &Row,
+) -> Option<Came> {
+    let frames = joined(alloc, row.frames)?;
+    let admissions = Admissions::new(row.goes_on);
+    let (bytes, calls) = written(rt, alloc, node, writing, &admissions, frames.as_slice())?;
+    Some(Came {
+        admitted: admissions.told(),
+        bytes,
+        calls,
+        receipts: (
+            receipts_in(rt, &writing[1].1),
+            receipts_in(rt, &writing[0].1),
+        ),
+    })
+}
+
+// The seats of members 2 and 0, of three.
+fn writing_of(seats: &mut Vec<Seat>) -> Option<[(u16, Mutex<Seat>); 2]> {
+    let of_2 = seats.pop()?;
+    let of_0 = seats.pop()?;
+    Some([(2, Mutex::new(of_2)), (0, Mutex::new(of_0))])
+}
+
+// Whether a node is asked for two payments from its last seat, which is left out then.
+fn asks_from_last<R: Wait>(rt: &R, alloc: Global, node: &Tried, seats: &mut Vec<Seat>) -> bool {
+    match seats.pop() {
+        Some(mut seat) => asks_twice(rt, alloc, node, &mut seat),
+        None => false,
+    }
+}
+
+// The same of a node with three seats, from the last of which two payments were asked for.
+fn came_behind_asks<R: Wait>(
+    rt: &R,
+    alloc: Global,
+    node: &Tried,
+    seats: &mut Vec<Seat>,
+    row: &Row,
+) -> Option<Came> {
+    if !asks_from_last(rt, alloc, node, seats) {
+        return None;
+    }
+    let writing = writing_of(seats)?;
+    came_of(rt, alloc, node, &writing, row)
+}
+
+// The same of a fresh node.
+fn outcome<R: Wait>(rt: &R, alloc: Global, row: &Row) -> Option<Came> {
+    let (node, mut seats) = node_of(alloc, Group { seats: 3, ..FOUR })?;
+    came_behind_asks(rt, alloc, &node, &mut seats, row)
+}
+
+#[test]
+fn each_want_is_answered_from_its_senders_seat(rt: HostRuntime) {
+    for (place, row) in ROWS.iter().enumerate() {
+        assert_eq!(rt;
+            outcome(&rt, rt.alloc(), row),
+            Some(row.came),
+            "row {place}"
+        );
+    }
+}

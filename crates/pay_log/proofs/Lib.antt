@@ -1,0 +1,9 @@
+pub mod Chunks
+pub mod Logs
+pub mod Behind
+pub mod Crash
+pub mod Kept
+pub mod Moments
+pub mod Taken
+pub mod Headed
+pub mod Found

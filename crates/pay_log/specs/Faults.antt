@@ -1,0 +1,41 @@
+-- The numbers and names of faults.
+use Rattle.std.specs.Prelude.{ℕ, List, codes}
+use Rattle.pay_log.specs.declared.device.DeviceFault.{DeviceFault}
+use Rattle.pay_log.specs.declared.device.DeviceFault.TheVariants as device
+use Rattle.pay_log.specs.declared.fault.LogFault.{LogFault}
+use Rattle.pay_log.specs.declared.fault.LogFault.TheVariants.{Memory, Disk, Held, Foreign, Damaged, Illegal}
+use Rattle.pay_log.specs.declared.mismatch.Mismatch.{Mismatch}
+use Rattle.pay_log.specs.declared.mismatch.Mismatch.TheVariants.{NoLog, Version, Genesis, Member, Keys}
+use Rattle.pay_log.specs.declared.sink.Refused.{Refused}
+use Rattle.pay_log.specs.declared.sink.Refused.TheVariants as sink
+
+abbrev pub log_fault_number : LogFault → ℕ
+log_fault_number Memory = 0
+log_fault_number Disk = 1
+log_fault_number Held = 2
+log_fault_number (Foreign part) = 3
+log_fault_number (Damaged number) = 4
+log_fault_number (Illegal number) = 5
+
+abbrev pub log_fault_name : LogFault → List ℕ
+log_fault_name Memory = codes "Memory"
+log_fault_name Disk = codes "Disk"
+log_fault_name Held = codes "Held"
+log_fault_name (Foreign part) = codes "Foreign"
+log_fault_name (Damaged number) = codes "Damaged"
+log_fault_name (Illegal number) = codes "Illegal"
+
+abbrev pub mismatch_name : Mismatch → List ℕ
+mismatch_name NoLog = codes "NoLog"
+mismatch_name Version = codes "Version"
+mismatch_name Genesis = codes "Genesis"
+mismatch_name Member = codes "Member"
+mismatch_name Keys = codes "Keys"
+
+abbrev pub fault_of_device : DeviceFault → LogFault
+fault_of_device device.Memory = Memory
+fault_of_device device.Disk = Disk
+
+abbrev pub fault_of_sink : Refused → LogFault
+fault_of_sink sink.Memory = Memory
+fault_of_sink (sink.Record number) = Illegal number

@@ -1,0 +1,31 @@
+-- A log's header: `payd log`, the version of the format, the SHA-256 of the genesis, the member's number in two bytes,
+-- and the fingerprint of the member's keys.
+use Rattle.std.specs.Prelude.{◌≡◌, ◌≢◌, ◌⊎◌, ◌<◌, ℕ, List, [], ◌∷◌, ◌++◌, length, take, drop}
+use Rattle.std.specs.Int.{w16, to_be_bytes}
+use Rattle.pay_log.specs.declared.header.Header.{Header}
+use Rattle.pay_log.specs.declared.limits.TheConstants.{HEADER_LEN}
+use Rattle.pay_log.specs.declared.mismatch.Mismatch.{Mismatch}
+use Rattle.pay_log.specs.declared.mismatch.Mismatch.TheVariants.{NoLog, Version, Genesis, Member, Keys}
+
+-- `payd log`
+abbrev pub magic : List ℕ
+magic = 112 ∷ 97 ∷ 121 ∷ 100 ∷ 32 ∷ 108 ∷ 111 ∷ 103 ∷ []
+
+abbrev pub version : List ℕ
+version = 1 ∷ []
+
+abbrev pub header_bytes : Header → List ℕ
+header_bytes h = magic ++ version ++ h.genesis ++ to_be_bytes w16 h.member ++ h.keys
+
+-- A file begins with another header, and this is the first part that differs.
+abbrev pub IsForeign : Header → List ℕ → Mismatch → Type 0
+IsForeign h file NoLog = (length file < HEADER_LEN) ⊎ (take 8 file ≢ magic)
+IsForeign h file Version = (take 8 file ≡ magic) × (take 1 (drop 8 file) ≢ version)
+IsForeign h file Genesis =
+    (take 9 file ≡ magic ++ version) × (take 32 (drop 9 file) ≢ h.genesis)
+IsForeign h file Member =
+    (take 41 file ≡ magic ++ version ++ h.genesis)
+    × (take 2 (drop 41 file) ≢ to_be_bytes w16 h.member)
+IsForeign h file Keys =
+    (take 43 file ≡ magic ++ version ++ h.genesis ++ to_be_bytes w16 h.member)
+    × (take 32 (drop 43 file) ≢ h.keys)

@@ -1,0 +1,11 @@
+pub mod Device
+pub mod Past
+pub mod Memory
+pub mod Headers
+pub mod Faults
+pub mod Chunks
+pub mod Logs
+pub mod Damage
+pub mod Sinks
+pub mod Recovery
+pub mod Laws

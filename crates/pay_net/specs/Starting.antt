@@ -1,0 +1,34 @@
+-- What a node starts from: a member, and what its desk keeps of the values that it asked for.
+use Rattle.std.specs.Prelude.{◌≡◌, ℕ, List, [], ◌∷◌, ◌++◌, length, map, slice_get, Some, None}
+use Rattle.pay_channel.specs.Asked.{asked}
+use Rattle.pay_desk.specs.declared.kept.Kept.{Kept}
+use Rattle.pay_desk.specs.Kept.{kept_under}
+use Rattle.pay_desk.specs.Laws.{AreUnderFreeIds}
+use Rattle.pay_member.specs.declared.entry.HistoryEntry.{HistoryEntry}
+use Rattle.pay_member.specs.declared.event.Event.{Event}
+use Rattle.pay_member.specs.declared.event.Event.TheVariants.{Ask, Taken, Query}
+use Rattle.pay_member.specs.Events.{events}
+use Rattle.pay_member.specs.Member.{MemberFields}
+
+pub record StartFields : Type 0 where
+  pub member : MemberFields
+  pub kept : List Kept
+
+-- Kept is just what this history asked for, in order, each value with its number and under an id of its own.
+pub record IsKeptOf (history : List HistoryEntry) (kept : List Kept) : Type 0 where
+  pub values : map (λ k. k.value) kept ≡ asked (events history)
+  pub numbered : (seq : ℕ) (k : Kept) → slice_get kept seq ≡ Some k → k.seq ≡ seq
+  pub free : AreUnderFreeIds [] kept
+
+-- a value more is kept, under the id that is next among these and was free
+pub record KeepsNext (ids value : List ℕ) (old new : List Kept) : Type 0 where
+  pub id : ℕ
+  pub given : slice_get ids (length old) ≡ Some id
+  pub free : kept_under id old ≡ None
+  pub is : new ≡ old ++ record { id = id; value = value; seq = length old } ∷ []
+
+-- the value of an ask is, and nothing of another event
+abbrev pub KeepsEntry : List ℕ → Event → List Kept → List Kept → Type 0
+KeepsEntry ids (Ask value) old new = KeepsNext ids value old new
+KeepsEntry ids (Taken checked) old new = new ≡ old
+KeepsEntry ids (Query account) old new = new ≡ old

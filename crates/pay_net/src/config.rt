@@ -1,0 +1,17 @@
+use crate::ports::Ports;
+use pay_peers::{Ahead, Dials};
+
+/// How a node meets its peers, and who keeps its history.
+#[derive(Drop)]
+pub struct NodeConfig<'a, O, K> {
+    /// Where each member listens.
+    pub ports: &'a Ports,
+    /// How often a peer is dialed that isn't met.
+    pub dials: Dials,
+    /// How many of a peer's frames are asked for and not come yet.
+    pub ahead: Ahead,
+    /// Is told which peers are met, lost and given up.
+    pub observer: &'a O,
+    /// Has to have kept the history before anything leaves the node that follows from it.
+    pub keeper: &'a K,
+}

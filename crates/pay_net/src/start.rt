@@ -1,0 +1,141 @@
+//! What a node starts from.
+
+ghost use Rattle.std.specs.Prelude.{◌≡◌, [], IfOk, OnOk, map};
+ghost use Rattle.pay_net.specs.Starting.{IsKeptOf, KeepsEntry, KeepsNext};
+
+use pay_book::Settle;
+use pay_desk::{Kept, KeptValues};
+use pay_echo::Instance;
+use pay_frame::Bytes;
+use pay_member::{Event, HistoryEntry, Member};
+use std::alloc::{AllocError, Global};
+use std::marker::Model;
+use thiserror::Error;
+
+/// Why a node can't start from a member.
+#[derive(Clone, Copy, Debug, PartialEq, Eq, Error)]
+pub enum StartFault {
+    /// An allocation failed.
+    #[error("no memory")]
+    Memory,
+    /// The ids aren't one for each value that the member asked for, each another.
+    #[error("ids of no payments")]
+    Ids,
+}
+
+impl From<AllocError> for StartFault {
+    ghost use Rattle.pay_net.specs.declared.start.StartFault.TheVariants.{Memory};
+
+    ghost from_gives = { λ _ e. e ≡ Memory };
+
+    fn from(_error: AllocError) -> StartFault {
+        StartFault::Memory
+    }
+}
+
+/// A member, and what its desk keeps of the values that it asked for.
+#[derive(Drop)]
+pub struct NodeStart<I: Instance + Drop, B: Settle + Drop> {
+    member: Member<I, B>,
+    kept: KeptValues,
+}
+
+impl<I: Instance + Drop, B: Settle + Drop> Model for NodeStart<I, B> {
+    ghost use Rattle.pay_net.specs.Starting.{IsKeptOf, StartFields};
+
+    ghost Value = { StartFields };
+
+    ghost view = { λ s. record { member = s.member; kept = s.kept } };
+
+    ghost invariant = { λ s. IsKeptOf s.member.history s.kept };
+}
+
+impl<I: Instance + Drop, B: Settle + Drop> NodeStart<I, B> {
+    /// A member that took nothing.
+    pub fn fresh(alloc: Global, member: Member<I, B>) -> NodeStart<I, B>
+        requires { member.history ≡ [] }
+        ensures { result ≡ record { member = member; kept = [] } }
+    {
+        NodeStart {
+            member,
+            kept: KeptValues::new(alloc),
+        }
+    }
+
+    /// A member that goes on, and the id under which its owner asked for each value, oldest first.
+    pub fn again(
+        alloc: Global,
+        member: Member<I, B>,
+        ids: &[u64],
+    ) -> Result<NodeStart<I, B>, StartFault>
+        ensures member { IfOk result (λ start. start.member ≡ member) }
+        ensures ids { IfOk result (λ start. map (λ k. k.id) start.kept ≡ ids.now) }
+    {
+        let kept = kept_of(alloc, member.history(), ids)?;
+        Ok(NodeStart { member, kept })
+    }
+
+    /// The member, and what its desk keeps.
+    pub(crate) fn into_parts(self) -> (Member<I, B>, KeptValues)
+        ensures member { result.0 ≡ self.member }
+        ensures kept { result.1 ≡ self.kept }
+        ensures its { IsKeptOf self.member.history self.kept }
+    {
+        (self.member, self.kept)
+    }
+}
+
+// What a desk keeps of the values that a history asked for, under these ids.
+fn kept_of(alloc: Global, history: &[HistoryEntry], ids: &[u64]) -> Result<KeptValues, StartFault>
+    ensures kept { IfOk result (λ kept. IsKeptOf history.now kept) }
+    ensures ids { IfOk result (λ kept. map (λ k. k.id) kept ≡ ids.now) }
+{
+    let mut kept = KeptValues::new(alloc);
+    for entry in history {
+        keep_entry(alloc, &mut kept, entry, ids)?;
+    }
+    if kept.len() != ids.len() {
+        return Err(StartFault::Ids);
+    }
+    Ok(kept)
+}
+
+// Keeps the value that an entry asked for, if it did, under the id that is next.
+fn keep_entry(
+    alloc: Global,
+    kept: &mut KeptValues,
+    entry: &HistoryEntry,
+    ids: &[u64],
+) -> Result<(), StartFault>
+    ensures { OnOk result (KeepsEntry ids.now entry.now.event kept.old kept.new) }
+{
+    match &entry.event {
+        Event::Ask(value) => keep_next(alloc, kept, value, ids),
+        Event::Taken(_) | Event::Query(_) => Ok(()),
+    }
+}
+
+// Keeps a value under the id that is next, with its number.
+fn keep_next(
+    alloc: Global,
+    kept: &mut KeptValues,
+    value: &Bytes,
+    ids: &[u64],
+) -> Result<(), StartFault>
+    ensures { OnOk result (KeepsNext ids.now value.now kept.old kept.new) }
+{
+    let place = kept.len();
+    let (Some(id), Ok(seq)) = (ids.get(place), u32::try_from(place)) else {
+        return Err(StartFault::Ids);
+    };
+    if kept.find(alloc, *id).is_some() {
+        return Err(StartFault::Ids);
+    }
+    let value = value.copy(alloc)?;
+    kept.keep(Kept {
+        id: *id,
+        value,
+        seq,
+    })?;
+    Ok(())
+}

@@ -1,9 +1,0 @@
-use Rattle.std.proofs.Common.{arith}
-use Rattle.std.proofs.lemmas.Grind.{common_steps}
-use Rattle.pay_node.proofs.node.Node.state.Goals as goal
-
-pub note-requires : goal.note-requires
-note-requires g c = grind (arith, common_steps)
-
-pub returns-clause-shown : goal.returns-clause-shown
-returns-clause-shown g c = grind (arith, common_steps)

@@ -1,0 +1,93 @@
+ghost use Rattle.std.specs.Prelude.{◌≡◌, IfOk, OnErr, length};
+ghost use Rattle.pay_channel.specs.Prefix.{IsPrefix};
+ghost use Rattle.pay_member.specs.Answer.{IsAnswer};
+ghost use Rattle.pay_member.specs.Legal.{Legal};
+ghost use Rattle.pay_member.specs.Member.{with_entry};
+ghost use Rattle.pay_node.specs.Receipts.{receipts_of};
+ghost use Rattle.pay_node.specs.Seats.{with_receipts};
+
+use crate::beginning::Beginning;
+use crate::request::Request;
+use crate::seat::Seat;
+use pay_book::Settle;
+use pay_echo::Instance;
+use pay_member::Member;
+use std::alloc::Global;
+use std::marker::{Model, PhantomData};
+
+/// What lies under a node's lock: a member whose history begins with the one that the node began with.
+#[derive(Drop)]
+pub(crate) struct Begun<I: Instance + Drop, B: Settle + Drop, S: Beginning> {
+    member: Member<I, B>,
+    base: usize,
+    of: PhantomData<S>,
+}
+
+impl<I: Instance + Drop, B: Settle + Drop, S: Beginning> Model for Begun<I, B, S> {
+    ghost use Rattle.std.specs.Prelude.{◌≡◌, length};
+    ghost use Rattle.pay_channel.specs.Prefix.{IsPrefix};
+    ghost use Rattle.pay_member.specs.Member.{MemberFields};
+
+    ghost Value = { MemberFields };
+
+    ghost view = { λ b. b.member };
+
+    ghost invariant = { λ b. IsPrefix S.beginning b.member.history
+        × (b.base ≡ length S.beginning) };
+}
+
+impl<I: Instance + Drop, B: Settle + Drop, S: Beginning> Begun<I, B, S> {
+    /// A member with just this history.
+    pub(crate) fn new(member: Member<I, B>) -> Begun<I, B, S>
+        requires { member.history ≡ S.beginning }
+        ensures { result ≡ member }
+    {
+        let base = member.history().len();
+        Begun {
+            member,
+            base,
+            of: PhantomData,
+        }
+    }
+
+    pub(crate) fn member(&self) -> &Member<I, B>
+        ensures member { result.now ≡ self.now }
+        ensures begun { IsPrefix S.beginning result.now.history }
+    {
+        &self.member
+    }
+
+    pub(crate) fn into_member(self) -> Member<I, B>
+        ensures member { result ≡ self }
+        ensures begun { IsPrefix S.beginning result.history }
+    {
+        self.member
+    }
+
+    /// How many entries it began with.
+    pub(crate) fn base(&self) -> usize
+        ensures { result ≡ length S.beginning }
+    {
+        self.base
+    }
+
+    /// Hands a request to the member from a seat: see [`Seat::hand_in`].
+    pub(crate) fn hand_in<Q: Request + Drop>(
+        &mut self,
+        alloc: Global,
+        seat: &mut Seat,
+        request: Q,
+        copy: Q,
+    ) -> Result<Q::Reply, Q::Fault>
+        requires copy { copy ≡ request }
+        ensures answer { IsAnswer self.old (Q.event request) (Q.answer result) }
+        ensures entry { IfOk (Q.answer result) (λ reply. self.new ≡ with_entry self.old
+            (record { stamp = seat.old.stamp; event = Q.event request; reply = reply })) }
+        ensures err { OnErr (Q.answer result) (self.new ≡ self.old) }
+        ensures receipt { seat.new ≡ with_receipts seat.old
+            (receipts_of (length self.old.history) (Q.event request) (Q.answer result)) }
+        ensures legal { Legal self.old.genesis self.old.keys self.old.history }
+    {
+        seat.hand_in(alloc, &mut self.member, request, copy)
+    }
+}

@@ -1,0 +1,20 @@
+ghost use Rattle.std.specs.Prelude.{OnOk};
+ghost use Rattle.pay_member.specs.Member.{MemberFields};
+
+use pay_book::Settle;
+use pay_echo::Instance;
+use pay_member::Member;
+use std::alloc::AllocError;
+
+/// Gathers from a node's member while it is locked, as a log does that wants its newest entries.
+pub trait Gatherer {
+    // What becomes of it: who it was, the member that it was lent, and who it is then.
+    ghost gathers: { Self → MemberFields → Self → Type 0 };
+
+    /// Takes from a member what it wants, while all who call the node wait.
+    fn gather<I: Instance + Drop, B: Settle + Drop>(
+        &mut self,
+        member: &Member<I, B>,
+    ) -> Result<(), AllocError>
+        ensures { OnOk result (gathers self.old member.now self.new) };
+}

@@ -1,5 +1,0 @@
-use Rattle.pay_peers.specs.Growing.{Grows}
-use Rattle.pay_peers.proofs.readers.keep_reading.Given as goal
-
-abbrev pub invariant-loop : goal.invariant-loop
-invariant-loop g l = Grows l.fn.asking.seat l.asking.seat

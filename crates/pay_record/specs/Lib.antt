@@ -1,0 +1,5 @@
+pub mod Records
+pub mod Loggable
+pub mod Identity
+pub mod Laws
+pub mod Examples

@@ -1,0 +1,42 @@
+-- How an entry of a member's history stands in a log. Numbers are big-endian.
+use Rattle.std.specs.Prelude.{ℕ, ◌+◌, ◌*◌, Bool, true, false, List, ◌∷◌, ◌++◌, length}
+use Rattle.std.specs.Int.{w16, w32, w64, to_be_bytes}
+use Rattle.pay_frame.specs.Frame.{frame_bytes}
+use Rattle.pay_member.specs.declared.event.Event.{Event}
+use Rattle.pay_member.specs.declared.event.Event.TheVariants.{Ask, Taken, Query}
+use Rattle.pay_member.specs.declared.reply.Reply.{Reply}
+use Rattle.pay_member.specs.declared.reply.Reply.TheVariants.{Asked, Took, Told}
+use Rattle.pay_member.specs.declared.took.Took as took
+use Rattle.pay_resume.specs.Resuming.{LoggedFields}
+
+abbrev pub code_of : Event → ℕ
+code_of (Ask v) = 1
+code_of (Taken c) = 2
+code_of (Query a) = 3
+
+abbrev pub bit_of : Bool → ℕ
+bit_of false = 0
+bit_of true = 1
+
+-- whether a frame made the member ECHO, READY and deliver, each a bit, the lowest first
+abbrev pub known_bits : took.Took → ℕ
+known_bits t = bit_of t.echo + 2 * bit_of t.ready + 4 * bit_of t.deliver
+
+abbrev pub reply_bytes : Reply → List ℕ
+reply_bytes (Asked seq) = to_be_bytes w32 seq
+reply_bytes (Took t) = known_bits t ∷ to_be_bytes w32 t.settled
+reply_bytes (Told t) = to_be_bytes w64 t.balance ++ to_be_bytes w32 t.front ++ to_be_bytes w32 t.listed
+
+-- What stands behind the stamp: of an ask its id, its reply, its value's length and its value; of a frame its reply and
+-- all its bytes; of a query its account and its reply.
+abbrev pub fields_of : Event → ℕ → Reply → List ℕ
+fields_of (Ask v) id reply =
+    to_be_bytes w64 id ++ reply_bytes reply ++ to_be_bytes w16 (length v) ++ v
+fields_of (Taken c) id reply = reply_bytes reply ++ frame_bytes c.frame
+fields_of (Query a) id reply = to_be_bytes w16 a ++ reply_bytes reply
+
+-- what it is, its stamp, and its fields
+unfoldable pub record_of : LoggedFields → List ℕ
+record_of l =
+    (code_of l.entry.event ∷ to_be_bytes w16 l.entry.stamp)
+    ++ fields_of l.entry.event l.id l.entry.reply

@@ -1,0 +1,75 @@
+//! Whose log a file is: its key, and its header.
+
+ghost use Rattle.std.specs.Prelude.{◌≡◌, ◌<◌, IfOk, length};
+ghost use Rattle.std.specs.List.{range_with_len, flat_map};
+ghost use Rattle.pay_record.specs.Identity.{all_keys, genesis_bytes, header_of, log_key_of};
+ghost use Rattle.pay_record.specs.Identity.{shared_key};
+
+use pay_hmac::mac;
+use pay_link::{Genesis, Keys};
+use pay_log::Header;
+use sha2::{Digest, Sha256};
+use std::alloc::{AllocError, Global};
+
+/// What the key of a log is the tag of.
+const KEY_TEXT: &[u8] = b"payd log 1";
+
+/// What a header's fingerprint of the keys is the tag of.
+const FINGERPRINT_TEXT: &[u8] = b"payd log keys";
+
+/// The key of a member's log. Nobody else can make it: it is of all keys that the member has.
+pub fn log_key(alloc: Global, keys: &Keys) -> Result<[u8; 32], AllocError>
+    ensures { IfOk result (λ key. key ≡ log_key_of keys.now) }
+{
+    let all = all_keys(alloc, keys)?;
+    Ok(mac(&all, KEY_TEXT))
+}
+
+/// The header of a member's log.
+pub fn log_header(alloc: Global, genesis: &Genesis, keys: &Keys) -> Result<Header, AllocError>
+    ensures { IfOk result (λ header. header ≡ header_of genesis.now keys.now) }
+{
+    let bytes = genesis_bytes(alloc, genesis)?;
+    let key = log_key(alloc, keys)?;
+    Ok(Header {
+        genesis: Sha256::digest(bytes.as_slice()),
+        member: keys.own(),
+        keys: mac(&key, FINGERPRINT_TEXT),
+    })
+}
+
+// The keys of all members, in their order.
+fn all_keys(alloc: Global, keys: &Keys) -> Result<Vec<u8>, AllocError>
+    ensures { IfOk result (λ bytes. bytes.items ≡ all_keys keys.now) }
+{
+    let mut bytes = Vec::new(alloc);
+    for member in 0..keys.members() {
+        bytes.extend_from_slice(&shared_key(keys, member))?;
+    }
+    Ok(bytes)
+}
+
+// What a member shares with another, and zeros with itself.
+fn shared_key(keys: &Keys, member: u16) -> [u8; 32]
+    requires { member < length keys.now.keys }
+    ensures { result ≡ shared_key keys.now member }
+{
+    if member == keys.own() {
+        [0; 32]
+    } else {
+        *keys.key(member)
+    }
+}
+
+// Members, faults, and what each account begins with.
+fn genesis_bytes(alloc: Global, genesis: &Genesis) -> Result<Vec<u8>, AllocError>
+    ensures { IfOk result (λ bytes. bytes.items ≡ genesis_bytes genesis.now) }
+{
+    let mut bytes = Vec::new(alloc);
+    bytes.extend_from_slice(&genesis.members().to_be_bytes())?;
+    bytes.extend_from_slice(&genesis.faults().to_be_bytes())?;
+    for account in 0..genesis.members() {
+        bytes.extend_from_slice(&genesis.opening(account).to_be_bytes())?;
+    }
+    Ok(bytes)
+}

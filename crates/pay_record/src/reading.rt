@@ -1,0 +1,255 @@
+//! Records as they are read.
+
+ghost use Rattle.std.specs.Prelude.{◌≡◌, ◌++◌, ◌∷◌, ◌+◌, ◌≤◌, ◌<◌, ◌⊎◌, ⊤, IfOk, IfSome, IfNone, length, drop};
+ghost use Rattle.std.specs.Prelude.{◌↔◌, IsTrue};
+ghost use Rattle.std.specs.Int.{w16, to_be_bytes};
+ghost use Rattle.pay_frame.specs.Frame.{FrameFields, frame_bytes};
+ghost use Rattle.pay_frame.specs.Lent.{fields_of};
+ghost use Rattle.pay_frame.specs.Reading.{HasFrame};
+ghost use Rattle.pay_link.specs.Checked.{CheckedFields, IsChecked, IsFor};
+ghost use Rattle.pay_link.specs.Keys.{KeyFields};
+ghost use Rattle.pay_record.specs.Loggable.{IsFrameRead, IsReadAs};
+ghost use Rattle.pay_record.specs.Records.{known_bits, record_of};
+
+use crate::limits::{ASK, FRAME, QUERY};
+use crate::numbers::{eight, four, one, two};
+use pay_frame::{Bytes, FrameRef, GREATEST_VALUE, Kind, one_front, one_reading, read};
+use pay_hmac::Tagger;
+use pay_link::{Checked, Keys, laws, open};
+use pay_member::{Event, HistoryEntry, Reply, Told, Took};
+use pay_resume::{RecordFault, Records};
+use std::alloc::Global;
+
+/// How many bytes of an ask's record stand before its value.
+const ASK_LEN: usize = 17;
+
+/// How many bytes of a frame's record stand before the frame.
+const FRAME_LEN: usize = 8;
+
+/// How many bytes a query's record has.
+const QUERY_LEN: usize = 21;
+
+/// The records of the member that has these keys. A frame is opened again: it has to be for that member, and rightly
+/// tagged.
+#[derive(Drop)]
+pub struct EntryRecords<'a, T> {
+    tagger: &'a T,
+    keys: &'a Keys,
+}
+
+impl<'a, T: Tagger> EntryRecords<'a, T> {
+    pub fn new(tagger: &'a T, keys: &'a Keys) -> EntryRecords<'a, T>
+        ensures keys { result.keys ≡ keys.entry }
+    {
+        EntryRecords { tagger, keys }
+    }
+}
+
+impl<T: Tagger> Records for EntryRecords<'_, T> {
+    ghost record_of = { λ _. record_of };
+
+    fn read(&self, alloc: Global, bytes: &[u8]) -> Result<(HistoryEntry, u64, usize), RecordFault>
+        ensures room { IfOk result (λ r. (0 < r.2) × (r.2 ≤ length bytes.now)) }
+        ensures record { IfOk result (λ r. bytes.now
+            ≡ record_of (record { entry = r.0; id = r.1 }) ++ drop r.2 bytes.now) }
+        ensures read { IsReadAs self.now.keys.now bytes.now result }
+    {
+        read_record(alloc, self.tagger, self.keys, bytes)
+    }
+}
+
+// The record in front.
+fn read_record<T: Tagger>(
+    alloc: Global,
+    tagger: &T,
+    keys: &Keys,
+    bytes: &[u8],
+) -> Result<(HistoryEntry, u64, usize), RecordFault>
+    ensures { IsReadAs keys.now bytes.now result }
+{
+    let Some((code, rest)) = one(bytes) else {
+        return Err(RecordFault::NoRecord);
+    };
+    let Some((stamp, fields)) = two(rest) else {
+        return Err(RecordFault::NoRecord);
+    };
+    match code {
+        ASK => read_ask(alloc, keys, stamp, fields),
+        FRAME => read_frame(alloc, tagger, keys, stamp, fields),
+        QUERY => read_query(keys, stamp, fields),
+        _ => Err(RecordFault::NoRecord),
+    }
+}
+
+// The record of an ask, of which these are the bytes behind its stamp.
+fn read_ask(
+    alloc: Global,
+    keys: &Keys,
+    stamp: u16,
+    fields: &[u8],
+) -> Result<(HistoryEntry, u64, usize), RecordFault>
+    ensures { IsReadAs keys.now ((ASK ∷ to_be_bytes w16 stamp) ++ fields.now) result }
+{
+    let Some((id, rest)) = eight(fields) else {
+        return Err(RecordFault::NoRecord);
+    };
+    let Some((seq, rest)) = four(rest) else {
+        return Err(RecordFault::NoRecord);
+    };
+    let Some((len, rest)) = two(rest) else {
+        return Err(RecordFault::NoRecord);
+    };
+    let value = match value_in_front(alloc, len, rest) {
+        Ok(value) => value,
+        Err(fault) => return Err(fault),
+    };
+    let entry = HistoryEntry {
+        stamp,
+        event: Event::Ask(value),
+        reply: Reply::Asked(seq),
+    };
+    Ok((entry, id, ASK_LEN + usize::from(len)))
+}
+
+// A value of so many bytes.
+fn value_in_front(alloc: Global, len: u16, bytes: &[u8]) -> Result<Bytes, RecordFault>
+    ensures value { IfOk result (λ value. (length value ≡ len) × (len ≤ GREATEST_VALUE)
+        × (bytes.now ≡ value ++ drop len bytes.now)) }
+    ensures none { result ≡ Err RecordFault.NoRecord →
+        (GREATEST_VALUE < len) ⊎ (length bytes.now < len) }
+{
+    if len > GREATEST_VALUE {
+        return Err(RecordFault::NoRecord);
+    }
+    match bytes.split_at_checked(usize::from(len)) {
+        Some((value, _)) => Ok(Bytes::from_slice(alloc, value)?),
+        None => Err(RecordFault::NoRecord),
+    }
+}
+
+// The record of a frame, of which these are the bytes behind its stamp.
+fn read_frame<T: Tagger>(
+    alloc: Global,
+    tagger: &T,
+    keys: &Keys,
+    stamp: u16,
+    fields: &[u8],
+) -> Result<(HistoryEntry, u64, usize), RecordFault>
+    ensures { IsReadAs keys.now ((FRAME ∷ to_be_bytes w16 stamp) ++ fields.now) result }
+{
+    let Some((bits, rest)) = one(fields) else {
+        return Err(RecordFault::NoRecord);
+    };
+    let Some((settled, rest)) = four(rest) else {
+        return Err(RecordFault::NoRecord);
+    };
+    let Some(took) = took_of(bits, settled) else {
+        return Err(RecordFault::NoRecord);
+    };
+    let (checked, size) = match frame_in_front(alloc, tagger, keys, rest) {
+        Ok(found) => found,
+        Err(fault) => return Err(fault),
+    };
+    let entry = HistoryEntry {
+        stamp,
+        event: Event::Taken(checked),
+        reply: Reply::Took(took),
+    };
+    Ok((entry, 0, FRAME_LEN + size))
+}
+
+// What followed from a frame, if bits say that.
+fn took_of(bits: u8, settled: u32) -> Option<Took>
+    ensures some { IfSome result (λ took. (known_bits took ≡ bits) × (took.settled ≡ settled)) }
+    ensures none { IfNone result (7 < bits) }
+{
+    if bits > 7 {
+        return None;
+    }
+    Some(Took {
+        echo: bits % 2 == 1,
+        ready: bits / 2 % 2 == 1,
+        deliver: bits / 4 == 1,
+        settled,
+    })
+}
+
+// The frame in front that opens for the member, and how many bytes it has.
+fn frame_in_front<T: Tagger>(
+    alloc: Global,
+    tagger: &T,
+    keys: &Keys,
+    bytes: &[u8],
+) -> Result<(Checked, usize), RecordFault>
+    ensures { IsFrameRead keys.now bytes.now result }
+{
+    one_front();
+    laws::opened();
+    laws::owned();
+    let Some((frame, size)) = front(bytes) else {
+        return Err(RecordFault::NoRecord);
+    };
+    if is_want(frame.kind()) {
+        return Err(RecordFault::NoRecord);
+    }
+    match open(tagger, keys, frame) {
+        Ok(opened) => Ok((opened.own(alloc)?, size)),
+        Err(_) => Err(RecordFault::NoRecord),
+    }
+}
+
+// The frame in front, whoever it is for, and how many bytes it has.
+fn front(bytes: &[u8]) -> Option<(FrameRef<'_>, usize)>
+    ensures some { IfSome result (λ found. HasFrame bytes.now (fields_of found.0)
+        × (found.1 ≡ length (frame_bytes (fields_of found.0)))) }
+    ensures none { IfNone result ((f : FrameFields) → HasFrame bytes.now f → ⊥) }
+{
+    one_reading();
+    match read(bytes) {
+        Ok(Some(found)) => Some(found),
+        Ok(None) => None,
+        Err(_) => None,
+    }
+}
+
+fn is_want(kind: Kind) -> bool
+    ensures { IsTrue result ↔ (kind ≡ Kind.Want) }
+{
+    match kind {
+        Kind::Send | Kind::Echo | Kind::Ready => false,
+        Kind::Want => true,
+    }
+}
+
+// The record of a query, of which these are the bytes behind its stamp.
+fn read_query(
+    keys: &Keys,
+    stamp: u16,
+    fields: &[u8],
+) -> Result<(HistoryEntry, u64, usize), RecordFault>
+    ensures { IsReadAs keys.now ((QUERY ∷ to_be_bytes w16 stamp) ++ fields.now) result }
+{
+    let Some((account, rest)) = two(fields) else {
+        return Err(RecordFault::NoRecord);
+    };
+    let Some((balance, rest)) = eight(rest) else {
+        return Err(RecordFault::NoRecord);
+    };
+    let Some((front, rest)) = four(rest) else {
+        return Err(RecordFault::NoRecord);
+    };
+    let Some((listed, _)) = four(rest) else {
+        return Err(RecordFault::NoRecord);
+    };
+    let told = Told {
+        balance,
+        front,
+        listed,
+    };
+    let entry = HistoryEntry {
+        stamp,
+        event: Event::Query(account),
+        reply: Reply::Told(told),
+    };
+    Ok((entry, 0, QUERY_LEN))
+}

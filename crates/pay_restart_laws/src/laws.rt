@@ -1,0 +1,38 @@
+//! Laws of groups whose members start again. Each function's contract is the law; its body only names the laws below that
+//! it stands on.
+
+ghost use Rattle.pay_restart_laws.specs.Forgetting.{ForgettingIsNoLie};
+ghost use Rattle.pay_restart_laws.specs.Restarts.{RestartIsNoLie, HeadlineOfRestarts};
+
+use pay_channel::laws::grow_at_the_end;
+use pay_world::laws::{genuine_deeds, headline, histories_by_deeds};
+
+/// A member loses what it took behind a beginning of its history. Where no frame of it beyond that was brought to a
+/// correct member, the deeds without those that it lost are deeds in which no frame is forged, and nobody else's history
+/// is another.
+pub fn forgetting_is_no_lie()
+    ensures { ForgettingIsNoLie }
+{
+    histories_by_deeds();
+    genuine_deeds();
+    grow_at_the_end();
+}
+
+/// So it is however often and whichever members start again: there are deeds without a restart, none of them a forged
+/// frame, by which each member has the history that it has.
+pub fn restart_is_no_lie()
+    ensures { RestartIsNoLie }
+{
+    histories_by_deeds();
+    genuine_deeds();
+    forgetting_is_no_lie();
+}
+
+/// And so the headline holds of a group whose members start again.
+pub fn headline_of_restarts()
+    ensures { HeadlineOfRestarts }
+{
+    histories_by_deeds();
+    restart_is_no_lie();
+    headline();
+}

@@ -1,0 +1,24 @@
+use Rattle.std.proofs.Common.{◌≡◌, ◌++◌, List, ℕ, Bool, true, false, sym, ap, ◌∙◌, append_assoc}
+use Rattle.std.specs.Bool.{OnTrue}
+use Rattle.pay_member.specs.Member.{with_entry}
+use Rattle.pay_resume.specs.Resuming.{LoggedFields}
+use Rattle.pay_resume.proofs.TakenOn.{one_taken, taken_on}
+use Rattle.pay_resume.proofs.taking.take_payload.Goals as goal
+
+where_true : {P : Type 0} (b : Bool) → b ≡ true → OnTrue b P → P
+where_true true is p = p
+where_true false is p = absurd cc
+
+pub loop-rest-preserved : goal.loop-rest-preserved
+loop-rest-preserved g c =
+    let i = c.loop-rest.invariant in
+    let logged : LoggedFields = record { entry = c.in-Ok.found.0; id = c.in-Ok.found.1 } in
+    let record_of = g.R.Records.record_of c.args.records.now in
+    let took = where_true {P = c.take_again.new.member ≡ with_entry c.loop-rest.member logged.entry} c.in_ok-take_again.field-0 c.if-not-branch.false c.in_ok-take_again.ensures in
+    record {
+      done = i.done ++ record_of logged;
+      taken = taken_on record_of c.args.member.now c.loop-rest.member c.take_again.new.member c.args.ids.now.items c.loop-rest.ids.items c.note.new.ids.items i.done (record_of logged) i.taken
+          (one_taken record_of c.loop-rest.member c.take_again.new.member c.loop-rest.ids.items c.note.new.ids.items logged took c.in_ok-note.ensures);
+      is = i.is ∙ ap (λ (l : List ℕ). i.done ++ l) (c.in-Ok.ensures.record ∙ ap (λ (l : List ℕ). record_of logged ++ l) (sym c.behind-rest.ensures))
+          ∙ sym (append_assoc i.done (record_of logged) c.behind-rest.result.now);
+    }

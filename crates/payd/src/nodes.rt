@@ -1,0 +1,253 @@
+//! A member's node, in memory alone or over the folder in which the member is kept.
+
+ghost use Rattle.std.specs.Prelude.{◌≡◌, IfOk, length};
+ghost use Rattle.pay_link.specs.Keys.{IsKeysOf};
+
+use crate::ahead::ahead_of;
+use crate::dials::dials_of;
+use crate::files::{genesis_of, keys_of, warn_of_keys};
+use crate::folders::{Opened, open_kept_member, open_member};
+use crate::keeping::SayingKept;
+use crate::ports::ports_of;
+use crate::saying::{Found, Saying, say_in_memory, say_start};
+use crate::staying::{Lines, judge_stay};
+use crate::stop::Stop;
+use crate::words::NodeWords;
+use crate::{OwnMember, tagger_of};
+use pay_audit::write_export;
+use pay_echo::MaskInstance;
+use pay_hmac::PreparedHmac;
+use pay_io::{Reader, StreamFault, Writer, write_text};
+use pay_kept::{Keeper, Kept, Restarted, Unkept};
+use pay_link::{Genesis, Keys};
+use pay_log::LogFault;
+use pay_member::Member;
+use pay_net::{NodeConfig, NodeStart, Ports, Receipts, StartFault, run_node};
+use pay_node::CloseFault;
+use pay_peers::{Ahead, Dials};
+use pay_pending::WaitingBook;
+use std::alloc::{Alloc, Global};
+use std::fs::File;
+use std::io;
+use std::net::{Net, TcpListener, TcpStream};
+use std::rt::Files;
+use std::sync::Wait;
+use std::sync::atomic::AtomicBool;
+use std::thread::Threads;
+use std::time::Clock;
+
+/// How a node meets its peers, as words and a file say.
+#[derive(Drop)]
+struct Meeting {
+    ports: Ports,
+    dials: Dials,
+    ahead: Ahead,
+}
+
+impl Meeting {
+    // The same, with who is told of peers and who keeps the history.
+    fn config<'a, O, K>(&'a self, observer: &'a O, keeper: &'a K) -> NodeConfig<'a, O, K>
+        ensures ports { result.ports.now ≡ self.now.ports }
+    {
+        NodeConfig {
+            ports: &self.ports,
+            dials: self.dials,
+            ahead: self.ahead,
+            observer,
+            keeper,
+        }
+    }
+}
+
+/// What a node starts from, in the forms of its parts that the program runs.
+type OwnStart = NodeStart<MaskInstance, WaitingBook>;
+
+/// Answers the lines on standard input, once the words and the files are read, while the member meets its peers; then
+/// writes its export, also where memory was refused for a look at what the node had answered.
+pub(crate) fn serve_node<'a, R>(alloc: Global, rt: &R, words: NodeWords<'a>) -> Result<(), Stop<'a>>
+where
+    R: Files<File = File>
+        + Input
+        + Print
+        + Eprint
+        + Threads
+        + Wait
+        + Clock
+        + Alloc
+        + Clone
+        + Drop
+        + Sync,
+    R: Net<Listener = TcpListener, Stream = TcpStream>,
+{
+    let dials = dials_of(words.dials)?;
+    let ahead = ahead_of(words.ahead)?;
+    judge_stay(&words)?;
+    let genesis = genesis_of(alloc, rt, Some(words.genesis))?;
+    let keys = keys_of(alloc, rt, &genesis, Some(words.keys))?;
+    let ports = ports_of(alloc, rt, &genesis, words.ports)?;
+    warn_of_keys(rt, words.keys);
+    let meeting = Meeting {
+        ports,
+        dials,
+        ahead,
+    };
+    match words.folder {
+        None => serve_in_memory(alloc, rt, genesis, keys, &meeting),
+        Some(folder) => {
+            let opened = open_member(alloc, rt, &genesis, &keys, folder)?;
+            serve_kept(alloc, rt, opened, &meeting, words.stays)
+        }
+    }
+}
+
+// The node of a fresh member, which is lost with it.
+fn serve_in_memory<'a, R>(
+    alloc: Global,
+    rt: &R,
+    genesis: Genesis,
+    keys: Keys,
+    meeting: &Meeting,
+) -> Result<(), Stop<'a>>
+where
+    R: Input + Print + Eprint + Threads + Wait + Clock + Sync,
+    R: Net<Listener = TcpListener, Stream = TcpStream>,
+    requires keys { IsKeysOf genesis keys }
+    requires ports { length meeting.now.ports ≡ genesis.members }
+{
+    let tagger = tagger_of(alloc, &keys)?;
+    let member: OwnMember = Member::new(alloc, genesis, keys)?;
+    say_in_memory(rt);
+    let start = NodeStart::fresh(alloc, member);
+    let has_failed = AtomicBool::new(false);
+    let lines = Lines {
+        rt,
+        inner: Reader::new(rt.reader()),
+        stays: false,
+        has_failed: &has_failed,
+    };
+    serve(
+        alloc,
+        rt,
+        start,
+        &tagger,
+        &meeting.config(&Saying { rt }, &Unkept),
+        lines,
+    )
+}
+
+// The node of a member that is kept.
+fn serve_kept<'a, R>(
+    alloc: Global,
+    rt: &R,
+    opened: Opened,
+    meeting: &Meeting,
+    stays: bool,
+) -> Result<(), Stop<'a>>
+where
+    R: Input + Print + Eprint + Threads + Wait + Clock + Sync,
+    R: Net<Listener = TcpListener, Stream = TcpStream>,
+    requires { length meeting.now.ports ≡ length opened.kept.member.keys.keys }
+{
+    let Opened {
+        kept,
+        is_new,
+        folder: _folder,
+    } = opened;
+    let Restarted {
+        member,
+        ids,
+        following,
+    } = kept;
+    let tagger = tagger_of(alloc, member.keys())?;
+    let found = Found::of(&member, is_new);
+    let start = start_again(alloc, member, ids.as_slice())?;
+    say_start(rt, found);
+    let has_failed = AtomicBool::new(false);
+    let keeper = SayingKept {
+        rt,
+        kept: Kept::new(alloc, following, ids),
+        has_failed: &has_failed,
+    };
+    let lines = Lines {
+        rt,
+        inner: Reader::new(rt.reader()),
+        stays,
+        has_failed: &has_failed,
+    };
+    serve(
+        alloc,
+        rt,
+        start,
+        &tagger,
+        &meeting.config(&Saying { rt }, &keeper),
+        lines,
+    )
+}
+
+// What a node starts from that goes on with a member, whose owner's ids are these.
+fn start_again<'a>(alloc: Global, member: OwnMember, ids: &[u64]) -> Result<OwnStart, Stop<'a>>
+    ensures member { IfOk result (λ start. start.member ≡ member) }
+{
+    let count = member.history().len() as u64;
+    match NodeStart::again(alloc, member, ids) {
+        Ok(start) => Ok(start),
+        Err(StartFault::Memory) => Err(Stop::Log(LogFault::Memory)),
+        Err(StartFault::Ids) => Err(Stop::Log(LogFault::Illegal(count))),
+    }
+}
+
+// Runs a node until its lines end, and writes its member's export.
+fn serve<'a, R, K, In>(
+    alloc: Global,
+    rt: &R,
+    start: OwnStart,
+    tagger: &PreparedHmac,
+    config: &NodeConfig<'_, Saying<'_, R>, K>,
+    lines: Lines<'_, R, In>,
+) -> Result<(), Stop<'a>>
+where
+    R: Print + Eprint + Threads + Wait + Clock + Sync,
+    R: Net<Listener = TcpListener, Stream = TcpStream>,
+    K: Keeper + Sync,
+    In: pay_io::Input + Drop,
+    requires { length config.now.ports.now ≡ length start.member.keys.keys }
+{
+    let mut lines = lines;
+    let writer = Writer::new(io::writer(rt));
+    let (ended, _writer) = run_node(rt, alloc, start, tagger, config, &mut lines, writer);
+    let (member, receipts) = ended?;
+    conclude(rt, &member, receipts)
+}
+
+/// Writes the export of a member that has met its peers, and says whether its receipts were judged.
+fn conclude<'a>(rt: &impl Print, member: &OwnMember, receipts: Receipts) -> Result<(), Stop<'a>> {
+    print_export(rt, member)?;
+    match receipts {
+        Receipts::BorneOut => Ok(()),
+        Receipts::Unjudged => Err(Stop::Close(CloseFault::Memory)),
+    }
+}
+
+/// Writes the export of the member that is kept in a folder, once the files are read.
+pub(crate) fn export<'a, R>(
+    alloc: Global,
+    rt: &R,
+    genesis: &'a str,
+    keys: &'a str,
+    folder: &'a str,
+) -> Result<(), Stop<'a>>
+where
+    R: Files<File = File> + Print + Alloc + Clone + Drop,
+{
+    let genesis = genesis_of(alloc, rt, Some(genesis))?;
+    let keys = keys_of(alloc, rt, &genesis, Some(keys))?;
+    let opened = open_kept_member(alloc, rt, &genesis, &keys, folder)?;
+    Ok(print_export(rt, &opened.kept.member)?)
+}
+
+/// Writes a member's export as a line. It takes no memory, so that memory which is refused at the end loses nothing.
+fn print_export(rt: &impl Print, member: &OwnMember) -> Result<(), StreamFault> {
+    let mut writer = Writer::new(io::writer(rt));
+    write_export(member, &mut writer).map_err(|_| StreamFault::Write)?;
+    write_text(&mut writer, b"\n")
+}

@@ -1,0 +1,65 @@
+"""Which promises of docs/PROMISES.md and which public functions have a mutant."""
+
+from __future__ import annotations
+
+import os
+import re
+
+from kit import TOP
+from sources import read_file
+import inventory
+
+# Public functions that have no other body: they lend or hand out the one value of its type that they have, or an empty
+# one that nothing at hand could fill; or a trait's of which there is no impl.
+WITHOUT_OTHER_BODY = {
+    "pay_audit::exported::Export::genesis",
+    "pay_channel::instances::Instances::new",
+    "pay_cli::finding::Findings::new",
+    "pay_desk::desk::Desk::into_teller",
+    "pay_desk::desk::Desk::teller",
+    "pay_io::counted::Counted::into_inner",
+    "pay_kept::behind::Behind::into_inner",
+    "pay_kept::following::Following::new",
+    "pay_link::checked::Checked::body",
+    "pay_link::opened::Opened::frame",
+    "pay_log::log::Log::into_device",
+    "pay_log::sink::Payloads::new",
+    "pay_member::member::Member::genesis",
+    "pay_member::member::Member::keys",
+    "pay_net::start::NodeStart::fresh",
+    "pay_node::node::Node::keys",
+    "pay_node::stopped::Stopped::into_member",
+    "pay_node::stopped::Stopped::member",
+    "pay_peers::teller::NodeTeller::into_seat",
+    "pay_peers::teller::NodeTeller::new",
+    "pay_record::reading::EntryRecords::new",
+}
+
+
+def faults_of_repository() -> list[str]:
+    crates = inventory.read_crates()
+    marked = {it.name: it.promises for crate in crates for it in crate.mutants}
+    text = read_file(os.path.join(TOP, "docs", "PROMISES.md"))
+    return faults_of_promises(text, inventory.read_promises(), marked) + faults_of_functions(crates)
+
+
+def faults_of_promises(text: str, promises: list[str], marked: dict[str, list[str]]) -> list[str]:
+    """What is amiss between the page of promises and the edits, each with the promises that it is marked with."""
+    bold = {*re.findall(r"\*\*`(\w+)`\*\*", text)}
+    named = {it for names in marked.values() for it in names}
+    mutants = {name for name, names in marked.items() if names}
+    faults = [f"no mutant is marked with the promise '{it}'" for it in promises if it not in named]
+    faults += [f"a mutant is marked with '{it}', which is no promise" for it in sorted(named - {*promises})]
+    faults += [f"{it} is bold among the promises, and no edit of this name has a mark" for it in sorted(bold - mutants)]
+    return faults + [f"{it} is marked with a promise, and not bold among them" for it in sorted(mutants - bold)]
+
+
+def faults_of_functions(crates: list) -> list[str]:
+    """The public functions that ensure something and have no mutant: one of a trait's has one in any crate's impl."""
+    functions = {f"{crate.name}::{it.path()}": it for crate in crates for it in crate.functions}
+    changed = {f"{crate.name}::{it}" for crate in crates for mutant in crate.mutants for it in mutant.functions}
+    of_impls = {(it.trait, it.name) for path, it in functions.items() if path in changed}
+    missing = {path for path, it in functions.items() if it.is_public and it.ensures and not (it.is_law or it.is_test)}
+    missing = {it for it in missing - changed if (functions[it].owner, functions[it].name) not in of_impls}
+    faults = [f"the public function {it} has no mutant" for it in sorted(missing - WITHOUT_OTHER_BODY)]
+    return faults + [f"{it} isn't without a mutant" for it in sorted(WITHOUT_OTHER_BODY - missing)]
