@@ -21,11 +21,14 @@ def connected(port, address="127.0.0.1"):
 
 
 def received(stream):
-    """The next frame that a stream has, or None at its end."""
+    """The next frame that a stream has, or None at its end, which a peer that ends with unread bytes makes a reset."""
     text = b""
     while len(text) < 2 or len(text) < 2 + int.from_bytes(text[:2], "big"):
         missing = 2 - len(text) if len(text) < 2 else 2 + int.from_bytes(text[:2], "big") - len(text)
-        piece = stream.recv(missing)
+        try:
+            piece = stream.recv(missing)
+        except ConnectionResetError:
+            piece = b""
         if piece == b"":
             return None
         text += piece

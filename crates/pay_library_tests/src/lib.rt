@@ -13,10 +13,6 @@ mod echo;
 #[cfg(test)]
 mod groups;
 #[cfg(test)]
-mod kept;
-#[cfg(test)]
-mod logs;
-#[cfg(test)]
 mod members;
 #[cfg(test)]
 mod node;
