@@ -20,7 +20,7 @@ PAGES += [f"docs/{it}" for it in files_below(f"{TOP}/docs", ".md")]
 NAMED = re.compile(r"((?:`[\w:]+`(?:, | and )?)+): ((?:`\w+`(?: \([^)]*\))?(?:, | and )?)+)")
 # What may be a call, a type, a crate or a clause, on pages whose names are those of the tree.
 CALL = re.compile(r"`(\w+(?:::\w+)*)`")
-OF_NAMES = "PROMISES", "PROOFS", "DEFINITIONS", "DECISIONS", "COMMANDS", "HEADLINE", "MAP", "GATE"
+OF_NAMES = "PROMISES", "DEFINITIONS", "DECISIONS", "COMMANDS", "HEADLINE", "MAP", "GATE"
 # What may be a path of the tree or the name of a crate.
 PATH = re.compile(r"`((?:[a-z]\w*/)*[\w-]+(?:\.\w+)?)`", re.ASCII)
 # What definitions are compared with.
