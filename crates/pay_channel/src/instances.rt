@@ -18,6 +18,9 @@ use std::collections::BTreeMap;
 use std::marker::Model;
 
 /// The instances of the broadcasts of which something is known, by owner and number.
+///
+/// A tree has room only for what was said, whichever number a liar names. A hash map would be
+/// constant in time, under a hash that a liar may know.
 #[derive(Drop)]
 pub struct Instances<I: Instance + Drop> {
     by_broadcast: BTreeMap<(u16, u32), I>,

@@ -21,6 +21,7 @@ pub struct Kept {
 }
 
 /// All values that were asked for, oldest first. One is found by its id in constant time.
+/// Ids come from the account's own owner, who gains nothing from ids that collide.
 #[derive(Drop)]
 pub struct KeptValues {
     values: IndexSet<ById>,

@@ -6,6 +6,8 @@ use crate::kind::Kind;
 /// A frame that borrows the buffer it was read from.
 ///
 /// The type keeps that its parts are within the format's limits and that the head encodes them.
+/// (It has ghost fields and no model: only so does the check prove a result that borrows from
+/// `&mut self`.)
 #[derive(Debug, Drop)]
 pub struct FrameRef<'a> {
     pub(crate) kind: Kind,

@@ -10,6 +10,8 @@ use std::marker::Model;
 
 /// Tags as `HmacSha256` does, and keeps the pads of some keys hashed. Memory is taken when it is
 /// made, and never again.
+///
+/// It finds a key by comparing bytes, so contracts above speak of keys as bytes.
 #[derive(Drop)]
 pub struct PreparedHmac {
     keys: Vec<PreparedKey>,

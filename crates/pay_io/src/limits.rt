@@ -4,4 +4,5 @@
 pub const MOST_READS: u32 = 1_000_000;
 
 /// How often a read is tried at most that the system interrupts each time.
+/// A loop without a bound would need leave to wait.
 pub const MOST_TRIES: u32 = 1_000;

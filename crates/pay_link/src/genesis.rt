@@ -12,6 +12,8 @@ use std::marker::Model;
 
 /// What a ledger begins with: its members, how many of them may lie, and what each account holds. A
 /// member is its number, from 0, and owns the account of that number.
+///
+/// Counts come in as 64-bit numbers and are judged before they are cut to 16 bits: 65,537 isn't 1.
 #[derive(Debug, Drop)]
 pub struct Genesis {
     members: u16,

@@ -23,6 +23,7 @@ use std::alloc::{AllocError, Global};
 use std::marker::Model;
 
 /// A member's channel, and the book of its lists, in which all is settled that they allow.
+/// It stands apart so that the member's own proofs never speak of settling.
 #[derive(Drop)]
 pub struct Ledger<I: Instance + Drop, B: Settle + Drop> {
     channel: Channel<I>,

@@ -6,6 +6,7 @@ use std::alloc::{AllocError, Global};
 use std::marker::Model;
 
 /// The line of a text that has begun, byte by byte. Of a line that is over the bound nothing is held.
+/// Such a line is answered at its end, so that the answers don't depend on how the text is cut.
 #[derive(Drop)]
 pub struct LineCutter {
     bound: usize,
