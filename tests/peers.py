@@ -35,6 +35,16 @@ def received(stream):
     return text
 
 
+def has_ended(stream):
+    """Whether the other ended a connection on which nothing is left to read."""
+    if not select.select([stream], [], [], 0)[0]:
+        return False
+    try:
+        return stream.recv(1) == b""
+    except ConnectionResetError:
+        return True
+
+
 def next_want(stream, peer):
     """The number that a peer wants next, or None where the connection is of no more use."""
     text = received(stream)

@@ -1,9 +1,7 @@
 """Black-box tests of places: which of the connections that others dialed stand at a node, and which are given up."""
 
-import select
-
 from nodes import Group, until
-from peers import GREATEST, Strangers, received
+from peers import GREATEST, Strangers, has_ended, received
 from runs import same, test
 
 # How many connections stand at a node at once, and how many of them are of one peer.
@@ -11,16 +9,6 @@ MOST_CONNECTIONS = 256
 MOST_OF_A_PEER = 2
 
 OPENING = [1000, 1000, 1000, 0]
-
-
-def has_ended(stream):
-    """Whether the other ended a connection on which nothing is left to read."""
-    if not select.select([stream], [], [], 0)[0]:
-        return False
-    try:
-        return stream.recv(1) == b""
-    except ConnectionResetError:
-        return True
 
 
 def ended(streams):

@@ -1,0 +1,160 @@
+"""Sessions of one node with its peers, byte by byte, written by hand from the pages in docs/.
+
+Each row is a group, the member that runs, how many frames it asks for ahead, and steps: a line to the desk with its
+answer; a connection that the node dials, or a member to the node; bytes that the member writes on it, with the frames
+that the node then writes; who ends it. What a member says stands beside it as a frame of the right tag.
+"""
+
+from frames import ECHO, READY, SEND, WANT, frame, payment
+
+OPENING = [100, 0, 0, 50]
+# the payments of member 0, each with its line, and a value that moves nothing
+VALUES = [payment(1, 30), payment(2, 5)]
+LINES = ["PAY 7 1 30", "PAY 8 2 5"]
+ANSWERS = ["asked 7 seq 0", "asked 8 seq 1"]
+OTHER = bytes(32)
+
+
+def want(sender, receiver, number, **more):
+    return frame(WANT, sender, receiver, number, **more)
+
+
+def sent(number, to=3, seq=None):
+    """Frame `number` of member 0 while it meets nobody: SEND and ECHO of each payment in turn."""
+    seq = number // 2 if seq is None else seq
+    return frame([SEND, ECHO][number % 2], 0, to, number, seq=seq, value=VALUES[seq])
+
+
+def echo(number, seq, sender=1, receiver=0):
+    """Frame `number` of a member: an ECHO about account 2, of no value."""
+    return frame(ECHO, sender, receiver, number, owner=2, seq=seq)
+
+
+def line(place):
+    return {"line": LINES[place], "answer": ANSWERS[place]}
+
+
+def says(*frames, answered=()):
+    return {"write": b"".join(frames).hex(), "read": [it.hex() for it in answered]}
+
+
+def row(what, ahead, *steps):
+    return {"for": what, "opening": OPENING, "own": 0, "ahead": ahead, "steps": list(steps)}
+
+
+DIALED, DIALS, ENDED, ENDS = {"dialed": 1}, {"dials": 3}, {"end": "node"}, {"end": "member"}
+FIRST = says(answered=[want(0, 1, 0)])
+
+ROWS = [
+    # what a node asks of a member that it dialed
+    row("a node asks the member that it dialed for its first frame", 64, DIALED, FIRST),
+    row(
+        "with one frame ahead, each that comes has the next asked for",
+        1,
+        DIALED,
+        FIRST,
+        *(says(echo(it, it), answered=[want(0, 1, it + 1)]) for it in range(3)),
+    ),
+    row(
+        "each frame that comes lets one more be under way",
+        64,
+        DIALED,
+        FIRST,
+        *(says(echo(it, it), answered=[want(0, 1, 2 * it + 1), want(0, 1, 2 * it + 2)]) for it in range(4)),
+    ),
+    row(
+        "never more are under way than it asks for ahead",
+        3,
+        DIALED,
+        FIRST,
+        says(echo(0, 0), answered=[want(0, 1, 1), want(0, 1, 2)]),
+        says(echo(1, 1), answered=[want(0, 1, 3), want(0, 1, 4)]),
+        says(echo(2, 2), answered=[want(0, 1, 5)]),
+        says(echo(3, 3), answered=[want(0, 1, 6)]),
+    ),
+    row(
+        "a new connection begins with the first frame again, and goes on where the one before ended",
+        1,
+        DIALED,
+        FIRST,
+        *(says(echo(it, it), answered=[want(0, 1, it + 1)]) for it in range(3)),
+        ENDS,
+        DIALED,
+        FIRST,
+        says(echo(0, 0), answered=[want(0, 1, 3)]),
+        says(echo(3, 3), answered=[want(0, 1, 4)]),
+    ),
+    row("a frame that wasn't asked for next ends it", 64, DIALED, FIRST, says(echo(1, 1)), ENDED),
+    row(
+        "so does one that came before",
+        64,
+        DIALED,
+        FIRST,
+        says(echo(0, 0), answered=[want(0, 1, 1), want(0, 1, 2)]),
+        says(echo(0, 0)),
+        ENDED,
+    ),
+    row("and one in another member's name", 64, DIALED, FIRST, says(echo(0, 0, sender=2)), ENDED),
+    row("and bytes that no frame begins with", 64, DIALED, FIRST, says(b"\0\0"), ENDED),
+    row(
+        "a frame that doesn't open is passed over, and the one asked for may still come",
+        1,
+        DIALED,
+        FIRST,
+        says(frame(ECHO, 1, 0, 0, owner=2, key=OTHER), echo(0, 0), answered=[want(0, 1, 1)]),
+    ),
+    row(
+        "a frame is taken of whomever it tells: votes of two members, and a READY",
+        1,
+        DIALED,
+        FIRST,
+        says(frame(READY, 1, 0, 0, owner=3, seq=65535), answered=[want(0, 1, 1)]),
+    ),
+    # what it answers to a member that dialed it
+    row(
+        "what stands in its outbound list is answered at once, in the order of the WANTs",
+        64,
+        line(0),
+        line(1),
+        DIALS,
+        says(want(3, 0, 0), answered=[sent(0)]),
+        says(*(want(3, 0, it) for it in (3, 1, 1, 2)), answered=[sent(it) for it in (3, 1, 1, 2)]),
+    ),
+    row(
+        "a WANT beyond the end waits, and those after it wait with it",
+        64,
+        line(0),
+        DIALS,
+        says(want(3, 0, 0), want(3, 0, 2), want(3, 0, 1), answered=[sent(0)]),
+        line(1),
+        says(answered=[sent(2), sent(1)]),
+    ),
+    row(
+        "frames that are no WANT, or don't open, have no answer",
+        64,
+        line(0),
+        DIALS,
+        says(echo(0, 0, sender=3), want(3, 0, 0, key=OTHER), want(3, 0, 1), answered=[sent(1)]),
+    ),
+    row(
+        "a WANT is answered to its sender, whoever asked first on the connection",
+        64,
+        line(0),
+        DIALS,
+        says(want(3, 0, 0), want(2, 0, 1), answered=[sent(0), sent(1, to=2)]),
+    ),
+    row("bytes that no frame begins with end it", 64, DIALS, says(want(3, 0, 0)[:2] + b"\2"), ENDED),
+    row(
+        "of three connections of one member the oldest ends",
+        64,
+        line(0),
+        DIALS,
+        says(want(3, 0, 0), answered=[sent(0)]),
+        DIALS,
+        says(want(3, 0, 0), answered=[sent(0)]),
+        DIALS,
+        says(want(3, 0, 0), answered=[sent(0)]),
+        {"connection": 0},
+        ENDED,
+    ),
+]
