@@ -8,6 +8,7 @@ place, and passes each connection on to the peer's machine, where the peer's own
 
 import asyncio
 import sys
+import threading
 
 ADDRESS = "10.99.0.{}"
 TUNNEL = 20_999
@@ -59,6 +60,19 @@ def relay(host, port, seconds):
         await asyncio.gather(pass_on(reader, there[1], seconds), pass_on(there[0], writer, seconds))
 
     return answer
+
+
+def relays_at(ports, targets, seconds):
+    """Relays at these ports of this machine, each before its target, in a thread until this process ends."""
+    loop = asyncio.new_event_loop()
+
+    async def serve():
+        for port, target in zip(ports, targets):
+            await asyncio.start_server(relay("127.0.0.1", target, seconds), "127.0.0.1", port)
+
+    loop.run_until_complete(serve())
+    threading.Thread(target=loop.run_forever, daemon=True).start()
+    return ports
 
 
 async def main(own, seconds, ports):
