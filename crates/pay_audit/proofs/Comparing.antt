@@ -28,7 +28,7 @@ pub or_none : {B : Type 0} (a : Option B) → option_or a None ≡ a
 or_none None = refl
 or_none (Some x) = refl
 
--- the first answer in two lists, one behind the other
+-- the first answer in two lists, one after the other
 pub first_of_both : {A B : Type 0} (ask : ℕ → A → Option B) (k : ℕ) (xs ys : List A)
     → first_from ask k (xs ++ ys) ≡ option_or (first_from ask k xs) (first_from ask (k + length xs) ys)
 first_of_both ask k [] ys = ap (λ n. first_from ask n ys) (let e : k ≡ k + 0 = omega arith in e)
@@ -129,7 +129,7 @@ nothing_left ask lengths places n short =
 abbrev EachBegins : List (List (List ℕ)) → List ExportFields → Type 0
 EachBegins longest exports = Each (λ e. Begin e.lists longest × (length e.lists ≤ length longest)) exports
 
--- an export that agrees with those behind it of the first ones
+-- an export that agrees with those after it of the first ones
 none_among : (k : ℕ) (e : ExportFields) (exports : List ExportFields) → EachTwo AgreeWith (e ∷ exports) → first_from (fork_between k e) (k + 1) exports ≡ None
 none_among k e exports same =
     unanswered (fork_between k e) (k + 1) exports (λ p d got. (no_fork k (k + 1 + p) e d).1 (same 0 (suc p) e d refl got))

@@ -38,13 +38,13 @@ pub none_encoded : encode_lower [] ≡ []
 unfolding encode_with
 none_encoded = refl
 
--- one byte more, behind the quote
+-- one byte more, after the quote
 pub next_digits : (bytes : List ℕ) (k : ℕ) → k < length bytes
     → (34 ∷ encode_lower (take k bytes)) ++ encode_lower (slice_index bytes k ∷ []) ≡ 34 ∷ encode_lower (take (k + 1) bytes)
 next_digits bytes k within =
     ap (λ t. 34 ∷ t) (encode_lower-append (take k bytes) (slice_index bytes k ∷ []) ∙ ap encode_lower (sym (take_more bytes k 0 within)))
 
--- with the quote behind them
+-- with the quote after them
 pub all_digits : (bytes : List ℕ) (k : ℕ) → IsBytes bytes → take k bytes ≡ bytes
     → (34 ∷ encode_lower (take k bytes)) ++ 34 ∷ [] ≡ 34 ∷ (escape (encode_lower bytes) ++ 34 ∷ [])
 all_digits bytes k are all =

@@ -1,4 +1,4 @@
--- Texts added one behind the other.
+-- Texts added one after the other.
 use Rattle.std.proofs.Common.{◌≡◌, ℕ, ◌+◌, List, [], ◌++◌, length, take, Bool, true, false, sym, ap, subst, ◌∙◌, append_assoc, append-nil, arith, Option}
 use Rattle.std.specs.Io.KnownBytes.{Appends}
 use Rattle.std.proofs.KnownBytes.{Appends-trans}
@@ -15,7 +15,7 @@ passed a b c held left text first second none = record {
   parts = sym (append-nil (held ++ text)) ∙ ap (λ xs. (held ++ text) ++ xs) (sym none);
 }
 
--- a beginning of what comes behind a text that is written
+-- a beginning of what comes after a text that is written
 pub begins : (a b c : Option (List ℕ)) (sent text : List ℕ) → Appends a b sent → WroteBeginning b c text → WroteBeginning a c (sent ++ text)
 begins a b c sent text was is =
     let within = is.within in
@@ -65,10 +65,10 @@ at_flags true false h a b c s t p q = absurd p
 at_flags true true false a b c s t p q = absurd q
 at_flags true true true a b c s t p q = (q.0 ∙ p.0, q.1 ∙ p.1)
 
--- one text behind another
+-- one text after another
 pub adds_then : (a b c : State) (s t : List ℕ) → Adds a b s → Adds b c t → Adds a c (s ++ t)
 adds_then a b c s t p q = at_flags a.failed b.failed c.failed a b c s t p q
 
--- one behind those so far, under the name that the whole has
+-- one after those so far, under the name that the whole has
 pub adds_next : (a b c : State) (s t whole : List ℕ) → Adds a b s → Adds b c t → s ++ t ≡ whole → Adds a c whole
 adds_next a b c s t whole p q is = subst (Adds a c) is (adds_then a b c s t p q)

@@ -42,7 +42,7 @@ one_more f later (y ∷ xs) (suc k) x got =
     ∙ ap (λ t. compact_text (f y) ++ t)
     (ap (λ b. rest ++ (comma_if b ++ compact_text (f x))) (or_true later) ∙ one_more f true xs k x got))
 
--- the next item of an array, behind its bracket
+-- the next item of an array, after its bracket
 pub next_in_array : {A : Type 0} (f : A → Data) (xs : List A) (k : ℕ) (x : A) (t : List ℕ) → slice_get xs k ≡ Some x → t ≡ compact_text (f x)
     → ((91 ∷ begun false (map f (take k xs))) ++ comma_if (nat_lt 0 k)) ++ t ≡ 91 ∷ begun false (map f (take (k + 1) xs))
 next_in_array f xs k x t got is =

@@ -11,7 +11,7 @@ pub record IsOfEach {A : Type 0} (one : Data → Option A) (all : Items → Opti
   pub none : all no_items ≡ Some []
   pub more : (d : Data) (ds : Items) → all (item d ds) ≡ option_and_then (λ a. option_map (λ bs. a ∷ bs) (all ds)) (one d)
 
--- the item at a place, and those behind it
+-- the item at a place, and those after it
 from_place : {A : Type 0} (one : Data → Option A) (all : Items → Option (List A)) → IsOfEach one all
     → (xs : List Value) (k : ℕ) (x : Value) (o : Option A) → k < length xs → x ≡ get_or xs k x → o ≡ one (view x)
     → all (items_view (drop k xs)) ≡ option_and_then (λ a. option_map (λ bs. a ∷ bs) (all (items_view (drop (k + 1) xs)))) o

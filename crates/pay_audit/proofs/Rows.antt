@@ -1,4 +1,4 @@
--- Values that are kept one behind the other.
+-- Values that are kept one after the other.
 use Rattle.std.proofs.Common.{◌≡◌, ℕ, zero, suc, ◌-◌, ◌<◌, ◌≤◌, List, [], ◌∷◌, ◌++◌, get_or, length, length-append, drop, take, slice_get, Some, refl, ap, ap₂, ◌∙◌, arith}
 use Rattle.std.specs.Prelude.{slice_range}
 use Rattle.std.proofs.lemmas.List.{drop-append-le, length-drop, take-append-le, take_all}

@@ -167,7 +167,7 @@ module _ (computed : LargestIsComputed) (single : LargestIsOne) (exists : Settle
         before = λ x e below got. front_at (0 + x) e (sound x e got) (r.before x e below got);
       })
 
-  -- the first account whose balance is wrong, behind a right front
+  -- the first account whose balance is wrong, after a right front
   wrong_balance : (e : ExportFields) → IsExport e → HasRightFront e → (a : ℕ) → wrong_balance_of e ≡ Some a → IsFirstWrongBalanceOf e a
   unfolding wrong_balance_of
   wrong_balance e sound front a h =

@@ -26,7 +26,7 @@ abbrev pub other_genesis_than : Option GenesisFields → ℕ → ExportFields �
 other_genesis_than None x e = None
 other_genesis_than (Some g) x e = other_genesis_at g x e
 
--- The first case of each kind. Behind one that comes first in a verdict's order the others aren't looked for.
+-- The first case of each kind. After one that comes first in a verdict's order the others aren't looked for.
 pub record HasFound (exports : List ExportFields) (w : Wrong) : Type 0 where
   pub genesis : w.genesis ≡ other_genesis exports
   pub front : w.genesis ≡ None → w.front ≡ first_from wrong_front_at 0 exports

@@ -4,7 +4,7 @@ use Rattle.std.specs.Io.KnownBytes.{Appends}
 use Rattle.pay_io.specs.Device.{WroteBeginning, counted}
 use Rattle.pay_audit.specs.declared.gathered.Gathered.{Gathered}
 
--- what was written where it is known, what is held behind it, whether the device failed, and how often it did
+-- what was written where it is known, what is held after it, whether the device failed, and how often it did
 pub record State : Type 0 where
   pub written : Option (List ℕ)
   pub held : List ℕ
@@ -14,7 +14,7 @@ pub record State : Type 0 where
 abbrev pub state : {W : Type 0} → (W → Option (List ℕ)) → (W → ℕ) → Gathered → W → State
 state contents failures g w = record { written = contents w; held = g.held.items; failed = g.failed; failures = failures w }
 
--- A text came behind what was held, and a front of both went out.
+-- A text came after what was held, and a front of both went out.
 pub record Moves (before after : Option (List ℕ)) (held left text : List ℕ) : Type 0 where
   pub sent : List ℕ
   pub written : Appends before after sent

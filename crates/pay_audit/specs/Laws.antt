@@ -24,7 +24,7 @@ HasRightBalances e = AreBalances e.genesis.opening (logs_of e) (slice_index e.fr
 abbrev pub FrontIsJudged : Type 0
 FrontIsJudged = (e : ExportFields) → IsExport e → (wrong_front_of e ≡ None) ↔ HasRightFront e
 
--- behind a right front, no account is named where the balances are right
+-- after a right front, no account is named where the balances are right
 abbrev pub BalancesAreJudged : Type 0
 BalancesAreJudged =
     (e : ExportFields) → IsExport e → wrong_front_of e ≡ None → (wrong_balance_of e ≡ None) ↔ HasRightBalances e

@@ -1,4 +1,4 @@
--- Values that are kept one behind the other, with where each ends.
+-- Values that are kept one after the other, with where each ends.
 use Rattle.std.specs.Prelude.{◌≡◌, ℕ, ◌≤◌, List, [], ◌∷◌, slice_range}
 
 -- the values from this byte on, each of which begins where the one before it ends

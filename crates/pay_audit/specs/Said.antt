@@ -97,7 +97,7 @@ pub record IsFirstForkOf (one other : ExportFields) (owner seq : ℕ) : Type 0 w
   pub difference : IsFirstDifference (lists_of one owner) (lists_of other owner) seq
   pub before : (a : ℕ) → a < owner → Agreeing (lists_of one a) (lists_of other a)
 
--- exports x and y fork; x agrees with those between them, and each before x with all behind it
+-- exports x and y fork; x agrees with those between them, and each before x with all after it
 pub record IsFirstFork (exports : List ExportFields) (x y owner seq : ℕ) : Type 0 where
   pub geneses : EachTwo BeginAlike exports
   pub fronts : Each HasRightFront exports

@@ -71,7 +71,7 @@ fork_of x y owner lists = option_map (Fork x y owner) (fork_place lists.0 lists.
 unfoldable pub fork_between : ℕ → ExportFields → ℕ → ExportFields → Option Verdict
 fork_between x one y other = first_from (fork_of x y) 0 (zip one.lists other.lists)
 
--- each export against those behind it
+-- each export against those after it
 abbrev pub fork_from : ℕ → List ExportFields → Option Verdict
 fork_from x [] = None
 fork_from x (e ∷ es) = option_or (first_from (fork_between x e) (x + 1) es) (fork_from (x + 1) es)

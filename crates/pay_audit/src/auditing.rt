@@ -103,7 +103,7 @@ pub(crate) fn wrong_balance_of<B: Settle>(export: &Export, book: &B) -> Option<u
     None
 }
 
-// The first fork between an export and one behind it.
+// The first fork between an export and one after it.
 pub(crate) fn fork(exports: &[Export]) -> Option<Verdict>
     ensures { result ≡ fork_from 0 exports.now }
 {

@@ -15,7 +15,7 @@ use crate::verdict::Verdict;
 use std::alloc::{AllocError, Global};
 
 /// What is kept of exports' lists. As long as they agree that is the longest list of each account, and how long each
-/// export's are; of the first that differs and of those behind it, where they differ from the longest.
+/// export's are; of the first that differs and of those after it, where they differ from the longest.
 #[derive(Debug, Drop)]
 pub(crate) struct Comparison {
     longest: Vec<OwnerList>,

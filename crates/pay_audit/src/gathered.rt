@@ -55,7 +55,7 @@ impl Gathered {
         self.add(writer, digits.format(number).as_bytes());
     }
 
-    /// Adds the comma behind an item, if one stands before.
+    /// Adds the comma after an item, if one stands before.
     pub(crate) fn add_comma<W: Output>(&mut self, writer: &mut W, later: bool)
         ensures { Adds (state W.contents W.failure_count self.old writer.old)
             (state W.contents W.failure_count self.new writer.new) (comma_if later) }
@@ -81,7 +81,7 @@ impl Gathered {
         write_all(writer, self.held.as_slice())
     }
 
-    /// Holds bytes. What is held is written where they have no room behind it, and so are they where they have none.
+    /// Holds bytes. What is held is written where they have no room after it, and so are they where they have none.
     fn hold<W: Output>(&mut self, writer: &mut W, bytes: &[u8]) -> Result<(), DeviceFailed>
         ensures moves { OnOk result (Moves (W.contents writer.old) (W.contents writer.new)
             self.old.held.items self.new.held.items bytes.now) }

@@ -1,5 +1,16 @@
-//! For auditors of a group's books: what a member shows of its own without its keys, and what is wrong with several of
-//! these, if anything is.
+//! For auditors of a group's books: what a member shows of its own without its keys, and what is
+//! wrong with several of these, if anything is.
+//!
+//! [`export_text`] is a member's [`Export`], [`read_export`] reads one, and an [`Auditor`] takes
+//! them one by one, as [`audit`] does.
+//!
+//! ```
+//! let mut auditor = Auditor::new(alloc);
+//! for file in files {
+//!     auditor = auditor.take(alloc, read_export(alloc, file)?)?;
+//! }
+//! println!(rt; "{}", auditor.verdict())?;
+//! ```
 #![tactic(auto)]
 
 mod auditing;

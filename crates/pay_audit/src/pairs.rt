@@ -8,7 +8,7 @@ use crate::exported::Export;
 use crate::verdict::Verdict;
 use std::alloc::{AllocError, Global};
 
-/// What `audit` says, found by comparing the lists of each export with those of each one behind it.
+/// What `audit` says, found by comparing the lists of each export with those of each one after it.
 #[tactic(auto, unfolding(crate::specs::Verdict::verdict_of))]
 pub fn audit_by_pairs(alloc: Global, exports: &[Export]) -> Result<Verdict, AllocError>
     ensures { IfOk result (λ verdict. verdict ≡ verdict_of exports.now) }

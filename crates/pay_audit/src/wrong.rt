@@ -13,7 +13,7 @@ use pay_pending::WaitingBook;
 use std::alloc::{AllocError, Global};
 
 /// The first export with another genesis, the first wrong front and the first wrong balance. `with` doesn't look any
-/// more for those that follow here behind one that there is, since a verdict names only the first of the three;
+/// more for those that follow here after one that there is, since a verdict names only the first of the three;
 /// `with_judged`, which settles nothing, keeps all.
 #[derive(Clone, Copy, Debug)]
 pub(crate) struct Wrong {

@@ -1,4 +1,4 @@
--- The exports of members of worlds, behind events that `run_world` answers and behind the first of them.
+-- The exports of members of worlds, after events that `run_world` answers and after the first of them.
 use Rattle.std.specs.Prelude.{◌≡◌, ℕ, List, map, slice_get, Some}
 use Rattle.pay_channel.specs.Prefix.{IsPrefix}
 use Rattle.pay_link.specs.Genesis.{GenesisFields}
@@ -12,7 +12,7 @@ use Rattle.pay_audit.specs.Exporting.{exported}
 use Rattle.pay_audit.specs.Verdict.{verdict_of}
 use Rattle.pay_audit.specs.declared.verdict.Verdict.TheVariants.{Clean}
 
--- a member of the world behind the first of these events
+-- a member of the world after the first of these events
 pub record IsOfWorld (g : GenesisFields) (keys : List KeyFields) (l : LiarFields) (events : List WorldEvent)
     (m : MemberFields) : Type 0 where
   pub until : List WorldEvent
@@ -23,8 +23,8 @@ pub record IsOfWorld (g : GenesisFields) (keys : List KeyFields) (l : LiarFields
   pub number : ℕ
   pub member : member_in world number ≡ Some m
 
--- There is a world behind all of the events, so none of them is a forged frame. Whichever members export, the same one
--- several times too, and behind however many of the events each does: nothing is wrong.
+-- There is a world after all of the events, so none of them is a forged frame. Whichever members export, the same one
+-- several times too, and after however many of the events each does: nothing is wrong.
 abbrev pub WorldExportsAreClean : Type 0
 WorldExportsAreClean =
     (g : GenesisFields) (keys : List KeyFields) (l : LiarFields) (events : List WorldEvent) (last : WorldFields)

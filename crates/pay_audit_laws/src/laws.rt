@@ -22,8 +22,8 @@ pub fn exports_are_clean()
     lists_by_deeds();
 }
 
-/// Take any events that `run_world` answers with a world. Then the exports of members of the world behind them and of
-/// those behind the first of them have the verdict Clean.
+/// Take any events that `run_world` answers with a world. Then the exports of members of the world after them and of
+/// those after the first of them have the verdict Clean.
 pub fn exports_of_worlds_are_clean()
     ensures { WorldExportsAreClean }
 {

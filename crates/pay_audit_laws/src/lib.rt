@@ -1,5 +1,5 @@
-//! What an auditor finds in the exports of a group's correct members: the laws of audits that stand on those between
-//! members.
+//! Laws of audits that stand on those between members: what an auditor finds in the exports of a
+//! group's correct members. They have no calls; [`laws`] has the statements.
 #![tactic(auto)]
 
 pub mod laws;

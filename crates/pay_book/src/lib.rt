@@ -2,7 +2,13 @@
 //!
 //! An account's entries settle in the order of its owner's list. Accounts wait for nobody but
 //! themselves: how the steps of several accounts are interleaved makes no difference to where a
-//! book ends (`laws`).
+//! book ends ([`laws`]). [`Settle`] is what a book can do, over any source of lists.
+//!
+//! ```
+//! let mut book = PlainBook::new(alloc, &genesis)?;
+//! let settled = book.settle(&channel, owner);
+//! let balance = book.balance(owner);
+//! ```
 #![tactic(auto)]
 
 mod accounts;

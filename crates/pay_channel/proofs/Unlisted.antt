@@ -1,4 +1,4 @@
--- The number behind a list's end has no value, and gets none by a vote that doesn't deliver it.
+-- The number after a list's end has no value, and gets none by a vote that doesn't deliver it.
 use Rattle.std.proofs.Common.{◌≡◌, ℕ, zero, suc, ◌+◌, ◌<◌, false, List, length, Option, None, Some, refl, sym, ap, ◌∙◌, lt-ltb, ltb, [], zero-add, arith}
 use Rattle.std.proofs.lemmas.Bool.{cond-true}
 use Rattle.pay_echo.specs.Meaning.{became}

@@ -122,7 +122,7 @@ module _ (g : Group) (asks : ℕ) (slots after : List Slot) (sent said_now : Lis
           }
 
     module _ (member : a < g.members) (from : ℕ) (from_is : from ≡ get_or lengths a 0) where
-      -- the number behind the list, which this vote doesn't deliver
+      -- the number after the list, which this vote doesn't deliver
       pub none_behind : (moves : Moves) → IsMoves (meaning_in g slots a s) (meaning_in g after a s) moves → from < seqs → (s ≡ from → moves.deliver ≡ false) → (meaning_in g after a from).delivered ≡ None
       unfolding value_at meaning_at
       none_behind moves are more quiet =

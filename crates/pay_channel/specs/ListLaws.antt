@@ -69,7 +69,7 @@ ListReaches =
     (g : Group) (history : List Event) (a n : ℕ) → a < g.members → n ≤ seqs
     → (n ≤ length (list_of g history a)) ↔ AreKnown (delivered_at g history a) n
 
--- the number behind it has no value
+-- the number after it has no value
 abbrev pub ListEnds : Type 0
 ListEnds =
     (g : Group) (history : List Event) (a : ℕ) → a < g.members → length (list_of g history a) < seqs

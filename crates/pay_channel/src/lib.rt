@@ -1,7 +1,13 @@
 //! A member's side of the broadcast channel: what each owner broadcast, in its order.
 //!
-//! [`Source`] is all that a layer above has to know of a channel: one list of values for each
-//! owner.
+//! A [`Channel`] takes events, and appends what the member sends to its outbound list. [`Source`]
+//! is all that a layer above has to know of it: one list of values for each owner.
+//!
+//! ```
+//! let mut channel = Channel::<MaskInstance>::new(alloc, 4, 1, own)?;
+//! let applied = channel.apply(alloc, EventRef::Ask(&value))?;
+//! let listed = channel.length(own);
+//! ```
 #![tactic(auto)]
 
 mod applied;

@@ -68,7 +68,7 @@ halves bytes front back fs at cut is one two = record {
 pub cut_at_start : (fs : List FrameFields) → IsCut fs 0
 cut_at_start fs = record { first = []; others = fs; parts = refl; sized = refl }
 
--- behind one frame more
+-- after one frame more
 pub cut_more : ReadAgain → (bytes : List ℕ) (fs : List FrameFields) (at size : ℕ) (f : FrameFields) → IsFramesThen bytes fs [] → 0 < size → IsReading (drop at bytes) (Ok (Some (f, size))) → IsCut fs at → IsCut fs (at + size)
 unfolding size_in
 cut_more again bytes fs at size f cut some reading is = by is.others is.parts where
@@ -95,7 +95,7 @@ cut_more again bytes fs at size f cut some reading is = by is.others is.parts wh
 pub reading_behind : (bytes : List ℕ) (size : ℕ) (answer : Result (Option (FrameFields × ℕ)) FrameFault) → IsReading (take (length bytes - size) (drop size bytes)) answer → IsReading (drop size bytes) answer
 reading_behind bytes size answer = subst (λ xs. IsReading xs answer) (take_all (length bytes - size) (drop size bytes) (omega (arith, length-drop size bytes)))
 
--- parts that are judged, and those behind them
+-- parts that are judged, and those after them
 pub both_judged : (k : KeyFields) (fs first others : List FrameFields) (a b : List Judged) → fs ≡ first ++ others → AreJudged k first a → AreJudged k others b → AreJudged k fs (a ++ b)
 both_judged k fs first others [] b parts none behind = subst (λ gs. AreJudged k gs b) (sym (parts ∙ ap (λ gs. gs ++ others) none)) behind
 both_judged k fs first others (judged ∷ a) b parts front behind = (

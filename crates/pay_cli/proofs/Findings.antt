@@ -130,7 +130,7 @@ turn_known law k f fronts each = by (judgement k f) refl where
   by (Err fault) is = tt
   by (Ok o) is = kind_known f f.body.kind (length fronts) (rw each ((law k f o).0 is).0.sender.0)
 
--- ---- lines one behind the other
+-- ---- lines one after the other
 
 pub state_more : (k : KeyFields) (p : Progress) (fs : List FrameFields) (f : FrameFields) → state_after (checking k) p (fs ++ f ∷ []) ≡ moved k (state_after (checking k) p fs) f
 state_more k p [] f = refl

@@ -1,4 +1,4 @@
--- Room for further lines: fronts stay behind the lines, and lines are counted.
+-- Room for further lines: fronts stay after the lines, and lines are counted.
 use Rattle.std.proofs.Common.{◌≡◌, ℕ, zero, suc, ◌+◌, ◌<◌, ◌^◌, List, length, get_or, set, refl, sym, ◌∙◌, subst, arith, inl, inr}
 use Rattle.std.specs.Prelude.{replicate}
 use Rattle.std.proofs.lemmas.Bool.{cases_eq, cases_lt}

@@ -64,7 +64,7 @@ pub record IsJudged (k : KeyFields) (fs : List FrameFields) (judged : Judged) : 
   pub findings : judged.findings ≡ map (finding_of k) fs
   pub words : judged.words.items ≡ flat_map (words_of k) fs
 
--- so in parts, one behind the other
+-- so in parts, one after the other
 abbrev pub AreJudged : KeyFields → List FrameFields → List Judged → Type 0
 AreJudged k fs [] = fs ≡ []
 AreJudged k fs (judged ∷ behind) =

@@ -59,7 +59,7 @@ judged_outcome next f (Err fault) = Refused fault
 abbrev pub outcome_of : KeyFields → List ℕ → FrameFields → Outcome
 outcome_of k fronts f = judged_outcome (slice_index fronts f.from) f (judgement k f)
 
--- what `check` says of it, behind the number of its line
+-- what `check` says of it, after the number of its line
 abbrev pub outcome_words : FrameFields → Outcome → List ℕ
 outcome_words f Taken = ok_words f
 outcome_words f Wanted = want_words f

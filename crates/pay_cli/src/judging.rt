@@ -16,7 +16,7 @@ use pay_hmac::Tagger;
 use pay_link::{Keys, laws, open};
 use std::alloc::{AllocError, Global};
 
-/// The findings of some frames, and the words of their lines, one behind the other.
+/// The findings of some frames, and the words of their lines, one after the other.
 #[derive(Drop)]
 pub struct Judged {
     pub findings: Findings,

@@ -1,4 +1,8 @@
-//! The engine of the command `check`.
+//! The engine of the command `check`: a line for each frame of a stream, judged by several threads.
+//!
+//! ```
+//! run_check(&rt, 4, alloc, &tagger, &genesis, &keys, &mut reader, &mut writer)?;
+//! ```
 #![tactic(auto)]
 
 mod check;

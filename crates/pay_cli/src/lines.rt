@@ -1,4 +1,4 @@
-//! The lines of `check`, written behind what is written already.
+//! The lines of `check`, appended to what is written already.
 
 ghost use Rattle.std.specs.Prelude.{◌≡◌, ◌++◌, OnOk, codes};
 ghost use Rattle.pay_frame.specs.Lent.{fields_of};

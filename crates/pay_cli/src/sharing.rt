@@ -90,7 +90,7 @@ fn halved(frames: &[u8], place: usize) -> (&[u8], &[u8])
     frames.split_at(cut_behind(frames, place))
 }
 
-/// Where the first frame ends that ends at a place or behind it, and where the last one does if
+/// Where the first frame ends that ends at a place or after it, and where the last one does if
 /// none does.
 fn cut_behind(frames: &[u8], place: usize) -> usize
     ensures cut { (fs : List FrameFields) → IsFramesThen frames.now fs []

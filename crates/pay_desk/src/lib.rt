@@ -3,6 +3,11 @@
 //!
 //! A [`Desk`] stands over any [`Teller`], as over a member that is its own. It keeps each value
 //! that it asked for under the id that its owner gave it, so that a line may be given again.
+//!
+//! ```
+//! let mut desk = Desk::new(alloc, OneMember { member, stamp: 0 }, 4, own);
+//! let answer = desk.line(alloc, b"PAY 7 1 30")?;
+//! ```
 #![tactic(auto)]
 
 mod by_id;

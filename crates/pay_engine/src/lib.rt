@@ -1,5 +1,12 @@
-//! The loop that all share who read a stream of frames: pieces are read and cut into frames, a
-//! [`FrameHandler`] takes them, and the texts that it makes of them are written.
+//! The loop of all who read a stream of frames.
+//!
+//! [`handle_stream`] reads pieces and cuts them into frames; a [`FrameHandler`] takes each with a
+//! state of its own, and the texts that it makes of them are written.
+//!
+//! ```
+//! let first = want(&tagger, &keys, peer, 0);
+//! handle_stream(alloc, &handler, &mut state, &first, &mut reader, &mut writer)?;
+//! ```
 #![tactic(auto)]
 
 mod engine_fault;

@@ -46,7 +46,7 @@ first_frame h r f is front = record {
 pub next_frame : (x h r : List ℕ) (fs : List FrameFields) (f : FrameFields) → IsFramesThen x fs h → IsFrame f → h ≡ frame_bytes f ++ r → IsFramesThen x (fs ++ f ∷ []) r
 next_frame x h r fs f c is front = more_frames x h r fs (f ∷ []) c (first_frame h r f is front)
 
--- ---- a stream behind frames
+-- ---- a stream after frames
 
 pub joined : (x r : List ℕ) (fs gs : List FrameFields) (e : Option FrameFault) → IsFramesThen x fs r → IsStream r gs e → IsStream x (fs ++ gs) e
 joined x r fs gs e c s = record { rest = s.rest; cut = more_frames x r s.rest fs gs c s.cut; ends = s.ends }
@@ -120,7 +120,7 @@ one_stream x fs gs a b s t =
       ending = same_end t.rest a b (subst (λ (r : List ℕ). IsEnd r a) cut.rest s.ends) t.ends;
     }
 
--- ---- what is behind the first frames
+-- ---- what is after the first frames
 
 pub parted : (x r : List ℕ) (fs all : List FrameFields) (e : Option FrameFault) → IsFramesThen x fs r → IsStream x all e → GoesOn r fs all e
 parted x r [] all e c s = record {
@@ -166,7 +166,7 @@ ends_here (b ∷ bs) begins = record {
   is = record { rest = b ∷ bs; cut = no_frames (b ∷ bs); ends = CutOff (omega arith) begins };
 }
 
--- the frame in front, and the stream behind it; or the end
+-- the frame in front, and the stream after it; or the end
 continued : (n : ℕ) (x : List ℕ) → length x < suc n → IsBytes x → (answer : Answer) → IsReading x answer → ((y : List ℕ) → length y < n → IsBytes y → HasStream y) → HasStream x
 continued n x lt is (Ok (Some (f, size))) reading shorter =
     let has = reading.0 in

@@ -15,7 +15,7 @@ pub record Held : Type 0 where
   pub bytes : List ℕ
   pub met : Option FrameFault
 
--- A piece is offered: as much of it as fits is held behind what is held, and nothing after a fault.
+-- A piece is offered: as much of it as fits is held after what is held, and nothing after a fault.
 pub record Feeds (old new : Held) (piece : List ℕ) (taken : ℕ) : Type 0 where
   pub count :
       taken ≡ (if is_some old.met then 0 else min (length piece) (CUTTER_ROOM - length old.bytes))

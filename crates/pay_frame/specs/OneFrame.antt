@@ -15,14 +15,14 @@ pub record IsOneFrame (bytes : List ℕ) (f : FrameFields) : Type 0 where
   pub is : IsFrame f
   pub spelled : bytes ≡ frame_bytes f
 
--- a frame, and bytes behind it
+-- a frame, and bytes after it
 pub record IsFollowed (bytes : List ℕ) : Type 0 where
   pub frame : FrameFields
   pub has : HasFrame bytes frame
   pub more : 0 < length has.rest
 
 -- what reading the bytes as one frame answers: the frame, that they end inside it, that they go on
--- behind it, or the fault that they have
+-- after it, or the fault that they have
 abbrev pub IsOneReading : List ℕ → Result FrameFields FrameFault → Type 0
 IsOneReading bytes (Ok f) = IsOneFrame bytes f
 IsOneReading bytes (Err Truncated) = IsProperBeginning bytes

@@ -18,7 +18,7 @@ pub record StartsFrame (bytes : List ℕ) : Type 0 where
   pub rest : List ℕ
   pub spelled : frame_bytes frame ≡ bytes ++ rest
 
--- some frame starts with these bytes and goes on behind them
+-- some frame starts with these bytes and goes on after them
 pub record IsProperBeginning (bytes : List ℕ) : Type 0 where
   pub starts : StartsFrame bytes
   pub more : 0 < length starts.rest

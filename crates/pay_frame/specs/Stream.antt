@@ -11,12 +11,12 @@ use Rattle.pay_frame.specs.Reading.{IsProperBeginning, IsFault}
 pub record IsBytes (bytes : List ℕ) : Type 0 where
   pub fits : (i : ℕ) → slice_index bytes i < 256
 
--- the bytes are these frames, and a rest behind them
+-- the bytes are these frames, and a rest after them
 pub record IsFramesThen (bytes : List ℕ) (frames : List FrameFields) (rest : List ℕ) : Type 0 where
   pub each : All IsFrame frames
   pub parts : bytes ≡ flat_map frame_bytes frames ++ rest
 
--- What is behind the frames, and the fault that it ends the stream with, if any: nothing, a frame
+-- What is after the frames, and the fault that it ends the stream with, if any: nothing, a frame
 -- that is cut off, or bytes that begin no frame.
 pub data IsEnd (rest : List ℕ) : Option FrameFault → Type 0 where
   Nothing : rest ≡ [] → IsEnd rest None
@@ -35,7 +35,7 @@ pub record HasStream (bytes : List ℕ) : Type 0 where
   pub ending : Option FrameFault
   pub is : IsStream bytes frames ending
 
--- Behind its first frames comes the rest of a stream: the frames that follow, and the same end.
+-- After its first frames comes the rest of a stream: the frames that follow, and the same end.
 pub record GoesOn (rest : List ℕ) (first all : List FrameFields) (ending : Option FrameFault) : Type 0 where
   pub more : List FrameFields
   pub parts : all ≡ first ++ more

@@ -1,8 +1,16 @@
 //! Frames on the wire, and the byte streams that carry them.
 //!
 //! A frame is one message from one member to another, tagged for its receiver. It is defined by its
-//! encoding, a function from fields to bytes (`specs/Frame.antt`). `read` and `write` are proved
-//! against it, and `Cutter` splits a stream into frames.
+//! encoding, a function from fields to bytes (`specs/Frame.antt`). [`read`] and [`write`] are
+//! proved against it, and [`Cutter`] splits a stream into frames.
+//!
+//! ```
+//! let mut cutter = Cutter::new(alloc)?;
+//! cutter.feed(&bytes);
+//! while let Some(frame) = cutter.next()? {
+//!     println!(rt; "frame {} of member {}", frame.number(), frame.from())?;
+//! }
+//! ```
 #![tactic(auto)]
 
 mod body;

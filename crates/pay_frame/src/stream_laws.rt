@@ -31,7 +31,7 @@ pub fn one_stream()
         → IsStream bytes one a → IsStream bytes two b → a ≡ b }
 {}
 
-/// How a stream grows while it is read: what comes is behind what is left, and the next frame is
+/// How a stream grows while it is read: what comes is after what is left, and the next frame is
 /// one more.
 pub fn stream_grows()
     ensures nothing { (bytes : List ℕ) → IsFramesThen bytes [] bytes }
@@ -45,14 +45,14 @@ pub fn stream_grows()
         → IsFramesThen bytes (first ++ more) rest }
 {}
 
-/// Behind the frames that were handed out of what was read goes on the stream: it is these frames
+/// After the frames that were handed out of what was read goes on the stream: it is these frames
 /// and those of what is left and still comes, with the same end, and nothing else.
 pub fn stream_goes_on()
     ensures joined { Joins }
     ensures parted { Parts }
 {}
 
-/// A fault ends a stream, whatever comes behind it.
+/// A fault ends a stream, whatever comes after it.
 pub fn fault_is_for_good()
     ensures fault { (bytes more : List ℕ) (fault : Fault)
         → IsFault bytes fault → IsFault (bytes ++ more) fault }

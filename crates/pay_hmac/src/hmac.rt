@@ -41,7 +41,7 @@ fn mac_of_parts(key: &[u8], head: &[u8], rest: &[u8]) -> [u8; 32]
     digest_of_parts(&xor_with(block, OUTER_PAD), &inner, &[])
 }
 
-// The digest of a block and two parts behind it.
+// The digest of a block and two parts after it.
 fn digest_of_parts(block: &[u8; BLOCK], head: &[u8], rest: &[u8]) -> [u8; 32]
     ensures { result ≡ sha256 (block.now ++ (head.now ++ rest.now)) }
 {

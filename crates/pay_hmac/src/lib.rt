@@ -1,9 +1,15 @@
 //! Tags: HMAC (RFC 2104) with SHA-256.
 //!
-//! What a tag is stands in `specs/Mac.antt`. Callers that only tag and check frames are generic
-//! over `Tagger`, whose one clause says that the answer is that tag.
+//! `specs/Mac.antt` defines a tag. Callers that tag and check frames are generic over [`Tagger`],
+//! whose one clause says that the answer is that tag: [`HmacSha256`] hashes the key at each call,
+//! [`PreparedHmac`] keeps the pads of some keys hashed.
 //!
-//! Nothing here compares tags, and no comparison in constant time is promised by what stands above.
+//! Nothing here compares tags, and no comparison in constant time is promised.
+//!
+//! ```
+//! let tag = HmacSha256.tag(&key, head, value);
+//! assert_eq!(tag, mac(&key, &joined));
+//! ```
 #![tactic(auto)]
 
 pub use hmac::{HmacSha256, mac};

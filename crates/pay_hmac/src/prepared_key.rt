@@ -8,7 +8,7 @@ use crate::hmac::{INNER_PAD, OUTER_PAD, padded_key, xor_with};
 use sha2::{Digest, Sha256};
 use std::marker::Model;
 
-/// A key of 32 bytes, with the states of the hash behind its inner and its outer pad. A tag under
+/// A key of 32 bytes, with the states of the hash after its inner and its outer pad. A tag under
 /// it takes two compressions less. It has no `Debug`, so that no line of a log shows a key.
 #[derive(Drop)]
 pub struct PreparedKey {

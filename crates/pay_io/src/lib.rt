@@ -1,5 +1,16 @@
-//! What engines read from and write to: devices that count their calls and failures, how often they are called at
-//! most, and their faults.
+//! What engines read from and write to, with counts that contracts can cite.
+//!
+//! [`Input`] and [`Output`] are devices that count their calls and failures; [`Reader`] and
+//! [`Writer`] make them of `std`'s. [`SlidingBuffer`] holds what was read and not consumed.
+//!
+//! ```
+//! let mut reader = Reader::new(rt.reader());
+//! let mut buffer = SlidingBuffer::new(alloc, 4096)?;
+//! while buffer.fill(&mut reader)? > 0 {
+//!     let size = buffer.bytes().len();
+//!     buffer.consume(size);
+//! }
+//! ```
 #![tactic(auto)]
 
 mod counted;

@@ -12,7 +12,7 @@ flat_map-range_more f n =
     sym (same (n + 1)) ∙ map-range_with_len_more (λ (k : ℕ). k) 0 n n (omega arith) ∙ ap (λ xs. xs ++ n ∷ []) (same n) in
     ap (flat_map f) longer ∙ flat_map-append f (range_with_len 0 n) (n ∷ []) ∙ ap (λ xs. flat_map f (range_with_len 0 n) ++ xs) (append-nil (f n))
 
--- behind what stood there, the text of one account more
+-- after what stood there, the text of one account more
 pub one_more : (before : List ℕ) (f : ℕ → List ℕ) (n : ℕ) (text after : List ℕ) → text ≡ before ++ flat_map f (range_with_len 0 n) → after ≡ text ++ f n
     → after ≡ before ++ flat_map f (range_with_len 0 (n + 1))
 one_more before f n text after so_far pushed =

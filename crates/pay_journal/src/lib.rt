@@ -1,6 +1,11 @@
-//! What people and their tools read of a member's export: statements as a desk answers them, and a journal for programs
-//! that keep books. All of it follows from the export's opening balances and lists; its own front and balances are an
-//! auditor's matter.
+//! What people and their tools read of a member's export: statements as a desk answers them, and a
+//! journal for programs that keep books. All of it follows from the export's opening balances and
+//! lists.
+//!
+//! ```
+//! let export = read_export(alloc, &file)?;
+//! let text = journal_text(alloc, &export, date_named(alloc, "2024-05-01")?.unwrap())?;
+//! ```
 #![tactic(auto)]
 
 mod dates;

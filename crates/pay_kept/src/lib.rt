@@ -1,5 +1,13 @@
-//! What has to be on the disk before anything leaves a node: a log that follows its history, and an output that asks
-//! for it before each write.
+//! What has to be on the disk before anything leaves a node.
+//!
+//! A [`Keeper`] is asked to keep a node's history: [`Kept`] gathers it and writes it to a log,
+//! [`Unkept`] keeps nothing. [`Behind`] is an output that asks it before each write, and
+//! [`restart`] reads a log and goes on from it.
+//!
+//! ```
+//! let mut output = Behind::new(&rt, &keeper, &node, writer);
+//! output.write(b"asked 7 seq 0\n")?;
+//! ```
 #![tactic(auto)]
 
 mod behind;

@@ -85,7 +85,7 @@ const ROWS: &[(&[&str], Verdict)] = &[
     ),
 ];
 
-// Reads these texts, each behind the exports of those before it.
+// Reads these texts, each after the exports of those before it.
 fn read_each(alloc: Global, texts: &[&str], exports: &mut Vec<Export>) -> Result<(), Fail> {
     for text in texts {
         exports.push(read_export(alloc, text.as_bytes())?)?;

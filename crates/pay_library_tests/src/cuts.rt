@@ -8,7 +8,7 @@ use std::alloc::Global;
 use std::process::Abort;
 use std::test::Fail;
 
-/// A head in hexadecimal digits, and how many bytes come behind it.
+/// A head in hexadecimal digits, and how many bytes come after it.
 type Piece = (&'static str, usize);
 
 /// What is done to a cutter, and what it gives. The numbers are places of the whole stream.
@@ -29,7 +29,7 @@ struct Run {
 }
 
 // Heads of frames, written by hand: each goes from 0x0102 to 0x0304 at number 0x05060708090a0b0c, and speaks of owner
-// 0x0d0e and seq 0x1112, if of any. Behind its length field a SEND has 54 + 11 = 0x41 bytes, an ECHO 54 + 1,024 = 0x436.
+// 0x0d0e and seq 0x1112, if of any. After its length field a SEND has 54 + 11 = 0x41 bytes, an ECHO 54 + 1,024 = 0x436.
 const SEND_HEAD: &str = "004101010102030405060708090a0b0c0d0e00001112000b";
 
 const READY_HEAD: &str = "003601030102030405060708090a0b0c0d0e000011120000";
@@ -112,7 +112,7 @@ const RUNS: &[Run] = &[
         end: Err(FrameFault::Truncated),
     },
     // Of frames of 1,080 bytes 4,096 bytes fit: three frames, and 4,096 - 3 * 1,080 = 856 bytes. So
-    // 3,240 more fit, behind which there are three frames and 856 bytes again.
+    // 3,240 more fit, after which there are three frames and 856 bytes again.
     Run {
         stream: &[(ECHO_HEAD, 1056); 9],
         steps: &[

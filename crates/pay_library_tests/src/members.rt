@@ -26,7 +26,7 @@ enum Step {
     Show(PaymentState, u32),
 }
 
-/// The steps of a new member, and what it exports behind them.
+/// The steps of a new member, and what it exports after them.
 struct Row {
     name: &'static str,
     own: u16,

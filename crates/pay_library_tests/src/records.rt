@@ -106,7 +106,7 @@ fn record_of(alloc: Global, entry: &HistoryEntry, id: u64) -> Result<String, Fai
     Ok(hex::encode(alloc, bytes.as_slice())?)
 }
 
-/// The record of the entry that is read of a record and a byte behind it.
+/// The record of the entry that is read of a record and a byte after it.
 fn read_again(
     alloc: Global,
     member: &Tried,

@@ -79,7 +79,7 @@ const ALONE: Group = (0, &[7], &[]);
 /// all that the others sent.
 type Shown = (u64, bool, bool);
 
-/// Events, those behind them, and what comes of all.
+/// Events, those after them, and what comes of all.
 struct Row {
     group: Group,
     deeds: &'static [Deed],

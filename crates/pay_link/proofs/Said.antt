@@ -44,7 +44,7 @@ genesis_fault-no_shape : (g : GenesisFields) → genesis_fault g ≢ Some genesi
 genesis_fault-no_shape g = tested-no_shape (g.members == 0 || nat_lt MOST_MEMBERS g.members)
     (nat_le g.members (3 * g.faults)) (length g.opening == g.members) (nat_le (sum g.opening) GREATEST_TOTAL)
 
--- what is judged behind the shape answers a fault of its own, or what was judged
+-- what is judged after the shape answers a fault of its own, or what was judged
 abbrev judged : {A E : Type 0} → Option E → A → Result A E
 judged fault a = option_map_or Err fault (Ok a)
 

@@ -63,7 +63,7 @@ pub fn keys_causes()
 {}
 
 /// A file of keys isn't JSON exactly where it has no value, and of a wrong shape exactly where its
-/// value says no keys. Behind whose they are and how many, the least place without a key is named;
+/// value says no keys. After whose they are and how many, the least place without a key is named;
 /// where there is none, the keys are those that the texts say.
 pub fn keys_file_faults()
     ensures json { (members : ℕ) (bytes : List ℕ)

@@ -1,5 +1,15 @@
 //! Links: what a ledger begins with, the keys of its members, and frames that are rightly tagged
 //! and for the member that opens them.
+//!
+//! [`Genesis`] and [`Keys`] are read from files. [`seal`] encodes a frame for a peer; [`open`]
+//! gives an [`Opened`] frame or the first cause to refuse it, and a [`Checked`] one can be kept.
+//!
+//! ```
+//! let genesis = Genesis::read(alloc, &file)?;
+//! let keys = Keys::read(alloc, &genesis, &keys_file)?;
+//! let (frame, _) = read(&bytes)?.unwrap();
+//! let opened = open(&tagger, &keys, frame)?;
+//! ```
 #![tactic(auto)]
 
 mod checked;

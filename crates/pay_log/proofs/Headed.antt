@@ -1,4 +1,4 @@
--- The parts of a header, one behind the other.
+-- The parts of a header, one after the other.
 use Rattle.std.proofs.Common.{◌≡◌, ℕ, List, ◌++◌, length, take, drop, sym, ap, ◌∙◌, arith, length-append}
 use Rattle.std.proofs.Math.Seq.{take-add}
 use Rattle.std.specs.Int.{w16, to_be_bytes}

@@ -200,6 +200,6 @@ acknowledged key header file ps qs p (inr (inl with')) is =
     inl (record { rest = p ∷ []; is = sym same }, beginning_same qs (ps ++ p ∷ []) (sym same))
 acknowledged key header file ps qs p (inr (inr stray)) is = inr stray
 
--- what stands behind a header that a file begins with
+-- what stands after a header that a file begins with
 pub after_header : (header file : List ℕ) (n : ℕ) → take n file ≡ header → file ≡ header ++ drop n file
 after_header header file n front = sym (take-append-drop n file) ∙ ap (λ (l : List ℕ). l ++ drop n file) front

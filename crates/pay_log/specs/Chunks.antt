@@ -32,11 +32,11 @@ sum_of key place payload = mac key (place_bytes place ++ body_of payload)
 unfoldable pub chunk_of : List ℕ → ℕ → List ℕ → List ℕ
 chunk_of key place payload = body_of payload ++ sum_of key place payload
 
--- the place behind it
+-- the place after it
 abbrev pub next_place : ℕ → List ℕ → ℕ
 next_place place payload = place + (40 + length payload)
 
--- the number behind the mark
+-- the number after the mark
 abbrev pub length_at : List ℕ → ℕ
 length_at bytes =
     from_be_bytes w32
@@ -60,7 +60,7 @@ abbrev pub chunks_of : List ℕ → ℕ → List (List ℕ) → List ℕ
 chunks_of key place [] = []
 chunks_of key place (p ∷ ps) = chunk_of key place p ++ chunks_of key (next_place place p) ps
 
--- the place behind the last of them
+-- the place after the last of them
 abbrev pub last_place : ℕ → List (List ℕ) → ℕ
 last_place place [] = place
 last_place place (p ∷ ps) = last_place (next_place place p) ps

@@ -1,7 +1,7 @@
 -- What the calls of a device do to its file, and what a crash may leave between two syncs.
 use Rattle.std.specs.Prelude.{◌≡◌, ◌⊎◌, ℕ, ◌≤◌, List, ◌++◌, length}
 
--- after n bytes were written behind a file's end and a crash came: at most so many bytes stand there, of any kind
+-- after n bytes were written after a file's end and a crash came: at most so many bytes stand there, of any kind
 pub record Torn (n : ℕ) (old new : List ℕ) : Type 0 where
   pub tail : List ℕ
   pub is : new ≡ old ++ tail

@@ -1,11 +1,11 @@
--- Logs: a header, and the chunks of payloads behind it.
+-- Logs: a header, and the chunks of payloads after it.
 use Rattle.std.specs.Prelude.{◌≡◌, ◌≢◌, ◌⊎◌, ℕ, List, [], ◌∷◌, ◌++◌, false}
 use Rattle.std.specs.List.{All}
 use Rattle.pay_log.specs.declared.log.Log.{Log}
 use Rattle.pay_log.specs.Chunks.{BeginsWith, chunks_of, last_place, IsShort, IsEnd}
 use Rattle.pay_log.specs.Device.{Only}
 
--- the place behind all chunks of a log
+-- the place after all chunks of a log
 abbrev pub end_place : List (List ℕ) → ℕ
 end_place ps = last_place 0 ps
 
@@ -20,7 +20,7 @@ pub record IsLog (key header file : List ℕ) (ps : List (List ℕ)) : Type 0 wh
   pub is : file ≡ log_bytes key header ps ++ rest
   pub ended : IsEnd key (end_place ps) rest
 
--- Bytes that nobody wrote have a sum that fits: a chunk of another payload stands behind these.
+-- Bytes that nobody wrote have a sum that fits: a chunk of another payload stands after these.
 pub record IsStray (key header : List ℕ) (ps : List (List ℕ)) (p file : List ℕ) : Type 0 where
   pub other : List ℕ
   pub differs : other ≢ p

@@ -81,7 +81,7 @@ fn has_mark(bytes: &[u8]) -> bool
     front == MARK.as_slice()
 }
 
-// The payload's length, which stands behind the mark.
+// The payload's length, which stands after the mark.
 fn length_at(bytes: &[u8]) -> usize
     requires { 8 ≤ length bytes.now }
     ensures { result ≡ length_at bytes.now }

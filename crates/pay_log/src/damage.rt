@@ -1,11 +1,11 @@
-//! Whether a chunk stands behind a place where none does.
+//! Whether a chunk stands after a place where none does.
 
 ghost use Rattle.std.specs.Prelude.{◌↔◌, ◌+◌, ◌≤◌, ◌^◌, ◌<◌, IsTrue, length};
 ghost use Rattle.pay_log.specs.Damage.{HasChunkBehind, IsChunkAt};
 
 use crate::chunk::front;
 
-/// Looks for a chunk at each byte behind the first of these, which stands at this place: most aren't its mark.
+/// Looks for a chunk at each byte after the first of these, which stands at this place: most aren't its mark.
 pub(crate) fn has_chunk_behind(key: &[u8; 32], place: usize, bytes: &[u8]) -> bool
     requires { place < 2 ^ 63 }
     ensures { IsTrue result ↔ HasChunkBehind key.now place bytes.now }
@@ -18,7 +18,7 @@ pub(crate) fn has_chunk_behind(key: &[u8; 32], place: usize, bytes: &[u8]) -> bo
     false
 }
 
-// Whether a chunk stands so many bytes behind their first.
+// Whether a chunk stands so many bytes after their first.
 fn is_chunk_at(key: &[u8; 32], place: usize, bytes: &[u8], at: usize) -> bool
     requires place { place < 2 ^ 63 }
     requires at { at ≤ length bytes.now }

@@ -65,7 +65,7 @@ impl Header {
     }
 }
 
-// Whether a part stands so many bytes behind their first.
+// Whether a part stands so many bytes after their first.
 fn is_at(bytes: &[u8], at: usize, part: &[u8]) -> bool
     requires { at + length part.now ≤ length bytes.now }
     ensures { IsTrue result ↔ (take (length part.now) (drop at bytes.now) ≡ part.now) }

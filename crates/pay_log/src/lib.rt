@@ -1,7 +1,15 @@
-//! A write-ahead log: payloads in chunks, each of them on the disk before it is acknowledged, by one sync a chunk.
+//! A write-ahead log: payloads in chunks, each of them on the disk before it is acknowledged, by
+//! one sync a chunk.
 //!
-//! A chunk ends with a checksum under a secret key, over its place and its bytes. Recovery drops what a crash left of a
-//! chunk that wasn't acknowledged, and reads all that were.
+//! A chunk ends with a checksum under a secret key, over its place and its bytes. [`recover`] drops
+//! what a crash left of a chunk that wasn't acknowledged, and hands on all that were; [`Log`]
+//! appends.
+//!
+//! ```
+//! let place = recover(alloc, &mut device, &key, &header, &mut payloads)?;
+//! let mut log = Log::new(device, key, place);
+//! log.append(alloc, b"whole records")?;
+//! ```
 #![tactic(auto)]
 
 mod chunk;

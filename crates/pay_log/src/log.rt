@@ -19,7 +19,7 @@ use crate::reading::read_log;
 use crate::sink::Sink;
 use std::alloc::Global;
 
-/// A log that is open, with the place behind its last chunk.
+/// A log that is open, with the place after its last chunk.
 #[derive(Drop)]
 pub struct Log<D> {
     device: D,

@@ -54,7 +54,7 @@ fn replace(
     Ok(())
 }
 
-// The bytes with more behind them.
+// The bytes with more after them.
 fn joined(alloc: Global, bytes: &[u8], more: &[u8]) -> Result<Vec<u8>, AllocError>
     ensures { IfOk result (λ all. all.items ≡ bytes.now ++ more.now) }
 {

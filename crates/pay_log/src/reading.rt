@@ -74,7 +74,7 @@ fn judge_header<D: Device>(alloc: Global, device: &mut D, header: &Header) -> Re
     }
 }
 
-// Whether a chunk stands behind the place where none does.
+// Whether a chunk stands after the place where none does.
 fn has_more<D: Device>(
     alloc: Global,
     device: &mut D,

@@ -149,7 +149,7 @@ fn pays<R: Wait, K: Keeper>(
 struct Ended {
     bytes: Vec<u8>,
     acknowledged: usize,
-    // whether nothing was kept, and nothing asked of the disk, behind the first failure
+    // whether nothing was kept, and nothing asked of the disk, after the first failure
     stops: bool,
 }
 

@@ -24,7 +24,7 @@ const HEADER: Header = Header {
     keys: [3; 32],
 };
 
-/// What is appended, each in one chunk: of 45, 40 and 49 bytes behind the header's 75.
+/// What is appended, each in one chunk: of 45, 40 and 49 bytes after the header's 75.
 const TEXTS: &[&str] = &["first", "", "the third"];
 
 /// Where each chunk ends in the file, the header before them.
@@ -140,7 +140,7 @@ fn texts_on(alloc: Global, bytes: &[u8]) -> Result<Option<usize>, Fail> {
     Ok(texts_in(&payloads))
 }
 
-/// The log behind a crash at the call of this number, where so many bytes of an append were written, with how many texts
+/// The log after a crash at the call of this number, where so many bytes of an append were written, with how many texts
 /// were acknowledged, and whether each call failed after one had.
 fn crashed(alloc: Global, fails: usize, torn: usize) -> Result<(Vec<u8>, usize, bool), Fail> {
     let mut disk = FailingDisk {

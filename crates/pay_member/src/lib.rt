@@ -2,6 +2,12 @@
 //!
 //! [`Member`] is the object that a node locks, a simulator drives and an auditor replays: all that
 //! it shows is a function of its genesis, its keys and its stored history.
+//!
+//! ```
+//! let mut member = Member::<MaskInstance, WaitingBook>::new(alloc, genesis, keys)?;
+//! let seq = member.ask(alloc, stamp, value)?;
+//! let brought = member.bring(alloc, stamp, &tagger, &bytes)?;
+//! ```
 #![tactic(auto)]
 
 mod ask_fault;

@@ -1,5 +1,11 @@
-//! A node among its peers on one machine: the file that says on which port each member listens, the connections of
-//! a node, and the threads that keep it running until its desk's input ends.
+//! A node among its peers on one machine: the file of ports, the connections of a node, and the
+//! threads that keep it running until its desk's input ends.
+//!
+//! ```
+//! let start = NodeStart::fresh(alloc, member);
+//! let (ended, output) = run_node(&rt, alloc, start, &tagger, &config, &mut reader, writer);
+//! let (member, receipts) = ended?;
+//! ```
 #![tactic(auto)]
 
 mod accepting;

@@ -1,7 +1,14 @@
 //! A running node: one member under a lock, and the seats from which threads call it.
 //!
-//! Each call from a [`Seat`] leaves a receipt of its answer there. Once all threads have ended, the receipts are held
-//! against the member's history: it is one that a single thread could have made, with these very calls.
+//! Each call from a [`Seat`] leaves a receipt of its answer there. Once all threads have ended, the
+//! receipts are held against the member's history: it is one that a single thread could have made,
+//! with these very calls.
+//!
+//! ```
+//! let Ok((node, mut seats)) = Node::<_, _, NoHistory>::new(alloc, member, 2) else { .. };
+//! let seq = node.ask(&rt, alloc, &mut seats[1], value)?;
+//! let Ok(member) = node.close(alloc, seats.as_slice()) else { .. };
+//! ```
 #![tactic(auto)]
 
 mod beginning;

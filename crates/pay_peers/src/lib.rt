@@ -1,7 +1,13 @@
-//! The streams of a node's peers: what is read from them and brought to it, what they are answered, how long they are
-//! dialed; and the node as a desk's teller.
+//! The streams of a node's peers: what is read from them and brought to it, how their WANTs are
+//! answered, how long they are dialed; and the node as a desk's teller.
 //!
-//! It stands on the calls of a [`Node`](pay_node::Node) alone: each is made from a seat, which keeps its receipt.
+//! It stands on the calls of a [`Node`](pay_node::Node) alone: each is made from a seat, which
+//! keeps its receipt.
+//!
+//! ```
+//! read_ahead(&context, &gate, peer, Ahead::most(), &mut asking, &mut reader, &mut writer)?;
+//! write_peer(&context, &seats, &stop, &admission, &mut reader, &mut writer)?;
+//! ```
 #![tactic(auto)]
 
 mod admission;

@@ -20,7 +20,7 @@ use Rattle.pay_record.proofs.Fronts.{bits_same, eight_same, four_same, two_same}
 use Rattle.pay_record.proofs.Opened.{OneFront}
 use Rattle.pay_record.proofs.Stands.{some_bytes}
 
--- two entries' fields, and what stands behind them, are the same
+-- two entries' fields, and what stands after them, are the same
 record Same (e other : Event) (i j : ℕ) (r o : Reply) (x y : List ℕ) : Type 0 where
   event : e ≡ other
   id : i ≡ j

@@ -11,14 +11,14 @@ use Rattle.pay_resume.specs.declared.records.RecordFault.TheVariants.{Memory}
 use Rattle.pay_record.specs.Loggable.{HasRoom, IsLoggable, IsTyped, IsReadAs, StandsIn}
 use Rattle.pay_record.specs.Records.{record_of}
 
--- One record at most stands at the front of bytes, and it is said what stands behind.
+-- One record at most stands at the front of bytes, and it is said what stands after.
 abbrev pub OneRecord : Type 0
 OneRecord =
     (k : KeyFields) (bytes : List ℕ) (l other : LoggedFields)
     → (stands : StandsIn k bytes l) → (others : StandsIn k bytes other)
     → (l ≡ other) × (stands.rest ≡ others.rest)
 
--- What was written is read again, whatever stands behind it, but for refused memory.
+-- What was written is read again, whatever stands after it, but for refused memory.
 abbrev pub WrittenIsRead : Type 0
 WrittenIsRead =
     (k : KeyFields) (l : LoggedFields) (rest : List ℕ) (answer : Result (HistoryEntry × ℕ × ℕ) RecordFault)

@@ -16,7 +16,7 @@ pub fn one_record()
     one_front();
 }
 
-/// What was written is read again, whatever stands behind it.
+/// What was written is read again, whatever stands after it.
 pub fn written_is_read()
     ensures { WrittenIsRead }
 {

@@ -3,7 +3,7 @@
 ghost use Rattle.std.specs.Prelude.{◌≡◌, ◌++◌, ◌∷◌, ◌<◌, ◌^◌, IfSome, IfNone, length};
 ghost use Rattle.std.specs.Int.{w16, w32, w64, to_be_bytes};
 
-/// One byte, and what stands behind it.
+/// One byte, and what stands after it.
 pub(crate) fn one(bytes: &[u8]) -> Option<(u8, &[u8])>
     ensures some { IfSome result (λ r. bytes.now ≡ r.0 ∷ r.1.now) }
     ensures none { IfNone result (length bytes.now < 1) }
@@ -14,7 +14,7 @@ pub(crate) fn one(bytes: &[u8]) -> Option<(u8, &[u8])>
     }
 }
 
-/// A number of two bytes, and what stands behind it.
+/// A number of two bytes, and what stands after it.
 #[tactic(auto, using(std::proofs::lemmas::Nat::be_bytes_2))]
 pub(crate) fn two(bytes: &[u8]) -> Option<(u16, &[u8])>
     ensures some { IfSome result (λ r. bytes.now ≡ to_be_bytes w16 r.0 ++ r.1.now) }
@@ -27,7 +27,7 @@ pub(crate) fn two(bytes: &[u8]) -> Option<(u16, &[u8])>
     }
 }
 
-/// A number of four bytes, and what stands behind it.
+/// A number of four bytes, and what stands after it.
 #[tactic(auto, using(std::proofs::lemmas::Nat::be_bytes_4))]
 pub(crate) fn four(bytes: &[u8]) -> Option<(u32, &[u8])>
     ensures some { IfSome result (λ r. bytes.now ≡ to_be_bytes w32 r.0 ++ r.1.now) }
@@ -40,7 +40,7 @@ pub(crate) fn four(bytes: &[u8]) -> Option<(u32, &[u8])>
     }
 }
 
-/// A number of eight bytes, and what stands behind it.
+/// A number of eight bytes, and what stands after it.
 #[tactic(auto, using(std::proofs::lemmas::Nat::be_bytes_8))]
 pub(crate) fn eight(bytes: &[u8]) -> Option<(u64, &[u8])>
     ensures some { IfSome result (λ r. bytes.now ≡ to_be_bytes w64 r.0 ++ r.1.now) }

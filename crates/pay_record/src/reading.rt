@@ -81,7 +81,7 @@ fn read_record<T: Tagger>(
     }
 }
 
-// The record of an ask, of which these are the bytes behind its stamp.
+// The record of an ask, of which these are the bytes after its stamp.
 fn read_ask(
     alloc: Global,
     keys: &Keys,
@@ -127,7 +127,7 @@ fn value_in_front(alloc: Global, len: u16, bytes: &[u8]) -> Result<Bytes, Record
     }
 }
 
-// The record of a frame, of which these are the bytes behind its stamp.
+// The record of a frame, of which these are the bytes after its stamp.
 fn read_frame<T: Tagger>(
     alloc: Global,
     tagger: &T,
@@ -221,7 +221,7 @@ fn is_want(kind: Kind) -> bool
     }
 }
 
-// The record of a query, of which these are the bytes behind its stamp.
+// The record of a query, of which these are the bytes after its stamp.
 fn read_query(
     keys: &Keys,
     stamp: u16,

@@ -1,4 +1,4 @@
--- A member that loses what it took behind a beginning of its history.
+-- A member that loses what it took after a beginning of its history.
 use Rattle.std.specs.Prelude.{◌≡◌, ◌≢◌, ℕ, ◌<◌, ◌==◌, not, List, ◌++◌, length, ⊤}
 use Rattle.std.specs.List.{All, filter}
 use Rattle.pay_channel.specs.History.{Event, out}

@@ -14,7 +14,7 @@ pub data Step : Type 0 where
   Happens : Deed → Step
   Restarts : ℕ → ℕ → Step
 
--- the history of member i behind a step
+-- the history of member i after a step
 abbrev pub history_behind : Setting → ℕ → List Event → Step → List Event
 history_behind w i history (Happens d) = history ++ adds w i history d
 history_behind w i history (Restarts k kept) = if k == i then take kept history else history
@@ -37,7 +37,7 @@ IsFair w before (Happens d) = IsGenuineIn w (history_by_steps w before) d
 IsFair w before (Restarts k kept) =
     IsCorrect w k → All (IsStepAmong w k (take kept (history_by_steps w before k))) before
 
--- each step is, behind those before it
+-- each step is, after those before it
 pub record AreFair (w : Setting) (steps : List Step) : Type 0 where
   pub each :
       (before : List Step) (s : Step) (after : List Step) → steps ≡ before ++ s ∷ after

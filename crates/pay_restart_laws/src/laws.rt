@@ -7,7 +7,7 @@ ghost use Rattle.pay_restart_laws.specs.Restarts.{RestartIsNoLie, HeadlineOfRest
 use pay_channel::laws::grow_at_the_end;
 use pay_world::laws::{genuine_deeds, headline, histories_by_deeds};
 
-/// A member loses what it took behind a beginning of its history. Where no frame of it beyond that was brought to a
+/// A member loses what it took after a beginning of its history. Where no frame of it beyond that was brought to a
 /// correct member, the deeds without those that it lost are deeds in which no frame is forged, and nobody else's history
 /// is another.
 pub fn forgetting_is_no_lie()

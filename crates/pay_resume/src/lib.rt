@@ -1,5 +1,9 @@
-//! A member whose history is that of the records in a log. They are handed to it one by one, so no history stands in
-//! memory beside the member.
+//! A member whose history is that of the records in a log. They are handed to it one by one, so no
+//! history stands in memory beside the member.
+//!
+//! ```
+//! let resumed = resume(alloc, &mut device, &log_key, &header, &genesis, &keys, &records)?;
+//! ```
 #![tactic(auto)]
 
 mod records;

@@ -55,7 +55,7 @@ fn note(ids: &mut Vec<u64>, entry: &HistoryEntry, id: u64) -> Result<(), AllocEr
     }
 }
 
-// What stands behind so many bytes.
+// What stands after so many bytes.
 fn behind(bytes: &[u8], len: usize) -> &[u8]
     requires { len ≤ length bytes.now }
     ensures { result.now ≡ drop len bytes.now }

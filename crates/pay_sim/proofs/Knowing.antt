@@ -1,4 +1,4 @@
--- What members know behind events, by the world that is behind them.
+-- What members know after events, by the world that is after them.
 use Rattle.std.proofs.Common.{◌≡◌, ◌≢◌, ℕ, ◌<◌, ◌≤◌, Bool, true, false, not, ◌&&◌, cond, eqb, ltb, List, [], slice_get, Option, Some, None, is_some, option_map, refl, sym, ap, ◌∙◌, rules, tests}
 use Rattle.std.specs.Option.{option_map_or}
 use Rattle.pay_frame.specs.Frame.{BodyFields}

@@ -18,7 +18,7 @@ done_as P Q c before after new (Ok x) f (text, last, does, written, behind) = (t
 done_as P Q c before after new (Err (halt.Stop stop)) f does = f (Stops stop) does
 done_as P Q c before after new (Err halt.Memory) f does = tt
 
--- ---- a line behind the first
+-- ---- a line after the first
 
 pub empty_tells : (c : ScriptGroup) (es : List WorldEvent) (line : List ℕ) → length line ≡ 0 → LineTells c es line (Prints [] es)
 empty_tells c es [] none = refl

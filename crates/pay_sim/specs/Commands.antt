@@ -58,7 +58,7 @@ turn_of word = if bytes_eq word (codes "next") then Some None else option_map So
 abbrev pub first_turn : List (List ℕ) → Option (Option ℕ)
 first_turn words = option_and_then turn_of (first_word words)
 
--- ---- commands, by the words behind their names
+-- ---- commands, by the words after their names
 
 abbrev pub if_last : {X : Type 0} → List (List ℕ) → X → Option X
 if_last words x = if is_none words then Some x else None
@@ -92,7 +92,7 @@ bring_in words =
     (below MEMBERS (drop 1 words)))
     (below MEMBERS words)
 
--- a body within a frame's limits, behind which no word is left
+-- a body within a frame's limits, after which no word is left
 abbrev pub if_body : List (List ℕ) → BodyFields → Option BodyFields
 if_body words body = if is_body body then if_last words body else None
 

@@ -80,7 +80,7 @@ IsBroughtTo g k before bytes (Asked number) = ⊥
 IsBroughtTo g k before bytes (Refused fault) = ⊥
 IsBroughtTo g k before bytes Ignored = ⊥
 
--- the reply of the member with these keys, behind these events of its own
+-- the reply of the member with these keys, after these events of its own
 abbrev pub IsReplyBehind : GenesisFields → KeyFields → List Event → WorldEvent → WorldReply → Type 0
 IsReplyBehind g k before (Ask i v) reply =
     reply ≡ answer_to_ask (refusal g k before (entry.Ask v)) (asks before)

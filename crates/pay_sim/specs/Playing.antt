@@ -1,4 +1,4 @@
--- What holds while a script is played: the world is that behind the events that were made.
+-- What holds while a script is played: the world is that after the events that were made.
 use Rattle.std.specs.Prelude.{◌≡◌, ℕ, ◌<◌, Bool, true, false, List, [], ◌∷◌, ◌++◌, length, Option, Some, None, Result, Ok, Err, ⊤}
 use Rattle.pay_member.specs.Member.{MemberFields}
 use Rattle.pay_world.specs.declared.event.WorldEvent.{WorldEvent}
@@ -23,7 +23,7 @@ pub record GameFields : Type 0 where
   pub members : ℕ
   pub made : ℕ
 
--- It is the world of this group behind these events.
+-- It is the world of this group after these events.
 pub record IsBehind (c : ScriptGroup) (es : List WorldEvent) (g : GameFields) : Type 0 where
   pub after : IsWorldAfter c.genesis (group_test_keys c.genesis.members) c.liars es g.world
   pub each : (i : ℕ) (m : MemberFields) → member_in g.world i ≡ Some m → m.genesis ≡ c.genesis
@@ -31,7 +31,7 @@ pub record IsBehind (c : ScriptGroup) (es : List WorldEvent) (g : GameFields) : 
   pub few : c.genesis.members < 256
   pub made : g.made ≡ length es
 
--- It is the world of some group behind some events: so all its members have the test keys.
+-- It is the world of some group after some events: so all its members have the test keys.
 pub record IsGame (g : GameFields) : Type 0 where
   pub group : ScriptGroup
   pub events : List WorldEvent
@@ -43,7 +43,7 @@ IsMade c es e new (Ok reply) = Makes c es e (Ok reply) × IsBehind c (es ++ e �
 IsMade c es e new (Err (halt.Stop stop)) = Makes c es e (Err stop)
 IsMade c es e new (Err halt.Memory) = Unit {0}
 
--- a command was done, and its text is written behind what stands there
+-- a command was done, and its text is appended to what stands there
 abbrev pub IsDone : (Told → Type 0) → ScriptGroup → List ℕ → List ℕ → GameFields → Result ⊤ Halt → Type 0
 IsDone does c before after new (Ok _) =
     (text : List ℕ) × (last : List WorldEvent) × does (Prints text last) × (after ≡ before ++ text)

@@ -40,7 +40,7 @@ FirstLineIsGroup = (line : List ℕ) (c : ScriptGroup) → group_in line ≡ Som
 
 -- ---- what `all` brings
 
--- Behind these events those are brought, and each is a frame that its receiver takes.
+-- After these events those are brought, and each is a frame that its receiver takes.
 pub record AreTaken (c : ScriptGroup) (es brought : List WorldEvent) : Type 0 where
   pub each :
       (k : ℕ) (e : WorldEvent) → slice_get brought k ≡ Some e

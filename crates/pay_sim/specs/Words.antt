@@ -58,7 +58,7 @@ reply_line i r = reply_words i r ++ line_feed ∷ []
 abbrev pub book_of : MemberFields → Standing
 book_of m = book_after m.genesis m.keys.own (events m.history)
 
--- a number for each of some accounts, each behind a blank
+-- a number for each of some accounts, each after a blank
 unfoldable pub account_words : (ℕ → ℕ) → ℕ → List ℕ
 account_words number_of accounts = flat_map (λ a. codes " " ++ decimal (number_of a)) (range_with_len 0 accounts)
 

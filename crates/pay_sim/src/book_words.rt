@@ -1,4 +1,4 @@
-//! What a script prints of a member's book, written behind what is written already.
+//! What a script prints of a member's book, appended to what is written already.
 
 ghost use Rattle.std.specs.Prelude.{◌≡◌, ◌++◌, OnOk, slice_index};
 ghost use Rattle.pay_sim.specs.Words.{account_words, book_of, book_words};

@@ -1,4 +1,8 @@
 //! Scripts of a group's day: their commands, and what is printed of each.
+//!
+//! ```
+//! let end = run_sim::<MaskInstance, WaitingBook, _, _>(alloc, &mut reader, &mut writer)?;
+//! ```
 #![tactic(auto)]
 
 mod book_words;

@@ -120,7 +120,7 @@ fn found<I: Instance + Drop, B: Settle + Drop>(
     }
 }
 
-/// Does what a line says behind the first.
+/// Does what a line says after the first.
 fn obey_line<I: Instance + Drop, B: Settle + Drop>(
     alloc: Global,
     game: &mut Game<I, B>,

@@ -1,4 +1,4 @@
-//! What a script prints of replies, written behind what is written already.
+//! What a script prints of replies, appended to what is written already.
 
 ghost use Rattle.std.specs.Prelude.{◌≡◌, ◌++◌, OnOk, codes, decimal};
 ghost use Rattle.pay_link.specs.Words.{link_words};

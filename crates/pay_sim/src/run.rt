@@ -16,7 +16,7 @@ use std::alloc::Global;
 /// The longest line of a script in bytes, its line feed not counted.
 pub const LONGEST_LINE: usize = 4096;
 
-/// Plays the script that is read: a first line that says a group, and commands behind it. Writes
+/// Plays the script that is read: a first line that says a group, and commands after it. Writes
 /// what they print, as a function of the script and of the histories that its events make.
 ///
 /// The last line tells of a forged frame, of a line that is none, and of an event more than there

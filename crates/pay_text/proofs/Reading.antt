@@ -61,7 +61,7 @@ leads word zero first long written small = omega (arith, ap length (written ∙ 
 leads word (suc k) first long written small =
     omega (arith, first_decimal (suc k) (omega arith) small, sym (ap (λ (xs : List ℕ). get_or xs 0 0) written) ∙ first)
 
--- nor digits behind a zero
+-- nor digits after a zero
 pub zero_first_is_none : (word : List ℕ) → get_or word 0 0 ≡ 48 → 1 < length word → number_of word ≡ None
 zero_first_is_none word first long = none_of word (λ n e.
     let (written, small) = is_written word n e in

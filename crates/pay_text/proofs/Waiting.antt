@@ -1,4 +1,4 @@
--- Answers that wait behind what is written.
+-- Answers that wait after what is written.
 use Rattle.std.proofs.Common.{◌≡◌, ℕ, ◌+◌, List, [], ◌∷◌, ◌++◌, length, take, refl, sym, ◌∙◌, ap, subst, arith, append_assoc, append-nil, length-append, true, false, Bool, Ok, Err, inl, inr}
 use Rattle.std.specs.Prelude.{Option, Result}
 use Rattle.std.specs.Io.KnownBytes.{Appends}

@@ -15,7 +15,7 @@ pub record AnswersAll {A : Type 0} (says : A → Option (List ℕ) → List ℕ 
   pub answers : Answers says old lines text on new
   pub written : Appends before after text
 
--- The first of the lines are answered, and a beginning of the answers is written. Who answers is as it was behind
+-- The first of the lines are answered, and a beginning of the answers is written. Who answers is as it was after
 -- those lines, or it gave up at the next one.
 pub record AnswersFirst {A : Type 0} (says : A → Option (List ℕ) → List ℕ → Bool → A → Type 0) (gives_up : A → A → Type 0) (old : A) (lines : List (Option (List ℕ))) (before after : Option (List ℕ)) (new : A) : Type 0 where
   pub first : List (Option (List ℕ))
@@ -29,7 +29,7 @@ pub record AnswersFirst {A : Type 0} (says : A → Option (List ℕ) → List �
   pub ends : (new ≡ mid) ⊎ gives_up mid new
 
 -- What is written, by how the engine ended: the answers to all lines of the input, at its end or at the first line
--- behind which none may follow; else a beginning of them.
+-- after which none may follow; else a beginning of them.
 abbrev pub Writes : {A : Type 0} → (A → Option (List ℕ) → List ℕ → Bool → A → Type 0) → (A → A → Type 0) → ℕ → A → A → Option (List ℕ) → Option (List ℕ) → Option (List ℕ) → Option (List ℕ) → Result Bool StreamFault → Type 0
 Writes says gives_up bound old new input left before after (Ok on) =
     IfSome input (λ bytes. AnswersAll says old (lines_within bound bytes) before after on new) × Either on (IsAtEnd left) Unit

@@ -6,7 +6,7 @@ use Rattle.pay_text.specs.Words.{onto_first}
 abbrev pub line_feed : ℕ
 line_feed = 10
 
--- The lines of a text: what stands before each line feed, and what stands behind the last one unless it is
+-- The lines of a text: what stands before each line feed, and what stands after the last one unless it is
 -- nothing.
 unfoldable pub lines_of : List ℕ → List (List ℕ)
 lines_of [] = []

@@ -6,7 +6,7 @@ use Rattle.pay_io.specs.declared.stream_fault.StreamFault.TheVariants.{Memory, R
 use Rattle.pay_io.specs.Device.{WroteBeginning}
 use Rattle.pay_text.specs.Answers.{Answers}
 
--- A text is put behind what waits: all of that is written, or waits still, in order.
+-- A text is put after what waits: all of that is written, or waits still, in order.
 pub record Puts (before after : Option (List ℕ)) (old new text : List ℕ) : Type 0 where
   pub out : List ℕ
   pub written : Appends before after out
@@ -56,7 +56,7 @@ GoesPut says gives_up lines left old new before after waited waits (Err Read) = 
 GoesPut says gives_up lines left old new before after waited waits (Err Write) = BrokeOff says lines old new before after waited
 GoesPut says gives_up lines left old new before after waited waits (Err Bound) = BrokeOff says lines old new before after waited
 
--- What waited is written behind what was answered, by how that ended and what came of writing it. After a write that
+-- What waited is appended to what was answered, by how that ended and what came of writing it. After a write that
 -- failed nothing more is written.
 abbrev pub HasWritten : Result Bool StreamFault → Option (List ℕ) → Option (List ℕ) → List ℕ → Result Bool StreamFault → Type 0
 HasWritten answered before after waited (Ok on) = (answered ≡ Ok on) × Appends before after waited

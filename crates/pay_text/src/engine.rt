@@ -19,7 +19,7 @@ const PIECE: usize = 4096;
 /// feed at the end counts as one; of a line over the bound the answerer learns nothing else. The answers to the lines
 /// that one read gave are written together, as far as a buffer of 65,536 bytes holds them.
 ///
-/// Returns `true` at the input's end, and `false` after a line behind which none may follow.
+/// Returns `true` at the input's end, and `false` after a line after which none may follow.
 ///
 /// After a fault what was written is a prefix of the answers, and the answerer is what the answered
 /// lines made of it, or it gave up at the next one.

@@ -1,5 +1,15 @@
-//! Lines of text: cutting a text into them as it comes, their words and numbers, writing them, and the loop of engines
-//! that answer each line.
+//! Lines of text: their words and numbers, cutting a text into them as it comes, and the loop of
+//! engines that answer each line.
+//!
+//! [`Words`] takes a line apart, [`push_word`] and [`push_number`] make one, and [`run_lines`] has
+//! an [`Answerer`] answer those of an input.
+//!
+//! ```
+//! let mut words = Words::new(b"BALANCE 2");
+//! assert_eq!(words.next_word(), Some(b"BALANCE"));
+//! assert_eq!(words.next_number(), Some(2));
+//! assert!(words.is_done());
+//! ```
 #![tactic(auto)]
 
 mod answerer;

@@ -1,4 +1,4 @@
-//! Words and numbers, written behind what is written already.
+//! Words and numbers, appended to what is written already.
 
 ghost use Rattle.std.specs.Prelude.{◌≡◌, ◌++◌, OnOk, decimal};
 

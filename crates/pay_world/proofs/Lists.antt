@@ -34,7 +34,7 @@ slice_get-behind : {X : Type 0} (xs more : List X) → slice_get (xs ++ more) (l
 slice_get-behind [] more = refl
 slice_get-behind (x ∷ xs) more = slice_get-behind xs more
 
--- the item behind a prefix makes it longer
+-- the item after a prefix makes it longer
 pub prefix_push : {X : Type 0} (xs ys : List X) (x : X) → IsPrefix xs ys → slice_get ys (length xs) ≡ Some x → IsPrefix (xs ++ x ∷ []) ys
 prefix_push {X} xs ys x p at = go p.rest p.is where
   go : (rest : List X) → ys ≡ xs ++ rest → IsPrefix (xs ++ x ∷ []) ys

@@ -137,7 +137,7 @@ module _ (g : GenesisFields) (keys : List KeyFields) (l : LiarFields) (events : 
   deed_is : (e : WorldEvent) → deed_of (keys_in old) e ≡ deed_of (correct_keys keys l) e
   deed_is e = ap (λ (k : ℕ → Option KeyFields). deed_of k e) known
 
-  -- and forged behind the events
+  -- and forged after the events
   forged_is : (e : WorldEvent) (o : Option Deed) → deed_of (correct_keys keys l) e ≡ o
       → is_forged_at old e ≡ option_map_or (is_forged_in (setting_of l) (history_by (setting_of l) (deeds_by keys l events))) o false
   forged_is e o at =
@@ -190,7 +190,7 @@ module _ (g : GenesisFields) (keys : List KeyFields) (l : LiarFields) (events : 
         (genuine_more (setting_of l) (deeds_by keys l events) d is.genuine
         ((told (setting_of l) (history_by (setting_of l) (deeds_by keys l events)) d).0 (sym (forged_is e (Some d) at) ∙ unforged)))
 
-  -- the event is the first that is forged, whatever comes behind it
+  -- the event is the first that is forged, whatever comes after it
   pub forged_after :
       ForgedIsTold → (e : WorldEvent) (rest : List WorldEvent) → is_forged_at old e ≡ true → IsFirstForged keys l (events ++ e ∷ rest) (length events)
   forged_after told e rest forged = at (deed_of (correct_keys keys l) e) refl where

@@ -52,7 +52,7 @@ module _ (below : Below) (w : Setting) where
       let large : Large (votes_at old k a s ++ later.rest) = omega arith in
       record { holder = k; correct = has.correct; quorum = subst Large (sym votes_are) large }
 
-  -- what is sent stays, and more comes behind it
+  -- what is sent stays, and more comes after it
   pub out_longer : (old new : ℕ → List Event) (j : ℕ) → Grow old new → IsPrefix (out (group_at w j) (old j)) (out (group_at w j) (new j))
   out_longer old new j grow =
       let longer = grow.each j in

@@ -15,7 +15,7 @@ IsGenuineIn w histories (Brings k from number body) =
     IsCorrect w k → IsCorrect w from
     → slice_get (out (group_at w from) (histories from)) number ≡ Some body
 
--- the same behind a list of deeds
+-- the same after a list of deeds
 abbrev pub IsGenuine : Setting → List Deed → Deed → Type 0
 IsGenuine w before d = IsGenuineIn w (history_by w before) d
 

@@ -31,7 +31,7 @@ deeds_by keys l events = deeds_of (correct_keys keys l) events
 abbrev pub history_of : List KeyFields → LiarFields → List WorldEvent → ℕ → List Event
 history_of keys l events i = history_by (setting_of l) (deeds_by keys l events) i
 
--- Event k is a forged frame, behind genuine ones: it is the first that is forged.
+-- Event k is a forged frame, after genuine ones: it is the first that is forged.
 pub record IsFirstForged (keys : List KeyFields) (l : LiarFields)
     (events : List WorldEvent) (k : ℕ) : Type 0 where
   pub before : AreGenuine (setting_of l) (deeds_by keys l (take k events))

@@ -1,4 +1,4 @@
--- What holds of worlds behind lists of events, as statements. Each is proved as a public law.
+-- What holds of worlds after lists of events, as statements. Each is proved as a public law.
 use Rattle.std.specs.Prelude.{◌≡◌, ℕ, true, false, List, [], ◌∷◌, ◌++◌, Some, Result, Ok, Err, IsOkUnless, MatchOption, All}
 use Rattle.pay_link.specs.Genesis.{GenesisFields}
 use Rattle.pay_link.specs.Keys.{IsKeysOf, KeyFields}
@@ -14,13 +14,13 @@ use Rattle.pay_world.specs.World.{WorldFields, AreKeysOf, fresh_world}
 use Rattle.pay_world.specs.Answer.{Answers, forgery, is_forged_at, one_more}
 use Rattle.pay_world.specs.Run.{IsOfBytes, IsWorldAfter, MayHaveTaken, correct_keys, events_of, history_of}
 
--- a new world is behind none
+-- a new world is after none
 abbrev pub NoEventsMakeFresh : Type 0
 NoEventsMakeFresh =
     (g : GenesisFields) (keys : List KeyFields) (l : LiarFields) → AreKeysOf g keys
     → IsWorldAfter g keys l [] (fresh_world g keys l)
 
--- and one that answered an event that isn't forged, behind one more
+-- and one that answered an event that isn't forged, after one more
 abbrev pub WorldByOneMore : Type 0
 WorldByOneMore =
     (g : GenesisFields) (keys : List KeyFields) (l : LiarFields) (events : List WorldEvent)

@@ -21,7 +21,7 @@ pub record HasQuorum (w : Setting) (histories : ℕ → List Event) (a s : ℕ) 
       < 2 * size w.members (echo_set (group_at w holder) (votes_at histories holder a s) v)
 
 -- Authenticity: what one correct member took from another is a prefix of all that the other sent.
--- And the rule of READY: behind each correct member's READY stands a quorum of ECHOs for its
+-- And the rule of READY: for each correct member's READY there is a quorum of ECHOs for its
 -- value at some correct member.
 pub record Stands (w : Setting) (histories : ℕ → List Event) : Type 0 where
   pub proper : (i : ℕ) → IsCorrect w i → All (IsEvent (group_at w i)) (histories i)

@@ -78,7 +78,7 @@ pub fn histories_by_deeds()
 {}
 
 /// A history that a member can have is, queries left out, the one by its asks and frames as deeds
-/// at that member: each of them counts behind those before it, whoever is faulty.
+/// at that member: each of them counts after those before it, whoever is faulty.
 pub fn legal_history_by_deeds()
     ensures { LegalHistoryByDeeds }
 {

@@ -1,5 +1,13 @@
 //! Many members of one group and all that happens to them: what holds between correct members,
 //! whatever the others do.
+//!
+//! A [`World`] takes asks and brought bytes one by one, [`run_world`] a whole list of them. The
+//! theorem is the law [`headline`](laws::headline); `docs/HEADLINE.md` explains it.
+//!
+//! ```
+//! let mut world = World::<MaskInstance, WaitingBook>::new(alloc, &genesis, &keys, &liars)?;
+//! let reply = world.apply(alloc, &tagger, WorldEvent::Bring(member, bytes))?;
+//! ```
 #![tactic(auto)]
 
 mod convergence;

@@ -43,7 +43,7 @@ use std::marker::Model;
 /// liars' places. What liars send is brought to the others as bytes.
 ///
 /// Its type keeps that what a correct member took from another is a prefix of all that the other
-/// sent, and that behind each READY of a correct member stands a quorum of ECHOs at some correct
+/// sent, and that for each READY of a correct member there is a quorum of ECHOs at some correct
 /// one.
 #[derive(Drop)]
 pub struct World<I: Instance + Drop, B: Settle + Drop> {

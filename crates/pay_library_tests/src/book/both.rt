@@ -57,7 +57,7 @@ fn settled_early(alloc: Global, books: &mut Both) -> Option<u8> {
     None
 }
 
-/// What account 0's ten settle behind these, and whether account 63 has them in the end.
+/// What account 0's ten settle after these, and whether account 63 has them in the end.
 fn settled_at_last(alloc: Global) -> Option<(Option<u8>, Option<u32>, bool)> {
     let (mut opening, mut fronts, mut balances) = ([0; 64], [1; 64], [0; 64]);
     (opening[0], fronts[63], balances[63]) = (10, 0, 10);

@@ -10,7 +10,7 @@ pub(crate) struct Draws {
 }
 
 impl Draws {
-    /// The numbers behind this one.
+    /// The numbers after this one.
     pub(crate) fn new(seed: u64) -> Self {
         Draws { last: seed }
     }

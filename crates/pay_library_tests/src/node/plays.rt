@@ -33,7 +33,7 @@ fn fresh(alloc: Global, group: Group) -> Option<(Tried, Vec<Seat>)> {
     }
 }
 
-// The same from the first seat of a row's fresh node, or behind the calls the node's closing.
+// The same from the first seat of a row's fresh node, or after the calls the node's closing.
 fn unmet<R: Wait>(rt: &R, alloc: Global, row: &Row) -> Option<usize> {
     let Some((node, mut seats)) = fresh(alloc, row.group) else {
         return Some(0);
@@ -126,7 +126,7 @@ fn seats_agree_or_not(rt: HostRuntime) {
     }
 }
 
-// Closes a node with the seats of another one, if that is refused: the fault, and the node behind it.
+// Closes a node with the seats of another one, if that is refused: the fault, and the node after it.
 fn refused(
     alloc: Global,
     node: Tried,

@@ -74,7 +74,7 @@ const NOTHING: Came = Came {
     receipts: (0, 0),
 };
 
-// Replies behind the first go out together, and a repeated WANT leaves no receipt.
+// Replies after the first go out together, and a repeated WANT leaves no receipt.
 const ROWS: &[Row] = &[
     Row {
         frames: &[SEND],
@@ -171,7 +171,7 @@ const ROWS: &[Row] = &[
     },
 ];
 
-// These frames, one behind the other.
+// These frames, one after the other.
 fn joined(alloc: Global, frames: &[&[u8]]) -> Option<Vec<u8>> {
     let mut bytes = Vec::new(alloc);
     for frame in frames {

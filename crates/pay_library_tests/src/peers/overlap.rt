@@ -26,7 +26,7 @@ const SENT: u8 = 1;
 
 const WANTED: u8 = 4;
 
-/// Holds the worker of one stamp until the other one was answered: as its frame's tag is made, or behind that, before
+/// Holds the worker of one stamp until the other one was answered: as its frame's tag is made, or after that, before
 /// the lock is taken. The other one asks for no frame before that.
 #[derive(Drop)]
 struct Held<'a, C> {
@@ -225,7 +225,7 @@ fn run<R: Threads + Wait + Clock + Sync>(
     !gate.gave_up.load(Ordering::SeqCst) && told.counts() == (2, 0, 0)
 }
 
-// The seats behind two workers of which one was held, if that was let go in time.
+// The seats after two workers of which one was held, if that was let go in time.
 fn held_seats<R: Threads + Wait + Clock + Sync>(
     rt: &R,
     alloc: Global,
@@ -240,7 +240,7 @@ fn held_seats<R: Threads + Wait + Clock + Sync>(
     in_time.then_some(seats)
 }
 
-/// Two workers, of which one is held where its frame's tag is made or behind that, and whether that frame is a repeat.
+/// Two workers, of which one is held where its frame's tag is made or after that, and whether that frame is a repeat.
 #[derive(Clone, Copy, Debug)]
 struct Row {
     held: u16,

@@ -3,7 +3,7 @@ use Rattle.hex.specs.Hex.{encode_lower}
 use Rattle.pay_audit.specs.Gathering.{Adds, state}
 use Rattle.pay_audit.proofs.export_writing.add_value.Given as goal
 
--- the digits so far, behind the quote
+-- the digits so far, after the quote
 abbrev pub invariant-loop-byte : goal.invariant-loop-byte
 invariant-loop-byte g l =
     let contents = g.W.Output.contents in
