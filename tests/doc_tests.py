@@ -116,7 +116,7 @@ def paths_named(page):
 
 @test
 def named_paths_stand():
-    for page in (it for it in PAGES if "/made/" not in it):
+    for page in PAGES:
         for path in paths_named(page):
             stands = any(os.path.exists(f"{TOP}/{it}/{path}") for it in ("", "crates"))
             same(stands, True, f"{page}: the path {path}")
