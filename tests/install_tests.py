@@ -23,7 +23,11 @@ def installed_program_stands_alone():
         done = subprocess.run([INSTALL, "prefix"], cwd=folder, capture_output=True, text=True, timeout=SECONDS)
         same((done.returncode, done.stdout.startswith("installed below ")), (0, True), done.stdout + done.stderr)
         payd = os.path.join(folder, "prefix", "bin", "payd")
-        same(run_in(folder, [payd, "--version"]), (0, "payd 0.1.0\n", ""), "the version")
+        with open(os.path.join(folder, "prefix", "lib", "payd", "proved"), encoding="ascii") as file:
+            proved = file.read()
+        same(proved.startswith("proved, of sources "), True, "what was proved")
+        for word in ("--version", "-V"):
+            same(run_in(folder, [payd, word]), (0, "payd 0.1.0\n", f"payd: {proved}"), word)
         same(run_in(folder, [payd]), (0, "", ""), "nothing to judge")
         write_json(folder, "g", ALONE)
         write_json(folder, "k", {"own": 0, "keys": key_texts(0, 1)})
@@ -33,8 +37,13 @@ def installed_program_stands_alone():
         same(run_in(folder, words, b"FRONT\n"), (0, f"front 0\n{export}", "payd: log: new\n"), "a node")
         words = [payd, "export", "--genesis", "g", "--keys", "k", "--data", "member"]
         same(run_in(folder, words), (0, export, ""), "its export")
-        with open(os.path.join(folder, "prefix", "lib", "payd", "proved"), encoding="ascii") as proved:
-            same(proved.read().startswith("proved"), True, "what was proved")
+        status, output, errors = run_in(folder, [os.path.join(folder, "prefix", "bin", "payd-group"), "--help"])
+        same((status, "fingerprint" in output, errors), (0, True, ""), "its tool for groups")
+        unit = os.path.join(folder, "prefix", "lib", "systemd", "system", "payd-node.service")
+        with open(unit, encoding="ascii") as file:
+            same(f"exec {payd} node " in file.read(), True, "the program of its service")
+        for page in ("README.md", "docs/OPERATING.md", "docs/COMMANDS.md"):
+            same(os.path.isfile(os.path.join(folder, "prefix", "share", "doc", "payd", page)), True, page)
 
 
 @test
@@ -49,14 +58,17 @@ def manual_and_completions():
         script = os.path.join(prefix, "share", "bash-completion", "completions", "payd")
         write_json(folder, "my keys.json", {})
         for words, found in (
-            ("--da", "<--data>"),
-            ("--dials a", "<always>"),
-            ("--keys my", "<my keys.json>"),
-            ("--keys none", "<>"),
+            ("node --da", ["--data"]),
+            ("node --dials a", ["always"]),
+            ("node --keys my", ["my keys.json"]),
+            ("node --keys none", [""]),
+            ("audit ''", ["my keys.json", "prefix"]),
+            ("journal m", ["my keys.json"]),
+            ("audit -", ["--jobs"]),
         ):
-            ask = f"source '{script}'; COMP_WORDS=(payd node {words}); COMP_CWORD=$((${{#COMP_WORDS[@]}} - 1)); _payd"
-            told = run_in(folder, ["bash", "-c", f"{ask}; printf '<%s>' \"${{COMPREPLY[@]}}\""])
-            same(told, (0, found, ""), f"completions of {words}")
+            ask = f"source '{script}'; COMP_WORDS=(payd {words}); COMP_CWORD=$((${{#COMP_WORDS[@]}} - 1)); _payd"
+            told = run_in(folder, ["bash", "-c", f"{ask}; printf '%s\\n' \"${{COMPREPLY[@]}}\" | sort"])
+            same(told, (0, "".join(f"{it}\n" for it in found), ""), f"completions of {words}")
 
 
 COMPLETIONS = {

@@ -48,16 +48,15 @@ def commands_of_the_unit_run_a_node():
     """In another folder, and with the program that stands here; a line goes in as the unit's own words say. Killed and
     run again, as the service manager does, it goes on."""
     with tempfile.TemporaryDirectory() as folder:
-        write_json(folder, "genesis.json", {"members": 1, "faults": 0, "opening": [7]})
+        write_json(folder, "group.json", {"members": 1, "faults": 0, "opening": [7], "ports": free_ports(1)})
         write_json(folder, "keys.json", {"own": 0, "keys": key_texts(0, 1)})
-        write_json(folder, "ports.json", {"ports": free_ports(1)})
         moved = unit().replace("/usr/local/bin/payd", PAYD).replace("/run/payd/", f"{folder}/")
         before, command = (shlex.split(words) for _, words in COMMAND.findall(moved))
         told = re.search("echo FRONT > (.*)$", moved, re.MULTILINE)[0]
         subprocess.run(before, check=True, timeout=SECONDS)
         for said in ("new", "0 entries of 0 payments, started again"):
             same(ended_behind(told, command, folder), f"payd: log: {said}\nfront 0\n", "what the node says")
-        words = [PAYD, "export", "--genesis", "genesis.json", "--keys", "keys.json", "--data", "member"]
+        words = [PAYD, "export", "--genesis", "group.json", "--keys", "keys.json", "--data", "member"]
         done = subprocess.run(words, cwd=folder, capture_output=True, text=True, check=True, timeout=SECONDS)
         same(done.stdout, export_text(0, [7], [[]], [0], [7]), "its export")
 

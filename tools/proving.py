@@ -163,9 +163,7 @@ def prove_alone(folder):
         if programs.find_kept(programs.PROVED, of.whole, made_by):
             say(f"proved before, {programs.named(of, made_by)}")
             return
-    rt = toolchain.load_rt()
-    if rt is None:
-        raise BuildError("the toolchain's command rt is not on the path")
+    rt = toolchain.load_needed()
     # its first call sets a signal's handler, which only the main thread may, and ends the provers when this ends
     rt.rtlib.guarded()
     crate = next(it for it in rt.rtlib.crates_below(programs.TOP) if it.name == programs.PROGRAM)

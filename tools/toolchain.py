@@ -7,6 +7,8 @@ import shutil
 import subprocess
 import sys
 
+from programs import BuildError
+
 
 def load_rt():
     """Loads the module, or returns nothing where the command isn't on the path."""
@@ -19,6 +21,14 @@ def load_rt():
     module = importlib.util.module_from_spec(importlib.util.spec_from_loader("rt", loader))
     loader.exec_module(module)
     return module
+
+
+def load_needed():
+    """Loads the module, without which nothing can be built."""
+    rt = load_rt()
+    if rt is None:
+        raise BuildError("the toolchain's command rt is not on the path")
+    return rt
 
 
 def identity():
