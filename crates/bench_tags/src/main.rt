@@ -1,6 +1,6 @@
-//! Computes as many tags as it is asked for, and nothing else, for `bench/check` to compare with. Words:
-//! how many, the length of the value that each covers, and how many keys are prepared. The tags are
-//! under the last of these keys; where none is to be prepared they are by `HmacSha256`.
+//! Computes as many tags as it is asked for, and nothing else, for `bench/check` to compare with.
+//! Words: how many, the length of the value that each covers, and how many keys are prepared. The
+//! tags are under the last of these keys; where none is to be prepared they are by `HmacSha256`.
 #![tactic(auto)]
 
 use pay_hmac::{HmacSha256, PreparedHmac, Tagger};

@@ -4,7 +4,8 @@ use Rattle.std.specs.Option.{option_or}
 use Rattle.pay_link.specs.Genesis.{GenesisFields}
 use Rattle.pay_audit.specs.Compared.{HasCompared}
 use Rattle.pay_audit.specs.Export.{ExportFields}
-use Rattle.pay_audit.specs.Verdict.{first_from, other_genesis, other_genesis_at, verdict_of, wrong_balance_at, wrong_front_at}
+use Rattle.pay_audit.specs.Verdict.{first_from, other_genesis, other_genesis_at, verdict_of}
+use Rattle.pay_audit.specs.Verdict.{wrong_balance_at, wrong_front_at}
 use Rattle.pay_audit.specs.declared.auditor.Auditor.{Auditor}
 use Rattle.pay_audit.specs.declared.comparison.Comparison.{Comparison}
 use Rattle.pay_audit.specs.declared.verdict.Verdict.{Verdict}
@@ -26,7 +27,8 @@ abbrev pub other_genesis_than : Option GenesisFields → ℕ → ExportFields �
 other_genesis_than None x e = None
 other_genesis_than (Some g) x e = other_genesis_at g x e
 
--- The first case of each kind. After one that comes first in a verdict's order the others aren't looked for.
+-- The first case of each kind. After one that comes first in a verdict's order the others aren't
+-- looked for.
 pub record HasFound (exports : List ExportFields) (w : Wrong) : Type 0 where
   pub genesis : w.genesis ≡ other_genesis exports
   pub front : w.genesis ≡ None → w.front ≡ first_from wrong_front_at 0 exports

@@ -1,6 +1,8 @@
--- What is known of exports whose lists were compared one after the other: the longest lists of the first ones, among
--- which there is no fork, how long the lists of each of these are, and where those of each later one differ.
-use Rattle.std.specs.Prelude.{◌≡◌, ℕ, ◌≤◌, nat_lt, List, [], ◌∷◌, ◌++◌, length, map, Option, Some, None, option_and_then, option_map, if◌then◌else◌}
+-- What is known of exports whose lists were compared one after the other: the longest lists of the
+-- first ones, among which there is no fork, how long the lists of each of these are, and where
+-- those of each later one differ.
+use Rattle.std.specs.Prelude.{◌≡◌, ℕ, ◌≤◌, nat_lt, List, [], ◌∷◌, ◌++◌, length, map, Option, Some}
+use Rattle.std.specs.Prelude.{None, option_and_then, option_map, if◌then◌else◌}
 use Rattle.std.specs.List.{zip}
 use Rattle.pay_channel.specs.Prefix.{IsPrefix}
 use Rattle.pay_audit.specs.Export.{ExportFields, list_in, lists_of}
@@ -14,7 +16,8 @@ use Rattle.pay_audit.specs.declared.verdict.Verdict.TheVariants.{Fork}
 abbrev pub longer : List (List ℕ) → List (List ℕ) → List (List ℕ)
 longer one other = if nat_lt (length one) (length other) then other else one
 
--- Each export's list of this account is how this one begins, and what agrees with each of them agrees with this one.
+-- Each export's list of this account is how this one begins, and what agrees with each of them
+-- agrees with this one.
 pub record IsLongest (exports : List ExportFields) (account : ℕ) (list : List (List ℕ)) : Type 0 where
   pub begins : Each (λ e. IsPrefix (lists_of e account) list) exports
   pub agrees : (other : List (List ℕ)) → Each (λ e. Agreeing (lists_of e account) other) exports → Agreeing list other

@@ -1,6 +1,8 @@
--- What a member shows of its own without its keys, and what a file of JSON says that one does. The definitions are of
--- the value that bytes are read as; which bytes have one is RFC 8259's matter.
-use Rattle.std.specs.Prelude.{◌≡◌, ℕ, ◌<◌, ◌≤◌, ◌==◌, ◌&&◌, nat_le, nat_lt, List, [], ◌∷◌, codes, length, slice_index_or, All, Bool, Option, Some, None, ok_or, option_and_then, option_map, Result, Ok, Err, if◌then◌else◌}
+-- What a member shows of its own without its keys, and what a file of JSON says that one does. The
+-- definitions are of the value that bytes are read as; which bytes have one is RFC 8259's matter.
+use Rattle.std.specs.Prelude.{◌≡◌, ℕ, ◌<◌, ◌≤◌, ◌==◌, ◌&&◌, nat_le, nat_lt, List, [], ◌∷◌, codes}
+use Rattle.std.specs.Prelude.{length, slice_index_or, All, Bool, Option, Some, None, ok_or}
+use Rattle.std.specs.Prelude.{option_and_then, option_map, Result, Ok, Err, if◌then◌else◌}
 use Rattle.std.specs.Option.{option_map_or}
 use Rattle.serde_json.specs.Data.{Items, item, no_items}
 use Rattle.serde_json.specs.Find.{as_array, as_str}
@@ -11,9 +13,11 @@ use Rattle.pay_json.specs.File.{Data, list_at, number_at, numbers_at, value_in}
 use Rattle.pay_link.specs.Genesis.{GenesisFields, IsGenesis, genesis_fault}
 use Rattle.pay_link.specs.Files.{genesis_said, ◌>>=◌}
 use Rattle.pay_audit.specs.declared.export_fault.ExportFault.{ExportFault}
-use Rattle.pay_audit.specs.declared.export_fault.ExportFault.TheVariants.{BadJson, BadShape, BadGenesis}
+use Rattle.pay_audit.specs.declared.export_fault.ExportFault.TheVariants.{BadJson, BadShape}
+use Rattle.pay_audit.specs.declared.export_fault.ExportFault.TheVariants.{BadGenesis}
 
--- what the ledger began with, whose export it is, and each account's list of values, front and balance
+-- what the ledger began with, whose export it is, and each account's list of values, front and
+-- balance
 pub record ExportFields : Type 0 where
   pub genesis : GenesisFields
   pub member : ℕ
@@ -32,7 +36,8 @@ lists_of e = list_in e.lists
 abbrev pub AreShort : List (List (List ℕ)) → Type 0
 AreShort lists = All (λ l. length l ≤ SEQS) lists
 
--- the limits of an export: a genesis, one of its members, and for each account a list, a front and a balance
+-- the limits of an export: a genesis, one of its members, and for each account a list, a front and
+-- a balance
 pub record IsExport (e : ExportFields) : Type 0 where
   pub genesis : IsGenesis e.genesis
   pub member : e.member < e.genesis.members
@@ -50,7 +55,8 @@ decoded (Err fault) = None
 abbrev pub if_short : {A : Type 0} → ℕ → List A → Option (List A)
 if_short most xs = if nat_le (length xs) most then Some xs else None
 
--- the value that a text spells: two hexadecimal digits of either case a byte, as many as a frame's value has
+-- the value that a text spells: two hexadecimal digits of either case a byte, as many as a frame's
+-- value has
 unfoldable pub value_of : List ℕ → Option (List ℕ)
 value_of text = option_and_then (if_short GREATEST_VALUE) (decoded (decode_of text))
 
@@ -82,7 +88,8 @@ parts_in d =
     (numbers_at (codes "balances") d)) (numbers_at (codes "front") d)) (lists_in d)) (number_at (codes "member") d))
     (genesis_said d)
 
--- one of so many members, as the object itself says how many there are, and for each a list, a front and a balance
+-- one of so many members, as the object itself says how many there are, and for each a list, a
+-- front and a balance
 abbrev pub is_sized : ExportFields → Bool
 is_sized e =
     nat_lt e.member e.genesis.members && (length e.lists == e.genesis.members)

@@ -1,7 +1,8 @@
 -- A member's own export, as the value that is written.
 use Rattle.std.specs.Prelude.{ℕ, List, codes, map}
 use Rattle.std.specs.List.{range_with_len}
-use Rattle.serde_json.specs.Data.{Data, unsigned, number, string, array, object, Members, member, no_members}
+use Rattle.serde_json.specs.Data.{Data, unsigned, number, string, array, object, Members, member}
+use Rattle.serde_json.specs.Data.{no_members}
 use Rattle.serde_json.specs.View.{items_of}
 use Rattle.hex.specs.Hex.{encode_lower}
 use Rattle.pay_link.specs.Genesis.{GenesisFields}

@@ -1,7 +1,9 @@
--- The faults of this crate: the number and the name under which each cause is printed. First, why a file is no export.
+-- The faults of this crate: the number and the name under which each cause is printed. First, why a
+-- file is no export.
 use Rattle.std.specs.Prelude.{ℕ, List, codes}
 use Rattle.pay_audit.specs.declared.export_fault.ExportFault.{ExportFault}
-use Rattle.pay_audit.specs.declared.export_fault.ExportFault.TheVariants.{Memory, BadJson, BadShape, BadGenesis}
+use Rattle.pay_audit.specs.declared.export_fault.ExportFault.TheVariants.{Memory, BadJson, BadShape}
+use Rattle.pay_audit.specs.declared.export_fault.ExportFault.TheVariants.{BadGenesis}
 use Rattle.pay_audit.specs.declared.replay_fault.ReplayFault.{ReplayFault}
 use Rattle.pay_audit.specs.declared.replay_fault.ReplayFault.TheVariants as replay
 

@@ -2,10 +2,12 @@
 use Rattle.std.specs.Prelude.{◌≡◌, ◌↔◌, ℕ, ◌<◌, List, length, Some, None, Err}
 use Rattle.pay_json.specs.File.{Data, value_in}
 use Rattle.pay_link.specs.Genesis.{IsGenesis}
-use Rattle.pay_audit.specs.declared.export_fault.ExportFault.TheVariants.{BadJson, BadShape, BadGenesis}
+use Rattle.pay_audit.specs.declared.export_fault.ExportFault.TheVariants.{BadJson, BadShape}
+use Rattle.pay_audit.specs.declared.export_fault.ExportFault.TheVariants.{BadGenesis}
 use Rattle.pay_audit.specs.Export.{ExportFields, export_in, parts_in}
 
--- its member is one of so many as the object says that there are, and each has a list, a front and a balance
+-- its member is one of so many as the object says that there are, and each has a list, a front and
+-- a balance
 pub record HasSizes (e : ExportFields) : Type 0 where
   pub member : e.member < e.genesis.members
   pub lists : length e.lists ≡ e.genesis.members

@@ -4,7 +4,8 @@ use Rattle.std.specs.Io.KnownBytes.{Appends}
 use Rattle.pay_io.specs.Device.{WroteBeginning, counted}
 use Rattle.pay_audit.specs.declared.gathered.Gathered.{Gathered}
 
--- what was written where it is known, what is held after it, whether the device failed, and how often it did
+-- what was written where it is known, what is held after it, whether the device failed, and how
+-- often it did
 pub record State : Type 0 where
   pub written : Option (List ℕ)
   pub held : List ℕ
@@ -20,7 +21,8 @@ pub record Moves (before after : Option (List ℕ)) (held left text : List ℕ) 
   pub written : Appends before after sent
   pub parts : held ++ text ≡ sent ++ left
 
--- A failure that was stays, and nothing more is written. One that came has left a beginning of what was held and added.
+-- A failure that was stays, and nothing more is written. One that came has left a beginning of what
+-- was held and added.
 abbrev pub AddsAt : Bool → Bool → State → State → List ℕ → Type 0
 AddsAt false false old new text = Moves old.written new.written old.held new.held text × (new.failures ≡ old.failures)
 AddsAt false true old new text = WroteBeginning old.written new.written (old.held ++ text) × (new.failures ≡ counted old.failures)

@@ -1,5 +1,5 @@
--- What a verdict's parts say of an export, in the words of the book: which fronts steps reach, and which balances are
--- there. Each is proved as a public law.
+-- What a verdict's parts say of an export, in the words of the book: which fronts steps reach, and
+-- which balances are there. Each is proved as a public law.
 use Rattle.std.specs.Prelude.{◌≡◌, ◌↔◌, ℕ, List, length, slice_get, slice_index, Some, None}
 use Rattle.pay_book.specs.Payment.{entries_of}
 use Rattle.pay_book.specs.Balance.{AreBalances}

@@ -1,5 +1,5 @@
--- What a verdict says of exports as a whole, in the words of the book and of lists. That the verdict of any exports says
--- no other than this is proved as a public law.
+-- What a verdict says of exports as a whole, in the words of the book and of lists. That the
+-- verdict of any exports says no other than this is proved as a public law.
 use Rattle.std.specs.Prelude.{◌≡◌, ◌≢◌, ◌↔◌, ℕ, ◌<◌, pos, List, slice_get, slice_index, Some}
 use Rattle.pay_book.specs.Balance.{balance_at}
 use Rattle.pay_book.specs.Front.{IsLargest}
@@ -7,7 +7,8 @@ use Rattle.pay_audit.specs.Export.{ExportFields, IsExport, lists_of}
 use Rattle.pay_audit.specs.Laws.{AgreeWith, Agreeing, HasRightBalances, HasRightFront, logs_of}
 use Rattle.pay_audit.specs.Verdict.{verdict_of}
 use Rattle.pay_audit.specs.declared.verdict.Verdict.{Verdict}
-use Rattle.pay_audit.specs.declared.verdict.Verdict.TheVariants.{Clean, OtherGenesis, WrongFront, WrongBalance, Fork}
+use Rattle.pay_audit.specs.declared.verdict.Verdict.TheVariants.{Clean, OtherGenesis, WrongFront}
+use Rattle.pay_audit.specs.declared.verdict.Verdict.TheVariants.{WrongBalance, Fork}
 
 -- ---- of each export, of those before a place, of each two
 

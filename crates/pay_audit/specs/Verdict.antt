@@ -1,6 +1,7 @@
--- What an auditor answers of several exports, each named by its place from 0. Whether a front and balances are right is
--- asked of the export's own lists; nothing here says how a book is settled.
-use Rattle.std.specs.Prelude.{ℕ, ◌+◌, ◌==◌, ◌&&◌, Bool, List, [], ◌∷◌, slice_index, Option, Some, None, option_map, unwrap_or, if◌then◌else◌}
+-- What an auditor answers of several exports, each named by its place from 0. Whether a front and
+-- balances are right is asked of the export's own lists; nothing here says how a book is settled.
+use Rattle.std.specs.Prelude.{ℕ, ◌+◌, ◌==◌, ◌&&◌, Bool, List, [], ◌∷◌, slice_index, Option, Some}
+use Rattle.std.specs.Prelude.{None, option_map, unwrap_or, if◌then◌else◌}
 use Rattle.std.specs.Option.{option_or}
 use Rattle.std.specs.List.{zip}
 use Rattle.std.specs.Str.{bytes_eq}
@@ -9,7 +10,8 @@ use Rattle.pay_book.specs.Book.{Standing}
 use Rattle.pay_book.specs.Settled.{settled_book}
 use Rattle.pay_audit.specs.Export.{ExportFields, lists_of}
 use Rattle.pay_audit.specs.declared.verdict.Verdict.{Verdict}
-use Rattle.pay_audit.specs.declared.verdict.Verdict.TheVariants.{Clean, OtherGenesis, WrongFront, WrongBalance, Fork}
+use Rattle.pay_audit.specs.declared.verdict.Verdict.TheVariants.{Clean, OtherGenesis, WrongFront}
+use Rattle.pay_audit.specs.declared.verdict.Verdict.TheVariants.{WrongBalance, Fork}
 
 -- the first answer that there is, where each is asked with its place, counted from here
 abbrev pub first_from : {A B : Type 0} → (ℕ → A → Option B) → ℕ → List A → Option B

@@ -13,7 +13,8 @@ use pay_link::Genesis;
 use pay_pending::WaitingBook;
 use std::alloc::{AllocError, Global};
 
-/// What is wrong with these exports, if anything is: what an auditor says that takes one after the other.
+/// What is wrong with these exports, if anything is: what an auditor says that takes one after the
+/// other.
 pub fn audit(alloc: Global, exports: &[Export]) -> Result<Verdict, AllocError>
     ensures { IfOk result (λ verdict. verdict ≡ verdict_of exports.now) }
 {

@@ -13,8 +13,8 @@ use crate::wrong::Wrong;
 use pay_link::Genesis;
 use std::alloc::{AllocError, Global};
 
-/// What is known of the exports taken so far: how many they are, the genesis of the first, what is wrong with one of
-/// them, and how their lists compare.
+/// What is known of the exports taken so far: how many they are, the genesis of the first, what is
+/// wrong with one of them, and how their lists compare.
 #[derive(Debug, Drop)]
 pub struct Auditor {
     taken: usize,
@@ -80,8 +80,8 @@ impl Auditor {
         self.with_lists(alloc, wrong, export)
     }
 
-    /// Compares the lists of one more export with the longest so far, and copies of them what is longer. `wrong` is
-    /// what is wrong once it is added.
+    /// Compares the lists of one more export with the longest so far, and copies of them what is
+    /// longer. `wrong` is what is wrong once it is added.
     fn with_lists(self, alloc: Global, wrong: Wrong, export: &Export) -> Result<Auditor, AllocError>
         requires count { taken_by self < usize.MAX }
         requires wrong { IsWrongWith self export.now wrong }

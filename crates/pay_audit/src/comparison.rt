@@ -14,8 +14,9 @@ use crate::owner_list::OwnerList;
 use crate::verdict::Verdict;
 use std::alloc::{AllocError, Global};
 
-/// What is kept of exports' lists. As long as they agree that is the longest list of each account, and how long each
-/// export's are; of the first that differs and of those after it, where they differ from the longest.
+/// What is kept of exports' lists. As long as they agree that is the longest list of each account,
+/// and how long each export's are; of the first that differs and of those after it, where they
+/// differ from the longest.
 #[derive(Debug, Drop)]
 pub(crate) struct Comparison {
     longest: Vec<OwnerList>,
@@ -110,7 +111,8 @@ fn keep_longer(alloc: Global, kept: &mut [OwnerList], lists: &[OwnerList]) -> Re
     Ok(())
 }
 
-// The first fork between an export whose lists are so long and one that differs: each with each, in the verdict's order.
+// The first fork between an export whose lists are so long and one that differs: each with each, in
+// the verdict's order.
 fn fork_among(lengths: &[Lengths], differences: &[Differences]) -> Option<Verdict>
     ensures { result ≡ fork_among lengths.now differences.now }
 {
@@ -142,7 +144,8 @@ fn fork_with(
     None
 }
 
-// The first fork of export `one`, whose lists are so long, with one whose lists first differ at these places.
+// The first fork of export `one`, whose lists are so long, with one whose lists first differ at
+// these places.
 #[tactic(auto, unfolding(crate::specs::Compared::fork_by))]
 fn fork_by(
     one: usize,

@@ -1,4 +1,5 @@
-//! A member's own export, written piece by piece: no memory is taken for it, however long its lists are.
+//! A member's own export, written piece by piece: no memory is taken for it, however long its lists
+//! are.
 
 ghost use Rattle.std.specs.Prelude.{◌≡◌, ◌<◌, ◌∷◌, [], OnErr, OnOk, slice_index};
 ghost use Rattle.std.specs.Io.KnownBytes.{Appends};
@@ -28,7 +29,8 @@ pub(crate) enum Column {
     Opening,
 }
 
-/// Writes the text of a member's own export, that of `export_text`. After a failure, a prefix of it has been written.
+/// Writes the text of a member's own export, that of `export_text`. After a failure, a prefix of it
+/// has been written.
 pub fn write_export<I: Instance + Drop, B: Settle + Drop, W: Output>(
     member: &Member<I, B>,
     writer: &mut W,

@@ -5,8 +5,9 @@ use pay_channel::Source;
 use pay_link::Genesis;
 use std::marker::Model;
 
-/// What a member shows of its own without its keys: what the ledger began with, the list of each account's values, how
-/// many entries of it are settled, and all balances. Nothing of it is taken for true.
+/// What a member shows of its own without its keys: what the ledger began with, the list of each
+/// account's values, how many entries of it are settled, and all balances. Nothing of it is taken
+/// for true.
 #[derive(Debug, Drop)]
 pub struct Export {
     pub(crate) genesis: Genesis,

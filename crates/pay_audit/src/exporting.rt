@@ -21,8 +21,8 @@ use pay_member::laws::{book_of_events, legal_histories};
 use serde_json::{Map, Value, put};
 use std::alloc::{AllocError, Global};
 
-/// What a member shows of its own without its keys: what the ledger began with, each account's list of values in
-/// hexadecimal, how many entries of it are settled, and all balances.
+/// What a member shows of its own without its keys: what the ledger began with, each account's list
+/// of values in hexadecimal, how many entries of it are settled, and all balances.
 pub fn export<I: Instance + Drop, B: Settle + Drop>(
     alloc: Global,
     member: &Member<I, B>,
@@ -72,7 +72,8 @@ fn put_genesis(
     put(parts, alloc, "opening", opening_of(alloc, genesis)?)
 }
 
-/// Puts whose export it is, and what its book says, into an object that has what the ledger began with.
+/// Puts whose export it is, and what its book says, into an object that has what the ledger began
+/// with.
 #[tactic(auto, unfolding(crate::specs::Exporting::export_data))]
 fn put_book<I: Instance + Drop, B: Settle + Drop>(
     alloc: Global,

@@ -14,8 +14,8 @@ use pay_io::{DeviceFailed, Output, write_all};
 // How many bytes are gathered for one write.
 const ROOM: usize = 4096;
 
-/// The end of a text, which isn't written yet. Once its device has failed nothing more is written, and the end of the
-/// text says so.
+/// The end of a text, which isn't written yet. Once its device has failed nothing more is written,
+/// and the end of the text says so.
 #[derive(Drop)]
 pub(crate) struct Gathered {
     held: ArrayVec<u8, ROOM>,
@@ -81,7 +81,8 @@ impl Gathered {
         write_all(writer, self.held.as_slice())
     }
 
-    /// Holds bytes. What is held is written where they have no room after it, and so are they where they have none.
+    /// Holds bytes. What is held is written where they have no room after it, and so are they where
+    /// they have none.
     fn hold<W: Output>(&mut self, writer: &mut W, bytes: &[u8]) -> Result<(), DeviceFailed>
         ensures moves { OnOk result (Moves (W.contents writer.old) (W.contents writer.new)
             self.old.held.items self.new.held.items bytes.now) }

@@ -9,7 +9,8 @@ use pay_pending::WaitingBook;
 use std::alloc::{AllocError, Global};
 use std::marker::Model;
 
-/// An export that was settled, with the first account whose front is wrong and the first whose balance is.
+/// An export that was settled, with the first account whose front is wrong and the first whose
+/// balance is.
 #[derive(Debug, Drop)]
 pub struct JudgedExport {
     pub(crate) export: Export,

@@ -1,5 +1,5 @@
-//! Laws of the definitions: what a verdict's parts say of an export. Each function's contract is the law; its body only
-//! names the laws below that it stands on.
+//! Laws of the definitions: what a verdict's parts say of an export. Each function's contract is
+//! the law; its body only names the laws below that it stands on.
 
 ghost use Rattle.pay_audit.specs.Auditor.{VerdictOfTakenIsOne};
 ghost use Rattle.pay_audit.specs.OneList.{OneListIsNoFork};
@@ -12,8 +12,9 @@ ghost use Rattle.pay_audit.specs.Said.{CleanIsJudged, VerdictIsSaid};
 use pay_book::laws::{largest_is_computed, largest_is_one, settled_book_exists, single_entries};
 use pay_link::laws::genesis_limits;
 
-/// A file isn't JSON exactly where it has no value, of a wrong shape exactly where its value lacks a part of an export
-/// or has one of another size, and without a genesis exactly where the genesis that it says is none.
+/// A file isn't JSON exactly where it has no value, of a wrong shape exactly where its value lacks
+/// a part of an export or has one of another size, and without a genesis exactly where the genesis
+/// that it says is none.
 pub fn export_file_faults()
     ensures json { BadJsonCause }
     ensures shape { BadShapeCause }
@@ -22,7 +23,8 @@ pub fn export_file_faults()
     genesis_limits();
 }
 
-/// No account's front is named exactly where the export's front is the largest that steps reach over its own lists.
+/// No account's front is named exactly where the export's front is the largest that steps reach
+/// over its own lists.
 pub fn front_is_judged()
     ensures { FrontIsJudged }
 {
@@ -30,7 +32,8 @@ pub fn front_is_judged()
     largest_is_one();
 }
 
-/// Where the front is right, no account's balance is named exactly where the balances are those at that front.
+/// Where the front is right, no account's balance is named exactly where the balances are those at
+/// that front.
 pub fn balances_are_judged()
     ensures { BalancesAreJudged }
 {
@@ -38,7 +41,8 @@ pub fn balances_are_judged()
     settled_book_exists();
 }
 
-/// Two exports have no fork exactly where their lists of each account agree at every place that both have.
+/// Two exports have no fork exactly where their lists of each account agree at every place that
+/// both have.
 pub fn fork_is_judged()
     ensures { ForkIsJudged }
 {}
@@ -48,8 +52,8 @@ pub fn one_list_is_no_fork()
     ensures { OneListIsNoFork }
 {}
 
-/// What the verdict of exports says is so: nothing is wrong, or the case that it names is the first of the first kind that
-/// there is. It is Clean exactly where nothing is wrong.
+/// What the verdict of exports says is so: nothing is wrong, or the case that it names is the first
+/// of the first kind that there is. It is Clean exactly where nothing is wrong.
 pub fn verdict_is_judged()
     ensures said { VerdictIsSaid }
     ensures clean { CleanIsJudged }
@@ -59,19 +63,22 @@ pub fn verdict_is_judged()
     settled_book_exists();
 }
 
-/// Where no listed value is of several payments, exports have the verdict that they had when each value was one payment.
+/// Where no listed value is of several payments, exports have the verdict that they had when each
+/// value was one payment.
 pub fn verdict_of_single_payments()
     ensures { VerdictIsAsFormer }
 {
     single_entries();
 }
 
-/// All exports that an auditor can have taken have one verdict. That there are some is what making one says.
+/// All exports that an auditor can have taken have one verdict. That there are some is what making
+/// one says.
 pub fn verdict_of_taken_is_one()
     ensures { VerdictOfTakenIsOne }
 {}
 
-/// An export whose values a frame has room for is read back from each text that has the value which is written for it.
+/// An export whose values a frame has room for is read back from each text that has the value which
+/// is written for it.
 pub fn export_reads_back()
     ensures { ExportReadsBack }
 {

@@ -5,8 +5,8 @@ use pay_frame::Bytes;
 use std::alloc::{AllocError, Global};
 use std::marker::Model;
 
-/// The values of one owner, in its order: no more than it has numbers for. They are kept one after the other, with
-/// where each ends.
+/// The values of one owner, in its order: no more than it has numbers for. They are kept one after
+/// the other, with where each ends.
 ///
 /// A vector for each would take 40 percent more memory.
 #[derive(Debug, Drop)]

@@ -1,4 +1,5 @@
-//! The audit that compares each two exports: for tests, beside the one that compares each list once.
+//! The audit that compares each two exports: for tests, beside the one that compares each list
+//! once.
 
 ghost use Rattle.std.specs.Prelude.{◌≡◌, IfOk};
 ghost use Rattle.pay_audit.specs.Verdict.{verdict_of};

@@ -24,7 +24,8 @@ pub fn read_export(alloc: Global, bytes: &[u8]) -> Result<Export, ExportFault>
     judge(alloc, parts)
 }
 
-// Whether it is the export of one of the members, with a list, a front and a balance for each of them.
+// Whether it is the export of one of the members, with a list, a front and a balance for each of
+// them.
 fn is_sized(parts: &Parts) -> bool
     ensures { result ≡ is_sized parts.now }
 {

@@ -48,7 +48,8 @@ fn fresh<I: Instance + Drop, B: Settle + Drop>(
     Member::new(alloc, genesis, keys.copy(alloc)?)
 }
 
-/// Takes entries once more, up to the first that isn't the one owed, after which the member isn't to be used further.
+/// Takes entries once more, up to the first that isn't the one owed, after which the member isn't
+/// to be used further.
 fn take_all_again<I: Instance + Drop, B: Settle + Drop>(
     alloc: Global,
     member: &mut Member<I, B>,
@@ -68,7 +69,8 @@ fn take_all_again<I: Instance + Drop, B: Settle + Drop>(
     Ok(())
 }
 
-/// Takes an entry once more, and says whether it is the one owed. If it isn't, the member isn't to be used further.
+/// Takes an entry once more, and says whether it is the one owed. If it isn't, the member isn't to
+/// be used further.
 fn take_again<I: Instance + Drop, B: Settle + Drop>(
     alloc: Global,
     member: &mut Member<I, B>,

@@ -1,7 +1,7 @@
 use std::fmt;
 
-/// What is wrong with exports, named by their places from 0: the first kind that there is, and within it the least case
-/// in the order of its words.
+/// What is wrong with exports, named by their places from 0: the first kind that there is, and
+/// within it the least case in the order of its words.
 #[derive(Clone, Copy, Debug, PartialEq, Eq)]
 pub enum Verdict {
     Clean,

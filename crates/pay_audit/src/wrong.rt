@@ -12,9 +12,9 @@ use pay_link::Genesis;
 use pay_pending::WaitingBook;
 use std::alloc::{AllocError, Global};
 
-/// The first export with another genesis, the first wrong front and the first wrong balance. `with` doesn't look any
-/// more for those that follow here after one that there is, since a verdict names only the first of the three;
-/// `with_judged`, which settles nothing, keeps all.
+/// The first export with another genesis, the first wrong front and the first wrong balance. `with`
+/// doesn't look any more for those that follow here after one that there is, since a verdict names
+/// only the first of the three; `with_judged`, which settles nothing, keeps all.
 #[derive(Clone, Copy, Debug)]
 pub(crate) struct Wrong {
     pub(crate) genesis: Option<Verdict>,
@@ -35,8 +35,8 @@ impl Wrong {
         self.genesis.is_none() && self.front.is_none() && self.balance.is_none()
     }
 
-    /// The same, and what is wrong with the export at this place. `genesis` is that of the first export, if this isn't
-    /// the first itself.
+    /// The same, and what is wrong with the export at this place. `genesis` is that of the first
+    /// export, if this isn't the first itself.
     pub(crate) fn with(
         self,
         alloc: Global,

@@ -11,8 +11,8 @@ use Rattle.pay_audit.specs.Exporting.{exported}
 use Rattle.pay_audit.specs.Verdict.{verdict_of}
 use Rattle.pay_audit.specs.declared.verdict.Verdict.TheVariants.{Clean}
 
--- A correct member of the group, at a moment of these deeds: it has taken what came to it until then. The queries in its
--- history are no deeds, and may be any.
+-- A correct member of the group, at a moment of these deeds: it has taken what came to it until
+-- then. The queries in its history are no deeds, and may be any.
 pub record IsCorrectMember (g : GenesisFields) (faulty : ℕ → Bool) (deeds : List Deed)
     (m : MemberFields) : Type 0 where
   pub genesis : m.genesis ≡ g
@@ -21,7 +21,8 @@ pub record IsCorrectMember (g : GenesisFields) (faulty : ℕ → Bool) (deeds : 
   pub moment : IsPrefix until deeds
   pub took : events m.history ≡ history_by (setting_by g faulty) until m.keys.own
 
--- Whichever correct members export, the same one several times too, and whenever each does: nothing is wrong.
+-- Whichever correct members export, the same one several times too, and whenever each does: nothing
+-- is wrong.
 abbrev pub ExportsAreClean : Type 0
 ExportsAreClean =
     (g : GenesisFields) (faulty : ℕ → Bool) (deeds : List Deed) (members : List MemberFields)

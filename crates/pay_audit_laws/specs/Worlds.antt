@@ -1,4 +1,5 @@
--- The exports of members of worlds, after events that `run_world` answers and after the first of them.
+-- The exports of members of worlds, after events that `run_world` answers and after the first of
+-- them.
 use Rattle.std.specs.Prelude.{◌≡◌, ℕ, List, map, slice_get, Some}
 use Rattle.pay_channel.specs.Prefix.{IsPrefix}
 use Rattle.pay_link.specs.Genesis.{GenesisFields}
@@ -23,8 +24,9 @@ pub record IsOfWorld (g : GenesisFields) (keys : List KeyFields) (l : LiarFields
   pub number : ℕ
   pub member : member_in world number ≡ Some m
 
--- There is a world after all of the events, so none of them is a forged frame. Whichever members export, the same one
--- several times too, and after however many of the events each does: nothing is wrong.
+-- There is a world after all of the events, so none of them is a forged frame. Whichever members
+-- export, the same one several times too, and after however many of the events each does: nothing
+-- is wrong.
 abbrev pub WorldExportsAreClean : Type 0
 WorldExportsAreClean =
     (g : GenesisFields) (keys : List KeyFields) (l : LiarFields) (events : List WorldEvent) (last : WorldFields)

@@ -1,10 +1,12 @@
 -- What one event does to a channel.
-use Rattle.std.specs.Prelude.{◌≡◌, ℕ, ◌+◌, false, ◌&&◌, ◌==◌, ◌++◌, List, length, Option, Some, None, if◌then◌else◌}
+use Rattle.std.specs.Prelude.{◌≡◌, ℕ, ◌+◌, false, ◌&&◌, ◌==◌, ◌++◌, List, length, Option, Some}
+use Rattle.std.specs.Prelude.{None, if◌then◌else◌}
 use Rattle.pay_frame.specs.declared.kind.Kind.TheVariants.{Echo, Ready}
 use Rattle.pay_frame.specs.Frame.{BodyFields}
 use Rattle.pay_echo.specs.Broadcast.{Vote}
 use Rattle.pay_echo.specs.Meaning.{Meaning, Sees, became}
-use Rattle.pay_channel.specs.History.{Event, Ask, From, is_ask, owner_of, seq_of, vote_of, is_about, send_of, newly}
+use Rattle.pay_channel.specs.History.{Event, Ask, From, is_ask, owner_of, seq_of, vote_of, is_about}
+use Rattle.pay_channel.specs.History.{send_of, newly}
 use Rattle.pay_channel.specs.State.{State, meaning_at, lists_of}
 use Rattle.pay_channel.specs.declared.applied.Applied.{Applied}
 use Rattle.pay_channel.specs.declared.event.EventRef.{EventRef}

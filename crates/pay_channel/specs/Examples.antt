@@ -24,6 +24,7 @@ late_first_number =
     ∷ From 1 (body_of Ready 3 0 Y) ∷ From 2 (body_of Ready 3 0 Y)
     ∷ From 1 (body_of Send 3 0 Y) ∷ Ask A ∷ []
 
--- then another member's SEND for number 1 of this member's account, and an ask that gets that number
+-- then another member's SEND for number 1 of this member's account, and an ask that gets that
+-- number
 abbrev pub forestalled : List Event
 forestalled = late_first_number ++ From 1 (body_of Send 0 1 Y) ∷ Ask X ∷ []

@@ -1,7 +1,9 @@
 -- One member's broadcast as functions of its history, the list of the events that it took, oldest
 -- first (Cachin, Guerraoui, Rodrigues, chapter 3: a Byzantine channel made of one double-echo
 -- broadcast for each owner and number).
-use Rattle.std.specs.Prelude.{◌≢◌, ℕ, ◌+◌, ◌<◌, ◌≤◌, zero, suc, Bool, true, false, ◌&&◌, ◌==◌, nat_lt, if◌then◌else◌, List, [], ◌∷◌, ◌++◌, length, Option, Some, None}
+use Rattle.std.specs.Prelude.{◌≢◌, ℕ, ◌+◌, ◌<◌, ◌≤◌, zero, suc, Bool, true, false, ◌&&◌, ◌==◌}
+use Rattle.std.specs.Prelude.{nat_lt, if◌then◌else◌, List, [], ◌∷◌, ◌++◌, length, Option, Some}
+use Rattle.std.specs.Prelude.{None}
 use Rattle.std.specs.Option.{option_to_list}
 use Rattle.std.specs.List.{count_by}
 use Rattle.pay_frame.specs.declared.kind.Kind.{Kind}

@@ -1,10 +1,12 @@
 -- What holds of deliveries and of the accounts' lists, as statements. Each is proved as a public
 -- law.
-use Rattle.std.specs.Prelude.{◌≡◌, ◌≢◌, ℕ, ◌<◌, ◌≤◌, ◌↔◌, ◌⊎◌, List, [], ◌∷◌, ◌++◌, length, slice_get, Contains, Option, Some, None}
+use Rattle.std.specs.Prelude.{◌≡◌, ◌≢◌, ℕ, ◌<◌, ◌≤◌, ◌↔◌, ◌⊎◌, List, [], ◌∷◌, ◌++◌, length}
+use Rattle.std.specs.Prelude.{slice_get, Contains, Option, Some, None}
 use Rattle.pay_echo.specs.Broadcast.{Group, delivered}
 use Rattle.pay_channel.specs.Prefix.{IsPrefix}
 use Rattle.pay_channel.specs.Source.{GrowsOnly}
-use Rattle.pay_channel.specs.History.{Event, Ask, From, owner_of, votes, seqs, listed, delivered_at, list_of}
+use Rattle.pay_channel.specs.History.{Event, Ask, From, owner_of, votes, seqs, listed, delivered_at}
+use Rattle.pay_channel.specs.History.{list_of}
 
 -- ---- what is delivered
 

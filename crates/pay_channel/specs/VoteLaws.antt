@@ -1,6 +1,7 @@
 -- What holds of the votes that a history has in one broadcast, as statements. Each is proved as a
 -- public law.
-use Rattle.std.specs.Prelude.{◌≡◌, ◌≢◌, ℕ, ◌+◌, ◌↔◌, false, if◌then◌else◌, List, [], ◌∷◌, ◌++◌, Contains}
+use Rattle.std.specs.Prelude.{◌≡◌, ◌≢◌, ℕ, ◌+◌, ◌↔◌, false, if◌then◌else◌, List, [], ◌∷◌, ◌++◌}
+use Rattle.std.specs.Prelude.{Contains}
 use Rattle.pay_frame.specs.declared.kind.Kind.TheVariants.{Send, Echo, Ready}
 use Rattle.pay_echo.specs.Broadcast as one
 use Rattle.pay_channel.specs.Prefix.{IsPrefix}

@@ -100,8 +100,8 @@ pub fn sends_are_asks()
     one_vote_more();
 }
 
-/// What is delivered in a broadcast is what its votes deliver, and stays so as the history grows. It
-/// is the value of an event that was taken.
+/// What is delivered in a broadcast is what its votes deliver, and stays so as the history grows.
+/// It is the value of an event that was taken.
 pub fn delivered_for_good()
     ensures is { DeliveredIs }
     ensures stays { DeliveryStays }

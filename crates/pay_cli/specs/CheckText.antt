@@ -6,7 +6,8 @@ use Rattle.pay_frame.specs.Frame.{FrameFields}
 use Rattle.pay_engine.specs.Exact.{Function, IsText, state_after}
 use Rattle.pay_link.specs.Keys.{KeyFields}
 use Rattle.pay_cli.specs.declared.progress.Progress.{Progress}
-use Rattle.pay_cli.specs.Lines.{Outcome, Taken, Wanted, Refused, outcome_of, line_of, moved, fault_line}
+use Rattle.pay_cli.specs.Lines.{Outcome, Taken, Wanted, Refused, outcome_of, line_of, moved}
+use Rattle.pay_cli.specs.Lines.{fault_line}
 
 -- a line for each frame, and the one of a fault
 abbrev pub checking : KeyFields → Function Progress

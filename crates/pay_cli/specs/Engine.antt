@@ -1,5 +1,6 @@
 -- What the engine of `check` reads and writes, where it is known.
-use Rattle.std.specs.Prelude.{◌≡◌, ℕ, zero, suc, ◌+◌, ◌<◌, ◌^◌, List, [], length, slice_index, Option, Result, ⊤}
+use Rattle.std.specs.Prelude.{◌≡◌, ℕ, zero, suc, ◌+◌, ◌<◌, ◌^◌, List, [], length, slice_index}
+use Rattle.std.specs.Prelude.{Option, Result, ⊤}
 use Rattle.pay_engine.specs.declared.engine_fault.EngineFault.{EngineFault}
 use Rattle.pay_frame.specs.Frame.{FrameFields}
 use Rattle.pay_engine.specs.Handling.{Start}

@@ -1,5 +1,6 @@
 -- What becomes of a frame as far as no line before its own says, and the line that follows from it.
-use Rattle.std.specs.Prelude.{◌≡◌, ℕ, ◌+◌, List, [], ◌∷◌, ◌++◌, length, map, slice_index, slice_set, decimal, codes, Option, Some, None, Result, Ok, Err, ⊤, IfOk, Vec}
+use Rattle.std.specs.Prelude.{◌≡◌, ℕ, ◌+◌, List, [], ◌∷◌, ◌++◌, length, map, slice_index, slice_set}
+use Rattle.std.specs.Prelude.{decimal, codes, Option, Some, None, Result, Ok, Err, ⊤, IfOk, Vec}
 use Rattle.std.specs.Global.{Global}
 use Rattle.std.specs.List.{flat_map}
 use Rattle.std.specs.declared.alloc.AllocError.{AllocError}

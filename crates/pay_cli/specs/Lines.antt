@@ -1,5 +1,6 @@
 -- The lines of `check`: what a member makes of each frame of a stream.
-use Rattle.std.specs.Prelude.{ℕ, ◌+◌, List, ◌++◌, length, slice_index, slice_set, decimal, codes, Result, Ok, Err, ⊤}
+use Rattle.std.specs.Prelude.{ℕ, ◌+◌, List, ◌++◌, length, slice_index, slice_set, decimal, codes}
+use Rattle.std.specs.Prelude.{Result, Ok, Err, ⊤}
 use Rattle.pay_frame.specs.declared.fault.FrameFault.{FrameFault}
 use Rattle.pay_frame.specs.declared.kind.Kind.{Kind}
 use Rattle.pay_frame.specs.declared.kind.Kind.TheVariants.{Send, Echo, Ready, Want}

@@ -36,8 +36,8 @@ pub fn push_want(out: &mut Vec<u8>, frame: &FrameRef) -> Result<(), AllocError>
     push_number(out, frame.number())
 }
 
-/// The words of a frame that isn't taken: the fault's number and name, and for a repeat or a gap the
-/// next number from its sender.
+/// The words of a frame that isn't taken: the fault's number and name, and for a repeat or a gap
+/// the next number from its sender.
 pub fn push_refused(out: &mut Vec<u8>, fault: LinkFault) -> Result<(), AllocError>
     ensures { OnOk result (out.new.items ≡ out.old.items ++ refused_words fault) }
 {

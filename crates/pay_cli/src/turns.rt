@@ -55,7 +55,8 @@ fn push_part(out: &mut Vec<u8>, progress: &mut Progress, judged: &Judged) -> Res
     Ok(())
 }
 
-/// Writes the line of a frame that was judged. Where memory is refused the frame was counted, or nothing changed.
+/// Writes the line of a frame that was judged. Where memory is refused the frame was counted, or
+/// nothing changed.
 fn push_finding(
     out: &mut Vec<u8>,
     progress: &mut Progress,

@@ -2,7 +2,8 @@
 -- Secure Distributed Programming, second edition, chapter 3): what one process of a group has sent
 -- and delivered in one instance. Each answer is a question asked of the whole list of the votes
 -- that the process took, oldest first; nothing here is counted along the way.
-use Rattle.std.specs.Prelude.{◌≢◌, ℕ, ◌+◌, ◌*◌, ◌<◌, Bool, false, ◌||◌, ◌==◌, nat_lt, if◌then◌else◌, List, [], ◌∷◌, map, Option, Some, None}
+use Rattle.std.specs.Prelude.{◌≢◌, ℕ, ◌+◌, ◌*◌, ◌<◌, Bool, false, ◌||◌, ◌==◌, nat_lt, if◌then◌else◌}
+use Rattle.std.specs.Prelude.{List, [], ◌∷◌, map, Option, Some, None}
 use Rattle.std.specs.Option.{option_or}
 use Rattle.std.specs.List.{find, count_by, range_with_len}
 use Rattle.std.specs.Str.{bytes_eq}

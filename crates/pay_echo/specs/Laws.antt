@@ -1,7 +1,10 @@
 -- What holds of the answers of `Broadcast`, as statements. Each is proved as a public law.
-use Rattle.std.specs.Prelude.{◌≡◌, ◌≢◌, ℕ, ◌+◌, ◌*◌, ◌<◌, ◌≤◌, ◌⊎◌, ◌↔◌, Bool, true, if◌then◌else◌, List, [], ◌∷◌, ◌++◌, Option, Some, None, Contains}
+use Rattle.std.specs.Prelude.{◌≡◌, ◌≢◌, ℕ, ◌+◌, ◌*◌, ◌<◌, ◌≤◌, ◌⊎◌, ◌↔◌, Bool, true, if◌then◌else◌}
+use Rattle.std.specs.Prelude.{List, [], ◌∷◌, ◌++◌, Option, Some, None, Contains}
 use Rattle.std.specs.Option.{option_or}
-use Rattle.pay_echo.specs.Broadcast.{Group, Vote, Send, Echo, Ready, value_of, sent, size, echoed, echo_of, echo_set, other_ready_of, other_ready_set, may_ready, readied, ready_of, ready_set, may_deliver, delivered}
+use Rattle.pay_echo.specs.Broadcast.{Group, Vote, Send, Echo, Ready, value_of, sent, size, echoed}
+use Rattle.pay_echo.specs.Broadcast.{echo_of, echo_set, other_ready_of, other_ready_set, may_ready}
+use Rattle.pay_echo.specs.Broadcast.{readied, ready_of, ready_set, may_deliver, delivered}
 use Rattle.pay_echo.specs.Meaning.{Meaning, meaning_of, Sees}
 use Rattle.pay_echo.specs.Moves.{IsMoves, Foresees}
 use Rattle.pay_echo.specs.declared.moves.Moves.{Moves}

@@ -1,5 +1,7 @@
 -- Sets of processes as bits of a number, and votes as one mask for each value.
-use Rattle.std.specs.Prelude.{◌≡◌, ◌≢◌, ℕ, ◌+◌, ◌*◌, ◌<◌, ◌≤◌, ◌^◌, Bool, true, false, ◌==◌, bit_or, List, length, map, slice_index, slice_index_or, slice_set, Option, Some, None, is_some}
+use Rattle.std.specs.Prelude.{◌≡◌, ◌≢◌, ℕ, ◌+◌, ◌*◌, ◌<◌, ◌≤◌, ◌^◌, Bool, true, false, ◌==◌, bit_or}
+use Rattle.std.specs.Prelude.{List, length, map, slice_index, slice_index_or, slice_set, Option}
+use Rattle.std.specs.Prelude.{Some, None, is_some}
 use Rattle.std.specs.Int.{bit_at}
 use Rattle.std.specs.List.{count_by, find, range_with_len}
 use Rattle.pay_echo.specs.Broadcast.{Group, Vote, Send, Echo, Ready}

@@ -1,5 +1,6 @@
 -- What one instance knows: the answers of `Broadcast` to the votes that came.
-use Rattle.std.specs.Prelude.{◌≡◌, ℕ, Bool, ◌&&◌, List, [], ◌∷◌, ◌++◌, map, Option, is_none, is_some}
+use Rattle.std.specs.Prelude.{◌≡◌, ℕ, Bool, ◌&&◌, List, [], ◌∷◌, ◌++◌, map, Option, is_none}
+use Rattle.std.specs.Prelude.{is_some}
 use Rattle.std.specs.List.{range_with_len}
 use Rattle.pay_echo.specs.Broadcast.{Group, Vote, echoed, echo_of, readied, ready_of, delivered}
 

@@ -1,6 +1,8 @@
 -- What one vote does to what is known, worked out from that alone. A tool of this crate: its
 -- representations are proved against it, and a law ties it to `Meaning`.
-use Rattle.std.specs.Prelude.{◌≡◌, ◌<◌, length, ℕ, ◌+◌, ◌*◌, Bool, false, true, ◌&&◌, ◌||◌, nat_lt, if◌then◌else◌, List, slice_set, slice_index_or, Option, Some, None, is_none}
+use Rattle.std.specs.Prelude.{◌≡◌, ◌<◌, length, ℕ, ◌+◌, ◌*◌, Bool, false, true, ◌&&◌, ◌||◌, nat_lt}
+use Rattle.std.specs.Prelude.{if◌then◌else◌, List, slice_set, slice_index_or, Option, Some, None}
+use Rattle.std.specs.Prelude.{is_none}
 use Rattle.std.specs.List.{count_by}
 use Rattle.pay_echo.specs.Broadcast.{Vote, Send, Echo, Ready, value_of, is_for}
 use Rattle.pay_echo.specs.Meaning.{Meaning}

@@ -19,8 +19,8 @@ use pay_frame::MOST_MEMBERS;
 use std::alloc::{AllocError, Global};
 use std::marker::Model;
 
-/// An instance as a short list of values, each with a mask of the processes whose ECHO it is and one
-/// of those whose READY it is. A count of votes is a count of bits.
+/// An instance as a short list of values, each with a mask of the processes whose ECHO it is and
+/// one of those whose READY it is. A count of votes is a count of bits.
 ///
 /// A mask stands beside its value in one list: a new value makes one list grow, so refused memory
 /// can't leave a mask without its value.

@@ -11,8 +11,8 @@ use pay_frame::Bytes;
 use std::alloc::{AllocError, Global};
 use std::marker::Model;
 
-/// The values that were voted for, each once, and as bits who voted for which. A process has one vote
-/// of each kind.
+/// The values that were voted for, each once, and as bits who voted for which. A process has one
+/// vote of each kind.
 #[derive(Drop)]
 pub(crate) struct Tally {
     members: u16,

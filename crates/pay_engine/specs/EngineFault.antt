@@ -1,7 +1,8 @@
 -- Numbers and names of engines' faults, as programs print them.
 use Rattle.std.specs.Prelude.{ℕ, List, codes}
 use Rattle.pay_engine.specs.declared.engine_fault.EngineFault.{EngineFault}
-use Rattle.pay_engine.specs.declared.engine_fault.EngineFault.TheVariants.{Memory, Frame, Read, Write, Bound}
+use Rattle.pay_engine.specs.declared.engine_fault.EngineFault.TheVariants.{Memory, Frame, Read}
+use Rattle.pay_engine.specs.declared.engine_fault.EngineFault.TheVariants.{Write, Bound}
 use Rattle.pay_io.specs.declared.stream_fault.StreamFault.{StreamFault}
 use Rattle.pay_io.specs.declared.stream_fault.StreamFault.TheVariants as stream
 

@@ -1,9 +1,11 @@
 -- Where what is made of a frame is a function of the state, a stream of bytes has one text.
-use Rattle.std.specs.Prelude.{◌≡◌, ℕ, List, [], ◌∷◌, ◌++◌, Option, Some, None, IfSome, Result, Ok, Err, ⊤}
+use Rattle.std.specs.Prelude.{◌≡◌, ℕ, List, [], ◌∷◌, ◌++◌, Option, Some, None, IfSome, Result, Ok}
+use Rattle.std.specs.Prelude.{Err, ⊤}
 use Rattle.std.specs.List.{All}
 use Rattle.std.specs.Io.KnownBytes.{Appends, IsAtEnd}
 use Rattle.pay_engine.specs.declared.engine_fault.EngineFault.{EngineFault}
-use Rattle.pay_engine.specs.declared.engine_fault.EngineFault.TheVariants.{Memory, Frame, Read, Write, Bound}
+use Rattle.pay_engine.specs.declared.engine_fault.EngineFault.TheVariants.{Memory, Frame, Read}
+use Rattle.pay_engine.specs.declared.engine_fault.EngineFault.TheVariants.{Write, Bound}
 use Rattle.pay_frame.specs.declared.fault.FrameFault.{FrameFault}
 use Rattle.pay_io.specs.Device.{WroteBeginning}
 use Rattle.pay_frame.specs.Frame.{FrameFields, IsFrame}

@@ -1,6 +1,7 @@
 -- A stream is cut into frames, in whatever pieces it comes. What a cutter holds is a list of bytes,
 -- and its calls are said by that list.
-use Rattle.std.specs.Prelude.{◌≡◌, ℕ, ◌-◌, ◌<◌, ◌≤◌, ◌⊎◌, List, [], ◌∷◌, ◌++◌, length, min, take, drop, is_some, if◌then◌else◌, Option, Some, None, Result, Ok, Err}
+use Rattle.std.specs.Prelude.{◌≡◌, ℕ, ◌-◌, ◌<◌, ◌≤◌, ◌⊎◌, List, [], ◌∷◌, ◌++◌, length, min, take}
+use Rattle.std.specs.Prelude.{drop, is_some, if◌then◌else◌, Option, Some, None, Result, Ok, Err}
 use Rattle.pay_frame.specs.declared.limits.TheConstants.{CUTTER_ROOM}
 use Rattle.pay_frame.specs.declared.fault.FrameFault.{FrameFault}
 use Rattle.pay_frame.specs.declared.fault.FrameFault.TheVariants.{Truncated}
@@ -37,8 +38,8 @@ HandsOut old (Err fault) new =
 abbrev pub IsNoFrame : List ℕ → Type 0
 IsNoFrame bytes = IsProperBeginning bytes ⊎ ((fault : FrameFault) × IsFault bytes fault)
 
--- So many bytes in front are so many whole frames, and fewer than the most only where no further one
--- is whole.
+-- So many bytes in front are so many whole frames, and fewer than the most only where no further
+-- one is whole.
 pub record IsFront (bytes : List ℕ) (most size count : ℕ) : Type 0 where
   pub frames : List FrameFields
   pub fits : size ≤ length bytes

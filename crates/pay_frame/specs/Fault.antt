@@ -1,7 +1,9 @@
 -- Numbers and names of faults, as programs print them.
 use Rattle.std.specs.Prelude.{ℕ, List, codes}
 use Rattle.pay_frame.specs.declared.fault.FrameFault.{FrameFault}
-use Rattle.pay_frame.specs.declared.fault.FrameFault.TheVariants.{BadLength, BadVersion, BadKind, BadValueLength, BadSeq, BadWant, Truncated, Trailing}
+use Rattle.pay_frame.specs.declared.fault.FrameFault.TheVariants.{BadLength, BadVersion, BadKind}
+use Rattle.pay_frame.specs.declared.fault.FrameFault.TheVariants.{BadValueLength, BadSeq, BadWant}
+use Rattle.pay_frame.specs.declared.fault.FrameFault.TheVariants.{Truncated, Trailing}
 
 abbrev pub entry_of : FrameFault → ℕ × List ℕ
 entry_of BadLength = (1, codes "BadLength")

@@ -2,7 +2,8 @@
 -- project's own; the table of its fields stands in docs/DEFINITIONS.md.
 use Rattle.std.specs.Prelude.{◌≡◌, ℕ, ◌+◌, ◌^◌, ◌<◌, ◌≤◌, List, [], ◌∷◌, ◌++◌, length}
 use Rattle.std.specs.Int.{w16, w32, w64, to_be_bytes}
-use Rattle.pay_frame.specs.declared.limits.TheConstants.{LEAST_LENGTH, GREATEST_VALUE, TAG_LEN, SEQS}
+use Rattle.pay_frame.specs.declared.limits.TheConstants.{LEAST_LENGTH, GREATEST_VALUE, TAG_LEN}
+use Rattle.pay_frame.specs.declared.limits.TheConstants.{SEQS}
 use Rattle.pay_frame.specs.declared.kind.Kind.{Kind}
 use Rattle.pay_frame.specs.declared.kind.Kind.TheVariants.{Send, Echo, Ready, Want}
 

@@ -1,12 +1,15 @@
 -- Bytes that are one frame and nothing else: as a question about all frames, and computed. That
 -- both are the same is the law `one_frame_is`.
-use Rattle.std.specs.Prelude.{◌≡◌, ℕ, ◌-◌, ◌^◌, ◌<◌, Bool, not, ◌&&◌, ◌||◌, ◌==◌, nat_lt, nat_le, if◌then◌else◌, List, length, drop, slice_index, slice_range, Option, Some, None, option_and_then, Result, Ok, Err, bytes_eq}
+use Rattle.std.specs.Prelude.{◌≡◌, ℕ, ◌-◌, ◌^◌, ◌<◌, Bool, not, ◌&&◌, ◌||◌, ◌==◌, nat_lt, nat_le}
+use Rattle.std.specs.Prelude.{if◌then◌else◌, List, length, drop, slice_index, slice_range, Option}
+use Rattle.std.specs.Prelude.{Some, None, option_and_then, Result, Ok, Err, bytes_eq}
 use Rattle.pay_frame.specs.declared.limits.TheConstants.{HEAD_LEN, TAG_LEN, GREATEST_VALUE, SEQS}
 use Rattle.pay_frame.specs.declared.fault.FrameFault.{FrameFault}
 use Rattle.pay_frame.specs.declared.fault.FrameFault.TheVariants.{Truncated, Trailing}
 use Rattle.pay_frame.specs.declared.kind.Kind.{Kind}
 use Rattle.pay_frame.specs.declared.kind.Kind.TheVariants.{Send, Echo, Ready, Want}
-use Rattle.pay_frame.specs.Frame.{BodyFields, FrameFields, body_of_parts, code_of, frame_bytes, IsFrame}
+use Rattle.pay_frame.specs.Frame.{BodyFields, FrameFields, body_of_parts, code_of, frame_bytes}
+use Rattle.pay_frame.specs.Frame.{IsFrame}
 use Rattle.pay_frame.specs.Places.{two_at, four_at, eight_at}
 use Rattle.pay_frame.specs.Reading.{HasFrame, IsProperBeginning, IsFault}
 

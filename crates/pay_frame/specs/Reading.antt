@@ -1,8 +1,10 @@
 -- How bytes read: a frame in front, a proper beginning of a frame, or a fault. Each is a question
 -- about all frames, and none about how a reader goes over the bytes.
-use Rattle.std.specs.Prelude.{◌≡◌, ℕ, ◌+◌, ◌<◌, ◌≤◌, Bool, ◌==◌, nat_lt, if◌then◌else◌, List, ◌++◌, length, take, slice_index, Option, Some, None, Result, Ok, Err}
+use Rattle.std.specs.Prelude.{◌≡◌, ℕ, ◌+◌, ◌<◌, ◌≤◌, Bool, ◌==◌, nat_lt, if◌then◌else◌, List, ◌++◌}
+use Rattle.std.specs.Prelude.{length, take, slice_index, Option, Some, None, Result, Ok, Err}
 use Rattle.pay_frame.specs.declared.fault.FrameFault.{FrameFault}
-use Rattle.pay_frame.specs.declared.fault.FrameFault.TheVariants.{BadLength, BadVersion, BadKind, BadValueLength, BadSeq, BadWant}
+use Rattle.pay_frame.specs.declared.fault.FrameFault.TheVariants.{BadLength, BadVersion, BadKind}
+use Rattle.pay_frame.specs.declared.fault.FrameFault.TheVariants.{BadValueLength, BadSeq, BadWant}
 use Rattle.pay_frame.specs.Frame.{FrameFields, frame_bytes, IsFrame}
 
 -- the bytes are a frame, followed by more or by nothing

@@ -1,7 +1,7 @@
 //! Sizes and limits, which clauses and definitions cite.
 //!
-//! The version, the kinds' codes and the places of a head's fields stand in `writing` and `reading`,
-//! where some clauses and types also spell `HEAD_LEN` as 24 and `TAG_LEN` as 32.
+//! The version, the kinds' codes and the places of a head's fields stand in `writing` and
+//! `reading`, where some clauses and types also spell `HEAD_LEN` as 24 and `TAG_LEN` as 32.
 
 /// The size in bytes of a frame's head, which is everything before its value.
 pub const HEAD_LEN: usize = 24;

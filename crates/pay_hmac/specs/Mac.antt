@@ -1,6 +1,7 @@
 -- HMAC (RFC 2104) over lists of bytes, its hash H being SHA-256 as the crate sha2 defines it. The
 -- names of the steps, and the section numbers, are that RFC's.
-use Rattle.std.specs.Prelude.{◌≡◌, ℕ, ◌-◌, List, [], ◌∷◌, ◌++◌, length, replicate, bit_xor, nat_lt, if◌then◌else◌}
+use Rattle.std.specs.Prelude.{◌≡◌, ℕ, ◌-◌, List, [], ◌∷◌, ◌++◌, length, replicate, bit_xor, nat_lt}
+use Rattle.std.specs.Prelude.{if◌then◌else◌}
 use Rattle.sha2.specs.Sha256.{sha256}
 use Rattle.sha2.proofs.Facts256.{length-sha256}
 

@@ -1,5 +1,6 @@
 -- Counts that devices keep, and what went out of them.
-use Rattle.std.specs.Prelude.{◌≡◌, ℕ, ◌+◌, ◌-◌, ◌^◌, ◌≤◌, ◌⊎◌, List, length, min, take, is_ok, if◌then◌else◌, Option, Result}
+use Rattle.std.specs.Prelude.{◌≡◌, ℕ, ◌+◌, ◌-◌, ◌^◌, ◌≤◌, ◌⊎◌, List, length, min, take, is_ok}
+use Rattle.std.specs.Prelude.{if◌then◌else◌, Option, Result}
 use Rattle.std.specs.Io.KnownBytes.{Appends, Consumes}
 
 -- the greatest count, at which a count stays

@@ -7,8 +7,8 @@ use crate::limits::MOST_TRIES;
 use std::io;
 use std::io::{ErrorKind, Read, Write};
 
-/// A `std` reader or writer, with counts of its calls and failures: an `Input` over a reader, and an
-/// `Output` over a writer. It never flushes.
+/// A `std` reader or writer, with counts of its calls and failures: an `Input` over a reader, and
+/// an `Output` over a writer. It never flushes.
 #[derive(Drop)]
 pub struct Counted<D> {
     inner: D,

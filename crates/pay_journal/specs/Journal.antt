@@ -1,5 +1,5 @@
--- An export's settled payments as plain-text accounting: a journal that hledger and ledger both read. It says of no
--- amount in which unit it is, as the payments don't.
+-- An export's settled payments as plain-text accounting: a journal that hledger and ledger both
+-- read. It says of no amount in which unit it is, as the payments don't.
 use Rattle.std.specs.Prelude.{◌≡◌, ℕ, List, [], ◌++◌, codes, decimal, slice_index, pos, ◌≤ℤ◌}
 use Rattle.std.specs.List.{flat_map, enumerate_from, range_with_len}
 use Rattle.jiff.specs.Types.{Date}
@@ -51,8 +51,8 @@ title_words day account number seq =
     end_of_line ++ day ++ codes " (" ++ decimal account ++ codes "." ++ decimal number ++ codes ") "
     ++ entry_name account seq number
 
--- What a line of an account's statement becomes: a payment of its own a transaction, a void entry a comment. What was
--- paid to it is its payer's transaction.
+-- What a line of an account's statement becomes: a payment of its own a transaction, a void entry a
+-- comment. What was paid to it is its payer's transaction.
 unfoldable pub entry_words : List ℕ → ℕ → ℕ → Line → List ℕ
 entry_words day account number (Out seq payee amount) =
     title_words day account number seq
@@ -66,8 +66,8 @@ unfoldable pub entries_words : List ℕ → ExportFields → ℕ → List ℕ
 entries_words day e account =
     flat_map (λ l. entry_words day account l.0 l.1) (enumerate_from 0 (lines_in e account))
 
--- The journal of a day, by its text: the names of all accounts, what they opened with, and each account's entries,
--- account by account.
+-- The journal of a day, by its text: the names of all accounts, what they opened with, and each
+-- account's entries, account by account.
 unfoldable pub journal_on : List ℕ → ExportFields → List ℕ
 journal_on day e =
     names_words e.genesis.members

@@ -1,5 +1,6 @@
 -- Statements by an export: what a desk answers, of the book that the export's lists allow.
-use Rattle.std.specs.Prelude.{ℕ, nat_lt, List, slice_index, Option, Some, None, option_and_then, if◌then◌else◌}
+use Rattle.std.specs.Prelude.{ℕ, nat_lt, List, slice_index, Option, Some, None, option_and_then}
+use Rattle.std.specs.Prelude.{if◌then◌else◌}
 use Rattle.std.specs.List.{flat_map, range_with_len}
 use Rattle.pay_text.specs.Numbers.{number_of}
 use Rattle.pay_book.specs.declared.line.Line.{Line}

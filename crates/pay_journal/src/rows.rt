@@ -1,4 +1,5 @@
-//! A worked example, computed from the definitions. The function does nothing: what it ensures is the example.
+//! A worked example, computed from the definitions. The function does nothing: what it ensures is
+//! the example.
 
 ghost use Rattle.std.specs.Prelude.{◌≡◌, codes};
 ghost use Rattle.pay_journal.specs.Journal.{journal_on};

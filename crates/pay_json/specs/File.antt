@@ -1,6 +1,8 @@
--- What a file of JSON (RFC 8259) says: the value of its text, and the parts of an object that have one shape. A
--- member that nobody asks for doesn't matter, and of several of one name the last counts.
-use Rattle.std.specs.Prelude.{ℕ, List, [], ◌∷◌, Option, Some, None, option_and_then, option_map, if◌then◌else◌}
+-- What a file of JSON (RFC 8259) says: the value of its text, and the parts of an object that have
+-- one shape. A member that nobody asks for doesn't matter, and of several of one name the last
+-- counts.
+use Rattle.std.specs.Prelude.{ℕ, List, [], ◌∷◌, Option, Some, None, option_and_then, option_map}
+use Rattle.std.specs.Prelude.{if◌then◌else◌}
 use Rattle.std.specs.Str.{is_utf8}
 pub use Rattle.serde_json.specs.Data.{Data}
 use Rattle.serde_json.specs.Data.{Items, item, no_items}

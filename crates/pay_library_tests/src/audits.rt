@@ -73,7 +73,8 @@ const ROWS: &[(&[&str], Verdict)] = &[
             seq: 0,
         },
     ),
-    // the first fork is that of the first export that has one, also where another one shows before it
+    // the first fork is that of the first export that has one, also where another one shows before
+    // it
     (
         &[WAITING, PAID, FORKED, FRESH, OTHERWISE],
         Verdict::Fork {

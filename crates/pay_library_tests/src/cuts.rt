@@ -28,8 +28,9 @@ struct Run {
     end: Result<(), FrameFault>,
 }
 
-// Heads of frames, written by hand: each goes from 0x0102 to 0x0304 at number 0x05060708090a0b0c, and speaks of owner
-// 0x0d0e and seq 0x1112, if of any. After its length field a SEND has 54 + 11 = 0x41 bytes, an ECHO 54 + 1,024 = 0x436.
+// Heads of frames, written by hand: each goes from 0x0102 to 0x0304 at number 0x05060708090a0b0c,
+// and speaks of owner 0x0d0e and seq 0x1112, if of any. After its length field a SEND has 54 + 11 =
+// 0x41 bytes, an ECHO 54 + 1,024 = 0x436.
 const SEND_HEAD: &str = "004101010102030405060708090a0b0c0d0e00001112000b";
 
 const READY_HEAD: &str = "003601030102030405060708090a0b0c0d0e000011120000";

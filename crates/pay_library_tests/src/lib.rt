@@ -1,5 +1,5 @@
-//! Tests of the libraries: the plain forms beside those that the program runs, and the calls that it doesn't make. Each
-//! gives what was worked out by hand or by another program.
+//! Tests of the libraries: the plain forms beside those that the program runs, and the calls that
+//! it doesn't make. Each gives what was worked out by hand or by another program.
 #![tactic(auto)]
 
 #[cfg(test)]

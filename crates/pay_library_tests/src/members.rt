@@ -1,5 +1,6 @@
-//! Members of four, of whom the last lies: what comes of the frames that reach one, what it exports then, and what its
-//! history is replayed to. Frames and exports are those of a slow model in Python.
+//! Members of four, of whom the last lies: what comes of the frames that reach one, what it exports
+//! then, and what its history is replayed to. Frames and exports are those of a slow model in
+//! Python.
 
 use pay_audit::{Export, ReplayFault, Verdict, audit, export_text, read_export, replay};
 use pay_book::PlainBook;
@@ -22,7 +23,8 @@ enum Step {
     Bring(&'static str, Outcome, &'static str),
     /// They are brought and taken, and this follows.
     Take(&'static str, Took),
-    /// How far the first value of account 0 has come, and how many entries of that account are settled.
+    /// How far the first value of account 0 has come, and how many entries of that account are
+    /// settled.
     Show(PaymentState, u32),
 }
 
@@ -177,7 +179,8 @@ const ALONE: &[Row] = &[
         ],
         export: r#"{"balances":[10,40,50,50],"faults":1,"front":[3,1,0,0],"lists":[["02040001000000000000001e000200000000000000320001000000000000002800020000000000000014"],["010000000000000000001e"],[],[]],"member":0,"members":4,"opening":[100,0,0,50]}"#,
     },
-    // READYs of two about number 1 of account 3, then about its number 0, and a SEND of another than its owner
+    // READYs of two about number 1 of account 3, then about its number 0, and a SEND of another
+    // than its owner
     Row {
         name: "a number before the one that the list waits for",
         own: 0,
@@ -442,8 +445,8 @@ fn is_spelled(text: String, wanted: &str) -> bool {
     text.as_str() == wanted
 }
 
-/// Whether the row's export is the member's, its history is replayed to one with the same, and one with another reply
-/// isn't.
+/// Whether the row's export is the member's, its history is replayed to one with the same, and one
+/// with another reply isn't.
 fn exports(alloc: Global, row: &Row, member: &Tried) -> Result<[bool; 3], ReplayFault> {
     Ok([
         is_spelled(text_of(alloc, member)?, row.export),

@@ -1,4 +1,5 @@
-//! Peers' streams: whose a connection is, how a node is fed, and two workers of whom neither waits for the other.
+//! Peers' streams: whose a connection is, how a node is fed, and two workers of whom neither waits
+//! for the other.
 
 mod admissions;
 mod feeding;

@@ -1,4 +1,5 @@
-//! Records of a member's history, and the key and the header of its log as Python's `hmac` and `hashlib` compute them.
+//! Records of a member's history, and the key and the header of its log as Python's `hmac` and
+//! `hashlib` compute them.
 
 ghost use Rattle.std.specs.Prelude.{IsTrue};
 ghost use Rattle.pay_record.specs.Loggable.{HasRoom};
@@ -121,7 +122,8 @@ fn read_again(
     }
 }
 
-/// Whether the member's entry at a place has this record, which another member takes for none exactly if it is a frame's.
+/// Whether the member's entry at a place has this record, which another member takes for none
+/// exactly if it is a frame's.
 fn is_read(
     alloc: Global,
     member: &Tried,

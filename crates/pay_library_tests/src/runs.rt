@@ -20,8 +20,8 @@ enum Deed {
     Bring(u16, &'static str),
 }
 
-// Frames about that payment of member 0, as another program makes them: to member 1, where no other is named, and of
-// the others back to member 0.
+// Frames about that payment of member 0, as another program makes them: to member 1, where no other
+// is named, and of the others back to member 0.
 const SENT: &str =
     "00410101000000010000000000000000000000000000000b010001000000000000001e9888b9a5c22950ec29a47418b007b031883ea7bb3dd6a937b2ca073fb102952a";
 
@@ -75,8 +75,8 @@ const FOUR: Group = (1, &[100, 0, 0, 50], &[3]);
 
 const ALONE: Group = (0, &[7], &[]);
 
-/// The balance of account 0 at member 0, whether its first frame may be passed on to member 1, and whether each took
-/// all that the others sent.
+/// The balance of account 0 at member 0, whether its first frame may be passed on to member 1, and
+/// whether each took all that the others sent.
 type Shown = (u64, bool, bool);
 
 /// Events, those after them, and what comes of all.

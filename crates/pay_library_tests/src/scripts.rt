@@ -1,4 +1,5 @@
-//! Scripts print the same, whichever way an instance keeps its votes. The texts are those of a slow model in Python.
+//! Scripts print the same, whichever way an instance keeps its votes. The texts are those of a slow
+//! model in Python.
 
 use pay_book::PlainBook;
 use pay_echo::{Instance, MaskInstance, PlainInstance};

@@ -1,6 +1,8 @@
 -- What files of JSON say of a ledger: a genesis, and one member's keys. The definitions are of the
 -- value that bytes are read as; which bytes have one is RFC 8259's matter.
-use Rattle.std.specs.Prelude.{ℕ, ◌≡◌, ◌+◌, ◌<◌, ◌==◌, List, [], ◌∷◌, IsSome, codes, length, slice_index_or, Option, Some, None, ok_or, option_and_then, option_map, Result, Ok, Err, if◌then◌else◌}
+use Rattle.std.specs.Prelude.{ℕ, ◌≡◌, ◌+◌, ◌<◌, ◌==◌, List, [], ◌∷◌, IsSome, codes, length}
+use Rattle.std.specs.Prelude.{slice_index_or, Option, Some, None, ok_or, option_and_then}
+use Rattle.std.specs.Prelude.{option_map, Result, Ok, Err, if◌then◌else◌}
 use Rattle.std.specs.Option.{option_map_or}
 use Rattle.pay_json.specs.File.{Data, number_at, numbers_at, texts_at, value_in}
 use Rattle.pay_json.specs.Hexadecimal.{key_in}

@@ -1,9 +1,11 @@
 -- What a ledger begins with, and the first fault of what is said to be one.
-use Rattle.std.specs.Prelude.{◌≡◌, ℕ, ◌*◌, ◌<◌, ◌≤◌, ◌==◌, ◌||◌, nat_le, nat_lt, List, length, sum, Option, Some, None, if◌then◌else◌}
+use Rattle.std.specs.Prelude.{◌≡◌, ℕ, ◌*◌, ◌<◌, ◌≤◌, ◌==◌, ◌||◌, nat_le, nat_lt, List, length, sum}
+use Rattle.std.specs.Prelude.{Option, Some, None, if◌then◌else◌}
 use Rattle.pay_frame.specs.declared.limits.TheConstants.{MOST_MEMBERS}
 use Rattle.pay_link.specs.declared.limits.TheConstants.{GREATEST_TOTAL}
 use Rattle.pay_link.specs.declared.genesis_fault.GenesisFault.{GenesisFault}
-use Rattle.pay_link.specs.declared.genesis_fault.GenesisFault.TheVariants.{BadCount, BadFaults, BadOpening, BadTotal}
+use Rattle.pay_link.specs.declared.genesis_fault.GenesisFault.TheVariants.{BadCount, BadFaults}
+use Rattle.pay_link.specs.declared.genesis_fault.GenesisFault.TheVariants.{BadOpening, BadTotal}
 
 -- how many members there are, how many of them may lie, and what each account begins with
 pub record GenesisFields : Type 0 where

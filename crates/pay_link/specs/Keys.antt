@@ -1,5 +1,7 @@
 -- One member's keys: one for each other member, which that member has too.
-use Rattle.std.specs.Prelude.{◌≡◌, ◌≢◌, ℕ, ◌<◌, ◌≤◌, ◌==◌, nat_le, nat_lt, Bool, not, ◌&&◌, List, length, replicate, slice_index_or, slice_set, Option, Some, None, if◌then◌else◌}
+use Rattle.std.specs.Prelude.{◌≡◌, ◌≢◌, ℕ, ◌<◌, ◌≤◌, ◌==◌, nat_le, nat_lt, Bool, not, ◌&&◌, List}
+use Rattle.std.specs.Prelude.{length, replicate, slice_index_or, slice_set, Option, Some, None}
+use Rattle.std.specs.Prelude.{if◌then◌else◌}
 use Rattle.pay_link.specs.Genesis.{GenesisFields}
 use Rattle.pay_frame.specs.declared.limits.TheConstants.{MOST_MEMBERS}
 use Rattle.pay_link.specs.declared.keys_fault.KeysFault.{KeysFault}

@@ -1,12 +1,14 @@
 -- How a frame is opened or refused.
-use Rattle.std.specs.Prelude.{◌≡◌, ◌≢◌, ℕ, ◌<◌, ◌==◌, nat_lt, List, length, Result, Ok, Err, if◌then◌else◌}
+use Rattle.std.specs.Prelude.{◌≡◌, ◌≢◌, ℕ, ◌<◌, ◌==◌, nat_lt, List, length, Result, Ok, Err}
+use Rattle.std.specs.Prelude.{if◌then◌else◌}
 use Rattle.std.specs.Str.{bytes_eq}
 use Rattle.pay_frame.specs.Frame.{FrameFields}
 use Rattle.pay_hmac.specs.Mac.{mac}
 use Rattle.pay_link.specs.Sealing.{tagged_bytes}
 use Rattle.pay_link.specs.Keys.{IsPeer, KeyFields, is_peer, key_for}
 use Rattle.pay_link.specs.declared.link_fault.LinkFault.{LinkFault}
-use Rattle.pay_link.specs.declared.link_fault.LinkFault.TheVariants.{BadTag, NotForMe, UnknownOwner, UnknownSender}
+use Rattle.pay_link.specs.declared.link_fault.LinkFault.TheVariants.{BadTag, NotForMe, UnknownOwner}
+use Rattle.pay_link.specs.declared.link_fault.LinkFault.TheVariants.{UnknownSender}
 
 -- the tag that belongs to a frame under this key
 abbrev pub right_tag : List ℕ → FrameFields → List ℕ

@@ -1,7 +1,9 @@
 -- The words of a frame that is refused.
 use Rattle.std.specs.Prelude.{List, ℕ, [], ◌++◌, decimal, codes}
 use Rattle.pay_link.specs.declared.link_fault.LinkFault.{LinkFault}
-use Rattle.pay_link.specs.declared.link_fault.LinkFault.TheVariants.{NotForMe, UnknownSender, UnknownOwner, BadTag, Repeat, Gap}
+use Rattle.pay_link.specs.declared.link_fault.LinkFault.TheVariants.{NotForMe, UnknownSender}
+use Rattle.pay_link.specs.declared.link_fault.LinkFault.TheVariants.{UnknownOwner, BadTag, Repeat}
+use Rattle.pay_link.specs.declared.link_fault.LinkFault.TheVariants.{Gap}
 use Rattle.pay_link.specs.Faults.{link_fault_number, link_fault_name}
 
 -- ` next M`, where a refusal says which number is next

@@ -1,6 +1,7 @@
--- Chunks: a mark of four bytes, a payload's length in four, the payload, and a checksum under a key over the chunk's place
--- and all of these.
-use Rattle.std.specs.Prelude.{◌+◌, ◌≡◌, ◌≢◌, ◌⊎◌, ℕ, ◌≤◌, ◌<◌, take, List, [], ◌∷◌, ◌++◌, length, slice_index}
+-- Chunks: a mark of four bytes, a payload's length in four, the payload, and a checksum under a key
+-- over the chunk's place and all of these.
+use Rattle.std.specs.Prelude.{◌+◌, ◌≡◌, ◌≢◌, ◌⊎◌, ℕ, ◌≤◌, ◌<◌, take, List, [], ◌∷◌, ◌++◌, length}
+use Rattle.std.specs.Prelude.{slice_index}
 use Rattle.std.specs.Int.{w32, w64, from_be_bytes, to_be_bytes}
 use Rattle.pay_hmac.specs.Mac.{mac}
 use Rattle.pay_log.specs.declared.limits.TheConstants.{MOST_PAYLOAD}

@@ -1,4 +1,5 @@
--- A chunk after the end of a log: what a crash leaves has none but by chance, so the chunk at the end is damaged.
+-- A chunk after the end of a log: what a crash leaves has none but by chance, so the chunk at the
+-- end is damaged.
 use Rattle.std.specs.Prelude.{◌≡◌, ◌≢◌, ◌⊎◌, ℕ, ◌+◌, ◌<◌, List, ◌++◌, drop, length}
 use Rattle.pay_log.specs.Chunks.{BeginsWith, chunk_of, IsShort}
 use Rattle.pay_log.specs.Logs.{IsLog, end_place, log_bytes}
@@ -22,8 +23,8 @@ pub record IsDamaged (key header file : List ℕ) (count : ℕ) : Type 0 where
   pub counted : length ps ≡ count
   pub has : HasChunkBehind key (end_place ps) log.rest
 
--- Bytes that nobody wrote have a checksum that fits: after the log of these payloads a chunk stands that isn't this one
--- at its place.
+-- Bytes that nobody wrote have a checksum that fits: after the log of these payloads a chunk stands
+-- that isn't this one at its place.
 pub record IsByChance (key header : List ℕ) (ps : List (List ℕ)) (p file : List ℕ) : Type 0 where
   pub tail : List ℕ
   pub is : file ≡ log_bytes key header ps ++ tail

@@ -3,9 +3,11 @@ use Rattle.std.specs.Prelude.{ℕ, List, codes}
 use Rattle.pay_log.specs.declared.device.DeviceFault.{DeviceFault}
 use Rattle.pay_log.specs.declared.device.DeviceFault.TheVariants as device
 use Rattle.pay_log.specs.declared.fault.LogFault.{LogFault}
-use Rattle.pay_log.specs.declared.fault.LogFault.TheVariants.{Memory, Disk, Held, Foreign, Damaged, Illegal}
+use Rattle.pay_log.specs.declared.fault.LogFault.TheVariants.{Memory, Disk, Held, Foreign, Damaged}
+use Rattle.pay_log.specs.declared.fault.LogFault.TheVariants.{Illegal}
 use Rattle.pay_log.specs.declared.mismatch.Mismatch.{Mismatch}
-use Rattle.pay_log.specs.declared.mismatch.Mismatch.TheVariants.{NoLog, Version, Genesis, Member, Keys}
+use Rattle.pay_log.specs.declared.mismatch.Mismatch.TheVariants.{NoLog, Version, Genesis, Member}
+use Rattle.pay_log.specs.declared.mismatch.Mismatch.TheVariants.{Keys}
 use Rattle.pay_log.specs.declared.sink.Refused.{Refused}
 use Rattle.pay_log.specs.declared.sink.Refused.TheVariants as sink
 

@@ -1,11 +1,12 @@
--- A log's header: `payd log`, the version of the format, the SHA-256 of the genesis, the member's number in two bytes,
--- and the fingerprint of the member's keys.
+-- A log's header: `payd log`, the version of the format, the SHA-256 of the genesis, the member's
+-- number in two bytes, and the fingerprint of the member's keys.
 use Rattle.std.specs.Prelude.{◌≡◌, ◌≢◌, ◌⊎◌, ◌<◌, ℕ, List, [], ◌∷◌, ◌++◌, length, take, drop}
 use Rattle.std.specs.Int.{w16, to_be_bytes}
 use Rattle.pay_log.specs.declared.header.Header.{Header}
 use Rattle.pay_log.specs.declared.limits.TheConstants.{HEADER_LEN}
 use Rattle.pay_log.specs.declared.mismatch.Mismatch.{Mismatch}
-use Rattle.pay_log.specs.declared.mismatch.Mismatch.TheVariants.{NoLog, Version, Genesis, Member, Keys}
+use Rattle.pay_log.specs.declared.mismatch.Mismatch.TheVariants.{NoLog, Version, Genesis, Member}
+use Rattle.pay_log.specs.declared.mismatch.Mismatch.TheVariants.{Keys}
 
 -- `payd log`
 abbrev pub magic : List ℕ

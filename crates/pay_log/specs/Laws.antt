@@ -21,8 +21,8 @@ pub record IsBeginning (xs ys : List (List ℕ)) : Type 0 where
   pub rest : List (List ℕ)
   pub is : ys ≡ xs ++ rest
 
--- What is read of a file that a crash left begins with all that was acknowledged and is a beginning of all that was
--- written, or a sum fits by chance.
+-- What is read of a file that a crash left begins with all that was acknowledged and is a beginning
+-- of all that was written, or a sum fits by chance.
 abbrev pub AcknowledgedAreRead : Type 0
 AcknowledgedAreRead =
     (key header file : List ℕ) (ps qs : List (List ℕ)) (p : List ℕ)

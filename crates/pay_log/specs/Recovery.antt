@@ -22,7 +22,8 @@ pub record HasRead {S : Type 0} (takes : S → S → List ℕ → Type 0) (key b
   pub to : HasReadTo takes key bytes old new len count
   pub ended : IsEnd key len (drop len bytes)
 
--- A file is the log of payloads that were taken, so many bytes of chunks, and none stands after its end.
+-- A file is the log of payloads that were taken, so many bytes of chunks, and none stands after its
+-- end.
 pub record IsReadLog {S : Type 0} (takes : S → S → List ℕ → Type 0) (key header file : List ℕ) (old new : S) (len : ℕ) : Type 0 where
   pub ps : List (List ℕ)
   pub log : IsLog key header file ps

@@ -5,7 +5,8 @@ ghost use Rattle.pay_log.specs.Damage.{HasChunkBehind, IsChunkAt};
 
 use crate::chunk::front;
 
-/// Looks for a chunk at each byte after the first of these, which stands at this place: most aren't its mark.
+/// Looks for a chunk at each byte after the first of these, which stands at this place: most aren't
+/// its mark.
 pub(crate) fn has_chunk_behind(key: &[u8; 32], place: usize, bytes: &[u8]) -> bool
     requires { place < 2 ^ 63 }
     ensures { IsTrue result ↔ HasChunkBehind key.now place bytes.now }

@@ -1,4 +1,5 @@
-//! A file as a log sees it: it grows at its end, may be cut, and a crash may leave any form of what no sync came after.
+//! A file as a log sees it: it grows at its end, may be cut, and a crash may leave any form of what
+//! no sync came after.
 
 ghost use Rattle.std.specs.Prelude.{◌≡◌, ◌≤◌, ◌++◌, List, ℕ, length, drop, take, IfOk, OnOk};
 ghost use Rattle.pay_log.specs.Device.{Cut, Elapses, Follows, IsUnchanged, Only, Stays, Torn};
@@ -66,7 +67,8 @@ pub trait Device {
         ensures unchanged { is_known self.old →
             IsUnchanged is_known seen may_leave moment left_since self.old self.new };
 
-    /// Writes after the last byte. Until a sync, a crash may leave at most as many bytes there, of any kind.
+    /// Writes after the last byte. Until a sync, a crash may leave at most as many bytes there, of
+    /// any kind.
     fn append(&mut self, bytes: &[u8]) -> Result<(), DiskFailed>
         ensures known { is_known self.old → is_known self.new }
         ensures appended { is_known self.old →

@@ -1,4 +1,5 @@
-//! The folder of a member's log. While a node runs, a lock on the file `lock` there keeps every other one out.
+//! The folder of a member's log. While a node runs, a lock on the file `lock` there keeps every
+//! other one out.
 
 use crate::fault::LogFault;
 use crate::file::LogFile;
@@ -58,7 +59,8 @@ impl Folder {
         }
     }
 
-    /// Opens the log in a folder whose lock is held. Where there is none, and nothing else, makes one with this header.
+    /// Opens the log in a folder whose lock is held. Where there is none, and nothing else, makes
+    /// one with this header.
     pub fn open_log<R: Files<File = File> + Alloc + Clone + Drop>(
         &self,
         rt: &R,
@@ -106,7 +108,8 @@ fn is_fresh<R: Files + Alloc + Clone + Drop>(rt: &R, path: &str) -> io::Result<b
     Ok(true)
 }
 
-// Makes a log of a header alone. It stands under its name only once it is on the disk, and so does the folder.
+// Makes a log of a header alone. It stands under its name only once it is on the disk, and so does
+// the folder.
 fn make_log<R: Files<File = File>>(
     rt: &R,
     alloc: Global,

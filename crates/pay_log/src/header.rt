@@ -1,6 +1,7 @@
 //! What a log's file begins with: whose log it is.
 
-ghost use Rattle.std.specs.Prelude.{◌≡◌, ◌↔◌, ◌+◌, ◌≤◌, IfOk, IfSome, IfNone, IsTrue, length, take, drop};
+ghost use Rattle.std.specs.Prelude.{◌≡◌, ◌↔◌, ◌+◌, ◌≤◌, IfOk, IfSome, IfNone, IsTrue, length, take};
+ghost use Rattle.std.specs.Prelude.{drop};
 ghost use Rattle.pay_log.specs.Headers.{header_bytes, IsForeign};
 
 use crate::limits::HEADER_LEN;

@@ -8,8 +8,8 @@ pub fn one_reading()
     ensures again { ReadAgain }
 {}
 
-/// What is read of a file that a crash left in the midst of one append begins with all payloads that were acknowledged,
-/// and is a beginning of all that were written.
+/// What is read of a file that a crash left in the midst of one append begins with all payloads
+/// that were acknowledged, and is a beginning of all that were written.
 pub fn acknowledged_are_read()
     ensures { AcknowledgedAreRead }
 {}

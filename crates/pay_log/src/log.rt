@@ -1,6 +1,7 @@
 //! A log over a device: it is read once, and then grows by one chunk a call.
 
-ghost use Rattle.std.specs.Prelude.{◌≡◌, ◌≢◌, ◌⊎◌, ◌++◌, ◌∷◌, [], ℕ, List, IfOk, OnErr, OnOk, true, take};
+ghost use Rattle.std.specs.Prelude.{◌≡◌, ◌≢◌, ◌⊎◌, ◌++◌, ◌∷◌, [], ℕ, List, IfOk, OnErr, OnOk, true};
+ghost use Rattle.std.specs.Prelude.{take};
 ghost use Rattle.pay_log.specs.Chunks.{IsShort};
 ghost use Rattle.pay_log.specs.Damage.{IsByChance, IsDamaged};
 ghost use Rattle.pay_log.specs.Device.{IsUnchanged, LeavesOnly, Only};
@@ -49,8 +50,9 @@ impl<D: Device> Log<D> {
         device
     }
 
-    /// Appends a payload. At `Ok` it is acknowledged: from then on each crash leaves a file that has it. Where memory is
-    /// refused nothing has changed. After a failed write or sync each further call fails, and asks the disk for nothing.
+    /// Appends a payload. At `Ok` it is acknowledged: from then on each crash leaves a file that
+    /// has it. Where memory is refused nothing has changed. After a failed write or sync each
+    /// further call fails, and asks the disk for nothing.
     pub fn append(&mut self, alloc: Global, payload: &[u8]) -> Result<(), LogFault>
         requires { IsShort payload.now }
         ensures acknowledged { OnOk result ((header : List ℕ) (ps : List (List ℕ))
@@ -88,8 +90,9 @@ impl<D: Device> Log<D> {
     }
 }
 
-/// Reads a log that a crash may have left, hands on its payloads, cuts off what is no chunk, and says at which place the
-/// next chunk stands. A crash may end it at any moment: then the file is the same log.
+/// Reads a log that a crash may have left, hands on its payloads, cuts off what is no chunk, and
+/// says at which place the next chunk stands. A crash may end it at any moment: then the file is
+/// the same log.
 pub fn recover<D: Device, S: Sink>(
     alloc: Global,
     device: &mut D,

@@ -1,6 +1,8 @@
-//! A file in memory. Each call is done at once, so a crash leaves what is there. It keeps each past content.
+//! A file in memory. Each call is done at once, so a crash leaves what is there. It keeps each past
+//! content.
 
-ghost use Rattle.std.specs.Prelude.{◌≡◌, ◌⊎◌, [], ◌∷◌, ◌++◌, ◌≤◌, length, drop, take, IfOk, OnOk, OnErr};
+ghost use Rattle.std.specs.Prelude.{◌≡◌, ◌⊎◌, [], ◌∷◌, ◌++◌, ◌≤◌, length, drop, take, IfOk, OnOk};
+ghost use Rattle.std.specs.Prelude.{OnErr};
 ghost use Rattle.std.proofs.Common.{inl};
 ghost use Rattle.pay_log.specs.Memory.{memory_bytes};
 ghost use Rattle.pay_log.specs.Past.{HadBeen, only_bytes};

@@ -1,6 +1,7 @@
 //! All chunks of a file, read one after the other: no two of them stand in memory.
 
-ghost use Rattle.std.specs.Prelude.{List, ◌≡◌, ◌≢◌, ◌↔◌, ◌++◌, ◌+◌, ◌≤◌, ◌<◌, ℕ, IfOk, IfSome, IfNone};
+ghost use Rattle.std.specs.Prelude.{List, ◌≡◌, ◌≢◌, ◌↔◌, ◌++◌, ◌+◌, ◌≤◌, ◌<◌, ℕ, IfOk, IfSome};
+ghost use Rattle.std.specs.Prelude.{IfNone};
 ghost use Rattle.std.specs.Prelude.{IsTrue, OnErr, OnOk, length, drop, take};
 ghost use Rattle.pay_log.specs.Chunks.{IsEnd, chunk_of};
 ghost use Rattle.pay_log.specs.Damage.{HasChunkBehind, IsDamaged};
@@ -91,7 +92,8 @@ fn has_more<D: Device>(
     Ok(has_chunk_behind(key, place, &tail))
 }
 
-/// Reads the chunks that stand from a place of a file on, up to where none stands, and hands on their payloads.
+/// Reads the chunks that stand from a place of a file on, up to where none stands, and hands on
+/// their payloads.
 pub(crate) fn read_chunks<D: Device, S: Sink>(
     alloc: Global,
     device: &mut D,

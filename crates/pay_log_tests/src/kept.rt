@@ -1,4 +1,5 @@
-//! A node's history in a log: on a disk that fails at each of its calls, and with threads that wait for one sync.
+//! A node's history in a log: on a disk that fails at each of its calls, and with threads that wait
+//! for one sync.
 
 ghost use Rattle.std.specs.Prelude.{[], IfOk};
 ghost use Rattle.pay_link.specs.Keys.{IsKeysOf};
@@ -29,7 +30,8 @@ const VALUE: &[u8] = &[1, 0, 0, 0, 0, 0, 0, 0, 0, 0, 5];
 /// The ids of the owner's payments.
 const IDS: &[u64] = &[7, 70, 700];
 
-/// How many calls a disk has in a run that asks for each of them: two of the recovery, and two a payment.
+/// How many calls a disk has in a run that asks for each of them: two of the recovery, and two a
+/// payment.
 const CALLS: usize = 8;
 
 /// How often a disk looks whether others have asked, a millisecond apart.
@@ -97,7 +99,8 @@ fn alone(alloc: Global) -> Result<(Genesis, Keys), Fail>
     Ok((genesis, keys))
 }
 
-/// A disk with a log of no record, whose call of this number fails, where so many bytes of an append are written.
+/// A disk with a log of no record, whose call of this number fails, where so many bytes of an
+/// append are written.
 fn new_disk(alloc: Global, fails: usize, torn: usize) -> Result<FailingDisk, Fail> {
     let (genesis, keys) = alone(alloc)?;
     let header = log_header(alloc, &genesis, &keys)?;
@@ -194,7 +197,8 @@ fn crashed<R: Wait + Clock>(
     })
 }
 
-/// How many payments a member has that starts again from these bytes, if their ids are those that were ordered.
+/// How many payments a member has that starts again from these bytes, if their ids are those that
+/// were ordered.
 fn payments_on<R: Wait + Clock>(
     rt: &R,
     alloc: Global,

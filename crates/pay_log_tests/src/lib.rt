@@ -1,4 +1,5 @@
-//! Tests of a member's log: over a disk that fails, over a file that is cut or changed, and below a running node.
+//! Tests of a member's log: over a disk that fails, over a file that is cut or changed, and below a
+//! running node.
 #![tactic(auto)]
 
 #[cfg(test)]

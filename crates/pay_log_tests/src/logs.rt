@@ -1,4 +1,5 @@
-//! A log over a disk that fails at each of its calls, and a log's file that is cut or changed at each of its bytes.
+//! A log over a disk that fails at each of its calls, and a log's file that is cut or changed at
+//! each of its bytes.
 
 ghost use Rattle.std.specs.Prelude.{[]};
 
@@ -30,8 +31,8 @@ const TEXTS: &[&str] = &["first", "", "the third"];
 /// Where each chunk ends in the file, the header before them.
 const ENDS: &[usize] = &[75, 120, 160, 209];
 
-/// A disk whose call of this number fails, counted from 0: of an append so many bytes are written. It keeps what a crash
-/// leaves.
+/// A disk whose call of this number fails, counted from 0: of an append so many bytes are written.
+/// It keeps what a crash leaves.
 #[derive(Drop)]
 pub(crate) struct FailingDisk {
     pub(crate) bytes: Vec<u8>,
@@ -140,8 +141,8 @@ fn texts_on(alloc: Global, bytes: &[u8]) -> Result<Option<usize>, Fail> {
     Ok(texts_in(&payloads))
 }
 
-/// The log after a crash at the call of this number, where so many bytes of an append were written, with how many texts
-/// were acknowledged, and whether each call failed after one had.
+/// The log after a crash at the call of this number, where so many bytes of an append were written,
+/// with how many texts were acknowledged, and whether each call failed after one had.
 fn crashed(alloc: Global, fails: usize, torn: usize) -> Result<(Vec<u8>, usize, bool), Fail> {
     let mut disk = FailingDisk {
         bytes: HEADER.encode(alloc)?,

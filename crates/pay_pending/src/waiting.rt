@@ -10,8 +10,8 @@ use pay_channel::Source;
 use pay_link::Genesis;
 use std::alloc::{AllocError, Global};
 
-/// A book that settles from a list of the accounts whose next entry may now be covered, each at most
-/// once. The list has room for all of them, so that settling takes no memory.
+/// A book that settles from a list of the accounts whose next entry may now be covered, each at
+/// most once. The list has room for all of them, so that settling takes no memory.
 ///
 /// It is used as a stack: the order makes no difference.
 #[derive(Debug, Drop)]

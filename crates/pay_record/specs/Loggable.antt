@@ -72,8 +72,8 @@ pub record StandsIn (k : KeyFields) (bytes : List ℕ) (l : LoggedFields) : Type
   pub rest : List ℕ
   pub is : bytes ≡ record_of l ++ rest
 
--- What reading answers: the entry whose record stands at the front, with its id and its record's length, or that none
--- stands there. Refused memory tells nothing.
+-- What reading answers: the entry whose record stands at the front, with its id and its record's
+-- length, or that none stands there. Refused memory tells nothing.
 abbrev pub IsReadAs : KeyFields → List ℕ → Result (HistoryEntry × ℕ × ℕ) RecordFault → Type 0
 IsReadAs k bytes (Ok (entry, id, len)) =
     StandsIn k bytes (record { entry = entry; id = id })

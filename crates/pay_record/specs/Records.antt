@@ -27,8 +27,8 @@ reply_bytes (Asked seq) = to_be_bytes w32 seq
 reply_bytes (Took t) = known_bits t ∷ to_be_bytes w32 t.settled
 reply_bytes (Told t) = to_be_bytes w64 t.balance ++ to_be_bytes w32 t.front ++ to_be_bytes w32 t.listed
 
--- What stands after the stamp: of an ask its id, its reply, its value's length and its value; of a frame its reply and
--- all its bytes; of a query its account and its reply.
+-- What stands after the stamp: of an ask its id, its reply, its value's length and its value; of a
+-- frame its reply and all its bytes; of a query its account and its reply.
 abbrev pub fields_of : Event → ℕ → Reply → List ℕ
 fields_of (Ask v) id reply =
     to_be_bytes w64 id ++ reply_bytes reply ++ to_be_bytes w16 (length v) ++ v

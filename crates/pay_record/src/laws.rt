@@ -30,8 +30,8 @@ pub fn one_list()
     one_front();
 }
 
-/// Each entry of a history that a member can have tells all of itself to that member: what is written of it is read
-/// again.
+/// Each entry of a history that a member can have tells all of itself to that member: what is
+/// written of it is read again.
 pub fn legal_entries_are_loggable()
     ensures { LegalIsLoggable }
 {}

@@ -1,6 +1,7 @@
 //! Records as they are read.
 
-ghost use Rattle.std.specs.Prelude.{◌≡◌, ◌++◌, ◌∷◌, ◌+◌, ◌≤◌, ◌<◌, ◌⊎◌, ⊤, IfOk, IfSome, IfNone, length, drop};
+ghost use Rattle.std.specs.Prelude.{◌≡◌, ◌++◌, ◌∷◌, ◌+◌, ◌≤◌, ◌<◌, ◌⊎◌, ⊤, IfOk, IfSome, IfNone};
+ghost use Rattle.std.specs.Prelude.{length, drop};
 ghost use Rattle.std.specs.Prelude.{◌↔◌, IsTrue};
 ghost use Rattle.std.specs.Int.{w16, to_be_bytes};
 ghost use Rattle.pay_frame.specs.Frame.{FrameFields, frame_bytes};
@@ -29,8 +30,8 @@ const FRAME_LEN: usize = 8;
 /// How many bytes a query's record has.
 const QUERY_LEN: usize = 21;
 
-/// The records of the member that has these keys. A frame is opened again: it has to be for that member, and rightly
-/// tagged.
+/// The records of the member that has these keys. A frame is opened again: it has to be for that
+/// member, and rightly tagged.
 #[derive(Drop)]
 pub struct EntryRecords<'a, T> {
     tagger: &'a T,

@@ -10,14 +10,16 @@ use Rattle.pay_world.specs.Genuine.{AreGenuine}
 abbrev pub elsewhere : ℕ → List Deed → List Deed
 elsewhere k deeds = filter (λ d. not (member_of d == k)) deeds
 
--- If it is a frame of member k, brought to a correct member, it is among all that k sent by this history.
+-- If it is a frame of member k, brought to a correct member, it is among all that k sent by this
+-- history.
 abbrev pub IsAmong : Setting → ℕ → List Event → Deed → Type 0
 IsAmong w k history (Asks j v) = ⊤
 IsAmong w k history (Brings j from number body) =
     from ≡ k → IsCorrect w j → number < length (out (group_at w k) history)
 
--- Member k has what it took by the first deeds, and lost what it took by the later ones. The deeds without those that it
--- lost have no forged frame if there was none before, nobody else has another history by them, and k has what it kept.
+-- Member k has what it took by the first deeds, and lost what it took by the later ones. The deeds
+-- without those that it lost have no forged frame if there was none before, nobody else has another
+-- history by them, and k has what it kept.
 abbrev pub ForgettingIsNoLie : Type 0
 ForgettingIsNoLie =
     (w : Setting) (first later : List Deed) (k : ℕ) → AreGenuine w (first ++ later)

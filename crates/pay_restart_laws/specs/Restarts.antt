@@ -1,4 +1,5 @@
--- What happens to the members of a group where some start again, each with a beginning of its history.
+-- What happens to the members of a group where some start again, each with a beginning of its
+-- history.
 use Rattle.std.specs.Prelude.{◌≡◌, ℕ, ◌==◌, if◌then◌else◌, List, [], ◌∷◌, ◌++◌, take, ⊤}
 use Rattle.std.specs.List.{All}
 use Rattle.pay_channel.specs.Prefix.{IsPrefix}
@@ -31,7 +32,8 @@ abbrev pub IsStepAmong : Setting → ℕ → List Event → Step → Type 0
 IsStepAmong w k history (Happens d) = IsAmong w k history d
 IsStepAmong w k history (Restarts j kept) = ⊤
 
--- A deed is genuine. A correct member that starts again has all that it sent to correct members, as far as that came.
+-- A deed is genuine. A correct member that starts again has all that it sent to correct members, as
+-- far as that came.
 abbrev pub IsFair : Setting → List Step → Step → Type 0
 IsFair w before (Happens d) = IsGenuineIn w (history_by_steps w before) d
 IsFair w before (Restarts k kept) =
@@ -43,14 +45,16 @@ pub record AreFair (w : Setting) (steps : List Step) : Type 0 where
       (before : List Step) (s : Step) (after : List Step) → steps ≡ before ++ s ∷ after
       → IsFair w before s
 
--- There are deeds, none of them a forged frame, by which each member has the history that it has by these steps.
+-- There are deeds, none of them a forged frame, by which each member has the history that it has by
+-- these steps.
 abbrev pub RestartIsNoLie : Type 0
 RestartIsNoLie =
     (w : Setting) (steps : List Step) → AreFair w steps
     → (deeds : List Deed) × AreGenuine w deeds
     × ((i : ℕ) → history_by w deeds i ≡ history_by_steps w steps i)
 
--- The headline holds of such deeds, and each beginning of a history that nobody lost is the one by a beginning of them.
+-- The headline holds of such deeds, and each beginning of a history that nobody lost is the one by
+-- a beginning of them.
 abbrev pub HeadlineOfRestarts : Type 0
 HeadlineOfRestarts =
     (w : Setting) (opening : List ℕ) (steps : List Step) → HasFewFaulty w → AreFair w steps

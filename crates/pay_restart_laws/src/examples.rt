@@ -1,5 +1,5 @@
-//! Worked examples of a restart, computed from the definitions: what may be lost and what may not. The functions do
-//! nothing.
+//! Worked examples of a restart, computed from the definitions: what may be lost and what may not.
+//! The functions do nothing.
 
 ghost use Rattle.std.specs.Prelude.{◌≡◌, [], ◌∷◌, ◌++◌};
 ghost use Rattle.pay_frame.specs.declared.kind.Kind.TheVariants.{Send};

@@ -1,5 +1,5 @@
-//! Laws of groups whose members start again. Each function's contract is the law; its body only names the laws below that
-//! it stands on.
+//! Laws of groups whose members start again. Each function's contract is the law; its body only
+//! names the laws below that it stands on.
 
 ghost use Rattle.pay_restart_laws.specs.Forgetting.{ForgettingIsNoLie};
 ghost use Rattle.pay_restart_laws.specs.Restarts.{RestartIsNoLie, HeadlineOfRestarts};
@@ -7,9 +7,9 @@ ghost use Rattle.pay_restart_laws.specs.Restarts.{RestartIsNoLie, HeadlineOfRest
 use pay_channel::laws::grow_at_the_end;
 use pay_world::laws::{genuine_deeds, headline, histories_by_deeds};
 
-/// A member loses what it took after a beginning of its history. Where no frame of it beyond that was brought to a
-/// correct member, the deeds without those that it lost are deeds in which no frame is forged, and nobody else's history
-/// is another.
+/// A member loses what it took after a beginning of its history. Where no frame of it beyond that
+/// was brought to a correct member, the deeds without those that it lost are deeds in which no
+/// frame is forged, and nobody else's history is another.
 pub fn forgetting_is_no_lie()
     ensures { ForgettingIsNoLie }
 {
@@ -18,8 +18,8 @@ pub fn forgetting_is_no_lie()
     grow_at_the_end();
 }
 
-/// So it is however often and whichever members start again: there are deeds without a restart, none of them a forged
-/// frame, by which each member has the history that it has.
+/// So it is however often and whichever members start again: there are deeds without a restart,
+/// none of them a forged frame, by which each member has the history that it has.
 pub fn restart_is_no_lie()
     ensures { RestartIsNoLie }
 {

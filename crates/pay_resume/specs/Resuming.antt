@@ -18,14 +18,16 @@ id_by (Ask v) id = Some id
 id_by (Taken c) id = None
 id_by (Query a) id = None
 
--- the ids of the asks, in their order: that of the k-th is the one of the value that got the number k
+-- the ids of the asks, in their order: that of the k-th is the one of the value that got the number
+-- k
 abbrev pub ids_of : List LoggedFields → List ℕ
 ids_of logged = filter_map (λ l. id_by l.entry.event l.id) logged
 
 abbrev pub entries_of : List LoggedFields → List HistoryEntry
 entries_of logged = map (λ l. l.entry) logged
 
--- The member's history has grown by the entries whose records these bytes are, and the ids by those of the asks.
+-- The member's history has grown by the entries whose records these bytes are, and the ids by those
+-- of the asks.
 pub record HasTaken (record_of : LoggedFields → List ℕ) (old new : MemberFields) (old_ids new_ids : List ℕ)
     (bytes : List ℕ) : Type 0 where
   pub more : List LoggedFields

@@ -41,8 +41,8 @@ pub trait Records {
     // The bytes of an entry's record.
     ghost record_of: { Self → LoggedFields → List ℕ };
 
-    /// The entry whose record stands at the front of some bytes, the id that stands with an ask, and how many bytes the
-    /// record has.
+    /// The entry whose record stands at the front of some bytes, the id that stands with an ask,
+    /// and how many bytes the record has.
     fn read(&self, alloc: Global, bytes: &[u8]) -> Result<(HistoryEntry, u64, usize), RecordFault>
         ensures room { IfOk result (λ r. (0 < r.2) × (r.2 ≤ length bytes.now)) }
         ensures record { IfOk result (λ r. bytes.now

@@ -13,8 +13,8 @@ use pay_log::Refused;
 use pay_member::{Event, HistoryEntry, Member, MemberFault};
 use std::alloc::{AllocError, Global};
 
-/// Hands a member the entries of a payload's records once more, and keeps the ids of the asks among them. Each reply has to
-/// be the record's. After a fault neither is to be used further.
+/// Hands a member the entries of a payload's records once more, and keeps the ids of the asks among
+/// them. Each reply has to be the record's. After a fault neither is to be used further.
 pub(crate) fn take_payload<I: Instance + Drop, B: Settle + Drop, R: Records>(
     alloc: Global,
     records: &R,
@@ -63,7 +63,8 @@ fn behind(bytes: &[u8], len: usize) -> &[u8]
     &bytes[len..]
 }
 
-// Hands an entry in once more, and says whether it is the one owed. If it isn't, the member isn't to be used further.
+// Hands an entry in once more, and says whether it is the one owed. If it isn't, the member isn't
+// to be used further.
 fn take_again<I: Instance + Drop, B: Settle + Drop>(
     alloc: Global,
     member: &mut Member<I, B>,

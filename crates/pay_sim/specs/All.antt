@@ -1,5 +1,6 @@
 -- What the command `all` brings.
-use Rattle.std.specs.Prelude.{◌≡◌, ℕ, ◌<◌, List, [], ◌∷◌, ◌++◌, length, Option, Some, None, Ok, Err, MatchOption}
+use Rattle.std.specs.Prelude.{◌≡◌, ℕ, ◌<◌, List, [], ◌∷◌, ◌++◌, length, Option, Some, None, Ok, Err}
+use Rattle.std.specs.Prelude.{MatchOption}
 use Rattle.std.specs.List.{range_with_len}
 use Rattle.pay_world.specs.declared.event.WorldEvent.{WorldEvent}
 use Rattle.pay_world.specs.declared.event.WorldEvent.TheVariants.{Bring}
@@ -8,8 +9,8 @@ use Rattle.pay_sim.specs.declared.group.ScriptGroup.{ScriptGroup}
 use Rattle.pay_sim.specs.declared.stop.RunStop.{RunStop}
 use Rattle.pay_sim.specs.Made.{Makes, untaken}
 
--- Each relation is of the events that were made before, those that were made after, and what stopped the run
--- in between, if anything did.
+-- Each relation is of the events that were made before, those that were made after, and what
+-- stopped the run in between, if anything did.
 
 -- Member `to` takes of member `from`, frame after frame, until nothing of it is untaken.
 pub data Draws (c : ScriptGroup) (from to : ℕ) : List WorldEvent → List WorldEvent → Option RunStop → Type 0 where

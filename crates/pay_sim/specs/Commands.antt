@@ -1,5 +1,6 @@
 -- What the lines of a script ask for, word by word.
-use Rattle.std.specs.Prelude.{ℕ, ◌==◌, nat_lt, List, [], length, drop, codes, if◌then◌else◌, Option, Some, None, option_and_then, option_map, Result, Ok, Err}
+use Rattle.std.specs.Prelude.{ℕ, ◌==◌, nat_lt, List, [], length, drop, codes, if◌then◌else◌, Option}
+use Rattle.std.specs.Prelude.{Some, None, option_and_then, option_map, Result, Ok, Err}
 use Rattle.std.specs.Str.{bytes_eq}
 use Rattle.hex.specs.Hex.{decode_of}
 use Rattle.hex.specs.declared.error.FromHexError.{FromHexError}
@@ -14,7 +15,8 @@ use Rattle.pay_text.specs.Pairs.{pairs_within}
 use Rattle.pay_book.specs.declared.payment.TheConstants.{MOST_PAYMENTS}
 use Rattle.pay_book.specs.Payment.{payment_value, payments_named, payments_value}
 use Rattle.pay_sim.specs.declared.command.ScriptCommand.{ScriptCommand}
-use Rattle.pay_sim.specs.declared.command.ScriptCommand.TheVariants.{Ask, Bring, Lie, Raw, All, Show}
+use Rattle.pay_sim.specs.declared.command.ScriptCommand.TheVariants.{Ask, Bring, Lie, Raw, All}
+use Rattle.pay_sim.specs.declared.command.ScriptCommand.TheVariants.{Show}
 use Rattle.pay_sim.specs.declared.command.TheConstants.{MEMBERS, ACCOUNTS}
 
 -- ---- single words

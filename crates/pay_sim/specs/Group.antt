@@ -1,5 +1,6 @@
 -- The group of a script: its first line says it.
-use Rattle.std.specs.Prelude.{ℕ, nat_lt, ◌^◌, List, codes, Option, Some, None, option_and_then, if◌then◌else◌}
+use Rattle.std.specs.Prelude.{ℕ, nat_lt, ◌^◌, List, codes, Option, Some, None, option_and_then}
+use Rattle.std.specs.Prelude.{if◌then◌else◌}
 use Rattle.std.specs.List.{list_all}
 use Rattle.std.specs.Option.{option_map_or}
 use Rattle.std.specs.Result.{result_ok}

@@ -1,5 +1,8 @@
--- What the members of a script's group know by the events that were made, and what comes of one event more.
-use Rattle.std.specs.Prelude.{◌≡◌, ℕ, ◌<◌, ◌≤◌, nat_lt, Bool, true, false, not, ◌&&◌, ◌==◌, List, [], length, slice_get, Option, Some, None, option_map, Result, Ok, Err, MatchOption, if◌then◌else◌}
+-- What the members of a script's group know by the events that were made, and what comes of one
+-- event more.
+use Rattle.std.specs.Prelude.{◌≡◌, ℕ, ◌<◌, ◌≤◌, nat_lt, Bool, true, false, not, ◌&&◌, ◌==◌, List}
+use Rattle.std.specs.Prelude.{[], length, slice_get, Option, Some, None, option_map, Result, Ok}
+use Rattle.std.specs.Prelude.{Err, MatchOption, if◌then◌else◌}
 use Rattle.std.specs.Option.{option_map_or}
 use Rattle.pay_channel.specs.History.{Event, asks, out}
 use Rattle.pay_channel.specs.Taken.{next}
@@ -61,7 +64,8 @@ next_number c es from to =
     then next from (history_at c es to)
     else 0
 
--- the frame that correct member `to` takes next of all that correct member `from` sent, if that is there
+-- the frame that correct member `to` takes next of all that correct member `from` sent, if that is
+-- there
 unfoldable pub untaken : ScriptGroup → List WorldEvent → ℕ → ℕ → Option (List ℕ)
 untaken c es from to =
     if is_there c to then sent_frame c es from to (next_number c es from to) else None
@@ -92,8 +96,8 @@ IsReplyTo c es e reply =
     MatchOption (keys_at c (receiver e)) (reply ≡ Ignored)
     (λ k. IsReplyBehind c.genesis k (history_at c es (receiver e)) e reply)
 
--- An event is made and has its reply; or the run stops before it, where as many as there may be were
--- made, or where it is forged.
+-- An event is made and has its reply; or the run stops before it, where as many as there may be
+-- were made, or where it is forged.
 abbrev pub Makes : ScriptGroup → List WorldEvent → WorldEvent → Result WorldReply RunStop → Type 0
 Makes c es e (Ok reply) =
     (length es < MOST_EVENTS) × (is_forged_by c es e ≡ false) × IsReplyTo c es e reply

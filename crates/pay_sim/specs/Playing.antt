@@ -1,5 +1,6 @@
 -- What holds while a script is played: the world is that after the events that were made.
-use Rattle.std.specs.Prelude.{◌≡◌, ℕ, ◌<◌, Bool, true, false, List, [], ◌∷◌, ◌++◌, length, Option, Some, None, Result, Ok, Err, ⊤}
+use Rattle.std.specs.Prelude.{◌≡◌, ℕ, ◌<◌, Bool, true, false, List, [], ◌∷◌, ◌++◌, length, Option}
+use Rattle.std.specs.Prelude.{Some, None, Result, Ok, Err, ⊤}
 use Rattle.pay_member.specs.Member.{MemberFields}
 use Rattle.pay_world.specs.declared.event.WorldEvent.{WorldEvent}
 use Rattle.pay_world.specs.declared.reply.WorldReply.{WorldReply}
@@ -111,6 +112,7 @@ abbrev pub IsAnswer : PlayFields → Option (List ℕ) → List ℕ → Bool →
 IsAnswer old line text on new =
     (m : Moment) → IsGoing old m → (n : Moment) × Reads m line text on n × IsAt on new n
 
--- Where memory is refused a script ends for good, and its world is dropped: so nothing is said of what it became.
+-- Where memory is refused a script ends for good, and its world is dropped: so nothing is said of
+-- what it became.
 abbrev pub MayBeAny : PlayFields → PlayFields → Type 0
 MayBeAny old new = Unit {0}

@@ -1,5 +1,7 @@
 -- What a script's lines do, and the text that they print.
-use Rattle.std.specs.Prelude.{◌≡◌, ◌⊎◌, ℕ, ◌-◌, Bool, true, false, List, [], ◌∷◌, ◌++◌, length, codes, decimal, Option, Some, None, Ok, Err, Result, IfSome, if◌then◌else◌}
+use Rattle.std.specs.Prelude.{◌≡◌, ◌⊎◌, ℕ, ◌-◌, Bool, true, false, List, [], ◌∷◌, ◌++◌, length}
+use Rattle.std.specs.Prelude.{codes, decimal, Option, Some, None, Ok, Err, Result, IfSome}
+use Rattle.std.specs.Prelude.{if◌then◌else◌}
 use Rattle.std.specs.List.{flat_map, range_with_len}
 use Rattle.std.specs.Io.KnownBytes.{Appends, IsAtEnd}
 use Rattle.pay_io.specs.declared.stream_fault.StreamFault.{StreamFault}
@@ -16,7 +18,8 @@ use Rattle.pay_world.specs.Answer.{one_more, receiver}
 use Rattle.pay_world.specs.Convergence.{AllTaken}
 use Rattle.pay_world.specs.Liars.{setting_of}
 use Rattle.pay_sim.specs.declared.command.ScriptCommand.{ScriptCommand}
-use Rattle.pay_sim.specs.declared.command.ScriptCommand.TheVariants.{Ask, Bring, Lie, Raw, All, Show}
+use Rattle.pay_sim.specs.declared.command.ScriptCommand.TheVariants.{Ask, Bring, Lie, Raw, All}
+use Rattle.pay_sim.specs.declared.command.ScriptCommand.TheVariants.{Show}
 use Rattle.pay_sim.specs.declared.group.ScriptGroup.{ScriptGroup}
 use Rattle.pay_sim.specs.declared.run.TheConstants.{LONGEST_LINE}
 use Rattle.pay_sim.specs.declared.sim_end.SimEnd.{SimEnd}
@@ -109,8 +112,8 @@ LineTells c es (b ∷ line) told = CommandTells c es (command_in (b ∷ line)) t
 
 -- ---- how far a script has come
 
--- So many lines were read; the first said this group; these events were made; and this stopped the run, if
--- anything did.
+-- So many lines were read; the first said this group; these events were made; and this stopped the
+-- run, if anything did.
 pub record Moment : Type 0 where
   pub lines : ℕ
   pub group : Option ScriptGroup
@@ -133,8 +136,8 @@ last_words BadLine line = codes "bad line " ++ decimal line
 last_words (Forged k) line = codes "forged " ++ decimal k
 last_words Limit line = codes "limit"
 
--- What a line does, and the group that the script then has: the first line says it, and each other one is a
--- command. A line over the bound is neither.
+-- What a line does, and the group that the script then has: the first line says it, and each other
+-- one is a command. A line over the bound is neither.
 
 abbrev pub Founds : List WorldEvent → Option ScriptGroup → Option ScriptGroup → Told → Type 0
 Founds es None after told = (told ≡ Stops BadLine) × (after ≡ None)

@@ -1,12 +1,14 @@
 -- The lines that a script prints.
-use Rattle.std.specs.Prelude.{ℕ, Bool, ◌==◌, List, [], ◌∷◌, ◌++◌, decimal, codes, slice_index, if◌then◌else◌}
+use Rattle.std.specs.Prelude.{ℕ, Bool, ◌==◌, List, [], ◌∷◌, ◌++◌, decimal, codes, slice_index}
+use Rattle.std.specs.Prelude.{if◌then◌else◌}
 use Rattle.std.specs.List.{flat_map, range_with_len}
 use Rattle.pay_frame.specs.Fault.{number_of, name_of}
 use Rattle.pay_link.specs.Words.{link_words}
 use Rattle.pay_book.specs.Book.{Standing}
 use Rattle.pay_member.specs.declared.fault.MemberFault.TheVariants as member
 use Rattle.pay_member.specs.declared.outcome.Outcome.{Outcome}
-use Rattle.pay_member.specs.declared.outcome.Outcome.TheVariants.{Took, Wanted, Frame, Link, WrongKey}
+use Rattle.pay_member.specs.declared.outcome.Outcome.TheVariants.{Took, Wanted, Frame, Link}
+use Rattle.pay_member.specs.declared.outcome.Outcome.TheVariants.{WrongKey}
 use Rattle.pay_member.specs.declared.took.Took as took
 use Rattle.pay_member.specs.Book.{book_after}
 use Rattle.pay_member.specs.Events.{events}

@@ -20,7 +20,8 @@ pub const LONGEST_LINE: usize = 4096;
 /// what they print, as a function of the script and of the histories that its events make.
 ///
 /// The last line tells of a forged frame, of a line that is none, and of an event more than there
-/// may be, and so does the answer. After a fault of a device what was written is a prefix of the text.
+/// may be, and so does the answer. After a fault of a device what was written is a prefix of the
+/// text.
 pub fn run_sim<I, B, R, W>(
     alloc: Global,
     reader: &mut R,

@@ -19,9 +19,10 @@ abbrev pub Either : Bool → Type 0 → Type 0 → Type 0
 Either true P Q = P
 Either false P Q = Q
 
--- The text of the answers to these lines, up to the first after which none may follow; whether one may follow
--- still, and who has then answered them. `says` is what becomes of who answers by one line: who it was, the line, or
--- nothing where it is over the bound, the answer, whether a line may follow, and who it is then.
+-- The text of the answers to these lines, up to the first after which none may follow; whether one
+-- may follow still, and who has then answered them. `says` is what becomes of who answers by one
+-- line: who it was, the line, or nothing where it is over the bound, the answer, whether a line may
+-- follow, and who it is then.
 abbrev pub Answers : {A : Type 0} → (A → Option (List ℕ) → List ℕ → Bool → A → Type 0) → A → List (Option (List ℕ)) → List ℕ → Bool → A → Type 0
 Answers {A} says a [] text on last = (text ≡ []) × (on ≡ true) × (last ≡ a)
 Answers {A} says a (line ∷ lines) text on last =

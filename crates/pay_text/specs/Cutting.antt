@@ -1,8 +1,10 @@
 -- A text cut into lines as it comes.
-use Rattle.std.specs.Prelude.{ℕ, ◌==◌, nat_lt, Bool, true, false, List, [], ◌∷◌, ◌++◌, length, if◌then◌else◌, Option, Some, None}
+use Rattle.std.specs.Prelude.{ℕ, ◌==◌, nat_lt, Bool, true, false, List, [], ◌∷◌, ◌++◌, length}
+use Rattle.std.specs.Prelude.{if◌then◌else◌, Option, Some, None}
 use Rattle.pay_text.specs.Lines.{line_feed}
 
--- The bound of lines, and the line that has begun, as far as it has come; nothing where it is over the bound.
+-- The bound of lines, and the line that has begun, as far as it has come; nothing where it is over
+-- the bound.
 pub record Begun : Type 0 where
   pub bound : ℕ
   pub line : Option (List ℕ)

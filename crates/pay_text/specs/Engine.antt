@@ -1,5 +1,6 @@
 -- What the engine that answers lines reads and writes, where it is known.
-use Rattle.std.specs.Prelude.{◌≡◌, ℕ, ◌+◌, ◌≤◌, Bool, true, false, List, [], ◌++◌, ◌⊎◌, length, IfSome, Option, Some, None, Result, Ok, Err}
+use Rattle.std.specs.Prelude.{◌≡◌, ℕ, ◌+◌, ◌≤◌, Bool, true, false, List, [], ◌++◌, ◌⊎◌, length}
+use Rattle.std.specs.Prelude.{IfSome, Option, Some, None, Result, Ok, Err}
 use Rattle.std.specs.Io.KnownBytes.{Appends, Consumes, IsAtEnd}
 use Rattle.pay_io.specs.declared.stream_fault.StreamFault.{StreamFault}
 use Rattle.pay_io.specs.Device.{WroteBeginning}
@@ -15,8 +16,8 @@ pub record AnswersAll {A : Type 0} (says : A → Option (List ℕ) → List ℕ 
   pub answers : Answers says old lines text on new
   pub written : Appends before after text
 
--- The first of the lines are answered, and a beginning of the answers is written. Who answers is as it was after
--- those lines, or it gave up at the next one.
+-- The first of the lines are answered, and a beginning of the answers is written. Who answers is as
+-- it was after those lines, or it gave up at the next one.
 pub record AnswersFirst {A : Type 0} (says : A → Option (List ℕ) → List ℕ → Bool → A → Type 0) (gives_up : A → A → Type 0) (old : A) (lines : List (Option (List ℕ))) (before after : Option (List ℕ)) (new : A) : Type 0 where
   pub first : List (Option (List ℕ))
   pub others : List (Option (List ℕ))
@@ -28,8 +29,8 @@ pub record AnswersFirst {A : Type 0} (says : A → Option (List ℕ) → List �
   pub wrote : WroteBeginning before after text
   pub ends : (new ≡ mid) ⊎ gives_up mid new
 
--- What is written, by how the engine ended: the answers to all lines of the input, at its end or at the first line
--- after which none may follow; else a beginning of them.
+-- What is written, by how the engine ended: the answers to all lines of the input, at its end or at
+-- the first line after which none may follow; else a beginning of them.
 abbrev pub Writes : {A : Type 0} → (A → Option (List ℕ) → List ℕ → Bool → A → Type 0) → (A → A → Type 0) → ℕ → A → A → Option (List ℕ) → Option (List ℕ) → Option (List ℕ) → Option (List ℕ) → Result Bool StreamFault → Type 0
 Writes says gives_up bound old new input left before after (Ok on) =
     IfSome input (λ bytes. AnswersAll says old (lines_within bound bytes) before after on new) × Either on (IsAtEnd left) Unit

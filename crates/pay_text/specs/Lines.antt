@@ -1,13 +1,14 @@
 -- The lines of a text.
-use Rattle.std.specs.Prelude.{ℕ, ◌==◌, nat_le, List, [], ◌∷◌, length, map, if◌then◌else◌, Option, Some, None}
+use Rattle.std.specs.Prelude.{ℕ, ◌==◌, nat_le, List, [], ◌∷◌, length, map, if◌then◌else◌, Option}
+use Rattle.std.specs.Prelude.{Some, None}
 use Rattle.pay_text.specs.Words.{onto_first}
 
 -- the code of a line feed
 abbrev pub line_feed : ℕ
 line_feed = 10
 
--- The lines of a text: what stands before each line feed, and what stands after the last one unless it is
--- nothing.
+-- The lines of a text: what stands before each line feed, and what stands after the last one unless
+-- it is nothing.
 unfoldable pub lines_of : List ℕ → List (List ℕ)
 lines_of [] = []
 lines_of (b ∷ bytes) = if b == line_feed then [] ∷ lines_of bytes else onto_first b (lines_of bytes)

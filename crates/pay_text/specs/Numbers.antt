@@ -1,5 +1,6 @@
 -- Numbers as words: decimal, without a sign, and with no zero in front of other digits.
-use Rattle.std.specs.Prelude.{◌≡◌, ℕ, ◌<◌, ◌^◌, nat_lt, ◌&&◌, List, [], ◌∷◌, decimal, if◌then◌else◌, Option, Some, None}
+use Rattle.std.specs.Prelude.{◌≡◌, ℕ, ◌<◌, ◌^◌, nat_lt, ◌&&◌, List, [], ◌∷◌, decimal, if◌then◌else◌}
+use Rattle.std.specs.Prelude.{Option, Some, None}
 use Rattle.std.specs.Str.{bytes_eq}
 use Rattle.std.specs.Str.Parse.{digits_value}
 
@@ -7,7 +8,8 @@ use Rattle.std.specs.Str.Parse.{digits_value}
 abbrev pub IsNumber : List ℕ → ℕ → Type 0
 IsNumber word n = (word ≡ decimal n) × (n < 2 ^ 64)
 
--- The number that a word is, if it is one: the value of its digits, where the word is how that is written.
+-- The number that a word is, if it is one: the value of its digits, where the word is how that is
+-- written.
 unfoldable pub number_of : List ℕ → Option ℕ
 number_of word =
     if bytes_eq word (decimal (digits_value 10 word)) && nat_lt (digits_value 10 word) (2 ^ 64)

@@ -37,7 +37,8 @@ pub record PutFirst {A : Type 0} (says : A → Option (List ℕ) → List ℕ �
   pub puts : Puts before after waited waits text
   pub ends : gives_up mid new
 
--- The first lines are answered; a write failed, and a beginning of what waited and of their answers is written.
+-- The first lines are answered; a write failed, and a beginning of what waited and of their answers
+-- is written.
 pub record BrokeOff {A : Type 0} (says : A → Option (List ℕ) → List ℕ → Bool → A → Type 0) (lines : List (Option (List ℕ))) (old new : A) (before after : Option (List ℕ)) (waited : List ℕ) : Type 0 where
   pub first : List (Option (List ℕ))
   pub others : List (Option (List ℕ))
@@ -56,8 +57,8 @@ GoesPut says gives_up lines left old new before after waited waits (Err Read) = 
 GoesPut says gives_up lines left old new before after waited waits (Err Write) = BrokeOff says lines old new before after waited
 GoesPut says gives_up lines left old new before after waited waits (Err Bound) = BrokeOff says lines old new before after waited
 
--- What waited is appended to what was answered, by how that ended and what came of writing it. After a write that
--- failed nothing more is written.
+-- What waited is appended to what was answered, by how that ended and what came of writing it.
+-- After a write that failed nothing more is written.
 abbrev pub HasWritten : Result Bool StreamFault → Option (List ℕ) → Option (List ℕ) → List ℕ → Result Bool StreamFault → Type 0
 HasWritten answered before after waited (Ok on) = (answered ≡ Ok on) × Appends before after waited
 HasWritten answered before after waited (Err fault) =

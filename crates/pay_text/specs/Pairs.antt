@@ -1,5 +1,6 @@
 -- Numbers two by two.
-use Rattle.std.specs.Prelude.{ℕ, nat_lt, nat_le, ◌&&◌, List, [], ◌∷◌, length, if◌then◌else◌, Option, Some, None, option_and_then, option_map}
+use Rattle.std.specs.Prelude.{ℕ, nat_lt, nat_le, ◌&&◌, List, [], ◌∷◌, length, if◌then◌else◌, Option}
+use Rattle.std.specs.Prelude.{Some, None, option_and_then, option_map}
 use Rattle.pay_text.specs.Numbers.{number_of}
 
 -- what two words beside each other are, if both are numbers

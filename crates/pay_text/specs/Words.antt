@@ -1,5 +1,6 @@
 -- The words of a line.
-use Rattle.std.specs.Prelude.{◌≡◌, ⊤, ℕ, ◌==◌, Bool, List, [], ◌∷◌, ◌++◌, if◌then◌else◌, Option, Some, None, true, false}
+use Rattle.std.specs.Prelude.{◌≡◌, ⊤, ℕ, ◌==◌, Bool, List, [], ◌∷◌, ◌++◌, if◌then◌else◌, Option}
+use Rattle.std.specs.Prelude.{Some, None, true, false}
 
 -- the code of a blank
 abbrev pub blank : ℕ
@@ -10,8 +11,8 @@ abbrev pub onto_first : ℕ → List (List ℕ) → List (List ℕ)
 onto_first b [] = (b ∷ []) ∷ []
 onto_first b (part ∷ parts) = (b ∷ part) ∷ parts
 
--- What stands between the blanks of a line. Two blanks beside each other, and one at an end, have an empty
--- word there; a line without a blank is one word.
+-- What stands between the blanks of a line. Two blanks beside each other, and one at an end, have
+-- an empty word there; a line without a blank is one word.
 unfoldable pub words_of : List ℕ → List (List ℕ)
 words_of [] = [] ∷ []
 words_of (b ∷ bytes) = if b == blank then [] ∷ words_of bytes else onto_first b (words_of bytes)

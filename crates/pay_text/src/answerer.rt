@@ -32,8 +32,8 @@ pub struct Answer {
 
 /// Who answers lines, one after the other.
 pub trait Answerer {
-    // What becomes of who answers by one line: who it was, the line, or nothing where it is over the bound, the text of
-    // the answer, whether a line may follow, and who it is then.
+    // What becomes of who answers by one line: who it was, the line, or nothing where it is over
+    // the bound, the text of the answer, whether a line may follow, and who it is then.
     ghost says: { Self → Option (List ℕ) → List ℕ → Bool → Self → Type 0 };
 
     // What may have become of who answers where memory was refused: who it was, and who it is.

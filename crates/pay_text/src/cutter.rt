@@ -5,8 +5,9 @@ ghost use Rattle.pay_text.specs.Cutting.{grown, is_nothing};
 use std::alloc::{AllocError, Global};
 use std::marker::Model;
 
-/// The line of a text that has begun, byte by byte. Of a line that is over the bound nothing is held.
-/// Such a line is answered at its end, so that the answers don't depend on how the text is cut.
+/// The line of a text that has begun, byte by byte. Of a line that is over the bound nothing is
+/// held. Such a line is answered at its end, so that the answers don't depend on how the text is
+/// cut.
 #[derive(Drop)]
 pub struct LineCutter {
     bound: usize,
@@ -26,7 +27,8 @@ impl Model for LineCutter {
 }
 
 impl LineCutter {
-    /// A cutter for lines of at most so many bytes, before any byte has come. It takes all its memory now.
+    /// A cutter for lines of at most so many bytes, before any byte has come. It takes all its
+    /// memory now.
     pub fn new(alloc: Global, bound: usize) -> Result<LineCutter, AllocError>
         ensures { IfOk result (λ cutter. cutter ≡ record { bound = bound; line = Some [] }) }
     {

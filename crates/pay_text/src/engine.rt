@@ -1,4 +1,5 @@
-ghost use Rattle.std.specs.Prelude.{◌≡◌, ◌⊎◌, ◌+◌, ◌++◌, ◌∷◌, ℕ, Bool, List, Option, Some, Ok, Err, [], OnOk};
+ghost use Rattle.std.specs.Prelude.{◌≡◌, ◌⊎◌, ◌+◌, ◌++◌, ◌∷◌, ℕ, Bool, List, Option, Some, Ok, Err};
+ghost use Rattle.std.specs.Prelude.{[], OnOk};
 ghost use Rattle.std.specs.Prelude.{IsErrOf};
 ghost use Rattle.pay_io.specs.Counts.{KeepsCounts, itself};
 ghost use Rattle.pay_io.specs.Device.{counted};
@@ -15,9 +16,10 @@ use std::alloc::Global;
 // How many bytes are asked for in one read.
 const PIECE: usize = 4096;
 
-/// Reads lines to the input's end and writes the answer to each, however they come in pieces. A line without a line
-/// feed at the end counts as one; of a line over the bound the answerer learns nothing else. The answers to the lines
-/// that one read gave are written together, as far as a buffer of 65,536 bytes holds them.
+/// Reads lines to the input's end and writes the answer to each, however they come in pieces. A
+/// line without a line feed at the end counts as one; of a line over the bound the answerer learns
+/// nothing else. The answers to the lines that one read gave are written together, as far as a
+/// buffer of 65,536 bytes holds them.
 ///
 /// Returns `true` at the input's end, and `false` after a line after which none may follow.
 ///
@@ -53,7 +55,8 @@ pub fn run_lines<A: Answerer, R: Input, W: Output>(
     Err(StreamFault::Bound)
 }
 
-/// Reads a piece and answers the lines that end in it. At the end answers whether the input came to its own.
+/// Reads a piece and answers the lines that end in it. At the end answers whether the input came to
+/// its own.
 fn read_once<A: Answerer, R: Input, W: Output>(
     alloc: Global,
     answerer: &mut A,
@@ -97,7 +100,8 @@ fn read_once<A: Answerer, R: Input, W: Output>(
     }
 }
 
-/// Answers the lines that end in a piece of the text, and writes the answers. Answers whether a line may follow.
+/// Answers the lines that end in a piece of the text, and writes the answers. Answers whether a
+/// line may follow.
 fn take_piece<A: Answerer, W: Output>(
     alloc: Global,
     answerer: &mut A,
@@ -123,7 +127,8 @@ fn take_piece<A: Answerer, W: Output>(
     written(outbox, writer, answered)
 }
 
-/// Answers the line that has come at the input's end, and writes the answer. Answers whether a line may follow.
+/// Answers the line that has come at the input's end, and writes the answer. Answers whether a line
+/// may follow.
 fn answer_last<A: Answerer, W: Output>(
     alloc: Global,
     answerer: &mut A,

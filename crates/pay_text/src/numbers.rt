@@ -2,8 +2,8 @@ ghost use Rattle.std.specs.Prelude.{◌≡◌, ◌<◌, ◌^◌, MatchOption};
 ghost use Rattle.std.specs.Str.Parse.{AllDigits, digits_value};
 ghost use Rattle.pay_text.specs.Numbers.{number_of};
 
-/// The number that a word is: decimal, without a sign and without a zero in front of other digits, and of at most
-/// 64 bits.
+/// The number that a word is: decimal, without a sign and without a zero in front of other digits,
+/// and of at most 64 bits.
 pub fn number(word: &[u8]) -> Option<u64>
     ensures { result ≡ number_of word.now }
 {

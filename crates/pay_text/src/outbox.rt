@@ -35,7 +35,8 @@ impl Outbox {
         Ok(Outbox { waiting })
     }
 
-    /// Has a text wait after the others. Where there is no room for it, what waits is written first.
+    /// Has a text wait after the others. Where there is no room for it, what waits is written
+    /// first.
     pub(crate) fn put<W: Output>(&mut self, writer: &mut W, text: &[u8]) -> Result<(), StreamFault>
         ensures ok { OnOk result (Puts (W.contents writer.old) (W.contents writer.new)
             self.old self.new text.now) }

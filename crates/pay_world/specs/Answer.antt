@@ -1,5 +1,7 @@
 -- What a world answers to an event, and what becomes of its members.
-use Rattle.std.specs.Prelude.{◌≡◌, ◌≢◌, ℕ, ◌+◌, ◌-◌, ◌^◌, min, Bool, false, not, ◌&&◌, List, [], ◌++◌, slice_get, Option, Some, None, option_map, option_and_then, MatchOption, if◌then◌else◌}
+use Rattle.std.specs.Prelude.{◌≡◌, ◌≢◌, ℕ, ◌+◌, ◌-◌, ◌^◌, min, Bool, false, not, ◌&&◌, List, []}
+use Rattle.std.specs.Prelude.{◌++◌, slice_get, Option, Some, None, option_map, option_and_then}
+use Rattle.std.specs.Prelude.{MatchOption, if◌then◌else◌}
 use Rattle.std.specs.Option.{option_map_or, option_to_list}
 use Rattle.std.specs.List.{filter_map}
 use Rattle.pay_frame.specs.Frame.{FrameFields}
@@ -94,8 +96,8 @@ IsReplyFrom member e reply = MatchOption member (reply ≡ Ignored) (λ m. IsRep
 abbrev pub IsReply : WorldFields → WorldEvent → WorldReply → Type 0
 IsReply w e reply = IsReplyFrom (member_in w (receiver e)) e reply
 
--- Whether the member takes the event, if it is there: nothing refuses the value, and the bytes are a
--- frame whose number is the next one.
+-- Whether the member takes the event, if it is there: nothing refuses the value, and the bytes are
+-- a frame whose number is the next one.
 abbrev pub IsTakenBy : WorldEvent → Option MemberFields → Type 0
 IsTakenBy (Ask i v) member =
     MatchOption member ⊥ (λ m. refusal m.genesis m.keys (events m.history) (entry.Ask v) ≡ None)

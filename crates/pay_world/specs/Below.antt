@@ -1,12 +1,21 @@
 -- What the laws between members stand on: laws of one broadcast, of one member's channel and of
 -- one book, gathered.
-use Rattle.pay_echo.specs.Laws.{NotReadyAtFirst, EchoSetGrows, InEchoSet, InReadySet, InOtherReadySet, OwnEcho, OwnReady, SendCame, EchoCame, ReadyCame, SendIsEchoed, EchoCounts, ReadyCounts, WhyReady, WhyDelivered, QuorumMakesReady, AmplificationMakesReady, ReadysDeliver}
-use Rattle.pay_echo.specs.Quorums.{SizeOfOthers, PartIsSmaller, QuorumsShare, LargerHasAnother, RestIsQuorum, QuorumIsMore, MoreRemain}
-use Rattle.pay_channel.specs.VoteLaws.{NoVotesAtFirst, NoAsksAtFirst, AsksByOneMore, VotesGrow, EchoIsTaken, ReadyIsTaken, SendIsTaken}
+use Rattle.pay_echo.specs.Laws.{NotReadyAtFirst, EchoSetGrows, InEchoSet, InReadySet}
+use Rattle.pay_echo.specs.Laws.{InOtherReadySet, OwnEcho, OwnReady, SendCame, EchoCame, ReadyCame}
+use Rattle.pay_echo.specs.Laws.{SendIsEchoed, EchoCounts, ReadyCounts, WhyReady, WhyDelivered}
+use Rattle.pay_echo.specs.Laws.{QuorumMakesReady, AmplificationMakesReady, ReadysDeliver}
+use Rattle.pay_echo.specs.Quorums.{SizeOfOthers, PartIsSmaller, QuorumsShare, LargerHasAnother}
+use Rattle.pay_echo.specs.Quorums.{RestIsQuorum, QuorumIsMore, MoreRemain}
+use Rattle.pay_channel.specs.VoteLaws.{NoVotesAtFirst, NoAsksAtFirst, AsksByOneMore, VotesGrow}
+use Rattle.pay_channel.specs.VoteLaws.{EchoIsTaken, ReadyIsTaken, SendIsTaken}
 use Rattle.pay_channel.specs.TakenLaws.{NothingTakenAtFirst, TakenByOneMore, TakenIsFrom}
-use Rattle.pay_channel.specs.SentLaws.{OutGrows, EchoIsSaid, ReadyIsSaid, AsksAreCounted, SentIsAsked, OwnEchoIsAsk}
-use Rattle.pay_channel.specs.ListLaws.{DeliveredIs, DeliveryStays, ListIsValues, ListBeginsValues, ListsAlike, ListsCompare, ListsGrow}
-use Rattle.pay_book.specs.Laws.{SettledBookExists, SettledIsLargest, NobodyOwesOnceSettled, BookKeepsTotal, EqualListsEqualBooks, SettledEntriesGrow, SettledEntriesCompare, SettledEntriesWereAsked}
+use Rattle.pay_channel.specs.SentLaws.{OutGrows, EchoIsSaid, ReadyIsSaid, AsksAreCounted}
+use Rattle.pay_channel.specs.SentLaws.{SentIsAsked, OwnEchoIsAsk}
+use Rattle.pay_channel.specs.ListLaws.{DeliveredIs, DeliveryStays, ListIsValues, ListBeginsValues}
+use Rattle.pay_channel.specs.ListLaws.{ListsAlike, ListsCompare, ListsGrow}
+use Rattle.pay_book.specs.Laws.{SettledBookExists, SettledIsLargest, NobodyOwesOnceSettled}
+use Rattle.pay_book.specs.Laws.{BookKeepsTotal, EqualListsEqualBooks, SettledEntriesGrow}
+use Rattle.pay_book.specs.Laws.{SettledEntriesCompare, SettledEntriesWereAsked}
 
 -- who is in the sets of one broadcast, what came, and why one is READY and delivers
 pub record OfBroadcasts : Type 0 where

@@ -9,7 +9,8 @@ use Rattle.pay_member.specs.Events.{events}
 use Rattle.pay_member.specs.Legal.{Legal}
 use Rattle.pay_world.specs.Setting.{Setting, setting_by, IsCorrect, is_correct}
 use Rattle.pay_world.specs.Deeds.{Deed, adds, history_by, deeds_in}
-use Rattle.pay_world.specs.Genuine.{IsGenuine, IsGenuineIn, AreGenuine, AreGenuineByPlace, is_forged_in, none_forged}
+use Rattle.pay_world.specs.Genuine.{IsGenuine, IsGenuineIn, AreGenuine, AreGenuineByPlace}
+use Rattle.pay_world.specs.Genuine.{is_forged_in, none_forged}
 use Rattle.pay_world.specs.Stands.{Grow}
 
 -- ---- histories

@@ -1,5 +1,6 @@
 -- Deeds in which no frame is forged: what a correct member takes as another's, that one sent.
-use Rattle.std.specs.Prelude.{◌≡◌, ℕ, Bool, true, false, not, ◌&&◌, ◌==◌, List, [], ◌∷◌, ◌++◌, slice_get, take, Option, Some, None}
+use Rattle.std.specs.Prelude.{◌≡◌, ℕ, Bool, true, false, not, ◌&&◌, ◌==◌, List, [], ◌∷◌, ◌++◌}
+use Rattle.std.specs.Prelude.{slice_get, take, Option, Some, None}
 use Rattle.std.specs.Str.{bytes_eq}
 use Rattle.pay_frame.specs.Frame.{BodyFields, code_of}
 use Rattle.pay_channel.specs.History.{Event, out}

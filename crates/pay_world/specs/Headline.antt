@@ -23,8 +23,8 @@ lists_by w deeds i = list_of (group_at w i) (history_by w deeds i)
 abbrev pub book_by : Setting → List ℕ → List Deed → ℕ → Standing
 book_by w opening deeds i = settled_book opening (lists_by w deeds i)
 
--- the entries of account a that member i has settled: the first of its list, as many as the front of
--- its book says
+-- the entries of account a that member i has settled: the first of its list, as many as the front
+-- of its book says
 abbrev pub settled_by : Setting → List ℕ → List Deed → ℕ → ℕ → List Entry
 settled_by w opening deeds i a =
     take (slice_index (book_by w opening deeds i).front a)

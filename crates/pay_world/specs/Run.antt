@@ -1,5 +1,6 @@
 -- A list of events of a group, and the world after them.
-use Rattle.std.specs.Prelude.{◌≡◌, ℕ, ◌-◌, ◌^◌, min, List, length, take, slice_get, Option, Some, None, if◌then◌else◌}
+use Rattle.std.specs.Prelude.{◌≡◌, ℕ, ◌-◌, ◌^◌, min, List, length, take, slice_get, Option, Some}
+use Rattle.std.specs.Prelude.{None, if◌then◌else◌}
 use Rattle.std.specs.List.{filter_map}
 use Rattle.pay_frame.specs.Stream.{IsBytes}
 use Rattle.pay_channel.specs.History.{Event}

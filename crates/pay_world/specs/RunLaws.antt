@@ -1,5 +1,6 @@
 -- What holds of worlds after lists of events, as statements. Each is proved as a public law.
-use Rattle.std.specs.Prelude.{◌≡◌, ℕ, true, false, List, [], ◌∷◌, ◌++◌, Some, Result, Ok, Err, IsOkUnless, MatchOption, All}
+use Rattle.std.specs.Prelude.{◌≡◌, ℕ, true, false, List, [], ◌∷◌, ◌++◌, Some, Result, Ok, Err}
+use Rattle.std.specs.Prelude.{IsOkUnless, MatchOption, All}
 use Rattle.pay_link.specs.Genesis.{GenesisFields}
 use Rattle.pay_link.specs.Keys.{IsKeysOf, KeyFields}
 use Rattle.pay_member.specs.declared.entry.HistoryEntry.{HistoryEntry}
@@ -12,7 +13,8 @@ use Rattle.pay_world.specs.declared.reply.WorldReply.{WorldReply}
 use Rattle.pay_world.specs.Liars.{AreLiarsOf, LiarFields}
 use Rattle.pay_world.specs.World.{WorldFields, AreKeysOf, fresh_world}
 use Rattle.pay_world.specs.Answer.{Answers, forgery, is_forged_at, one_more}
-use Rattle.pay_world.specs.Run.{IsOfBytes, IsWorldAfter, MayHaveTaken, correct_keys, events_of, history_of}
+use Rattle.pay_world.specs.Run.{IsOfBytes, IsWorldAfter, MayHaveTaken, correct_keys, events_of}
+use Rattle.pay_world.specs.Run.{history_of}
 
 -- a new world is after none
 abbrev pub NoEventsMakeFresh : Type 0

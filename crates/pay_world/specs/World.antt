@@ -1,5 +1,6 @@
 -- A world: the members of a group in one process, and what each took so far.
-use Rattle.std.specs.Prelude.{◌≡◌, ℕ, List, [], length, slice_get, map, Option, Some, None, is_some, option_map, option_and_then, if◌then◌else◌}
+use Rattle.std.specs.Prelude.{◌≡◌, ℕ, List, [], length, slice_get, map, Option, Some, None, is_some}
+use Rattle.std.specs.Prelude.{option_map, option_and_then, if◌then◌else◌}
 use Rattle.std.specs.Option.{option_map_or}
 use Rattle.pay_channel.specs.History.{Event}
 use Rattle.pay_link.specs.Genesis.{GenesisFields, IsGenesis}

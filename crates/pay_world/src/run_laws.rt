@@ -31,8 +31,8 @@ pub fn legal_history_by_events()
     legal_history_by_deeds();
 }
 
-/// An event that a world answers isn't forged, and one that it says to be forged is, under the count
-/// of those that it answered before.
+/// An event that a world answers isn't forged, and one that it says to be forged is, under the
+/// count of those that it answered before.
 pub fn what_is_forged()
     ensures answered { AnsweredIsUnforged }
     ensures said { SaidIsForged }

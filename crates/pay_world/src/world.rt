@@ -309,8 +309,8 @@ impl<I: Instance + Drop, B: Settle + Drop> World<I, B> {
         pass_place(&mut self.members[usize::from(to)], alloc, checked)
     }
 
-    // What the other answers, if the frame isn't the next that it takes from its sender: a repeat or
-    // a gap, whatever the tag, so nothing is sealed.
+    // What the other answers, if the frame isn't the next that it takes from its sender: a repeat
+    // or a gap, whatever the tag, so nothing is sealed.
     fn out_of_turn(&self, from: u16, to: u16, number: u64) -> Option<WorldReply>
         requires { MayPass self.now from to number }
         ensures unforged { is_forged_at self.now (passing self.now from to number) ≡ false }

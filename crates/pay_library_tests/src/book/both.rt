@@ -29,8 +29,8 @@ impl Both {
         })
     }
 
-    /// Puts a value on the same list of both, and says how many entries settled; nothing where they answered differently
-    /// or came to stand elsewhere.
+    /// Puts a value on the same list of both, and says how many entries settled; nothing where they
+    /// answered differently or came to stand elsewhere.
     pub(crate) fn added_alike(&mut self, alloc: Global, owner: u16, value: &[u8]) -> Option<u32> {
         let answer = self.plain.add(owner, value.to_vec(alloc).ok()?).ok()?;
         let other = self.waiting.add(owner, value.to_vec(alloc).ok()?).ok()?;

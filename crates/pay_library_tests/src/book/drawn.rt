@@ -20,8 +20,8 @@ fn draw_value(draws: &mut Draws, value: &mut Vec<u8>) -> Result<(), AllocError> 
     Ok(())
 }
 
-/// Puts a drawn value on the same list of both, and says how many entries settled; nothing where they answered
-/// differently or came to stand elsewhere.
+/// Puts a drawn value on the same list of both, and says how many entries settled; nothing where
+/// they answered differently or came to stand elsewhere.
 fn drawn_alike(alloc: Global, draws: &mut Draws, books: &mut Both) -> Option<u32> {
     let owner = u16::from(draws.below(4));
     let mut value = Vec::new(alloc);

@@ -2,8 +2,8 @@
 
 ghost use Rattle.std.specs.Prelude.{◌<◌};
 
-/// A sequence of numbers as Knuth's generator MMIX makes them: 64 bits, each a linear function of the
-/// one before. Its high bits are drawn.
+/// A sequence of numbers as Knuth's generator MMIX makes them: 64 bits, each a linear function of
+/// the one before. Its high bits are drawn.
 #[derive(Drop)]
 pub(crate) struct Draws {
     last: u64,

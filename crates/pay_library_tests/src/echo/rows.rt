@@ -42,8 +42,8 @@ const ALL: Moves = Moves {
     ..READY_AND_DELIVERED
 };
 
-/// Process 0 of so many, of whom so many may be faulty; votes, and what each makes known; and what is echoed, readied
-/// and delivered in the end.
+/// Process 0 of so many, of whom so many may be faulty; votes, and what each makes known; and what
+/// is echoed, readied and delivered in the end.
 struct Row {
     members: u16,
     faults: u16,

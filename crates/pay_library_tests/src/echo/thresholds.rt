@@ -34,7 +34,8 @@ fn echo_threshold<I: Instance + Drop>(
     Ok(0)
 }
 
-// How many READYs of others there are when one's own comes and when the delivery comes; 0 where it never comes.
+// How many READYs of others there are when one's own comes and when the delivery comes; 0 where it
+// never comes.
 fn ready_thresholds<I: Instance + Drop>(
     alloc: Global,
     members: u16,
@@ -62,8 +63,8 @@ fn ready_thresholds<I: Instance + Drop>(
     Ok((ready, 0))
 }
 
-// Whether the quorum of ECHOs is the least c with 2c > N + f, amplification takes f + 1 READYs, and delivery 2f + 1, the
-// own one included.
+// Whether the quorum of ECHOs is the least c with 2c > N + f, amplification takes f + 1 READYs, and
+// delivery 2f + 1, the own one included.
 fn is_group_right<I: Instance + Drop>(
     alloc: Global,
     members: u16,

@@ -25,8 +25,8 @@ fn asked_member(alloc: Global) -> Option<OwnMember> {
     Some(member)
 }
 
-// Under which number a node of this member is asked for the next value, and what closing it answers with all of its
-// seats; nothing, where memory is refused.
+// Under which number a node of this member is asked for the next value, and what closing it answers
+// with all of its seats; nothing, where memory is refused.
 fn goes_on<S: Beginning, R: Wait>(
     rt: &R,
     alloc: Global,

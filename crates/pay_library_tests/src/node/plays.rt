@@ -126,7 +126,8 @@ fn seats_agree_or_not(rt: HostRuntime) {
     }
 }
 
-// Closes a node with the seats of another one, if that is refused: the fault, and the node after it.
+// Closes a node with the seats of another one, if that is refused: the fault, and the node after
+// it.
 fn refused(
     alloc: Global,
     node: Tried,
@@ -135,7 +136,8 @@ fn refused(
     node.close(alloc, others.as_slice()).err()
 }
 
-// Whether a node is asked once more from its first seat, and what closing it with its seats answers then.
+// Whether a node is asked once more from its first seat, and what closing it with its seats answers
+// then.
 fn asked_again<R: Wait>(
     rt: &R,
     alloc: Global,
@@ -149,8 +151,8 @@ fn asked_again<R: Wait>(
     (asks, fault_at_closing(alloc, node, seats))
 }
 
-// A node that asked is closed with the seats of another one, starts again, asks once more, and is closed with its own
-// seats: both faults, if both asks were answered.
+// A node that asked is closed with the seats of another one, starts again, asks once more, and is
+// closed with its own seats: both faults, if both asks were answered.
 fn started_again<R: Wait>(
     rt: &R,
     alloc: Global,

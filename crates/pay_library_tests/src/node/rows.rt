@@ -26,7 +26,8 @@ pub(crate) const FOUR: Group = Group {
     seats: 2,
 };
 
-/// A SEND of member 0 to member 1, number 0, about its first broadcast, with an empty value. Another program tagged it.
+/// A SEND of member 0 to member 1, number 0, about its first broadcast, with an empty value.
+/// Another program tagged it.
 const SEND: &[u8] = &[
     0, 54, 1, 1, 0, 0, 0, 1, 0, 0, 0, 0, 0, 0, 0, 0, 0, 0, 0, 0, 0, 0, 0, 0, 95, 18, 216, 156, 232,
     199, 171, 234, 104, 63, 10, 5, 239, 51, 203, 236, 225, 46, 12, 222, 29, 67, 48, 187, 155, 99,
@@ -61,7 +62,8 @@ const LONE: &[Said] = &[
     },
 ];
 
-/// Calls from a seat: each has a receipt, but for a body that was fetched once before, and for bytes that don't open.
+/// Calls from a seat: each has a receipt, but for a body that was fetched once before, and for
+/// bytes that don't open.
 pub(crate) const ROWS: &[Row] = &[
     Row {
         name: "a member alone",
@@ -122,7 +124,8 @@ pub(crate) const ROWS: &[Row] = &[
     },
 ];
 
-/// Seats of a node with two, whose first asked once; another node has eight, from which nobody called.
+/// Seats of a node with two, whose first asked once; another node has eight, from which nobody
+/// called.
 pub(crate) const HANDED: &[Handed] = &[
     Handed {
         name: "its own seats",

@@ -55,8 +55,8 @@ pub(crate) struct Row {
     pub(crate) steps: &'static [Step],
 }
 
-/// The seats that are handed in, each by its node, which is this one or another with eight seats, and its stamp. An
-/// ask was made at this node from the first seat before.
+/// The seats that are handed in, each by its node, which is this one or another with eight seats,
+/// and its stamp. An ask was made at this node from the first seat before.
 pub(crate) struct Handed {
     pub(crate) name: &'static str,
     pub(crate) seats: &'static [(Whose, usize)],

@@ -25,7 +25,8 @@ pub(crate) fn node_of(alloc: Global, group: Group) -> Option<(Tried, Vec<Seat>)>
     Node::new(alloc, member, group.seats).ok()
 }
 
-/// What closing a node answers with these seats, once more where memory is refused; nothing, where they agree.
+/// What closing a node answers with these seats, once more where memory is refused; nothing, where
+/// they agree.
 pub(crate) fn fault_at_closing(alloc: Global, node: Tried, seats: &[Seat]) -> Option<CloseFault> {
     let (fault, stopped) = node.close(alloc, seats).err()?;
     let (fault, _stopped) = refused_at_last(alloc, fault, stopped, seats)?;
@@ -46,7 +47,8 @@ fn refused_at_last(
     }
 }
 
-/// Takes a step, once more where memory is refused, and says whether the answer is the one expected.
+/// Takes a step, once more where memory is refused, and says whether the answer is the one
+/// expected.
 pub(crate) fn meets<R: Wait>(
     rt: &R,
     alloc: Global,
@@ -100,7 +102,8 @@ fn is_met<R: Wait>(
     }
 }
 
-/// Whether this came of a frame, and whether it is answered with a WANT; nothing, where memory is refused.
+/// Whether this came of a frame, and whether it is answered with a WANT; nothing, where memory is
+/// refused.
 pub(crate) fn brings<R: Wait>(
     rt: &R,
     alloc: Global,

@@ -1,4 +1,5 @@
-//! Whose a connection is: told once, when its first WANT opens; and what becomes of the WANTs that come on it.
+//! Whose a connection is: told once, when its first WANT opens; and what becomes of the WANTs that
+//! come on it.
 
 use crate::node::step::Group;
 use crate::node::trial::{Tried, node_of};
@@ -53,8 +54,8 @@ struct Row {
     came: Came,
 }
 
-/// How often a connection was admitted, and for whom last; how many bytes were written in how many calls; and how many
-/// receipts are left in the seats of members 0 and 2.
+/// How often a connection was admitted, and for whom last; how many bytes were written in how many
+/// calls; and how many receipts are left in the seats of members 0 and 2.
 #[derive(Clone, Copy, Debug, PartialEq, Eq)]
 struct Came {
     admitted: (u64, u64),

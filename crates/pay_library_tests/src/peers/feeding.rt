@@ -36,8 +36,8 @@ fn feeds<R: Wait>(
     ended.is_ok()
 }
 
-// Whether a node that is fed a frame twice asks for the first, and then for the next one twice; and how many receipts
-// its first seat has then.
+// Whether a node that is fed a frame twice asks for the first, and then for the next one twice; and
+// how many receipts its first seat has then.
 fn fed<R: Wait>(rt: &R, alloc: Global, node: &Tried, seats: &mut [Seat]) -> (bool, usize) {
     let Some(seat) = seats.first_mut() else {
         return (false, 0);

@@ -1,4 +1,5 @@
-//! Two workers at one node: while one is held as its frame is opened, or then, the other one's frame is taken.
+//! Two workers at one node: while one is held as its frame is opened, or then, the other one's
+//! frame is taken.
 
 use crate::node::step::ECHOED;
 use crate::node::trial::{Tried, brings, fault_at_closing, node_of};
@@ -26,8 +27,8 @@ const SENT: u8 = 1;
 
 const WANTED: u8 = 4;
 
-/// Holds the worker of one stamp until the other one was answered: as its frame's tag is made, or after that, before
-/// the lock is taken. The other one asks for no frame before that.
+/// Holds the worker of one stamp until the other one was answered: as its frame's tag is made, or
+/// after that, before the lock is taken. The other one asks for no frame before that.
 #[derive(Drop)]
 struct Held<'a, C> {
     clock: &'a C,
@@ -114,7 +115,8 @@ fn frame_of(peer: u16) -> &'static [u8] {
     if peer == 0 { SEND } else { SEND_OF_2 }
 }
 
-// Whether each seat was told of one frame that was taken, and the held one's of a repeat too if it is to be.
+// Whether each seat was told of one frame that was taken, and the held one's of a repeat too if it
+// is to be.
 fn are_told(seats: &[Seat], held: u16, repeats: bool) -> bool {
     for seat in seats {
         let count = if repeats && seat.stamp() == held {
@@ -240,7 +242,8 @@ fn held_seats<R: Threads + Wait + Clock + Sync>(
     in_time.then_some(seats)
 }
 
-/// Two workers, of which one is held where its frame's tag is made or after that, and whether that frame is a repeat.
+/// Two workers, of which one is held where its frame's tag is made or after that, and whether that
+/// frame is a repeat.
 #[derive(Clone, Copy, Debug)]
 struct Row {
     held: u16,

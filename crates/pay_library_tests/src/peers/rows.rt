@@ -13,8 +13,8 @@ pub(crate) const FOUR: Group = Group {
     seats: 2,
 };
 
-/// A SEND of member 0 to member 1, number 0, about its first broadcast, with an empty value. It and the frames
-/// below are tagged by another program.
+/// A SEND of member 0 to member 1, number 0, about its first broadcast, with an empty value. It and
+/// the frames below are tagged by another program.
 pub(crate) const SEND: &[u8] = &[
     0, 54, 1, 1, 0, 0, 0, 1, 0, 0, 0, 0, 0, 0, 0, 0, 0, 0, 0, 0, 0, 0, 0, 0, 95, 18, 216, 156, 232,
     199, 171, 234, 104, 63, 10, 5, 239, 51, 203, 236, 225, 46, 12, 222, 29, 67, 48, 187, 155, 99,
@@ -55,7 +55,8 @@ pub(crate) const WANT_FROM_2: &[u8] = &[
     141, 100, 53, 32, 46,
 ];
 
-/// The frame of member 0 twice, and what member 1 asks of it where it is fed these: its frame 0, and twice its frame 1.
+/// The frame of member 0 twice, and what member 1 asks of it where it is fed these: its frame 0,
+/// and twice its frame 1.
 pub(crate) const FED: &[u8] = &[
     0, 54, 1, 1, 0, 0, 0, 1, 0, 0, 0, 0, 0, 0, 0, 0, 0, 0, 0, 0, 0, 0, 0, 0, 95, 18, 216, 156, 232,
     199, 171, 234, 104, 63, 10, 5, 239, 51, 203, 236, 225, 46, 12, 222, 29, 67, 48, 187, 155, 99,
