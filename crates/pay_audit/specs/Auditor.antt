@@ -63,5 +63,6 @@ pub record IsWrongWith (a : Auditor) (e : ExportFields) (w : Wrong) : Type 0 whe
 -- no two lists of exports that it can have taken have different verdicts
 abbrev pub VerdictOfTakenIsOne : Type 0
 VerdictOfTakenIsOne =
-    (auditor : Auditor) (one other : List ExportFields) → HasTaken one auditor → HasTaken other auditor
+    (auditor : Auditor) (one other : List ExportFields) → HasTaken one auditor
+    → HasTaken other auditor
     → verdict_of one ≡ verdict_of other

@@ -18,7 +18,8 @@ longer one other = if nat_lt (length one) (length other) then other else one
 
 -- Each export's list of this account is how this one begins, and what agrees with each of them
 -- agrees with this one.
-pub record IsLongest (exports : List ExportFields) (account : ℕ) (list : List (List ℕ)) : Type 0 where
+pub record IsLongest (exports : List ExportFields) (account : ℕ) (list : List (List ℕ))
+    : Type 0 where
   pub begins : Each (λ e. IsPrefix (lists_of e account) list) exports
   pub agrees : (other : List (List ℕ)) → Each (λ e. Agreeing (lists_of e account) other) exports → Agreeing list other
 
@@ -33,9 +34,11 @@ differences_of longest lists = map (λ p. fork_place p.0 p.1) (zip longest lists
 -- the first of these exports differs from the longest lists
 abbrev pub FirstDiffers : List (List (List ℕ)) → List ExportFields → Type 0
 FirstDiffers longest [] = Unit {0}
-FirstDiffers longest (e ∷ es) = ((account : ℕ) → Agreeing (list_in longest account) (lists_of e account)) → ⊥
+FirstDiffers longest (e ∷ es) =
+    ((account : ℕ) → Agreeing (list_in longest account) (lists_of e account)) → ⊥
 
-pub record HasCompared (exports : List ExportFields) (longest : List (List (List ℕ))) (lengths : List (List ℕ)) (differences : List (List (Option ℕ))) : Type 0 where
+pub record HasCompared (exports : List ExportFields) (longest : List (List (List ℕ)))
+    (lengths : List (List ℕ)) (differences : List (List (Option ℕ))) : Type 0 where
   pub agreeing : List ExportFields
   pub others : List ExportFields
   pub parts : exports ≡ agreeing ++ others

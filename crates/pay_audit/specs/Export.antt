@@ -66,7 +66,8 @@ value_said d = option_and_then value_of (as_str d)
 -- the values of a list, if all that is in it are texts that spell one
 abbrev pub values_said : Items → Option (List (List ℕ))
 values_said no_items = Some []
-values_said (item d ds) = option_and_then (λ v. option_map (λ vs. v ∷ vs) (values_said ds)) (value_said d)
+values_said (item d ds) =
+    option_and_then (λ v. option_map (λ vs. v ∷ vs) (values_said ds)) (value_said d)
 
 -- the values of an owner, no more than it has numbers for
 unfoldable pub list_said : Data → Option (List (List ℕ))
@@ -74,7 +75,8 @@ list_said d = option_and_then (if_short SEQS) (option_and_then values_said (as_a
 
 abbrev pub lists_said : Items → Option (List (List (List ℕ)))
 lists_said no_items = Some []
-lists_said (item d ds) = option_and_then (λ l. option_map (λ ls. l ∷ ls) (lists_said ds)) (list_said d)
+lists_said (item d ds) =
+    option_and_then (λ l. option_map (λ ls. l ∷ ls) (lists_said ds)) (list_said d)
 
 -- the lists that an object has at `lists`
 unfoldable pub lists_in : Data → Option (List (List (List ℕ)))

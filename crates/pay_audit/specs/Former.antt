@@ -19,13 +19,16 @@ abbrev pub former_front_of : ExportFields → List ℕ
 former_front_of e = largest_front e.genesis.opening (former_logs_of e)
 
 abbrev pub former_balances_of : ExportFields → List ℕ
-former_balances_of e = balances_of e.genesis.opening (former_logs_of e) (slice_index (former_front_of e))
+former_balances_of e =
+    balances_of e.genesis.opening (former_logs_of e) (slice_index (former_front_of e))
 
 abbrev pub former_wrong_front_at : ℕ → ExportFields → Option Verdict
-former_wrong_front_at x e = option_map (WrongFront x) (first_from (if_other (former_front_of e)) 0 e.front)
+former_wrong_front_at x e =
+    option_map (WrongFront x) (first_from (if_other (former_front_of e)) 0 e.front)
 
 abbrev pub former_wrong_balance_at : ℕ → ExportFields → Option Verdict
-former_wrong_balance_at x e = option_map (WrongBalance x) (first_from (if_other (former_balances_of e)) 0 e.balances)
+former_wrong_balance_at x e =
+    option_map (WrongBalance x) (first_from (if_other (former_balances_of e)) 0 e.balances)
 
 abbrev pub former_wrong_book : List ExportFields → Option Verdict
 former_wrong_book exports = option_or (first_from former_wrong_front_at 0 exports) (first_from former_wrong_balance_at 0 exports)

@@ -13,7 +13,8 @@ pub record State : Type 0 where
   pub failures : ℕ
 
 abbrev pub state : {W : Type 0} → (W → Option (List ℕ)) → (W → ℕ) → Gathered → W → State
-state contents failures g w = record { written = contents w; held = g.held.items; failed = g.failed; failures = failures w }
+state contents failures g w =
+    record { written = contents w; held = g.held.items; failed = g.failed; failures = failures w }
 
 -- A text came after what was held, and a front of both went out.
 pub record Moves (before after : Option (List ℕ)) (held left text : List ℕ) : Type 0 where
@@ -24,7 +25,8 @@ pub record Moves (before after : Option (List ℕ)) (held left text : List ℕ) 
 -- A failure that was stays, and nothing more is written. One that came has left a beginning of what
 -- was held and added.
 abbrev pub AddsAt : Bool → Bool → State → State → List ℕ → Type 0
-AddsAt false false old new text = Moves old.written new.written old.held new.held text × (new.failures ≡ old.failures)
+AddsAt false false old new text =
+    Moves old.written new.written old.held new.held text × (new.failures ≡ old.failures)
 AddsAt false true old new text = WroteBeginning old.written new.written (old.held ++ text) × (new.failures ≡ counted old.failures)
 AddsAt true false old new text = ⊥
 AddsAt true true old new text = (new.written ≡ old.written) × (new.failures ≡ old.failures)

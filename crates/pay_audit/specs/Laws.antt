@@ -27,7 +27,8 @@ FrontIsJudged = (e : ExportFields) → IsExport e → (wrong_front_of e ≡ None
 -- after a right front, no account is named where the balances are right
 abbrev pub BalancesAreJudged : Type 0
 BalancesAreJudged =
-    (e : ExportFields) → IsExport e → wrong_front_of e ≡ None → (wrong_balance_of e ≡ None) ↔ HasRightBalances e
+    (e : ExportFields) → IsExport e → wrong_front_of e ≡ None
+    → (wrong_balance_of e ≡ None) ↔ HasRightBalances e
 
 -- no place that both lists have has two values
 abbrev pub Agreeing : List (List ℕ) → List (List ℕ) → Type 0

@@ -9,7 +9,8 @@ use Rattle.pay_audit.specs.declared.replay_fault.ReplayFault.{ReplayFault}
 use Rattle.pay_audit.specs.declared.replay_fault.ReplayFault.TheVariants as replay
 
 -- the entries before this place are a member's, and the entry at it isn't one after them
-pub record IsFirstIllegal (g : GenesisFields) (k : KeyFields) (history : List HistoryEntry) (place : ℕ) : Type 0 where
+pub record IsFirstIllegal (g : GenesisFields) (k : KeyFields) (history : List HistoryEntry)
+    (place : ℕ) : Type 0 where
   pub entry : HistoryEntry
   pub at : slice_get history place ≡ Some entry
   pub before : Legal g k (take place history)

@@ -21,7 +21,8 @@ first_from ask place (x ∷ xs) = option_or (ask place x) (first_from ask (place
 -- ---- another genesis
 
 abbrev pub same_genesis : GenesisFields → GenesisFields → Bool
-same_genesis g h = (g.members == h.members) && (g.faults == h.faults) && bytes_eq g.opening h.opening
+same_genesis g h =
+    (g.members == h.members) && (g.faults == h.faults) && bytes_eq g.opening h.opening
 
 abbrev pub other_genesis_at : GenesisFields → ℕ → ExportFields → Option Verdict
 other_genesis_at g x e = if same_genesis g e.genesis then None else Some (OtherGenesis x)
@@ -54,7 +55,8 @@ wrong_balance_at x e = option_map (WrongBalance x) (wrong_balance_of e)
 
 -- a wrong front of any export comes before a wrong balance
 abbrev pub wrong_book : List ExportFields → Option Verdict
-wrong_book exports = option_or (first_from wrong_front_at 0 exports) (first_from wrong_balance_at 0 exports)
+wrong_book exports =
+    option_or (first_from wrong_front_at 0 exports) (first_from wrong_balance_at 0 exports)
 
 -- ---- a fork
 

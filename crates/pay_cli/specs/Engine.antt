@@ -21,7 +21,8 @@ abbrev pub Writes :
     KeyFields → Option (List ℕ) → Option (List ℕ) → Option (List ℕ) → Option (List ℕ)
     → Result ⊤ EngineFault → Type 0
 Writes k input left before after result =
-    (known : Progress) × EngineWrites (checking k) (check_start k input before) known left after result
+    (known : Progress)
+    × EngineWrites (checking k) (check_start k input before) known left after result
 
 -- There is a front for each member, none has come further than the lines, and one line more can be
 -- counted.

@@ -203,4 +203,5 @@ ReadysDeliver =
 -- two quorums of ECHOs that one process took are for one value
 abbrev pub OneValueByQuorum : Type 0
 OneValueByQuorum =
-    (g : Group) (votes : List Vote) (v w : List ℕ) → HasQuorum g votes v → HasQuorum g votes w → v ≡ w
+    (g : Group) (votes : List Vote) (v w : List ℕ) → HasQuorum g votes v → HasQuorum g votes w
+    → v ≡ w

@@ -25,7 +25,8 @@ pub data IsEnd (rest : List ℕ) : Option FrameFault → Type 0 where
   Faulty : {fault : FrameFault} → IsFault rest fault → IsEnd rest (Some fault)
 
 -- the stream is these frames, and ends so
-pub record IsStream (bytes : List ℕ) (frames : List FrameFields) (ending : Option FrameFault) : Type 0 where
+pub record IsStream (bytes : List ℕ) (frames : List FrameFields) (ending : Option FrameFault)
+    : Type 0 where
   pub rest : List ℕ
   pub cut : IsFramesThen bytes frames rest
   pub ends : IsEnd rest ending
@@ -37,7 +38,8 @@ pub record HasStream (bytes : List ℕ) : Type 0 where
   pub is : IsStream bytes frames ending
 
 -- After its first frames comes the rest of a stream: the frames that follow, and the same end.
-pub record GoesOn (rest : List ℕ) (first all : List FrameFields) (ending : Option FrameFault) : Type 0 where
+pub record GoesOn (rest : List ℕ) (first all : List FrameFields) (ending : Option FrameFault)
+    : Type 0 where
   pub more : List FrameFields
   pub parts : all ≡ first ++ more
   pub is : IsStream rest more ending

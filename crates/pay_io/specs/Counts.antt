@@ -7,7 +7,9 @@ use Rattle.pay_io.specs.Device.{Gave, RoseBy}
 
 -- By the reader's calls, failures and bytes that are left, and the writer's failures: `fault_of`
 -- says which of the function's own faults is that of a device.
-pub record KeepsCounts {T Fault In Out : Type 0} (fault_of : StreamFault → Fault) (calls failures : In → ℕ) (remaining : In → Option (List ℕ)) (lost : Out → ℕ) (old new : In) (was is : Out) (result : Result T Fault) : Type 0 where
+pub record KeepsCounts {T Fault In Out : Type 0} (fault_of : StreamFault → Fault)
+    (calls failures : In → ℕ) (remaining : In → Option (List ℕ)) (lost : Out → ℕ) (old new : In)
+    (was is : Out) (result : Result T Fault) : Type 0 where
   -- a fault of reading comes of a read that failed, and one of writing of a write
   pub read : IsErrOf result (fault_of Read) → RoseBy 1 (failures old) (failures new)
   pub write : IsErrOf result (fault_of Write) → RoseBy 1 (lost was) (lost is)

@@ -21,7 +21,8 @@ declared_words account = codes "account account:" ++ decimal account ++ end_of_l
 -- The names of all accounts, and of that which opening balances come from.
 unfoldable pub names_words : ℕ → List ℕ
 names_words members =
-    flat_map declared_words (range_with_len 0 members) ++ codes "account equity:opening" ++ end_of_line
+    flat_map declared_words (range_with_len 0 members) ++ codes "account equity:opening"
+    ++ end_of_line
 
 -- What a transaction does to an account: the amount, with its sign in front.
 unfoldable pub posting_words : List ℕ → ℕ → ℕ → List ℕ
@@ -42,7 +43,8 @@ opening_words day e =
 -- An account's entry: under which of its values it came, and its number as fronts count entries.
 unfoldable pub entry_name : ℕ → ℕ → ℕ → List ℕ
 entry_name account seq number =
-    codes "account " ++ decimal account ++ codes " seq " ++ decimal seq ++ codes " entry " ++ decimal number
+    codes "account " ++ decimal account ++ codes " seq " ++ decimal seq ++ codes " entry "
+    ++ decimal number
     ++ end_of_line
 
 -- The first line of an entry's transaction.
@@ -58,7 +60,8 @@ entry_words day account number (Out seq payee amount) =
     title_words day account number seq
     ++ posting_words (codes "-") account amount
     ++ posting_words [] payee amount
-entry_words day account number (Void seq) = end_of_line ++ codes "; void " ++ entry_name account seq number
+entry_words day account number (Void seq) =
+    end_of_line ++ codes "; void " ++ entry_name account seq number
 entry_words day account number (In owner seq amount) = []
 
 -- what settled of an account's own entries, in the order of its statement

@@ -18,11 +18,13 @@ account_named e word = option_and_then (if_account e) (number_of word)
 
 -- what settled on an account
 abbrev pub lines_in : ExportFields → ℕ → List Line
-lines_in e account = statement_of e.genesis.members (lists_of e) (slice_index (book_of e).front) account
+lines_in e account =
+    statement_of e.genesis.members (lists_of e) (slice_index (book_of e).front) account
 
 -- An account's statement, in the words of a desk.
 unfoldable pub statement_in : ExportFields → ℕ → List ℕ
-statement_in e account = statement_words account (lines_in e account) (slice_index (book_of e).balances account)
+statement_in e account =
+    statement_words account (lines_in e account) (slice_index (book_of e).balances account)
 
 -- those of all accounts, in their order
 abbrev pub statements_in : ExportFields → List ℕ

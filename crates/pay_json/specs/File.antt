@@ -20,7 +20,8 @@ number_in d = option_and_then as_u64 (as_number d)
 -- the numbers of a list, if all that is in it are numbers
 abbrev pub numbers_in : Items → Option (List ℕ)
 numbers_in no_items = Some []
-numbers_in (item d ds) = option_and_then (λ n. option_map (λ ns. n ∷ ns) (numbers_in ds)) (number_in d)
+numbers_in (item d ds) =
+    option_and_then (λ n. option_map (λ ns. n ∷ ns) (numbers_in ds)) (number_in d)
 
 -- the texts of a list, if all that is in it are texts
 abbrev pub texts_in : Items → Option (List (List ℕ))

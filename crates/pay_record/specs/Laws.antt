@@ -34,12 +34,14 @@ LegalHasRoom =
 -- Lists of entries that have the same records are the same.
 abbrev pub OneList : Type 0
 OneList =
-    (k : KeyFields) (one other : List LoggedFields) → All (IsLoggable k) one → All (IsLoggable k) other
+    (k : KeyFields) (one other : List LoggedFields) → All (IsLoggable k) one
+    → All (IsLoggable k) other
     → flat_map record_of one ≡ flat_map record_of other → one ≡ other
 
 -- Each entry of a history that a member can have tells all of itself to that member.
 abbrev pub LegalIsLoggable : Type 0
 LegalIsLoggable =
     (g : GenesisFields) (k : KeyFields) (before : List HistoryEntry) (e : HistoryEntry) (after : List HistoryEntry)
-    (id : ℕ) → IsGenesis g → Legal g k (before ++ e ∷ after) → IsTyped (record { entry = e; id = id })
+    (id : ℕ) → IsGenesis g → Legal g k (before ++ e ∷ after)
+    → IsTyped (record { entry = e; id = id })
     → IsLoggable k (record { entry = e; id = id })

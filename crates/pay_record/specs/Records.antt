@@ -25,7 +25,8 @@ known_bits t = bit_of t.echo + 2 * bit_of t.ready + 4 * bit_of t.deliver
 abbrev pub reply_bytes : Reply → List ℕ
 reply_bytes (Asked seq) = to_be_bytes w32 seq
 reply_bytes (Took t) = known_bits t ∷ to_be_bytes w32 t.settled
-reply_bytes (Told t) = to_be_bytes w64 t.balance ++ to_be_bytes w32 t.front ++ to_be_bytes w32 t.listed
+reply_bytes (Told t) =
+    to_be_bytes w64 t.balance ++ to_be_bytes w32 t.front ++ to_be_bytes w32 t.listed
 
 -- What stands after the stamp: of an ask its id, its reply, its value's length and its value; of a
 -- frame its reply and all its bytes; of a query its account and its reply.

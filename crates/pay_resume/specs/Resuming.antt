@@ -43,14 +43,16 @@ pub record IsTaking (record_of : LoggedFields → List ℕ) (old new : MemberFie
   pub is : bytes ≡ done ++ rest
 
 -- A record isn't what the member has there: so many entries were taken before it.
-pub record IsRefusedAt (record_of : LoggedFields → List ℕ) (old : MemberFields) (bytes : List ℕ) (number : ℕ) : Type 0 where
+pub record IsRefusedAt (record_of : LoggedFields → List ℕ) (old : MemberFields) (bytes : List ℕ)
+    (number : ℕ) : Type 0 where
   pub before : List LoggedFields
   pub rest : List ℕ
   pub is : bytes ≡ flat_map record_of before ++ rest
   pub counted : length old.history + length before ≡ number
 
 -- A member and the ids of its asks are those of the records in these payloads.
-pub record IsOfRecords (record_of : LoggedFields → List ℕ) (m : MemberFields) (ids : List ℕ) (ps : List (List ℕ)) : Type 0 where
+pub record IsOfRecords (record_of : LoggedFields → List ℕ) (m : MemberFields) (ids : List ℕ)
+    (ps : List (List ℕ)) : Type 0 where
   pub logged : List LoggedFields
   pub history : m.history ≡ entries_of logged
   pub ids_are : ids ≡ ids_of logged

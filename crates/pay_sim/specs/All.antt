@@ -22,7 +22,8 @@ pub data Draws (c : ScriptGroup) (from to : ℕ) : List WorldEvent → List Worl
       → Draws c from to (es ++ Bring to frame ∷ []) last stop → Draws c from to es last stop
 
 -- one after the other, up to the first that is stopped
-abbrev pub InTurn : (ℕ → List WorldEvent → List WorldEvent → Option RunStop → Type 0) → List ℕ → List WorldEvent → List WorldEvent → Option RunStop → Type 0
+abbrev pub InTurn : (ℕ → List WorldEvent → List WorldEvent → Option RunStop → Type 0) → List ℕ
+    → List WorldEvent → List WorldEvent → Option RunStop → Type 0
 InTurn does [] es last stop = (last ≡ es) × (stop ≡ None)
 InTurn does (i ∷ is) es last stop =
     (mid : List WorldEvent) × (met : Option RunStop) × does i es mid met

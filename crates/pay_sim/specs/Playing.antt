@@ -39,13 +39,15 @@ pub record IsGame (g : GameFields) : Type 0 where
   pub behind : IsBehind group events g
 
 -- an event more was made, or not
-abbrev pub IsMade : ScriptGroup → List WorldEvent → WorldEvent → GameFields → Result WorldReply Halt → Type 0
+abbrev pub IsMade : ScriptGroup → List WorldEvent → WorldEvent → GameFields → Result WorldReply Halt
+    → Type 0
 IsMade c es e new (Ok reply) = Makes c es e (Ok reply) × IsBehind c (es ++ e ∷ []) new
 IsMade c es e new (Err (halt.Stop stop)) = Makes c es e (Err stop)
 IsMade c es e new (Err halt.Memory) = Unit {0}
 
 -- a command was done, and its text is appended to what stands there
-abbrev pub IsDone : (Told → Type 0) → ScriptGroup → List ℕ → List ℕ → GameFields → Result ⊤ Halt → Type 0
+abbrev pub IsDone : (Told → Type 0) → ScriptGroup → List ℕ → List ℕ → GameFields → Result ⊤ Halt
+    → Type 0
 IsDone does c before after new (Ok _) =
     (text : List ℕ) × (last : List WorldEvent) × does (Prints text last) × (after ≡ before ++ text)
     × IsBehind c last new
@@ -53,13 +55,16 @@ IsDone does c before after new (Err (halt.Stop stop)) = does (Stops stop)
 IsDone does c before after new (Err halt.Memory) = Unit {0}
 
 -- frames were brought
-abbrev pub IsBrought : (List WorldEvent → Option RunStop → Type 0) → ScriptGroup → GameFields → Result ⊤ Halt → Type 0
+abbrev pub IsBrought : (List WorldEvent → Option RunStop → Type 0) → ScriptGroup → GameFields
+    → Result ⊤ Halt → Type 0
 IsBrought does c new (Ok _) = (last : List WorldEvent) × does last None × IsBehind c last new
 IsBrought does c new (Err (halt.Stop stop)) = (last : List WorldEvent) × does last (Some stop)
 IsBrought does c new (Err halt.Memory) = Unit {0}
 
 -- what the one relation says from the events of this moment on, the other says
-abbrev pub Leads : ScriptGroup → GameFields → (List WorldEvent → List WorldEvent → Option RunStop → Type 0) → (List WorldEvent → Option RunStop → Type 0) → Type 0
+abbrev pub Leads : ScriptGroup → GameFields
+    → (List WorldEvent → List WorldEvent → Option RunStop → Type 0)
+    → (List WorldEvent → Option RunStop → Type 0) → Type 0
 Leads c now rest whole =
     (mid : List WorldEvent) × IsBehind c mid now
     × ((last : List WorldEvent) (stop : Option RunStop) → rest mid last stop → whole last stop)
@@ -99,7 +104,8 @@ IsFounded line (Err (halt.Stop stop)) = (stop ≡ BadLine) × (group_in line ≡
 IsFounded line (Err halt.Memory) = Unit {0}
 
 -- what a line does where the script has come to this group and these events
-abbrev pub IsRead : Option ScriptGroup → List WorldEvent → Option (List ℕ) → List ℕ → List ℕ → Option GameFields → Result ⊤ Halt → Type 0
+abbrev pub IsRead : Option ScriptGroup → List WorldEvent → Option (List ℕ) → List ℕ → List ℕ
+    → Option GameFields → Result ⊤ Halt → Type 0
 IsRead group es line before after new (Ok _) =
     (text : List ℕ) × (then : Option ScriptGroup) × (last : List WorldEvent)
     × Does group es line then (Prints text last) × (after ≡ before ++ text) × IsGameAt new then last

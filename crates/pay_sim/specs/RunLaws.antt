@@ -20,7 +20,8 @@ use Rattle.pay_sim.specs.Script.{IsRun}
 -- A script prints at most one text, and ends in one way.
 abbrev pub OneRun : Type 0
 OneRun =
-    (script text other : List ℕ) (ended end : SimEnd) → IsRun script text ended → IsRun script other end
+    (script text other : List ℕ) (ended end : SimEnd) → IsRun script text ended
+    → IsRun script other end
     → (text ≡ other) × (ended ≡ end)
 
 -- Each script prints one.
@@ -49,6 +50,7 @@ pub record AreTaken (c : ScriptGroup) (es brought : List WorldEvent) : Type 0 wh
 -- All that `all` brings is taken, and nothing but the limit stops it.
 abbrev pub AllIsTaken : Type 0
 AllIsTaken =
-    (c : ScriptGroup) (es last : List WorldEvent) (stop : Option RunStop) → IsGroup c → BringsAll c es last stop
+    (c : ScriptGroup) (es last : List WorldEvent) (stop : Option RunStop) → IsGroup c
+    → BringsAll c es last stop
     → (brought : List WorldEvent) × (last ≡ es ++ brought) × AreTaken c es brought
     × ((stop ≡ None) ⊎ (stop ≡ Some Limit))

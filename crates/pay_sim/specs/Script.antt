@@ -143,7 +143,8 @@ abbrev pub Founds : List WorldEvent → Option ScriptGroup → Option ScriptGrou
 Founds es None after told = (told ≡ Stops BadLine) × (after ≡ None)
 Founds es (Some c) after told = (told ≡ Prints [] es) × (after ≡ Some c)
 
-abbrev pub Does : Option ScriptGroup → List WorldEvent → Option (List ℕ) → Option ScriptGroup → Told → Type 0
+abbrev pub Does : Option ScriptGroup → List WorldEvent → Option (List ℕ) → Option ScriptGroup → Told
+    → Type 0
 Does group es None after told = (told ≡ Stops BadLine) × (after ≡ group)
 Does None es (Some line) after told = Founds es (group_in line) after told
 Does (Some c) es (Some line) after told = LineTells c es line told × (after ≡ Some c)
@@ -172,7 +173,8 @@ no_line = with_feed (codes "bad line 1")
 abbrev pub IsRun : List ℕ → List ℕ → SimEnd → Type 0
 IsRun [] text ended = (text ≡ no_line) × (ended ≡ end.BadLine)
 IsRun (b ∷ script) text ended =
-    (on : Bool) × (last : Moment) × Answers Reads start (lines_within LONGEST_LINE (b ∷ script)) text on last
+    (on : Bool) × (last : Moment)
+    × Answers Reads start (lines_within LONGEST_LINE (b ∷ script)) text on last
     × (ended ≡ end_of last.stopped)
 
 -- It was broken off: what was written is a prefix of the text that a script's first lines print.
@@ -182,8 +184,10 @@ IsRunBegun (b ∷ script) before after =
     (n : Moment) × AnswersFirst Reads (λ mid last. last ≡ mid) start (lines_within LONGEST_LINE (b ∷ script)) before after n
 
 -- What the engine writes, where its input is known. It ends as done only at the input's end.
-abbrev pub WritesRun : Option (List ℕ) → Option (List ℕ) → Option (List ℕ) → Option (List ℕ) → Result SimEnd StreamFault → Type 0
+abbrev pub WritesRun : Option (List ℕ) → Option (List ℕ) → Option (List ℕ) → Option (List ℕ)
+    → Result SimEnd StreamFault → Type 0
 WritesRun input left before after (Ok ended) =
     IfSome input (λ script. (text : List ℕ) × IsRun script text ended × Appends before after text
     × (ended ≡ end.Done → IsAtEnd left))
-WritesRun input left before after (Err fault) = IfSome input (λ script. IsRunBegun script before after)
+WritesRun input left before after (Err fault) =
+    IfSome input (λ script. IsRunBegun script before after)

@@ -62,10 +62,12 @@ book_of m = book_after m.genesis m.keys.own (events m.history)
 
 -- a number for each of some accounts, each after a blank
 unfoldable pub account_words : (ℕ → ℕ) → ℕ → List ℕ
-account_words number_of accounts = flat_map (λ a. codes " " ++ decimal (number_of a)) (range_with_len 0 accounts)
+account_words number_of accounts =
+    flat_map (λ a. codes " " ++ decimal (number_of a)) (range_with_len 0 accounts)
 
 -- `member I fronts F0 F1 .. balances B0 B1 ..`
 unfoldable pub book_words : ℕ → ℕ → Standing → List ℕ
 book_words accounts member book =
-    codes "member " ++ decimal member ++ codes " fronts" ++ account_words (slice_index book.front) accounts
+    codes "member " ++ decimal member ++ codes " fronts"
+    ++ account_words (slice_index book.front) accounts
     ++ codes " balances" ++ account_words (slice_index book.balances) accounts

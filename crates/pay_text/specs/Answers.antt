@@ -23,8 +23,10 @@ Either false P Q = Q
 -- may follow still, and who has then answered them. `says` is what becomes of who answers by one
 -- line: who it was, the line, or nothing where it is over the bound, the answer, whether a line may
 -- follow, and who it is then.
-abbrev pub Answers : {A : Type 0} → (A → Option (List ℕ) → List ℕ → Bool → A → Type 0) → A → List (Option (List ℕ)) → List ℕ → Bool → A → Type 0
+abbrev pub Answers : {A : Type 0} → (A → Option (List ℕ) → List ℕ → Bool → A → Type 0) → A
+    → List (Option (List ℕ)) → List ℕ → Bool → A → Type 0
 Answers {A} says a [] text on last = (text ≡ []) × (on ≡ true) × (last ≡ a)
 Answers {A} says a (line ∷ lines) text on last =
-    (first rest : List ℕ) × (goes : Bool) × (mid : A) × says a line first goes mid × (text ≡ first ++ rest)
+    (first rest : List ℕ) × (goes : Bool) × (mid : A) × says a line first goes mid
+    × (text ≡ first ++ rest)
     × Either goes (Answers says mid lines rest on last) (IsOver rest on mid last)

@@ -13,7 +13,9 @@ pub record Puts (before after : Option (List ℕ)) (old new text : List ℕ) : T
   pub all : old ++ text ≡ out ++ new
 
 -- Of the lines to come these are left. The others are answered, and their answers put.
-pub record PutWent {A : Type 0} (says : A → Option (List ℕ) → List ℕ → Bool → A → Type 0) (lines left : List (Option (List ℕ))) (old new : A) (before after : Option (List ℕ)) (waited waits : List ℕ) : Type 0 where
+pub record PutWent {A : Type 0} (says : A → Option (List ℕ) → List ℕ → Bool → A → Type 0)
+    (lines left : List (Option (List ℕ))) (old new : A) (before after : Option (List ℕ))
+    (waited waits : List ℕ) : Type 0 where
   pub answered : List (Option (List ℕ))
   pub parts : lines ≡ answered ++ left
   pub text : List ℕ
@@ -21,13 +23,17 @@ pub record PutWent {A : Type 0} (says : A → Option (List ℕ) → List ℕ →
   pub puts : Puts before after waited waits text
 
 -- The last line is answered that may be, and all answers put.
-pub record PutAll {A : Type 0} (says : A → Option (List ℕ) → List ℕ → Bool → A → Type 0) (lines : List (Option (List ℕ))) (old new : A) (before after : Option (List ℕ)) (waited waits : List ℕ) : Type 0 where
+pub record PutAll {A : Type 0} (says : A → Option (List ℕ) → List ℕ → Bool → A → Type 0)
+    (lines : List (Option (List ℕ))) (old new : A) (before after : Option (List ℕ))
+    (waited waits : List ℕ) : Type 0 where
   pub text : List ℕ
   pub answers : Answers says old lines text false new
   pub puts : Puts before after waited waits text
 
 -- The first lines are answered and their answers put; at the next one memory was refused.
-pub record PutFirst {A : Type 0} (says : A → Option (List ℕ) → List ℕ → Bool → A → Type 0) (gives_up : A → A → Type 0) (lines : List (Option (List ℕ))) (old new : A) (before after : Option (List ℕ)) (waited waits : List ℕ) : Type 0 where
+pub record PutFirst {A : Type 0} (says : A → Option (List ℕ) → List ℕ → Bool → A → Type 0)
+    (gives_up : A → A → Type 0) (lines : List (Option (List ℕ))) (old new : A)
+    (before after : Option (List ℕ)) (waited waits : List ℕ) : Type 0 where
   pub first : List (Option (List ℕ))
   pub others : List (Option (List ℕ))
   pub parts : lines ≡ first ++ others
@@ -39,7 +45,9 @@ pub record PutFirst {A : Type 0} (says : A → Option (List ℕ) → List ℕ �
 
 -- The first lines are answered; a write failed, and a beginning of what waited and of their answers
 -- is written.
-pub record BrokeOff {A : Type 0} (says : A → Option (List ℕ) → List ℕ → Bool → A → Type 0) (lines : List (Option (List ℕ))) (old new : A) (before after : Option (List ℕ)) (waited : List ℕ) : Type 0 where
+pub record BrokeOff {A : Type 0} (says : A → Option (List ℕ) → List ℕ → Bool → A → Type 0)
+    (lines : List (Option (List ℕ))) (old new : A) (before after : Option (List ℕ))
+    (waited : List ℕ) : Type 0 where
   pub first : List (Option (List ℕ))
   pub others : List (Option (List ℕ))
   pub parts : lines ≡ first ++ others
@@ -49,17 +57,26 @@ pub record BrokeOff {A : Type 0} (says : A → Option (List ℕ) → List ℕ �
   pub wrote : WroteBeginning before after (waited ++ text)
 
 -- what lines come to, by how it ended
-abbrev pub GoesPut : {A : Type 0} → (A → Option (List ℕ) → List ℕ → Bool → A → Type 0) → (A → A → Type 0) → List (Option (List ℕ)) → List (Option (List ℕ)) → A → A → Option (List ℕ) → Option (List ℕ) → List ℕ → List ℕ → Result Bool StreamFault → Type 0
-GoesPut says gives_up lines left old new before after waited waits (Ok true) = PutWent says lines left old new before after waited waits
-GoesPut says gives_up lines left old new before after waited waits (Ok false) = PutAll says lines old new before after waited waits
-GoesPut says gives_up lines left old new before after waited waits (Err Memory) = PutFirst says gives_up lines old new before after waited waits
-GoesPut says gives_up lines left old new before after waited waits (Err Read) = BrokeOff says lines old new before after waited
-GoesPut says gives_up lines left old new before after waited waits (Err Write) = BrokeOff says lines old new before after waited
-GoesPut says gives_up lines left old new before after waited waits (Err Bound) = BrokeOff says lines old new before after waited
+abbrev pub GoesPut : {A : Type 0} → (A → Option (List ℕ) → List ℕ → Bool → A → Type 0)
+    → (A → A → Type 0) → List (Option (List ℕ)) → List (Option (List ℕ)) → A → A → Option (List ℕ)
+    → Option (List ℕ) → List ℕ → List ℕ → Result Bool StreamFault → Type 0
+GoesPut says gives_up lines left old new before after waited waits (Ok true) =
+    PutWent says lines left old new before after waited waits
+GoesPut says gives_up lines left old new before after waited waits (Ok false) =
+    PutAll says lines old new before after waited waits
+GoesPut says gives_up lines left old new before after waited waits (Err Memory) =
+    PutFirst says gives_up lines old new before after waited waits
+GoesPut says gives_up lines left old new before after waited waits (Err Read) =
+    BrokeOff says lines old new before after waited
+GoesPut says gives_up lines left old new before after waited waits (Err Write) =
+    BrokeOff says lines old new before after waited
+GoesPut says gives_up lines left old new before after waited waits (Err Bound) =
+    BrokeOff says lines old new before after waited
 
 -- What waited is appended to what was answered, by how that ended and what came of writing it.
 -- After a write that failed nothing more is written.
-abbrev pub HasWritten : Result Bool StreamFault → Option (List ℕ) → Option (List ℕ) → List ℕ → Result Bool StreamFault → Type 0
+abbrev pub HasWritten : Result Bool StreamFault → Option (List ℕ) → Option (List ℕ) → List ℕ
+    → Result Bool StreamFault → Type 0
 HasWritten answered before after waited (Ok on) = (answered ≡ Ok on) × Appends before after waited
 HasWritten answered before after waited (Err fault) =
     ((answered ≡ Err fault) × (fault ≡ Memory) × WroteBeginning before after waited)

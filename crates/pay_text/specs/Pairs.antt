@@ -5,7 +5,8 @@ use Rattle.pay_text.specs.Numbers.{number_of}
 
 -- what two words beside each other are, if both are numbers
 abbrev pub pair_of : List ℕ → List ℕ → Option (ℕ × ℕ)
-pair_of first second = option_and_then (λ m. option_map (λ n. (m, n)) (number_of second)) (number_of first)
+pair_of first second =
+    option_and_then (λ m. option_map (λ n. (m, n)) (number_of second)) (number_of first)
 
 abbrev pub first_pair : List (List ℕ) → Option (ℕ × ℕ)
 first_pair [] = None
@@ -21,7 +22,8 @@ pairs_of (first ∷ second ∷ words) =
 
 -- at least one, and at most so many
 abbrev pub if_within : ℕ → List (ℕ × ℕ) → Option (List (ℕ × ℕ))
-if_within most pairs = if nat_lt 0 (length pairs) && nat_le (length pairs) most then Some pairs else None
+if_within most pairs =
+    if nat_lt 0 (length pairs) && nat_le (length pairs) most then Some pairs else None
 
 unfoldable pub pairs_within : ℕ → List (List ℕ) → Option (List (ℕ × ℕ))
 pairs_within most words = option_and_then (if_within most) (pairs_of words)
