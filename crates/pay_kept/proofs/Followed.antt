@@ -151,10 +151,10 @@ one_chunk (b ∷ bytes) payload is some = ap (λ (l : List ℕ). l ∷ []) is
 
 -- a log that was resumed is followed on
 pub resumed_follows :
-    {D : Type 0} (is_known : D → Type 0) (seen : D → List ℕ) (may_leave : D → List ℕ → Type 0) (header file : List ℕ) (m : MemberFields) (ids : List ℕ) (log new : Log D) (count : ℕ)
-    → new ≡ log → count ≡ length m.history → IsResumed is_known seen may_leave record_of header file m ids log
+    {D : Type 0} (is_known : D → Type 0) (seen : D → List ℕ) (may_leave : D → List ℕ → Type 0) (loggable : LoggedFields → Type 0) (header file : List ℕ) (m : MemberFields) (ids : List ℕ) (log new : Log D) (count : ℕ)
+    → new ≡ log → count ≡ length m.history → IsResumed is_known seen may_leave record_of loggable header file m ids log
     → IsFollowingSome is_known seen may_leave new [] count
-resumed_follows is_known seen may_leave header file m ids log new count is counted r = subst (λ (l : Log _). IsFollowingSome is_known seen may_leave l [] count) (sym is) (record {
+resumed_follows is_known seen may_leave loggable header file m ids log new count is counted r = subst (λ (l : Log _). IsFollowingSome is_known seen may_leave l [] count) (sym is) (record {
   entries = m.history;
   counted = sym counted;
   follows = record {

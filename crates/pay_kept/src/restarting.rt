@@ -4,6 +4,7 @@ ghost use Rattle.std.specs.Prelude.{◌≡◌, ℕ, List, [], IfOk, length};
 ghost use Rattle.pay_link.specs.Keys.{IsKeysOf};
 ghost use Rattle.pay_log.specs.Headers.{header_bytes};
 ghost use Rattle.pay_record.specs.Identity.{header_of, log_key_of};
+ghost use Rattle.pay_record.specs.Loggable.{IsLoggable};
 ghost use Rattle.pay_record.specs.Records.{record_of};
 ghost use Rattle.pay_resume.specs.Resuming.{IsOfRecords, IsResumed};
 
@@ -39,12 +40,12 @@ pub fn restart<D: Device + Drop, I: Instance + Drop, B: Settle + Drop, T: Tagger
     ensures genesis { IfOk result (λ r. r.member.genesis ≡ genesis.now) }
     ensures keys { IfOk result (λ r. r.member.keys ≡ keys.now) }
     ensures records { IfOk result (λ r. (ps : List (List ℕ))
-        × IsOfRecords record_of r.member r.ids.items ps) }
+        × IsOfRecords record_of (IsLoggable keys.now) r.member r.ids.items ps) }
     ensures count { IfOk result (λ r. r.following.count ≡ length r.member.history) }
     ensures pending { IfOk result (λ r. r.following.pending.items ≡ []) }
     ensures key { IfOk result (λ r. r.following.log.key ≡ log_key_of keys.now) }
     ensures resumed { IfOk result (λ r. D.is_known device →
-        IsResumed D.is_known D.seen D.may_leave record_of
+        IsResumed D.is_known D.seen D.may_leave record_of (IsLoggable keys.now)
         (header_bytes (header_of genesis.now keys.now)) (D.seen device) r.member r.ids.items
         r.following.log) }
 {

@@ -15,7 +15,7 @@ use Rattle.pay_resume.specs.Resuming.{LoggedFields}
 use Rattle.pay_record.specs.Records.{known_bits, record_of}
 use Rattle.pay_resume.specs.declared.records.RecordFault.{RecordFault}
 use Rattle.pay_resume.specs.declared.records.RecordFault.TheVariants.{Memory, NoRecord}
-use Rattle.pay_record.specs.Loggable.{FrameStandsIn, IsFrameRead, IsReadAs, StandsIn}
+use Rattle.pay_record.specs.Loggable.{FrameStandsIn, IsFrameRead, IsReadAs, StandsIn, IsLoggable}
 use Rattle.std.specs.Prelude.{IfOk}
 
 -- ---- an ask
@@ -118,3 +118,9 @@ pub is_behind :
     → IfOk answer (λ r. bytes ≡ record_of (record { entry = r.0; id = r.1 }) ++ drop r.2 bytes)
 is_behind k bytes (Ok (entry, id, len)) read = behind k bytes (record { entry = entry; id = id }) len read.0 read.1
 is_behind k bytes (Err fault) read = tt
+
+pub is_loggable :
+    (k : KeyFields) (bytes : List ℕ) (answer : Result (HistoryEntry × ℕ × ℕ) RecordFault) → IsReadAs k bytes answer
+    → IfOk answer (λ r. IsLoggable k (record { entry = r.0; id = r.1 }))
+is_loggable k bytes (Ok (entry, id, len)) read = read.0.loggable
+is_loggable k bytes (Err fault) read = tt

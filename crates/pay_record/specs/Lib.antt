@@ -3,3 +3,4 @@ pub mod Loggable
 pub mod Identity
 pub mod Laws
 pub mod Examples
+pub mod Restarting

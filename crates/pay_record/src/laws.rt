@@ -6,8 +6,10 @@ ghost use Rattle.pay_record.specs.Examples.{frame_example_bytes, query_bytes, qu
 ghost use Rattle.pay_record.specs.Records.{record_of};
 ghost use Rattle.pay_record.specs.Laws.{LegalHasRoom, LegalIsLoggable, OneList, OneRecord};
 ghost use Rattle.pay_record.specs.Laws.{WrittenIsRead};
+ghost use Rattle.pay_record.specs.Restarting.{WrittenIsResumed};
 
 use pay_frame::one_front;
+use pay_log::laws::one_reading;
 
 /// One record at most stands at the front of bytes.
 pub fn one_record()
@@ -28,6 +30,15 @@ pub fn one_list()
     ensures { OneList }
 {
     one_front();
+}
+
+/// A member that starts again from what a crash left has all entries that were acknowledged, and
+/// then all of those under way or none of them; or a checksum fits by chance.
+pub fn written_is_resumed()
+    ensures { WrittenIsResumed }
+{
+    one_list();
+    one_reading();
 }
 
 /// Each entry of a history that a member can have tells all of itself to that member: what is

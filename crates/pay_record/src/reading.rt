@@ -9,7 +9,7 @@ ghost use Rattle.pay_frame.specs.Lent.{fields_of};
 ghost use Rattle.pay_frame.specs.Reading.{HasFrame};
 ghost use Rattle.pay_link.specs.Checked.{CheckedFields, IsChecked, IsFor};
 ghost use Rattle.pay_link.specs.Keys.{KeyFields};
-ghost use Rattle.pay_record.specs.Loggable.{IsFrameRead, IsReadAs};
+ghost use Rattle.pay_record.specs.Loggable.{IsFrameRead, IsLoggable, IsReadAs};
 ghost use Rattle.pay_record.specs.Records.{known_bits, record_of};
 
 use crate::limits::{ASK, FRAME, QUERY};
@@ -49,10 +49,14 @@ impl<'a, T: Tagger> EntryRecords<'a, T> {
 impl<T: Tagger> Records for EntryRecords<'_, T> {
     ghost record_of = { λ _. record_of };
 
+    ghost is_loggable = { λ e. IsLoggable e.keys.now };
+
     fn read(&self, alloc: Global, bytes: &[u8]) -> Result<(HistoryEntry, u64, usize), RecordFault>
         ensures room { IfOk result (λ r. (0 < r.2) × (r.2 ≤ length bytes.now)) }
         ensures record { IfOk result (λ r. bytes.now
             ≡ record_of (record { entry = r.0; id = r.1 }) ++ drop r.2 bytes.now) }
+        ensures loggable { IfOk result (λ r.
+            IsLoggable self.now.keys.now (record { entry = r.0; id = r.1 })) }
         ensures read { IsReadAs self.now.keys.now bytes.now result }
     {
         read_record(alloc, self.tagger, self.keys, bytes)

@@ -1,9 +1,9 @@
 -- Records taken one after the other.
 use Rattle.std.proofs.Common.{◌≡◌, ℕ, List, [], ◌∷◌, ◌++◌, Option, None, Some, option_to_list, length, refl, sym, ap, ◌∙◌, subst, arith, append_assoc, append-nil, length-append}
-use Rattle.std.specs.List.{filter_map, flat_map}
+use Rattle.std.specs.List.{All, filter_map, flat_map}
 use Rattle.std.proofs.lemmas.Grind.{flat_map-append}
 use Rattle.std.proofs.lemmas.List.{length-map, map-append}
-use Rattle.std.proofs.lemmas.List.Elements.{filter_map-append}
+use Rattle.std.proofs.lemmas.List.Elements.{All-append, All-cons, All-nil, filter_map-append}
 use Rattle.pay_member.specs.declared.entry.HistoryEntry.{HistoryEntry}
 use Rattle.pay_member.specs.Member.{MemberFields, with_entry}
 use Rattle.pay_log.specs.Sinks.{TakesAll}
@@ -13,20 +13,22 @@ one_or_none : (o : Option ℕ) → filter_map (λ (x : Option ℕ). x) (o ∷ []
 one_or_none None = refl
 one_or_none (Some y) = refl
 
-module _ (record_of : LoggedFields → List ℕ) where
-  pub nothing_taken : (m : MemberFields) (ids : List ℕ) → HasTaken record_of m m ids ids []
+module _ (record_of : LoggedFields → List ℕ) (IsLoggable : LoggedFields → Type 0) where
+  pub nothing_taken : (m : MemberFields) (ids : List ℕ) → HasTaken record_of IsLoggable m m ids ids []
   nothing_taken m ids = record {
     more = [];
+    loggable = All-nil IsLoggable;
     grown = ap (λ (h : List HistoryEntry). record m { history = h }) (sym (append-nil m.history));
     ids = sym (append-nil ids);
     records = refl;
   }
 
   pub taken_on :
-      (old mid new : MemberFields) (a b c : List ℕ) (bytes more : List ℕ) → HasTaken record_of old mid a b bytes → HasTaken record_of mid new b c more
-      → HasTaken record_of old new a c (bytes ++ more)
+      (old mid new : MemberFields) (a b c : List ℕ) (bytes more : List ℕ) → HasTaken record_of IsLoggable old mid a b bytes → HasTaken record_of IsLoggable mid new b c more
+      → HasTaken record_of IsLoggable old new a c (bytes ++ more)
   taken_on old mid new a b c bytes more one two = record {
     more = one.more ++ two.more;
+    loggable = All-append IsLoggable one.more two.more one.loggable two.loggable;
     grown = two.grown ∙ ap (λ (m : MemberFields). record m { history = m.history ++ entries_of two.more }) one.grown
         ∙ ap (λ (h : List HistoryEntry). record old { history = h })
         (append_assoc old.history (entries_of one.more) (entries_of two.more) ∙ ap (λ (h : List HistoryEntry). old.history ++ h) (sym (map-append (λ (l : LoggedFields). l.entry) one.more two.more)));
@@ -36,10 +38,11 @@ module _ (record_of : LoggedFields → List ℕ) where
   }
 
   pub one_taken :
-      (old new : MemberFields) (a b : List ℕ) (l : LoggedFields) → new ≡ with_entry old l.entry → b ≡ a ++ option_to_list (id_by l.entry.event l.id)
-      → HasTaken record_of old new a b (record_of l)
-  one_taken old new a b l is ids = record {
+      (old new : MemberFields) (a b : List ℕ) (l : LoggedFields) → new ≡ with_entry old l.entry → b ≡ a ++ option_to_list (id_by l.entry.event l.id) → IsLoggable l
+      → HasTaken record_of IsLoggable old new a b (record_of l)
+  one_taken old new a b l is ids loggable = record {
     more = l ∷ [];
+    loggable = All-cons IsLoggable l [] loggable (All-nil IsLoggable);
     grown = is;
     ids = ids ∙ ap (λ (x : List ℕ). a ++ x) (sym (one_or_none (id_by l.entry.event l.id)));
     records = append-nil (record_of l);
@@ -49,27 +52,32 @@ module _ (record_of : LoggedFields → List ℕ) where
 
 -- whoever takes payloads so that each is records of what it has, has taken the records of all
 pub all_taken :
-    {S : Type 0} (new old : S) (ps : List (List ℕ)) (takes : S → S → List ℕ → Type 0)
-    (member : S → MemberFields) (ids : S → List ℕ) (record_of : S → LoggedFields → List ℕ)
-    → ((a b : S) (p : List ℕ) → takes a b p → record_of b ≡ record_of a)
-    → ((a b : S) (p : List ℕ) → takes a b p → HasTaken (record_of a) (member a) (member b) (ids a) (ids b) p)
+    {S R : Type 0} (new old : S) (ps : List (List ℕ)) (takes : S → S → List ℕ → Type 0)
+    (member : S → MemberFields) (ids : S → List ℕ) (records : S → R)
+    (record_of : R → LoggedFields → List ℕ) (IsLoggable : R → LoggedFields → Type 0)
+    → ((a b : S) (p : List ℕ) → takes a b p → records b ≡ records a)
+    → ((a b : S) (p : List ℕ) → takes a b p
+        → HasTaken (record_of (records a)) (IsLoggable (records a)) (member a) (member b) (ids a) (ids b) p)
     → TakesAll takes old new ps
-    → HasTaken (record_of old) (member old) (member new) (ids old) (ids new) (flat_map (λ p. p) ps)
-all_taken new old [] takes member ids record_of stay one same =
-    subst (λ s. HasTaken (record_of old) (member old) (member s) (ids old) (ids s) []) (sym same)
-    (nothing_taken (record_of old) (member old) (ids old))
-all_taken new old (p ∷ ps) takes member ids record_of stay one all =
+    → HasTaken (record_of (records old)) (IsLoggable (records old)) (member old) (member new) (ids old) (ids new) (flat_map (λ p. p) ps)
+all_taken new old [] takes member ids records record_of IsLoggable stay one same =
+    subst (λ s. HasTaken (record_of (records old)) (IsLoggable (records old)) (member old) (member s) (ids old) (ids s) []) (sym same)
+    (nothing_taken (record_of (records old)) (IsLoggable (records old)) (member old) (ids old))
+all_taken new old (p ∷ ps) takes member ids records record_of IsLoggable stay one all =
     let mid = all.0 in
-    let rest = all_taken new mid ps takes member ids record_of stay one all.2 in
-    taken_on (record_of old) (member old) (member mid) (member new) (ids old) (ids mid) (ids new) p (flat_map (λ q. q) ps) (one old mid p all.1)
-    (subst (λ (r : LoggedFields → List ℕ). HasTaken r (member mid) (member new) (ids mid) (ids new) (flat_map (λ q. q) ps)) (stay old mid p all.1) rest)
+    let rest = all_taken new mid ps takes member ids records record_of IsLoggable stay one all.2 in
+    taken_on (record_of (records old)) (IsLoggable (records old)) (member old) (member mid) (member new) (ids old) (ids mid) (ids new) p (flat_map (λ q. q) ps)
+    (one old mid p all.1)
+    (subst (λ r. HasTaken (record_of r) (IsLoggable r) (member mid) (member new) (ids mid) (ids new) (flat_map (λ q. q) ps)) (stay old mid p all.1) rest)
 
 -- of a member that had taken nothing
 pub of_records :
-    (record_of : LoggedFields → List ℕ) (old new : MemberFields) (ids : List ℕ) (ps : List (List ℕ)) → old.history ≡ []
-    → HasTaken record_of old new [] ids (flat_map (λ p. p) ps) → IsOfRecords record_of new ids ps
-of_records record_of old new ids ps fresh taken = record {
+    (record_of : LoggedFields → List ℕ) (IsLoggable : LoggedFields → Type 0) (old new : MemberFields) (ids : List ℕ) (ps : List (List ℕ))
+    → old.history ≡ [] → HasTaken record_of IsLoggable old new [] ids (flat_map (λ p. p) ps)
+    → IsOfRecords record_of IsLoggable new ids ps
+of_records record_of IsLoggable old new ids ps fresh taken = record {
   logged = taken.more;
+  loggable = taken.loggable;
   history = ap (λ (m : MemberFields). m.history) taken.grown ∙ ap (λ (h : List HistoryEntry). h ++ entries_of taken.more) fresh;
   ids_are = taken.ids;
   records = taken.records;
@@ -77,9 +85,9 @@ of_records record_of old new ids ps fresh taken = record {
 
 -- how many were taken before one that isn't what belongs there
 pub refused_at :
-    (record_of : LoggedFields → List ℕ) (old mid : MemberFields) (a b : List ℕ) (bytes rest : List ℕ) (number : ℕ)
-    → IsTaking record_of old mid a b bytes rest → length mid.history ≡ number → IsRefusedAt record_of old bytes number
-refused_at record_of old mid a b bytes rest number taking counted = record {
+    (record_of : LoggedFields → List ℕ) (IsLoggable : LoggedFields → Type 0) (old mid : MemberFields) (a b : List ℕ) (bytes rest : List ℕ) (number : ℕ)
+    → IsTaking record_of IsLoggable old mid a b bytes rest → length mid.history ≡ number → IsRefusedAt record_of old bytes number
+refused_at record_of IsLoggable old mid a b bytes rest number taking counted = record {
   before = taking.taken.more;
   rest = rest;
   is = taking.is ∙ ap (λ (l : List ℕ). l ++ rest) (sym taking.taken.records);

@@ -1,6 +1,6 @@
 -- What a member has taken once records were handed to it, and the ids of its asks.
 use Rattle.std.specs.Prelude.{◌≡◌, ℕ, ◌+◌, List, ◌++◌, length, map, Option, Some, None}
-use Rattle.std.specs.List.{filter_map, flat_map}
+use Rattle.std.specs.List.{All, filter_map, flat_map}
 use Rattle.pay_member.specs.declared.event.Event.{Event}
 use Rattle.pay_member.specs.declared.event.Event.TheVariants.{Ask, Taken, Query}
 use Rattle.pay_member.specs.declared.entry.HistoryEntry.{HistoryEntry}
@@ -28,18 +28,19 @@ entries_of logged = map (λ l. l.entry) logged
 
 -- The member's history has grown by the entries whose records these bytes are, and the ids by those
 -- of the asks.
-pub record HasTaken (record_of : LoggedFields → List ℕ) (old new : MemberFields) (old_ids new_ids : List ℕ)
-    (bytes : List ℕ) : Type 0 where
+pub record HasTaken (record_of : LoggedFields → List ℕ) (IsLoggable : LoggedFields → Type 0)
+    (old new : MemberFields) (old_ids new_ids : List ℕ) (bytes : List ℕ) : Type 0 where
   pub more : List LoggedFields
+  pub loggable : All IsLoggable more
   pub grown : new ≡ record old { history = old.history ++ entries_of more }
   pub ids : new_ids ≡ old_ids ++ ids_of more
   pub records : flat_map record_of more ≡ bytes
 
 -- So far: it has taken what these bytes begin with, and the rest is left.
-pub record IsTaking (record_of : LoggedFields → List ℕ) (old new : MemberFields) (old_ids new_ids : List ℕ)
-    (bytes rest : List ℕ) : Type 0 where
+pub record IsTaking (record_of : LoggedFields → List ℕ) (IsLoggable : LoggedFields → Type 0)
+    (old new : MemberFields) (old_ids new_ids bytes rest : List ℕ) : Type 0 where
   pub done : List ℕ
-  pub taken : HasTaken record_of old new old_ids new_ids done
+  pub taken : HasTaken record_of IsLoggable old new old_ids new_ids done
   pub is : bytes ≡ done ++ rest
 
 -- A record isn't what the member has there: so many entries were taken before it.
@@ -50,18 +51,22 @@ pub record IsRefusedAt (record_of : LoggedFields → List ℕ) (old : MemberFiel
   pub is : bytes ≡ flat_map record_of before ++ rest
   pub counted : length old.history + length before ≡ number
 
--- A member and the ids of its asks are those of the records in these payloads.
-pub record IsOfRecords (record_of : LoggedFields → List ℕ) (m : MemberFields) (ids : List ℕ)
-    (ps : List (List ℕ)) : Type 0 where
+-- A member and the ids of its asks are those of the records in these payloads, each of an entry that
+-- a record tells all of.
+pub record IsOfRecords (record_of : LoggedFields → List ℕ) (IsLoggable : LoggedFields → Type 0)
+    (m : MemberFields) (ids : List ℕ) (ps : List (List ℕ)) : Type 0 where
   pub logged : List LoggedFields
+  pub loggable : All IsLoggable logged
   pub history : m.history ≡ entries_of logged
   pub ids_are : ids ≡ ids_of logged
   pub records : flat_map record_of logged ≡ flat_map (λ p. p) ps
 
 -- A file was the log of a member's records, and the log is settled with them.
-pub record IsResumed {D : Type 0} (is_known : D → Type 0) (seen : D → List ℕ) (may_leave : D → List ℕ → Type 0)
-    (record_of : LoggedFields → List ℕ) (header file : List ℕ) (m : MemberFields) (ids : List ℕ) (log : Log D) : Type 0 where
+pub record IsResumed {D : Type 0} (is_known : D → Type 0) (seen : D → List ℕ)
+    (may_leave : D → List ℕ → Type 0) (record_of : LoggedFields → List ℕ)
+    (IsLoggable : LoggedFields → Type 0) (header file : List ℕ) (m : MemberFields) (ids : List ℕ)
+    (log : Log D) : Type 0 where
   pub ps : List (List ℕ)
   pub was : IsLog log.key header file ps
-  pub records : IsOfRecords record_of m ids ps
+  pub records : IsOfRecords record_of IsLoggable m ids ps
   pub settled : IsSettled is_known seen may_leave log header ps

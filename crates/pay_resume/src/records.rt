@@ -41,10 +41,15 @@ pub trait Records {
     // The bytes of an entry's record.
     ghost record_of: { Self → LoggedFields → List ℕ };
 
+    // Entries that a record tells all of.
+    ghost is_loggable: { Self → LoggedFields → Type 0 };
+
     /// The entry whose record stands at the front of some bytes, the id that stands with an ask,
     /// and how many bytes the record has.
     fn read(&self, alloc: Global, bytes: &[u8]) -> Result<(HistoryEntry, u64, usize), RecordFault>
         ensures room { IfOk result (λ r. (0 < r.2) × (r.2 ≤ length bytes.now)) }
         ensures record { IfOk result (λ r. bytes.now
-            ≡ record_of self.now (record { entry = r.0; id = r.1 }) ++ drop r.2 bytes.now) };
+            ≡ record_of self.now (record { entry = r.0; id = r.1 }) ++ drop r.2 bytes.now) }
+        ensures loggable { IfOk result (λ r.
+            is_loggable self.now (record { entry = r.0; id = r.1 })) };
 }

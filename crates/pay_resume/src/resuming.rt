@@ -25,8 +25,8 @@ struct Resuming<'a, I: Instance + Drop, B: Settle + Drop, R> {
 
 impl<I: Instance + Drop, B: Settle + Drop, R: Records> Sink for Resuming<'_, I, B, R> {
     ghost takes = { λ old new payload. (new.records ≡ old.records)
-        × HasTaken (R.record_of old.records.now) old.member new.member
-        old.ids.items new.ids.items payload };
+        × HasTaken (R.record_of old.records.now) (R.is_loggable old.records.now)
+        old.member new.member old.ids.items new.ids.items payload };
 
     fn take(&mut self, alloc: Global, payload: &[u8]) -> Result<(), Refused> {
         take_payload(
@@ -61,11 +61,12 @@ pub fn resume<D: Device, I: Instance + Drop, B: Settle + Drop, R: Records>(
     ensures genesis { IfOk result (λ r. r.member.genesis ≡ genesis.now) }
     ensures keys { IfOk result (λ r. r.member.keys ≡ keys.now) }
     ensures records { IfOk result (λ r. (ps : List (List ℕ))
-        × IsOfRecords (R.record_of records.now) r.member r.ids.items ps) }
+        × IsOfRecords (R.record_of records.now) (R.is_loggable records.now)
+        r.member r.ids.items ps) }
     ensures resumed { IfOk result (λ r. D.is_known device.old →
         IsResumed D.is_known D.seen D.may_leave (R.record_of records.now)
-        (header_bytes header.now) (D.seen device.old) r.member r.ids.items
-        (opened_log device.new log_key.now r.place)) }
+        (R.is_loggable records.now) (header_bytes header.now) (D.seen device.old)
+        r.member r.ids.items (opened_log device.new log_key.now r.place)) }
 {
     let member = Member::new(alloc, genesis.copy(alloc)?, keys.copy(alloc)?)?;
     let mut resuming = Resuming {

@@ -22,8 +22,8 @@ pub(crate) fn take_payload<I: Instance + Drop, B: Settle + Drop, R: Records>(
     ids: &mut Vec<u64>,
     payload: &[u8],
 ) -> Result<(), Refused>
-    ensures taken { OnOk result (HasTaken (R.record_of records.now) member.old member.new
-        ids.old.items ids.new.items payload.now) }
+    ensures taken { OnOk result (HasTaken (R.record_of records.now) (R.is_loggable records.now)
+        member.old member.new ids.old.items ids.new.items payload.now) }
     ensures refused { (number : ℕ) → result ≡ Err (Refused.Record number) →
         IsRefusedAt (R.record_of records.now) member.old payload.now number }
 {

@@ -14,11 +14,12 @@ loop-rest-preserved g c =
     let i = c.loop-rest.invariant in
     let logged : LoggedFields = record { entry = c.in-Ok.found.0; id = c.in-Ok.found.1 } in
     let record_of = g.R.Records.record_of c.args.records.now in
+    let is_loggable = g.R.Records.is_loggable c.args.records.now in
     let took = where_true {P = c.take_again.new.member ≡ with_entry c.loop-rest.member logged.entry} c.in_ok-take_again.field-0 c.if-not-branch.false c.in_ok-take_again.ensures in
     record {
       done = i.done ++ record_of logged;
-      taken = taken_on record_of c.args.member.now c.loop-rest.member c.take_again.new.member c.args.ids.now.items c.loop-rest.ids.items c.note.new.ids.items i.done (record_of logged) i.taken
-          (one_taken record_of c.loop-rest.member c.take_again.new.member c.loop-rest.ids.items c.note.new.ids.items logged took c.in_ok-note.ensures);
+      taken = taken_on record_of is_loggable c.args.member.now c.loop-rest.member c.take_again.new.member c.args.ids.now.items c.loop-rest.ids.items c.note.new.ids.items i.done (record_of logged) i.taken
+          (one_taken record_of is_loggable c.loop-rest.member c.take_again.new.member c.loop-rest.ids.items c.note.new.ids.items logged took c.in_ok-note.ensures c.in-Ok.ensures.loggable);
       is = i.is ∙ ap (λ (l : List ℕ). i.done ++ l) (c.in-Ok.ensures.record ∙ ap (λ (l : List ℕ). record_of logged ++ l) (sym c.behind-rest.ensures))
           ∙ sym (append_assoc i.done (record_of logged) c.behind-rest.result.now);
     }

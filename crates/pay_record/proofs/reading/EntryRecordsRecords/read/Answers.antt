@@ -1,4 +1,4 @@
-use Rattle.pay_record.proofs.Stands.{has_room, is_behind}
+use Rattle.pay_record.proofs.Stands.{has_room, is_behind, is_loggable}
 use Rattle.pay_record.proofs.reading.EntryRecordsRecords.read.Goals as goal
 
 pub returns-clause-room : goal.returns-clause-room
@@ -6,3 +6,6 @@ returns-clause-room g c = has_room c.args.self.now.keys.now c.args.bytes.now c.r
 
 pub returns-clause-record : goal.returns-clause-record
 returns-clause-record g c = is_behind c.args.self.now.keys.now c.args.bytes.now c.read_record.result c.read_record.ensures
+
+pub returns-clause-loggable : goal.returns-clause-loggable
+returns-clause-loggable g c = is_loggable c.args.self.now.keys.now c.args.bytes.now c.read_record.result c.read_record.ensures
