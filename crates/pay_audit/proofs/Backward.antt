@@ -6,7 +6,7 @@ use Rattle.serde_json.specs.View.{items_of}
 use Rattle.hex.specs.Hex.{encode_lower}
 use Rattle.hex.proofs.HexLemmas.{decode_of-encode_lower}
 use Rattle.pay_frame.specs.declared.limits.TheConstants.{GREATEST_VALUE, SEQS}
-use Rattle.pay_json.specs.File.{number_at, numbers_at, numbers_in}
+use Rattle.pay_link.specs.Json.{number_at, numbers_at, numbers_in}
 use Rattle.pay_link.specs.Genesis.{GenesisFields, IsGenesis, genesis_fault}
 use Rattle.pay_link.specs.Files.{genesis_said}
 use Rattle.pay_member.specs.Legal.{IsValue}

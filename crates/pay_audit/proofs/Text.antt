@@ -13,7 +13,7 @@ use Rattle.serde_json.specs.View.{items_of}
 use Rattle.serde_json.specs.Written.{has_float, items_have_float}
 use Rattle.pay_channel.specs.History.{seqs}
 use Rattle.pay_channel.specs.ListLaws.{ListedIsDelivered, ListIsShort}
-use Rattle.pay_json.specs.File.{value_in}
+use Rattle.pay_link.specs.Json.{value_in}
 use Rattle.pay_link.specs.Genesis.{IsGenesis}
 use Rattle.pay_member.specs.Events.{events}
 use Rattle.pay_member.specs.Group.{group_in}

@@ -9,7 +9,7 @@ use Rattle.serde_json.specs.Find.{as_array, as_str}
 use Rattle.hex.specs.Hex.{decode_of}
 use Rattle.hex.specs.declared.error.FromHexError.{FromHexError}
 use Rattle.pay_frame.specs.declared.limits.TheConstants.{GREATEST_VALUE, SEQS}
-use Rattle.pay_json.specs.File.{Data, list_at, number_at, numbers_at, value_in}
+use Rattle.pay_link.specs.Json.{Data, list_at, number_at, numbers_at, value_in}
 use Rattle.pay_link.specs.Genesis.{GenesisFields, IsGenesis, genesis_fault}
 use Rattle.pay_link.specs.Files.{genesis_said, ◌>>=◌}
 use Rattle.pay_audit.specs.declared.export_fault.ExportFault.{ExportFault}

@@ -1,6 +1,6 @@
 -- When a file is no export, as statements. Each is proved as a public law.
 use Rattle.std.specs.Prelude.{◌≡◌, ◌↔◌, ℕ, ◌<◌, List, length, Some, None, Err}
-use Rattle.pay_json.specs.File.{Data, value_in}
+use Rattle.pay_link.specs.Json.{Data, value_in}
 use Rattle.pay_link.specs.Genesis.{IsGenesis}
 use Rattle.pay_audit.specs.declared.export_fault.ExportFault.TheVariants.{BadJson, BadShape}
 use Rattle.pay_audit.specs.declared.export_fault.ExportFault.TheVariants.{BadGenesis}

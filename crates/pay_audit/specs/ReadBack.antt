@@ -1,6 +1,6 @@
 -- What is read of an export that was written.
 use Rattle.std.specs.Prelude.{◌≡◌, ℕ, List, slice_get, Some, Ok}
-use Rattle.pay_json.specs.File.{value_in}
+use Rattle.pay_link.specs.Json.{value_in}
 use Rattle.pay_member.specs.Legal.{IsValue}
 use Rattle.pay_audit.specs.Export.{ExportFields, IsExport, export_in, lists_of}
 use Rattle.pay_audit.specs.Exporting.{export_data}

@@ -10,7 +10,7 @@ ghost use Rattle.pay_audit.specs.Export as export;
 use crate::owner_list::OwnerList;
 use hex::{FromHexError, decode};
 use pay_frame::{Bytes, GREATEST_VALUE, SEQS};
-use pay_json::{number_at, numbers_at};
+use pay_link::{number_at, numbers_at};
 use serde_json::Value;
 use std::alloc::{AllocError, Global};
 use std::marker::Model;

@@ -4,8 +4,7 @@ ghost use Rattle.pay_audit.specs.Export.{export_in, is_sized, judged};
 use crate::export_fault::ExportFault;
 use crate::exported::Export;
 use crate::parts::{Parts, parts_in};
-use pay_json::value_in;
-use pay_link::{Genesis, GenesisFault};
+use pay_link::{Genesis, GenesisFault, value_in};
 use std::alloc::Global;
 
 /// The export that a file of JSON says.

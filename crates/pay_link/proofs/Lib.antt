@@ -1,3 +1,4 @@
+mod JsonReading
 mod Judged
 mod Lists
 mod Owned

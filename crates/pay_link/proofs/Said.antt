@@ -4,7 +4,7 @@ use Rattle.std.specs.Prelude.{IsSome, ok_or}
 use Rattle.std.specs.Option.{option_map_or}
 use Rattle.pay_frame.specs.declared.limits.TheConstants.{MOST_MEMBERS}
 use Rattle.pay_link.specs.declared.limits.TheConstants.{GREATEST_TOTAL}
-use Rattle.pay_json.specs.File.{Data, value_in}
+use Rattle.pay_link.specs.Json.{Data, value_in}
 use Rattle.pay_link.specs.Files.{IsLeastBad, KeysSaid, SaysKeys, genesis_in, genesis_said, key_at, keys_from, keys_in, keys_judged, keys_said, ◌>>=◌}
 use Rattle.pay_link.specs.Genesis.{GenesisFields, genesis_fault}
 use Rattle.pay_link.specs.Keys.{KeyFields, no_key, place_fault}

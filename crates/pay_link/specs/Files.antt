@@ -4,8 +4,8 @@ use Rattle.std.specs.Prelude.{ℕ, ◌≡◌, ◌+◌, ◌<◌, ◌==◌, List, 
 use Rattle.std.specs.Prelude.{slice_index_or, Option, Some, None, ok_or, option_and_then}
 use Rattle.std.specs.Prelude.{option_map, Result, Ok, Err, if◌then◌else◌}
 use Rattle.std.specs.Option.{option_map_or}
-use Rattle.pay_json.specs.File.{Data, number_at, numbers_at, texts_at, value_in}
-use Rattle.pay_json.specs.Hexadecimal.{key_in}
+use Rattle.pay_link.specs.Json.{Data, number_at, numbers_at, texts_at, value_in}
+use Rattle.pay_link.specs.Hexadecimal.{key_in}
 use Rattle.pay_link.specs.Genesis.{GenesisFields, genesis_fault}
 use Rattle.pay_link.specs.Keys.{KeyFields, key_for, no_key, place_fault}
 use Rattle.pay_link.specs.declared.genesis_fault.GenesisFault.{GenesisFault}

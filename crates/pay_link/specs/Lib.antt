@@ -3,6 +3,8 @@ pub mod Faults
 pub mod Files
 pub mod Fronts
 pub mod Genesis
+pub mod Hexadecimal
+pub mod Json
 pub mod Keys
 pub mod Opening
 pub mod Sealing

@@ -4,9 +4,9 @@ ghost use Rattle.pay_link.specs.Files.{genesis_in};
 ghost use Rattle.pay_link.specs.Genesis.{IsGenesis, genesis_fault};
 
 use crate::genesis_fault::GenesisFault;
+use crate::json::{number_at, numbers_at, value_in};
 use crate::limits::GREATEST_TOTAL;
 use pay_frame::MOST_MEMBERS;
-use pay_json::{number_at, numbers_at, value_in};
 use std::alloc::{AllocError, Global};
 use std::marker::Model;
 

@@ -7,9 +7,10 @@ ghost use Rattle.pay_link.specs.Keys.{IsKeys, IsKeysOf, IsPeer, kept_keys, key_f
 ghost use Rattle.pay_link.specs.Keys.{place_fault};
 
 use crate::genesis::Genesis;
+use crate::hexadecimal::key_in;
+use crate::json::{number_at, texts_at, value_in};
 use crate::keys_fault::KeysFault;
 use pay_frame::{Bytes, MOST_MEMBERS};
-use pay_json::{key_in, number_at, texts_at, value_in};
 use std::alloc::{AllocError, Global};
 use std::marker::Model;
 

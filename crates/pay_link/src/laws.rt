@@ -3,7 +3,7 @@
 ghost use Rattle.std.specs.Prelude.{◌≡◌, ◌≢◌, ◌*◌, ◌<◌, ◌≤◌, ◌↔◌, ◌⊎◌, ℕ, List, length, sum};
 ghost use Rattle.pay_frame.specs.Frame.{BodyFields, FrameFields, IsFrame};
 ghost use Rattle.pay_frame.specs.OneFrame.{IsOneFrame};
-ghost use Rattle.pay_json.specs.File.{Data, value_in};
+ghost use Rattle.pay_link.specs.Json.{Data, value_in};
 ghost use Rattle.pay_link.specs.Checked.{CheckedFields, IsChecked, IsFor, bytes_of, checked_fields};
 ghost use Rattle.pay_link.specs.Files.{IsLeastBad, KeysSaid, SaysKeys, genesis_in, genesis_said};
 ghost use Rattle.pay_link.specs.Files.{keys_in, keys_judged, keys_said};

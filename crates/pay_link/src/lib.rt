@@ -1,7 +1,8 @@
 //! Links: what a ledger begins with, the keys of its members, and frames that are rightly tagged
 //! and for the member that opens them.
 //!
-//! [`Genesis`] and [`Keys`] are read from files. [`seal`] encodes a frame for a peer; [`open`]
+//! [`Genesis`] and [`Keys`] are read from files of JSON, whose parts [`value_in`] and [`numbers_at`]
+//! find; which text has which value is `serde_json`'s. [`seal`] encodes a frame for a peer; [`open`]
 //! gives an [`Opened`] frame or the first cause to refuse it, and a [`Checked`] one can be kept.
 //!
 //! ```
@@ -16,6 +17,8 @@ mod checked;
 mod fronts;
 mod genesis;
 mod genesis_fault;
+mod hexadecimal;
+mod json;
 mod keys;
 mod keys_fault;
 mod known_keys;
@@ -29,6 +32,7 @@ pub use checked::Checked;
 pub use fronts::{Fronts, turn};
 pub use genesis::Genesis;
 pub use genesis_fault::GenesisFault;
+pub use json::{number_at, numbers_at, value_in};
 pub use keys::Keys;
 pub use keys_fault::KeysFault;
 pub use known_keys::{pair_key, test_keys};

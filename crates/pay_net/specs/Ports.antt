@@ -1,7 +1,7 @@
 -- On which port each member listens, as a file of JSON (RFC 8259) says it.
 use Rattle.std.specs.Prelude.{◌≡◌, ℕ, ◌^◌, ◌<◌, List, length, codes, Some, None, ⊤}
 use Rattle.std.specs.List.{All}
-use Rattle.pay_json.specs.File.{Data, numbers_at, value_in}
+use Rattle.pay_link.specs.Json.{Data, numbers_at, value_in}
 use Rattle.pay_net.specs.declared.ports_fault.PortsFault.{PortsFault}
 use Rattle.pay_net.specs.declared.ports_fault.PortsFault.TheVariants.{Memory, BadJson, BadShape}
 

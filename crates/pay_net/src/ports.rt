@@ -3,8 +3,7 @@ ghost use Rattle.std.specs.List.{All};
 ghost use Rattle.pay_net.specs.Ports.{HasPorts, IsPort, IsPortsFault};
 
 use crate::ports_fault::PortsFault;
-use pay_json::{numbers_at, value_in};
-use pay_link::Genesis;
+use pay_link::{Genesis, numbers_at, value_in};
 use std::alloc::{AllocError, Global};
 use std::marker::Model;
 

@@ -2,7 +2,7 @@
 use Rattle.std.proofs.Common.{◌≡◌, ◌↔◌, ℕ, List, Option, Some, None, option_and_then, Result, Ok, Err, refl, sym, ap, ◌∙◌, subst}
 use Rattle.std.specs.Option.{option_map_or}
 use Rattle.std.specs.Result.{result_ok}
-use Rattle.pay_json.specs.File.{Data, value_in}
+use Rattle.pay_link.specs.Json.{Data, value_in}
 use Rattle.pay_link.specs.declared.genesis_fault.GenesisFault.{GenesisFault}
 use Rattle.pay_link.specs.declared.genesis_fault.GenesisFault.TheVariants as genesis
 use Rattle.pay_link.specs.Files.{◌>>=◌, genesis_in, genesis_said}

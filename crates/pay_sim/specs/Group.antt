@@ -4,7 +4,7 @@ use Rattle.std.specs.Prelude.{if◌then◌else◌}
 use Rattle.std.specs.List.{list_all}
 use Rattle.std.specs.Option.{option_map_or}
 use Rattle.std.specs.Result.{result_ok}
-use Rattle.pay_json.specs.File.{numbers_at, value_in}
+use Rattle.pay_link.specs.Json.{numbers_at, value_in}
 use Rattle.pay_link.specs.Genesis.{GenesisFields}
 use Rattle.pay_link.specs.Files.{genesis_in}
 use Rattle.pay_world.specs.Liars.{liar_fault, liars_in}

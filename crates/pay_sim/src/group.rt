@@ -4,8 +4,7 @@ ghost use Rattle.std.specs.Prelude.{◌≡◌, IfOk, IfSome, option_map};
 ghost use Rattle.pay_world.specs.Liars.{AreLiarsOf};
 ghost use Rattle.pay_sim.specs.Group.{fitting, group_in, if_short, liars_said};
 
-use pay_json::{numbers_at, value_in};
-use pay_link::{Genesis, GenesisFault};
+use pay_link::{Genesis, GenesisFault, numbers_at, value_in};
 use pay_world::{LiarFault, Liars};
 use std::alloc::{AllocError, Global};
 

@@ -1,6 +1,6 @@
 use Rattle.std.proofs.Common.{arith}
 use Rattle.std.proofs.lemmas.Grind.{common_steps}
-use Rattle.pay_json.proofs.file.numbers_at.Goals as goal
+use Rattle.pay_link.proofs.json.numbers_at.Goals as goal
 
 pub returns-in_default-as_u64 : goal.returns-in_default-as_u64
 returns-in_default-as_u64 c = grind (arith, common_steps)

@@ -1,7 +1,7 @@
 use Rattle.std.proofs.Common.{◌≡◌, ◌++◌, drop, map, option_map}
 use Rattle.serde_json.specs.View.{items_view}
-use Rattle.pay_json.specs.File.{texts_in}
-use Rattle.pay_json.proofs.file.texts_at.Given as goal
+use Rattle.pay_link.specs.Json.{texts_in}
+use Rattle.pay_link.proofs.json.texts_at.Given as goal
 
 -- the list's texts are those so far, and those of the rest
 abbrev pub invariant-loop-item : goal.invariant-loop-item

@@ -1,6 +1,6 @@
 use Rattle.std.proofs.Common.{sym, ◌∙◌}
 use Rattle.hex.proofs.HexLemmas.{IsOk-decode_sized}
-use Rattle.pay_json.proofs.hexadecimal.key_in.Goals as goal
+use Rattle.pay_link.proofs.hexadecimal.key_in.Goals as goal
 
 pub returns-clause-found : goal.returns-clause-found
 returns-clause-found c =

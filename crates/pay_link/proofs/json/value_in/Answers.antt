@@ -1,6 +1,6 @@
 use Rattle.std.proofs.Common.{true≢false, sym, ◌∙◌}
-use Rattle.pay_json.proofs.Reading.{value_in-none, value_in-some}
-use Rattle.pay_json.proofs.file.value_in.Goals as goal
+use Rattle.pay_link.proofs.JsonReading.{value_in-none, value_in-some}
+use Rattle.pay_link.proofs.json.value_in.Goals as goal
 
 pub returns-in-Ok : goal.returns-in-Ok
 returns-in-Ok c = value_in-some _ _ c.in-Ok.ensures.ok.0 c.in-Ok.ensures.ok.1

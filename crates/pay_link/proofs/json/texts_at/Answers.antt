@@ -1,6 +1,6 @@
 use Rattle.std.proofs.Common.{arith}
 use Rattle.std.proofs.lemmas.Grind.{common_steps}
-use Rattle.pay_json.proofs.file.texts_at.Goals as goal
+use Rattle.pay_link.proofs.json.texts_at.Goals as goal
 
 pub returns-in_default-as_str : goal.returns-in_default-as_str
 returns-in_default-as_str c = grind (arith, common_steps)

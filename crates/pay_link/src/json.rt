@@ -1,6 +1,8 @@
+//! Files of JSON: the value that bytes are read as, and the parts of an object that have one shape.
+
 ghost use Rattle.std.specs.Prelude.{◌≡◌, IfOk, map, option_map};
 ghost use Rattle.serde_json.specs.View.{view};
-ghost use Rattle.pay_json.specs.File as file;
+ghost use Rattle.pay_link.specs.Json as file;
 
 use serde_json::Value;
 use std::alloc::{AllocError, Global};
@@ -47,7 +49,7 @@ pub fn numbers_at(alloc: Global, value: &Value, name: &str) -> Result<Option<Vec
 }
 
 /// The texts of the list at this name.
-pub fn texts_at<'a>(
+pub(crate) fn texts_at<'a>(
     alloc: Global,
     value: &'a Value,
     name: &str,

@@ -1,7 +1,7 @@
 use Rattle.std.proofs.Common.{◌≡◌, ◌++◌, drop, option_map}
 use Rattle.serde_json.specs.View.{items_view}
-use Rattle.pay_json.specs.File.{numbers_in}
-use Rattle.pay_json.proofs.file.numbers_at.Given as goal
+use Rattle.pay_link.specs.Json.{numbers_in}
+use Rattle.pay_link.proofs.json.numbers_at.Given as goal
 
 -- the list's numbers are those so far, and those of the rest
 abbrev pub invariant-loop-item : goal.invariant-loop-item
