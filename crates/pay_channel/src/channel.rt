@@ -7,7 +7,7 @@ ghost use Rattle.pay_echo.specs.Votes.{vote_of};
 ghost use Rattle.pay_channel.specs.Source.{GrowsOnly};
 ghost use Rattle.pay_channel.specs.History.{Event, Ask, From, IsEvent, is_ask, owner_of};
 ghost use Rattle.pay_channel.specs.History.{vote_of as event_vote, seqs};
-ghost use Rattle.pay_channel.specs.State.{State, Follows, value_at, lists_of};
+ghost use Rattle.pay_channel.specs.State.{State, Follows, meaning_at, value_at, lists_of};
 ghost use Rattle.pay_channel.specs.Applied.{TakesVote, IsToldOf, Takes, IsApplied, IsAsBefore};
 ghost use Rattle.pay_channel.specs.Applied.{event_of};
 
@@ -194,6 +194,14 @@ impl<I: Instance + Drop> Channel<I> {
         ensures { option_copied result ≡ value_at self.now owner seq }
     {
         self.instances.delivered(owner, seq)
+    }
+
+    /// The value echoed in a broadcast: in one's own broadcasts, what was asked for.
+    #[tactic(auto, unfolding(crate::specs::State::meaning_at))]
+    pub fn echoed(&self, owner: u16, seq: u32) -> Option<&[u8]>
+        ensures { option_copied result ≡ (meaning_at self.now owner seq).echoed }
+    {
+        self.instances.echoed(owner, seq)
     }
 
     /// The number of values in an owner's list.

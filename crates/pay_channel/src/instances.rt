@@ -58,6 +58,18 @@ impl<I: Instance + Drop> Instances<I> {
         }
     }
 
+    /// The value echoed in a broadcast.
+    pub fn echoed(&self, owner: u16, seq: u32) -> Option<&[u8]>
+        ensures { (g : Group) → option_copied result ≡ (meaning_in g self.now owner seq).echoed }
+    {
+        nothing_known_at_first();
+        let key = (owner, seq);
+        match self.by_broadcast.get(&key) {
+            Some(instance) => instance.echoed(),
+            None => None,
+        }
+    }
+
     /// How many numbers from this one on have a delivered value, up to the first that has none.
     pub fn count_following(&self, owner: u16, from: u32) -> u32
         requires { from ≤ seqs }
