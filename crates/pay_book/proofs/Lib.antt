@@ -12,6 +12,7 @@ pub mod Settled
 pub mod OneStep
 pub mod PlainLoops
 pub mod Lines
+pub mod Pieces
 pub mod Former
 pub mod Whole
 pub mod OneMore

@@ -1,5 +1,5 @@
 -- Where a front falls among values that have several entries each.
-use Rattle.std.proofs.Common.{◌≡◌, ℕ, zero, suc, ◌+◌, ◌-◌, ◌<◌, ◌≤◌, cond, ltb, leb, List, [], ◌∷◌, ◌++◌, length, refl, ap, ◌∙◌, sym, subst, arith, inl, inr}
+use Rattle.std.proofs.Common.{◌≡◌, ℕ, zero, suc, ◌+◌, ◌-◌, ◌<◌, ◌≤◌, cond, ltb, leb, List, [], ◌∷◌, ◌++◌, length, refl, ap, ap₂, ◌∙◌, sym, subst, arith, inl, inr}
 use Rattle.std.specs.Prelude.{◌↔◌, slice_get, take, Option, Some, None, All}
 use Rattle.std.specs.List.{flat_map, enumerate_from}
 use Rattle.std.proofs.lemmas.Bool.{cases_lt, cases_Bool, cond-true, cond-false, lt-ltb, le-ltb, le-leb, lt-leb}
@@ -130,6 +130,116 @@ module _ {X : Type 0} (count : X → ℕ) where
             let rest = place_value-mono xs (m - count x) (n - count x) (omega arith) in
             subst P (sym (place_past x xs m past)) (subst Q (sym (place_past x xs n (omega arith))) (omega arith)))
       ]
+
+  -- a place is no farther into a value than the number says
+  pub place_rest-le : (xs : List X) (number : ℕ) → (place_in count xs number).1 ≤ number
+  place_rest-le [] number = let P : Place → Type 0 = λ p. p.1 ≤ number in subst P (sym (place_none number)) (omega arith)
+  place_rest-le (x ∷ xs) number =
+      let P : Place → Type 0 = λ p. p.1 ≤ number in
+      elim (cases_lt number (count x)) [
+        | inl first ↦ subst P (sym (place_first x xs number first)) (omega arith)
+        | inr past ↦ (let rest = place_rest-le xs (number - count x) in subst P (sym (place_past x xs number past)) (omega arith))
+      ]
+
+  -- back within one value
+  pub place_back : (xs : List X) (number k : ℕ) → k ≤ (place_in count xs number).1 → place_in count xs (number - k) ≡ ((place_in count xs number).0, (place_in count xs number).1 - k)
+  place_back [] number k =
+      let P : Place → Type 0 = λ p. k ≤ p.1 → place_in count [] (number - k) ≡ (p.0, p.1 - k) in
+      let here : k ≤ number → place_in count [] (number - k) ≡ (0, number - k) = λ h. place_none (number - k) in
+      subst P (sym (place_none number)) here
+  place_back (x ∷ xs) number k =
+      let P : Place → Type 0 = λ p. k ≤ p.1 → place_in count (x ∷ xs) (number - k) ≡ (p.0, p.1 - k) in
+      elim (cases_lt number (count x)) [
+        | inl first ↦
+            (let here : k ≤ number → place_in count (x ∷ xs) (number - k) ≡ (0, number - k) = λ h. place_first x xs (number - k) (omega arith) in
+            subst P (sym (place_first x xs number first)) here)
+        | inr past ↦
+            (let low = place_rest-le xs (number - count x) in
+            let rest = place_in count xs (number - count x) in
+            let later : k ≤ rest.1 → place_in count (x ∷ xs) (number - k) ≡ (suc rest.0, rest.1 - k) =
+            λ h. (let less : number - k - count x ≡ number - count x - k = omega arith in
+            place_past x xs (number - k) (omega arith)
+            ∙ ap (λ n. one_value_further (place_in count xs n)) less
+            ∙ ap one_value_further (place_back xs (number - count x) k h)) in
+            subst P (sym (place_past x xs number past)) later)
+      ]
+
+  -- no entry is before the first value
+  place_at_start : (xs : List X) (number : ℕ) → place_in count xs number ≡ (0, 0) → number ≡ 0
+  place_at_start [] number is = ap (λ (p : Place). p.1) (sym (place_none number) ∙ is)
+  place_at_start (x ∷ xs) number is =
+      elim (cases_lt number (count x)) [
+        | inl first ↦ ap (λ (p : Place). p.1) (sym (place_first x xs number first) ∙ is)
+        | inr past ↦
+            (let none : suc (place_in count xs (number - count x)).0 ≡ 0 = ap (λ (p : Place). p.0) (sym (place_past x xs number past) ∙ is) in
+            absurd (omega arith))
+      ]
+
+  -- where a value begins, the entries of the one before it are just before
+  pub place_value_back : (xs : List X) (number v : ℕ) (x : X) → place_in count xs number ≡ (suc v, 0) → slice_get xs v ≡ Some x → (count x ≤ number) × ((j : ℕ) → j < count x → place_in count xs (number - count x + j) ≡ (v, j))
+  place_value_back [] number v x is there = absurd cc
+  place_value_back (y ∷ ys) number zero x is there =
+      elim (cases_lt number (count y)) [
+        | inl first ↦
+            (let none : zero ≡ suc zero = ap (λ (p : Place). p.0) (sym (place_first y ys number first) ∙ is) in
+            absurd (omega arith))
+        | inr past ↦
+            (let same = ap count (same_Some y x there) in
+            let rest = place_in count ys (number - count y) in
+            let further : one_value_further rest ≡ (1, 0) = sym (place_past y ys number past) ∙ is in
+            let values : suc rest.0 ≡ 1 = ap (λ (p : Place). p.0) further in
+            let entries : rest.1 ≡ 0 = ap (λ (p : Place). p.1) further in
+            let none : rest.0 ≡ 0 = omega arith in
+            let start = place_at_start ys (number - count y) (ap₂ (λ (a b : ℕ). (a, b)) none entries) in (
+              omega arith,
+              λ j h. (let here : number - count x + j ≡ j = omega arith in
+                  ap (place_in count (y ∷ ys)) here ∙ place_first y ys j (omega arith)),
+            ))
+      ]
+  place_value_back (y ∷ ys) number (suc v) x is there =
+      elim (cases_lt number (count y)) [
+        | inl first ↦
+            (let none : zero ≡ suc (suc v) = ap (λ (p : Place). p.0) (sym (place_first y ys number first) ∙ is) in
+            absurd (omega arith))
+        | inr past ↦
+            (let rest = place_in count ys (number - count y) in
+            let further : one_value_further rest ≡ (suc (suc v), 0) = sym (place_past y ys number past) ∙ is in
+            let values : suc rest.0 ≡ suc (suc v) = ap (λ (p : Place). p.0) further in
+            let entries : rest.1 ≡ 0 = ap (λ (p : Place). p.1) further in
+            let before : rest.0 ≡ suc v = omega arith in
+            let more = place_value_back ys (number - count y) v x (ap₂ (λ (a b : ℕ). (a, b)) before entries) there in
+            let low = more.0 in (
+              omega arith,
+              λ j h. (let less : number - count x + j - count y ≡ number - count y - count x + j = omega arith in
+                  place_past y ys (number - count x + j) (omega arith)
+                  ∙ ap (λ n. one_value_further (place_in count ys n)) less
+                  ∙ ap one_value_further (more.1 j h)),
+            ))
+      ]
+
+  -- the numbers from a value's first entry to a place in it
+  pub place_begins : (xs : List X) (number start : ℕ) (place : Place) → place ≡ place_in count xs number → start + place.1 ≡ number → (n : ℕ) → start ≤ n → n ≤ number → place_in count xs n ≡ (place.0, n - start)
+  place_begins xs number start place at adds n from to =
+      let values : place.0 ≡ (place_in count xs number).0 = ap (λ (p : Place). p.0) at in
+      let entries : place.1 ≡ (place_in count xs number).1 = ap (λ (p : Place). p.1) at in
+      let back : number - (number - n) ≡ n = omega arith in
+      let less : (place_in count xs number).1 - (number - n) ≡ n - start = omega arith in
+      ap (place_in count xs) (sym back) ∙ place_back xs number (number - n) (omega arith) ∙ ap₂ (λ (a b : ℕ). (a, b)) (sym values) less
+
+  -- a value begins behind the first entry only where another is before it
+  pub value_is_before : (xs : List X) (start seq : ℕ) → place_in count xs start ≡ (seq, 0) → 0 < start → 1 ≤ seq
+  value_is_before xs start zero at some = (let none = place_at_start xs start at in absurd (omega arith))
+  value_is_before xs start (suc seq) at some = omega arith
+
+  -- the numbers of the entries of the value before
+  pub value_before : (xs : List X) (start seq v : ℕ) (x : X) → place_in count xs start ≡ (seq, 0) → seq ≡ suc v → slice_get xs v ≡ Some x → (count x ≤ start) × ((n : ℕ) → start - count x ≤ n → n < start → place_in count xs n ≡ (v, n - (start - count x)))
+  value_before xs start seq v x at one there =
+      let back = place_value_back xs start v x (at ∙ ap (λ (n : ℕ). (n, 0)) one) there in
+      let low = back.0 in (
+        low,
+        λ n from to. (let here : start - count x + (n - (start - count x)) ≡ n = omega arith in
+            ap (place_in count xs) (sym here) ∙ back.1 (n - (start - count x)) (omega arith)),
+      )
 
   -- where each value is one entry
   pub place_in-ones : (xs : List X) (number : ℕ) → All (λ x. count x ≡ 1) xs → number ≤ length xs → place_in count xs number ≡ (number, 0)

@@ -1,15 +1,16 @@
 -- The places of all accounts.
 use Rattle.std.proofs.Common.{◌≡◌, ℕ, ◌+◌, ◌<◌, ◌≤◌, List, length, replicate, get_or, ap, ◌∙◌, sym, subst, arith, inl, inr}
-use Rattle.std.specs.Prelude.{slice_set}
+use Rattle.std.specs.Prelude.{slice_set, slice_index}
 use Rattle.std.proofs.lemmas.Bool.{cases_eq}
 use Rattle.std.proofs.lemmas.List.{length-replicate, get_or-replicate, length-set, get_or-set_same, get_or-set_other}
 use Rattle.std.proofs.lemmas.List.FromFn.{length-map-range_with_len, get_or-map-range_with_len, fill_by_all}
 use Rattle.pay_book.specs.Payment.{count_in, entries_in, entries_of}
 use Rattle.pay_book.specs.Places.{Place, place_in, place_of, ArePlaces, places_of}
 use Rattle.pay_book.specs.Front.{IsOneFurther, AllGrow}
-use Rattle.pay_book.proofs.Places.{place_zero, place_in-append}
+use Rattle.pay_book.specs.Book.{Standing, IsBook, entries_for}
+use Rattle.pay_book.proofs.Places.{place_zero, place_in-append, place_value-within}
 use Rattle.pay_book.proofs.Entries.{count_in-some, length-entries_in}
-use Rattle.pay_book.proofs.Reaching.{zero_front}
+use Rattle.pay_book.proofs.Reaching.{zero_front, Reach-within}
 
 -- places stay as lists grow at their ends
 pub ArePlaces-grown : (accounts : ℕ) (old new : ℕ → List (List ℕ)) (front : ℕ → ℕ) (places : List Place) → AllGrow accounts old new → ((a : ℕ) → front a ≤ length (entries_of accounts old a)) → ArePlaces accounts old front places → ArePlaces accounts new front places
@@ -63,3 +64,12 @@ same_places accounts lists front places are =
     let place : ℕ → Place = λ a. place_in count_in (lists a) (front a) in
     let none : Place = (0, 0) in
     fill_by_all place places accounts none are.one_for_each are.exact
+
+-- a book's place is within the account's list
+pub book_place-within : (lists : ℕ → List (List ℕ)) (book : Standing) (a : ℕ) → IsBook lists book → a < length book.opening → (place_of book.places a).0 ≤ length (lists a)
+unfolding entries_of
+book_place-within lists book a is below =
+    let within = Reach-within book.opening (entries_for book lists) is.reached a in
+    let there = place_value-within count_in (entries_in (length book.opening) a) (length-entries_in (length book.opening) a) (lists a) (slice_index book.front a) within in
+    let same = ap (λ (p : Place). p.0) (is.placed.exact a below) in
+    omega arith

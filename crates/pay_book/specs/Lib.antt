@@ -7,4 +7,5 @@ pub mod Settled
 pub mod Laws
 pub mod Rows
 pub mod Statement
+pub mod Excerpt
 pub mod StepLaws

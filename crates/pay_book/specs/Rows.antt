@@ -4,6 +4,8 @@ use Rattle.std.specs.List.{flat_map, range_with_len}
 use Rattle.pay_book.specs.Payment.{entries_of}
 use Rattle.pay_book.specs.Balance.{balance_at}
 use Rattle.pay_book.specs.Front.{largest_front}
+use Rattle.pay_book.specs.Book.{Standing}
+use Rattle.pay_book.specs.Places.{places_of}
 
 -- values, byte by byte: to account 1 thirty, to 0, 1, 2, 3 and 4 five; then three that are no
 -- payments
@@ -99,3 +101,17 @@ pub record EndsAt (opening : List ℕ) (lists : ℕ → List (List ℕ)) (front 
       map (balance_at opening (entries_of (length opening) lists) (slice_index front))
       (range_with_len 0 (length opening))
       ≡ map pos balances
+
+-- Account 0 lists four payments in one value and one payment in another, account 1 lists one to
+-- account 0; the first three of account 0 and that of account 1 are settled.
+abbrev pub five_listed : ℕ → List (List ℕ)
+five_listed = lists_of (four_payments ∷ thirty_to_1 ∷ []) (thirty_to_0 ∷ []) [] []
+
+abbrev pub three_of_five : Standing
+three_of_five =
+    record {
+      opening = four 100 0 0 50;
+      front = four 3 1 0 0;
+      balances = four 10 40 50 50;
+      places = places_of 4 five_listed (slice_index (four 3 1 0 0));
+    }

@@ -39,3 +39,8 @@ unfoldable pub statement_of : ℕ → (ℕ → List (List ℕ)) → (ℕ → ℕ
 statement_of accounts lists front account =
     own_lines accounts lists front account
     ++ flat_map (incoming_lines accounts lists front account) (range_with_len 0 accounts)
+
+-- the lines of a statement, and the account's balance
+pub record StatementFields : Type 0 where
+  pub lines : List Line
+  pub balance : ℕ

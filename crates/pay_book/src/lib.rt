@@ -14,6 +14,7 @@
 mod accounts;
 mod decode;
 mod encode;
+mod excerpts;
 mod line;
 mod naming;
 mod payment;
@@ -21,10 +22,12 @@ mod place;
 mod plain;
 mod settle;
 mod statements;
+mod whole_statement;
 
 pub use accounts::Accounts;
 pub use decode::{decode_payment, entries_in, entry_at};
 pub use encode::{payment_value, payments_value, what_was_encoded};
+pub use excerpts::{Excerpt, MOST_SHOWN, settled_excerpt, waiting_excerpt};
 pub use line::Line;
 pub use naming::payments_named;
 pub use payment::{
@@ -33,6 +36,7 @@ pub use payment::{
 pub use plain::PlainBook;
 pub use settle::Settle;
 pub use statements::statement;
+pub use whole_statement::Statement;
 
 pub mod laws;
 pub mod rows;

@@ -14,6 +14,8 @@ ghost use Rattle.pay_book.specs.Rows.{greatest_u64_to_1, one_to_1, greatest_tota
 ghost use Rattle.pay_book.specs.Rows.{four_payments, five_to_1_one_to_3, no_payments};
 ghost use Rattle.pay_book.specs.Rows.{four_payments_and_more, four_payments_and_less};
 ghost use Rattle.pay_book.specs.Rows.{times_one_to_1, thirty_to_0, four, lists_of, EndsAt};
+ghost use Rattle.pay_book.specs.Rows.{three_of_five, five_listed};
+ghost use Rattle.pay_book.specs.Excerpt.{settled_from, waiting_of};
 
 /// Values of owner 3 as entries: payments, and what is void for its bytes, its payee or its amount.
 pub fn values_decode()
@@ -127,4 +129,18 @@ pub fn statement_of_several()
     ensures payee { statement_of 4 (lists_of (four_payments ∷ []) (thirty_to_0 ∷ []) [] [])
         (slice_index (four 3 1 0 0)) 1
         ≡ Line.Out 0 0 30 ∷ Line.In 0 0 30 ∷ Line.In 0 0 40 ∷ [] }
+{}
+
+/// An account's settled entries from a number on, under their values' numbers, and what waits: of
+/// four payments in one value three are settled, and a fifth comes in another value.
+pub fn excerpts_of_several()
+    ensures all { settled_from three_of_five five_listed 0 0
+        ≡ (0, Entry.Pay 1 30) ∷ (0, Entry.Pay 2 50) ∷ (0, Entry.Pay 1 40) ∷ [] }
+    ensures later { settled_from three_of_five five_listed 0 2 ≡ (0, Entry.Pay 1 40) ∷ [] }
+    ensures nothing_new { settled_from three_of_five five_listed 0 3 ≡ [] }
+    ensures to_come { settled_from three_of_five five_listed 0 4 ≡ [] }
+    ensures of_payee { settled_from three_of_five five_listed 1 0 ≡ (0, Entry.Pay 0 30) ∷ [] }
+    ensures waiting { waiting_of three_of_five five_listed 0
+        ≡ (0, Entry.Pay 2 20) ∷ (1, Entry.Pay 1 30) ∷ [] }
+    ensures none_waits { waiting_of three_of_five five_listed 1 ≡ [] }
 {}
