@@ -2,7 +2,9 @@ ghost use Rattle.std.specs.Prelude.{true, ◌≡◌, ◌<◌, [], drop, take, le
 ghost use Rattle.std.specs.Prelude.{slice_get, slice_index, IfOk, OnErr};
 ghost use Rattle.std.specs.Option.{option_copied};
 ghost use Rattle.pay_channel.specs.History.{IsEvent, is_ask, owner_of, seqs};
-ghost use Rattle.pay_channel.specs.State.{lists_of};
+ghost use Rattle.pay_channel.specs.State.{lists_of, meaning_at};
+ghost use Rattle.pay_book.specs.Excerpt.{settled_excerpt, waiting_excerpt};
+ghost use Rattle.pay_book.specs.Front.{AllGrow};
 ghost use Rattle.pay_book.specs.Places.{place_of};
 ghost use Rattle.pay_book.specs.Statement.{statement_of};
 ghost use Rattle.pay_channel.specs.Applied.{event_of};
@@ -10,10 +12,10 @@ ghost use Rattle.pay_member.specs.Ledger.{Tracks, IsSameLedger, Grows};
 
 use crate::took::Took;
 use pay_book::laws::{
-    fresh_book_is_settled, group_lists_are_countable, grown_list_can_settle,
+    book_stays, fresh_book_is_settled, group_lists_are_countable, grown_list_can_settle,
     same_lists_stay_settled,
 };
-use pay_book::{Line, Settle, statement};
+use pay_book::{Excerpt, Line, Settle, settled_excerpt, statement, waiting_excerpt};
 use pay_channel::laws::{a_channel_follows, lists_of_a_channel, nothing_at_first};
 use pay_channel::{Channel, EventRef, Source};
 use pay_echo::Instance;
@@ -178,5 +180,46 @@ impl<I: Instance + Drop, B: Settle + Drop> Ledger<I, B> {
             (slice_index self.now.book.front) account) }
     {
         statement(alloc, &self.channel, &self.book, accounts, account)
+    }
+    /// What settled of an account from a number on.
+    pub fn entries(
+        &self,
+        alloc: Global,
+        accounts: u16,
+        account: u16,
+        from: u64,
+    ) -> Result<Excerpt, AllocError>
+        requires accounts { accounts ≡ length self.now.book.opening }
+        requires account { account < accounts }
+        ensures { IfOk result (λ excerpt. excerpt
+            ≡ settled_excerpt self.now.book (lists_of self.now.channel) account from) }
+    {
+        settled_excerpt(alloc, &self.channel, &self.book, accounts, account, from)
+    }
+
+    /// What isn't settled of an account, by lists that begin with those of the channel.
+    pub fn waiting<S: Source>(
+        &self,
+        alloc: Global,
+        source: &S,
+        accounts: u16,
+        account: u16,
+    ) -> Result<Excerpt, AllocError>
+        requires grown { AllGrow (length self.now.book.opening) (lists_of self.now.channel)
+            (S.lists source.now) }
+        requires accounts { accounts ≡ length self.now.book.opening }
+        requires account { account < accounts }
+        ensures { IfOk result (λ excerpt. excerpt
+            ≡ waiting_excerpt self.now.book (S.lists source.now) account) }
+    {
+        book_stays();
+        waiting_excerpt(alloc, source, &self.book, accounts, account)
+    }
+
+    /// The value echoed in a broadcast: in one's own broadcasts, what was asked for.
+    pub fn echoed(&self, owner: u16, seq: u32) -> Option<&[u8]>
+        ensures { option_copied result ≡ (meaning_at self.now.channel owner seq).echoed }
+    {
+        self.channel.echoed(owner, seq)
     }
 }

@@ -17,6 +17,7 @@ mod entry;
 mod event;
 mod fault;
 mod incoming;
+mod known;
 pub mod laws;
 mod ledger;
 mod lists;

@@ -17,7 +17,8 @@ ghost use Rattle.pay_member.specs.Book.{book_after};
 ghost use Rattle.pay_member.specs.Reply.{took_by, told_of};
 ghost use Rattle.pay_member.specs.Refusal.{refusal};
 ghost use Rattle.pay_member.specs.Answer.{IsAnswer, asked, taken, told};
-ghost use Rattle.pay_member.specs.Reading.{state_of, fetched};
+ghost use Rattle.pay_member.specs.Reading.{entries_shown, fetched, state_of, values_known};
+ghost use Rattle.pay_member.specs.Reading.{waiting_shown};
 ghost use Rattle.pay_member.specs.Legal.{Legal};
 ghost use Rattle.pay_member.specs.Member.{with_entry};
 ghost use Rattle.pay_member.specs.Bringing.{IsOutcome, answer_to, event_in, event_of, incoming_at};
@@ -32,6 +33,7 @@ use crate::entry::HistoryEntry;
 use crate::event::{Event, asked_is_kept, taken_is_kept};
 use crate::fault::MemberFault;
 use crate::incoming::Incoming;
+use crate::known::KnownValues;
 use crate::ledger::Ledger;
 use crate::outcome::Outcome;
 use crate::query_fault::QueryFault;
@@ -42,9 +44,11 @@ use crate::take_fault::TakeFault;
 use crate::told::Told;
 use crate::took::Took;
 use pay_book::laws::settled_book_is_one;
-use pay_book::{Line, Settle};
+use pay_book::{Excerpt, Line, Settle};
 use pay_channel::EventRef;
-use pay_channel::laws::{a_channel_follows, nothing_at_first, one_event_more, taken_in_order};
+use pay_channel::laws::{
+    a_channel_follows, nothing_at_first, one_event_more, sends_are_asks, taken_in_order,
+};
 use pay_echo::Instance;
 use pay_frame::{Body, Bytes, FrameRef, GREATEST_VALUE, Kind, SEQS, one_frame_is, read_one};
 use pay_hmac::Tagger;
@@ -565,6 +569,62 @@ impl<I: Instance + Drop, B: Settle + Drop> Member<I, B> {
         settled_book_is_one();
         self.ledger
             .statement(alloc, self.genesis.members(), account)
+    }
+
+    /// What settled of an account from a number on: at most 1,000 entries.
+    pub fn entries(&self, alloc: Global, account: u16, from: u64) -> Result<Excerpt, AllocError>
+        requires { account < self.now.genesis.members }
+        ensures { IfOk result (λ excerpt. excerpt ≡ entries_shown self.now.genesis
+            self.now.keys.own (events self.now.history) account from) }
+    {
+        a_channel_follows();
+        settled_book_is_one();
+        self.ledger
+            .entries(alloc, self.genesis.members(), account, from)
+    }
+
+    /// What is known of an account and isn't settled: the first 1,000 entries.
+    pub fn waiting(&self, alloc: Global, account: u16) -> Result<Excerpt, AllocError>
+        requires { account < self.now.genesis.members }
+        ensures { IfOk result (λ excerpt. excerpt ≡ waiting_shown self.now.genesis
+            self.now.keys.own (events self.now.history) account) }
+    {
+        a_channel_follows();
+        settled_book_is_one();
+        let known = KnownValues { member: self };
+        self.ledger
+            .waiting(alloc, &known, self.genesis.members(), account)
+    }
+
+    // How many values of an account are known.
+    pub(crate) fn known_count(&self, account: u16) -> u32
+        ensures { result ≡ length (values_known self.now.genesis self.now.keys.own
+            (events self.now.history) account) }
+    {
+        a_channel_follows();
+        sends_are_asks();
+        let listed = self.ledger.listed(account);
+        if account == self.keys.own() {
+            listed.max(self.ledger.asks())
+        } else {
+            listed
+        }
+    }
+
+    // One of them.
+    pub(crate) fn known_value(&self, account: u16, seq: u32) -> &[u8]
+        requires { seq < length (values_known self.now.genesis self.now.keys.own
+            (events self.now.history) account) }
+        ensures { slice_get (values_known self.now.genesis self.now.keys.own
+            (events self.now.history) account) seq ≡ Some result.now }
+    {
+        a_channel_follows();
+        sends_are_asks();
+        if seq < self.ledger.listed(account) {
+            self.ledger.value(account, seq)
+        } else {
+            self.ledger.echoed(account, seq).unwrap()
+        }
     }
 }
 
