@@ -4,7 +4,7 @@ use Rattle.std.specs.Prelude.{Option, Result}
 use Rattle.std.proofs.lemmas.List.{map-append}
 use Rattle.pay_text.specs.Answers as text
 use Rattle.pay_desk.specs.declared.command.Command.{Command}
-use Rattle.pay_desk.specs.declared.command.Command.TheVariants.{Pay, Balance, State, Statement, Front}
+use Rattle.pay_desk.specs.declared.command.Command.TheVariants.{Pay, Balance, State, Statement, Entries, Waiting, Front}
 use Rattle.pay_desk.specs.declared.command.Order.{Order}
 use Rattle.pay_desk.specs.declared.desk.Desk.{Desk}
 use Rattle.pay_desk.specs.declared.fault.DeskFault.{DeskFault}
@@ -81,6 +81,10 @@ module _ {T : Type 0} (says : T → Call → TellerReply → T → Type 0) (aske
       by_unless (account_fault old.accounts owner) old new t _ (by_call (call.State owner seq) _ _ old new t (λ r. refl)) answer
   by_answer (Some (Statement account)) old new t answer =
       by_unless (account_fault old.accounts account) old new t _ (by_call (call.Statement account) _ _ old new t (λ r. refl)) answer
+  by_answer (Some (Entries account from)) old new t answer =
+      by_unless (account_fault old.accounts account) old new t _ (by_call (call.Entries account from) _ _ old new t (λ r. refl)) answer
+  by_answer (Some (Waiting account)) old new t answer =
+      by_unless (account_fault old.accounts account) old new t _ (by_call (call.Waiting account) _ _ old new t (λ r. refl)) answer
   by_answer (Some Front) old new t answer = by_call call.Fronts _ _ old new t (λ r. refl) answer
 
   silent : (called : Call) (r : TellerReply) → only_reads called ≡ true → asked_by called r ≡ []
@@ -88,6 +92,8 @@ module _ {T : Type 0} (says : T → Call → TellerReply → T → Type 0) (aske
   silent (call.Query account) r reads = refl
   silent (call.State owner seq) r reads = refl
   silent (call.Statement account) r reads = refl
+  silent (call.Entries account from) r reads = refl
+  silent (call.Waiting account) r reads = refl
   silent call.Fronts r reads = refl
 
   by_giving_up : (old new : Desk T) → GaveUp says old new → AsksOnce asked old new

@@ -1,9 +1,9 @@
 -- What a desk answers to a line, as a function of what it keeps, the line, and what its teller replies.
 use Rattle.std.specs.Prelude.{◌≡◌, ℕ, ◌==◌, ◌||◌, nat_lt, Bool, true, List, Option, Some, None, Result, Ok, Err, if◌then◌else◌, ◌⊎◌}
 use Rattle.std.specs.List.{list_all, list_any}
-use Rattle.pay_book.specs.declared.line.Line.{Line}
+use Rattle.pay_book.specs.Statement.{StatementFields}
 use Rattle.pay_desk.specs.declared.command.Command.{Command}
-use Rattle.pay_desk.specs.declared.command.Command.TheVariants.{Pay, Balance, State, Statement, Front}
+use Rattle.pay_desk.specs.declared.command.Command.TheVariants.{Pay, Balance, State, Statement, Entries, Waiting, Front}
 use Rattle.pay_desk.specs.declared.command.Order.{Order}
 use Rattle.pay_desk.specs.declared.desk.Desk.{Desk}
 use Rattle.pay_desk.specs.declared.fault.DeskFault.{DeskFault}
@@ -15,7 +15,7 @@ use Rattle.pay_desk.specs.Calls.{Call, TellerReply, Replies, only_reads}
 use Rattle.pay_desk.specs.Faults.{desk_fault_of}
 use Rattle.pay_desk.specs.Kept.{kept_under, is_value, kept_after}
 use Rattle.pay_desk.specs.Payments.{pairs_of, value_of, if_named}
-use Rattle.pay_desk.specs.Words.{refused_words, asked_words, balance_words, state_words, statement_words, front_words}
+use Rattle.pay_desk.specs.Words.{refused_words, asked_words, balance_words, state_words, statement_words, settled_words, waiting_words, front_words}
 
 -- ---- the words by what the teller replied
 
@@ -24,8 +24,8 @@ abbrev pub told_or_refused : {X : Type 0} → (X → List ℕ) → Result X Tell
 told_or_refused words (Ok told) = words told
 told_or_refused words (Err fault) = refused_words (desk_fault_of fault)
 
-abbrev pub stated_words : ℕ → List Line × ℕ → List ℕ
-stated_words account (lines, balance) = statement_words account lines balance
+abbrev pub stated_words : ℕ → StatementFields → List ℕ
+stated_words account statement = statement_words account statement.lines statement.balance
 
 -- a kept id: the value that was asked for has the answer that it had, and another one none
 abbrev pub kept_words : Kept → ℕ → Option (List ℕ) → List ℕ
@@ -102,7 +102,17 @@ AnswersState says owner seq old text new =
 abbrev pub AnswersStatement : {T : Type 0} → (T → Call → TellerReply → T → Type 0) → ℕ → Desk T → List ℕ → Desk T → Type 0
 AnswersStatement says account old text new =
     Unless (account_fault old.accounts account) old text new
-    (Calls says (call.Statement account) call.stated (stated_words account) old text new)
+    (Calls says (call.Statement account) call.Stated (stated_words account) old text new)
+
+abbrev pub AnswersEntries : {T : Type 0} → (T → Call → TellerReply → T → Type 0) → ℕ → ℕ → Desk T → List ℕ → Desk T → Type 0
+AnswersEntries says account from old text new =
+    Unless (account_fault old.accounts account) old text new
+    (Calls says (call.Entries account from) call.Listed (settled_words account) old text new)
+
+abbrev pub AnswersWaiting : {T : Type 0} → (T → Call → TellerReply → T → Type 0) → ℕ → Desk T → List ℕ → Desk T → Type 0
+AnswersWaiting says account old text new =
+    Unless (account_fault old.accounts account) old text new
+    (Calls says (call.Waiting account) call.Listed (waiting_words account) old text new)
 
 abbrev pub AnswersFront : {T : Type 0} → (T → Call → TellerReply → T → Type 0) → Desk T → List ℕ → Desk T → Type 0
 AnswersFront says old text new = Calls says call.Fronts call.Settled front_words old text new
@@ -114,6 +124,8 @@ Answers says (Some (Pay order)) old text new = AnswersPay says (kept_under order
 Answers says (Some (Balance account)) old text new = AnswersBalance says account old text new
 Answers says (Some (State owner seq)) old text new = AnswersState says owner seq old text new
 Answers says (Some (Statement account)) old text new = AnswersStatement says account old text new
+Answers says (Some (Entries account from)) old text new = AnswersEntries says account from old text new
+Answers says (Some (Waiting account)) old text new = AnswersWaiting says account old text new
 Answers says (Some Front) old text new = AnswersFront says old text new
 
 -- ---- memory

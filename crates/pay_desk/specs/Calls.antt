@@ -1,6 +1,7 @@
 -- What a desk asks of its teller, and what that replies.
 use Rattle.std.specs.Prelude.{◌≡◌, ℕ, Bool, true, false, List, [], ◌∷◌, Result, Ok, Err}
-use Rattle.pay_book.specs.declared.line.Line.{Line}
+use Rattle.pay_book.specs.Excerpt.{ExcerptFields}
+use Rattle.pay_book.specs.Statement.{StatementFields}
 use Rattle.pay_member.specs.declared.standing.PaymentState.{PaymentState}
 use Rattle.pay_member.specs.declared.told.Told.{Told}
 use Rattle.pay_desk.specs.declared.teller_fault.TellerFault.{TellerFault}
@@ -15,6 +16,10 @@ pub data Call : Type 0 where
   State : ℕ → ℕ → Call
   -- for the lines of an account's statement, and its balance
   Statement : ℕ → Call
+  -- for what settled of an account from a number on
+  Entries : ℕ → ℕ → Call
+  -- for what is known of an account and isn't settled
+  Waiting : ℕ → Call
   -- for how many entries of each account are settled
   Fronts : Call
 
@@ -22,7 +27,8 @@ pub data TellerReply : Type 0 where
   Asked : ℕ → TellerReply
   Queried : Told → TellerReply
   Stood : PaymentState → TellerReply
-  Stated : List Line → ℕ → TellerReply
+  Stated : StatementFields → TellerReply
+  Listed : ExcerptFields → TellerReply
   Settled : List ℕ → TellerReply
   Refused : TellerFault → TellerReply
 
@@ -39,21 +45,20 @@ abbrev pub seen_as : {X Y : Type 0} → Result X TellerFault → (X → Y) → R
 seen_as (Ok x) see = Ok (see x)
 seen_as (Err fault) see = Err fault
 
--- a statement that was told: its lines, and the account's balance
-abbrev pub stated : List Line × ℕ → TellerReply
-stated (lines, balance) = Stated lines balance
-
 -- what was broadcast by a call with this reply
 abbrev pub asked_by : Call → TellerReply → List (List ℕ)
 asked_by (Ask value) (Asked seq) = value ∷ []
 asked_by (Ask value) (Queried told) = []
 asked_by (Ask value) (Stood state) = []
-asked_by (Ask value) (Stated lines balance) = []
+asked_by (Ask value) (Stated statement) = []
+asked_by (Ask value) (Listed excerpt) = []
 asked_by (Ask value) (Settled fronts) = []
 asked_by (Ask value) (Refused fault) = []
 asked_by (Query account) reply = []
 asked_by (State owner seq) reply = []
 asked_by (Statement account) reply = []
+asked_by (Entries account from) reply = []
+asked_by (Waiting account) reply = []
 asked_by Fronts reply = []
 
 -- such a call leaves no entry at a member
@@ -62,4 +67,6 @@ only_reads (Ask value) = false
 only_reads (Query account) = false
 only_reads (State owner seq) = true
 only_reads (Statement account) = true
+only_reads (Entries account from) = true
+only_reads (Waiting account) = true
 only_reads Fronts = true

@@ -7,7 +7,7 @@ use Rattle.pay_text.specs.Numbers.{first_number}
 use Rattle.pay_text.specs.Pairs.{pairs_within}
 use Rattle.pay_book.specs.declared.payment.TheConstants.{MOST_PAYMENTS}
 use Rattle.pay_desk.specs.declared.command.Command.{Command}
-use Rattle.pay_desk.specs.declared.command.Command.TheVariants.{Pay, Balance, State, Statement, Front}
+use Rattle.pay_desk.specs.declared.command.Command.TheVariants.{Pay, Balance, State, Statement, Entries, Waiting, Front}
 use Rattle.pay_desk.specs.declared.command.TheConstants.{MOST_LINE}
 use Rattle.pay_desk.specs.declared.payments.Payments.TheVariants.{One, Several}
 use Rattle.pay_desk.specs.Payments.{HasFew}
@@ -57,6 +57,18 @@ balance_in words = option_and_then (λ account. if_last (drop 1 words) (Balance 
 unfoldable pub statement_in : List (List ℕ) → Option Command
 statement_in words = option_and_then (λ account. if_last (drop 1 words) (Statement account)) (first_number words)
 
+-- `A E`
+unfoldable pub entries_command : List (List ℕ) → Option Command
+entries_command words =
+    option_and_then (λ account. option_and_then (λ from.
+    if_last (drop 1 (drop 1 words)) (Entries account from))
+    (first_number (drop 1 words)))
+    (first_number words)
+
+-- `A`
+unfoldable pub waiting_command : List (List ℕ) → Option Command
+waiting_command words = option_and_then (λ account. if_last (drop 1 words) (Waiting account)) (first_number words)
+
 -- the command of this name
 abbrev pub command_of : List (List ℕ) → List ℕ → Option Command
 command_of words name =
@@ -65,6 +77,8 @@ command_of words name =
     else if bytes_eq name (codes "BALANCE") then balance_in words
     else if bytes_eq name (codes "STATE") then state_in words
     else if bytes_eq name (codes "STATEMENT") then statement_in words
+    else if bytes_eq name (codes "ENTRIES") then entries_command words
+    else if bytes_eq name (codes "WAITING") then waiting_command words
     else if bytes_eq name (codes "FRONT") then if_last words Front
     else None
 
@@ -82,4 +96,6 @@ AsksFew (Pay order) = HasFew order.payments
 AsksFew (Balance account) = ⊤
 AsksFew (State owner seq) = ⊤
 AsksFew (Statement account) = ⊤
+AsksFew (Entries account from) = ⊤
+AsksFew (Waiting account) = ⊤
 AsksFew Front = ⊤

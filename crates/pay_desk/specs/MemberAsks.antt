@@ -11,7 +11,7 @@ use Rattle.pay_member.specs.Events.{events}
 use Rattle.pay_member.specs.Member.{MemberFields, with_entry}
 use Rattle.pay_member.specs.Reply.{told_of}
 use Rattle.pay_desk.specs.declared.teller_fault.TellerFault.TheVariants.{Spent}
-use Rattle.pay_desk.specs.Calls.{Call, Ask, Query, State, Statement, Fronts, TellerReply, Asked, Refused, asked_by}
+use Rattle.pay_desk.specs.Calls.{Call, Ask, Query, State, Statement, Entries, Waiting, Fronts, TellerReply, Asked, Refused, asked_by}
 use Rattle.pay_desk.specs.OneMember.{MemberSays, member_after, reply_by, value_asked, values_asked}
 
 one_more : (m : MemberFields) (e : HistoryEntry)
@@ -45,6 +45,8 @@ by_call stamp m (Ask value) = by_ask stamp m value
 by_call stamp m (Query account) = by_query stamp m account
 by_call stamp m (State owner seq) = sym (append-nil (values_asked m.history))
 by_call stamp m (Statement account) = sym (append-nil (values_asked m.history))
+by_call stamp m (Entries account from) = sym (append-nil (values_asked m.history))
+by_call stamp m (Waiting account) = sym (append-nil (values_asked m.history))
 by_call stamp m Fronts = sym (append-nil (values_asked m.history))
 
 -- nothing is broadcast but what is asked for and gets a number

@@ -13,10 +13,10 @@ use Rattle.pay_member.specs.Book.{book_after}
 use Rattle.pay_member.specs.Events.{events}
 use Rattle.pay_member.specs.Group.{group_in}
 use Rattle.pay_member.specs.Member.{MemberFields, with_entry}
-use Rattle.pay_member.specs.Reading.{state_of}
+use Rattle.pay_member.specs.Reading.{state_of, entries_shown, waiting_shown}
 use Rattle.pay_member.specs.Reply.{told_of}
 use Rattle.pay_desk.specs.declared.teller_fault.TellerFault.TheVariants.{NoAccount, Spent}
-use Rattle.pay_desk.specs.Calls.{Call, Ask, Query, State, Statement, Fronts, TellerReply, Asked, Queried, Stood, Stated, Settled, Refused}
+use Rattle.pay_desk.specs.Calls.{Call, Ask, Query, State, Statement, Entries, Waiting, Fronts, TellerReply, Asked, Queried, Stood, Stated, Listed, Settled, Refused}
 
 -- the book of what a member took
 abbrev pub book_of : MemberFields → Standing
@@ -36,9 +36,14 @@ reply_by m (State owner seq) =
     if_account m owner (Stood (state_of m.genesis m.keys.own (events m.history) owner seq))
 reply_by m (Statement account) =
     if_account m account
-    (Stated
-    (statement_of m.genesis.members (list_of (group_in m.genesis m.keys.own) (events m.history)) (slice_index (book_of m).front) account)
-    (slice_index (book_of m).balances account))
+    (Stated (record {
+      lines = statement_of m.genesis.members (list_of (group_in m.genesis m.keys.own) (events m.history)) (slice_index (book_of m).front) account;
+      balance = slice_index (book_of m).balances account;
+    }))
+reply_by m (Entries account from) =
+    if_account m account (Listed (entries_shown m.genesis m.keys.own (events m.history) account from))
+reply_by m (Waiting account) =
+    if_account m account (Listed (waiting_shown m.genesis m.keys.own (events m.history) account))
 reply_by m Fronts = Settled (book_of m).front
 
 -- the member after a call: an ask and a query that aren't refused are entries of its history
@@ -56,6 +61,8 @@ member_after stamp m (Query account) =
     else m
 member_after stamp m (State owner seq) = m
 member_after stamp m (Statement account) = m
+member_after stamp m (Entries account from) = m
+member_after stamp m (Waiting account) = m
 member_after stamp m Fronts = m
 
 -- what becomes of a member by a call

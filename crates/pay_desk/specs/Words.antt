@@ -1,8 +1,12 @@
 -- The answers of a desk, each line with its line feed.
-use Rattle.std.specs.Prelude.{ℕ, List, [], ◌∷◌, ◌++◌, decimal, codes}
+use Rattle.std.specs.Prelude.{ℕ, ◌+◌, ◌-◌, List, [], ◌∷◌, ◌++◌, length, decimal, codes}
 use Rattle.std.specs.List.{flat_map}
 use Rattle.pay_book.specs.declared.line.Line.{Line}
 use Rattle.pay_book.specs.declared.line.Line.TheVariants.{Out, Void, In}
+use Rattle.pay_book.specs.declared.payment.Entry.{Entry}
+use Rattle.pay_book.specs.declared.payment.Entry.TheVariants as entry
+use Rattle.pay_book.specs.Balance.{amount_of}
+use Rattle.pay_book.specs.Excerpt.{ExcerptFields}
 use Rattle.pay_member.specs.declared.standing.PaymentState.{PaymentState}
 use Rattle.pay_member.specs.declared.standing.PaymentState.TheVariants.{Unknown, Asked, Waiting, Settled}
 use Rattle.pay_desk.specs.declared.fault.DeskFault.{DeskFault}
@@ -51,6 +55,48 @@ end_words account balance = codes "end " ++ decimal account ++ codes " balance "
 -- the lines of a statement, and its end
 unfoldable pub statement_words : ℕ → List Line → ℕ → List ℕ
 statement_words account lines balance = flat_map line_words lines ++ end_words account balance
+
+-- ` to PAYEE AMOUNT` or ` void`
+unfoldable pub payment_words : Entry → List ℕ
+payment_words (entry.Pay payee amount) = codes " to " ++ decimal payee ++ codes " " ++ decimal amount
+payment_words entry.Void = codes " void"
+
+-- `WORD A E seq S to PAYEE AMOUNT` or `WORD A E seq S void`: entry E of account A
+unfoldable pub entry_words : List ℕ → ℕ → ℕ → ℕ × Entry → List ℕ
+entry_words word account number e =
+    word ++ codes " " ++ decimal account ++ codes " " ++ decimal number ++ codes " seq " ++ decimal e.0
+    ++ payment_words e.1 ++ end_of_line
+
+-- entries one after the other, the first of this number
+unfoldable pub entries_words : List ℕ → ℕ → ℕ → List (ℕ × Entry) → List ℕ
+entries_words word account number [] = []
+entries_words word account number (e ∷ entries) =
+    entry_words word account number e ++ entries_words word account (number + 1) entries
+
+-- `end A E`
+unfoldable pub next_words : ℕ → ℕ → List ℕ
+next_words account number = codes "end " ++ decimal account ++ codes " " ++ decimal number ++ end_of_line
+
+-- a line for each settled entry, and the number of the next
+unfoldable pub settled_words : ℕ → ExcerptFields → List ℕ
+settled_words account excerpt =
+    entries_words (codes "entry") account excerpt.first excerpt.entries
+    ++ next_words account (excerpt.first + length excerpt.entries)
+
+-- what a balance is short of for the first of these entries
+unfoldable pub short_by : ℕ → List (ℕ × Entry) → ℕ
+short_by balance [] = 0
+short_by balance (e ∷ entries) = amount_of e.1 - balance
+
+-- `end A short B`
+unfoldable pub short_words : ℕ → ℕ → List ℕ
+short_words account short = codes "end " ++ decimal account ++ codes " short " ++ decimal short ++ end_of_line
+
+-- a line for each entry that waits, and what the balance is short of for the first
+unfoldable pub waiting_words : ℕ → ExcerptFields → List ℕ
+waiting_words account excerpt =
+    entries_words (codes "waiting") account excerpt.first excerpt.entries
+    ++ short_words account (short_by excerpt.balance excerpt.entries)
 
 -- ` F0 F1 ..`
 unfoldable pub number_words : List ℕ → List ℕ

@@ -20,6 +20,10 @@ pub enum Command {
     State { owner: u64, seq: u32 },
     /// All that settled of an account, and what was paid to it.
     Statement(u64),
+    /// What settled of an account from a number on.
+    Entries { account: u64, from: u64 },
+    /// What an account asked for or has listed and isn't settled.
+    Waiting(u64),
     /// How many entries of each account are settled.
     Front,
 }

@@ -3,7 +3,8 @@
 ghost use Rattle.std.specs.Prelude.{◌≡◌, drop, IfOk, IfSome};
 ghost use Rattle.std.specs.Str.{bytes_eq};
 ghost use Rattle.pay_desk.specs.Commands.{AsksFew, balance_in, command_by, command_in, first_seq};
-ghost use Rattle.pay_desk.specs.Commands.{if_last, pay_in, pays_in, state_in, statement_in};
+ghost use Rattle.pay_desk.specs.Commands.{entries_command, if_last, pay_in, pays_in, state_in};
+ghost use Rattle.pay_desk.specs.Commands.{statement_in, waiting_command};
 
 use crate::command::{Command, MOST_LINE, Order};
 use crate::payments::Payments;
@@ -43,6 +44,10 @@ fn read_words(alloc: Global, words: Words) -> Result<Option<Command>, AllocError
         Ok(read_state(&mut words))
     } else if is_word(name, "STATEMENT") {
         Ok(read_statement(&mut words))
+    } else if is_word(name, "ENTRIES") {
+        Ok(read_entries(&mut words))
+    } else if is_word(name, "WAITING") {
+        Ok(read_waiting(&mut words))
     } else if is_word(name, "FRONT") {
         Ok(if_last(&words, Command::Front))
     } else {
@@ -103,6 +108,25 @@ fn read_statement(words: &mut Words) -> Option<Command>
 {
     let account = words.next_number()?;
     if_last(words, Command::Statement(account))
+}
+
+#[tactic(auto, unfolding(crate::specs::Commands::entries_command))]
+fn read_entries(words: &mut Words) -> Option<Command>
+    ensures command { result ≡ entries_command words.old }
+    ensures few { IfSome result AsksFew }
+{
+    let account = words.next_number()?;
+    let from = words.next_number()?;
+    if_last(words, Command::Entries { account, from })
+}
+
+#[tactic(auto, unfolding(crate::specs::Commands::waiting_command))]
+fn read_waiting(words: &mut Words) -> Option<Command>
+    ensures command { result ≡ waiting_command words.old }
+    ensures few { IfSome result AsksFew }
+{
+    let account = words.next_number()?;
+    if_last(words, Command::Waiting(account))
 }
 
 // Takes the number of a payment.

@@ -2,18 +2,19 @@ ghost use Rattle.std.specs.Prelude.{◌≡◌, ◌≤◌, [], length, IfOk, IfSo
 ghost use Rattle.std.specs.Prelude.{OnErr, None, Some, MatchResult};
 ghost use Rattle.std.specs.List.{list_all, list_any};
 ghost use Rattle.std.specs.Result.{result_err};
-ghost use Rattle.pay_desk.specs.Answers.{Answers, AnswersBalance, AnswersFront};
-ghost use Rattle.pay_desk.specs.Answers.{AnswersPay, AnswersState, AnswersStatement};
+ghost use Rattle.pay_desk.specs.Answers.{Answers, AnswersBalance, AnswersEntries, AnswersFront};
+ghost use Rattle.pay_desk.specs.Answers.{AnswersPay, AnswersState, AnswersStatement, AnswersWaiting};
 ghost use Rattle.pay_desk.specs.Answers.{Calls, GaveUp, Pays, account_fault};
 ghost use Rattle.pay_desk.specs.Answers.{is_account, is_void, pay_fault, stated_words};
 ghost use Rattle.pay_desk.specs.Payments.{HasFew, if_named, pairs_of, value_of};
 ghost use Rattle.pay_desk.specs.Calls as call;
 ghost use Rattle.pay_desk.specs.Commands.{command_in};
 ghost use Rattle.pay_desk.specs.Kept.{kept_under};
-ghost use Rattle.pay_desk.specs.Words.{balance_words, state_words};
+ghost use Rattle.pay_desk.specs.Words.{balance_words, settled_words, state_words, waiting_words};
 
 use crate::command::{Command, Order};
 use crate::command_reading::read_command;
+use crate::excerpt_words::{push_settled, push_waiting};
 use crate::fault::DeskFault;
 use crate::kept::KeptValues;
 use crate::payments::Payments;
@@ -89,6 +90,8 @@ impl<T: Teller> Desk<T> {
             Command::Balance(account) => self.balance(alloc, account),
             Command::State { owner, seq } => self.state(alloc, owner, seq),
             Command::Statement(account) => self.statement(alloc, account),
+            Command::Entries { account, from } => self.entries(alloc, account, from),
+            Command::Waiting(account) => self.waiting(alloc, account),
             Command::Front => self.front(alloc),
         }
     }
@@ -219,13 +222,67 @@ impl<T: Teller> Desk<T> {
 
     fn statement_of(&mut self, alloc: Global, account: u16) -> Result<Vec<u8>, AllocError>
         ensures text { IfOk result (λ text.
-            Calls T.says (call.Statement account) call.stated
+            Calls T.says (call.Statement account) call.Stated
             (stated_words account) self.old text.items self.new) }
         ensures err { OnErr result (GaveUp T.says self.old self.new) }
     {
         let mut text = room(alloc)?;
         match self.teller.statement(alloc, account) {
-            Ok((lines, balance)) => push_statement(&mut text, account, lines.as_slice(), balance)?,
+            Ok(statement) => {
+                push_statement(&mut text, account, statement.lines(), statement.balance())?
+            }
+            Err(TellerFault::Memory) => return Err(AllocError),
+            Err(fault) => put_refused(&mut text, DeskFault::from(fault)),
+        }
+        Ok(text)
+    }
+
+    fn entries(&mut self, alloc: Global, account: u64, from: u64) -> Result<Vec<u8>, AllocError>
+        ensures text { IfOk result (λ text.
+            AnswersEntries T.says account from self.old text.items self.new) }
+        ensures err { OnErr result (GaveUp T.says self.old self.new) }
+    {
+        match self.account(account) {
+            Ok(account) => self.entries_of(alloc, account, from),
+            Err(fault) => refused_text(alloc, fault),
+        }
+    }
+
+    fn entries_of(&mut self, alloc: Global, account: u16, from: u64) -> Result<Vec<u8>, AllocError>
+        ensures text { IfOk result (λ text.
+            Calls T.says (call.Entries account from) call.Listed
+            (settled_words account) self.old text.items self.new) }
+        ensures err { OnErr result (GaveUp T.says self.old self.new) }
+    {
+        let mut text = room(alloc)?;
+        match self.teller.entries(alloc, account, from) {
+            Ok(excerpt) => push_settled(&mut text, account, &excerpt)?,
+            Err(TellerFault::Memory) => return Err(AllocError),
+            Err(fault) => put_refused(&mut text, DeskFault::from(fault)),
+        }
+        Ok(text)
+    }
+
+    fn waiting(&mut self, alloc: Global, account: u64) -> Result<Vec<u8>, AllocError>
+        ensures text { IfOk result (λ text.
+            AnswersWaiting T.says account self.old text.items self.new) }
+        ensures err { OnErr result (GaveUp T.says self.old self.new) }
+    {
+        match self.account(account) {
+            Ok(account) => self.waiting_of(alloc, account),
+            Err(fault) => refused_text(alloc, fault),
+        }
+    }
+
+    fn waiting_of(&mut self, alloc: Global, account: u16) -> Result<Vec<u8>, AllocError>
+        ensures text { IfOk result (λ text.
+            Calls T.says (call.Waiting account) call.Listed
+            (waiting_words account) self.old text.items self.new) }
+        ensures err { OnErr result (GaveUp T.says self.old self.new) }
+    {
+        let mut text = room(alloc)?;
+        match self.teller.waiting(alloc, account) {
+            Ok(excerpt) => push_waiting(&mut text, account, &excerpt)?,
             Err(TellerFault::Memory) => return Err(AllocError),
             Err(fault) => put_refused(&mut text, DeskFault::from(fault)),
         }

@@ -15,6 +15,7 @@ mod command;
 mod command_reading;
 mod desk;
 mod engine;
+mod excerpt_words;
 mod fault;
 mod kept;
 mod laws;

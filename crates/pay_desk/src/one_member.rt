@@ -3,7 +3,7 @@ ghost use Rattle.pay_desk.specs.OneMember.{MemberSays, values_asked};
 
 use crate::teller::Teller;
 use crate::teller_fault::TellerFault;
-use pay_book::{Line, Settle};
+use pay_book::{Excerpt, Settle, Statement};
 use pay_echo::Instance;
 use pay_frame::Bytes;
 use pay_member::{AskFault, Member, PaymentState, QueryFault, Told};
@@ -51,12 +51,28 @@ impl<I: Instance + Drop, B: Settle + Drop> Teller for OneMember<I, B> {
     }
 
     #[tactic(auto, unfolding(crate::specs::OneMember::reply_by, crate::specs::OneMember::member_after))]
-    fn statement(&mut self, alloc: Global, account: u16) -> Result<(Vec<Line>, u64), TellerFault> {
+    fn statement(&mut self, alloc: Global, account: u16) -> Result<Statement, TellerFault> {
         if account >= self.member.genesis().members() {
             return Err(TellerFault::NoAccount);
         }
         let lines = self.member.statement(alloc, account)?;
-        Ok((lines, self.member.balance(account)))
+        Ok(Statement::new(lines, self.member.balance(account)))
+    }
+
+    #[tactic(auto, unfolding(crate::specs::OneMember::reply_by, crate::specs::OneMember::member_after))]
+    fn entries(&mut self, alloc: Global, account: u16, from: u64) -> Result<Excerpt, TellerFault> {
+        if account >= self.member.genesis().members() {
+            return Err(TellerFault::NoAccount);
+        }
+        Ok(self.member.entries(alloc, account, from)?)
+    }
+
+    #[tactic(auto, unfolding(crate::specs::OneMember::reply_by, crate::specs::OneMember::member_after))]
+    fn waiting(&mut self, alloc: Global, account: u16) -> Result<Excerpt, TellerFault> {
+        if account >= self.member.genesis().members() {
+            return Err(TellerFault::NoAccount);
+        }
+        Ok(self.member.waiting(alloc, account)?)
     }
 
     #[tactic(auto, unfolding(crate::specs::OneMember::reply_by, crate::specs::OneMember::member_after))]

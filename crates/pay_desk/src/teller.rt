@@ -3,7 +3,7 @@ ghost use Rattle.pay_desk.specs.Calls.{Call, TellerReply, Replies, asked_by, see
 ghost use Rattle.pay_desk.specs.Calls as call;
 
 use crate::teller_fault::TellerFault;
-use pay_book::Line;
+use pay_book::{Excerpt, Statement};
 use pay_frame::{Bytes, GREATEST_VALUE};
 use pay_member::{PaymentState, Told};
 use std::alloc::Global;
@@ -34,9 +34,16 @@ pub trait Teller {
         ensures { Replies says self.old (call.State owner seq) call.Stood result self.new };
 
     /// The lines of an account's statement and its balance, or `NoAccount`.
-    fn statement(&mut self, alloc: Global, account: u16) -> Result<(Vec<Line>, u64), TellerFault>
-        ensures { Replies says self.old (call.Statement account) call.stated
-            (seen_as result (λ s. (s.0.items, s.1))) self.new };
+    fn statement(&mut self, alloc: Global, account: u16) -> Result<Statement, TellerFault>
+        ensures { Replies says self.old (call.Statement account) call.Stated result self.new };
+
+    /// What settled of an account from a number on, or `NoAccount`.
+    fn entries(&mut self, alloc: Global, account: u16, from: u64) -> Result<Excerpt, TellerFault>
+        ensures { Replies says self.old (call.Entries account from) call.Listed result self.new };
+
+    /// What is known of an account and isn't settled, or `NoAccount`.
+    fn waiting(&mut self, alloc: Global, account: u16) -> Result<Excerpt, TellerFault>
+        ensures { Replies says self.old (call.Waiting account) call.Listed result self.new };
 
     /// How many entries of each account are settled.
     fn fronts(&mut self, alloc: Global) -> Result<Vec<u32>, TellerFault>
