@@ -8,7 +8,7 @@ use Rattle.std.proofs.lemmas.Option.{get_or_from_slice_get, none-some, slice_get
 use Rattle.std.proofs.lemmas.Slice.Eq.{bytes_eq-Decides}
 use Rattle.pay_channel.specs.Prefix.{IsPrefix}
 use Rattle.pay_group.specs.Backing.{begins, has_at, IsGroupList, IsSplit}
-use Rattle.pay_group.specs.Laws.{BackedIsVouchedFor, ListOrSplit, NoListOfASplit, OneGroupList}
+use Rattle.pay_group.specs.Laws.{BackedIsListed, BackedIsVouchedFor, ListOrSplit, NoListOfASplit, OneGroupList}
 use Rattle.pay_group.proofs.Agreed.{Agree, is_group_list, next_backers, none_longer, none_yet, one_more_agreed, split_at}
 use Rattle.pay_group.proofs.Begins.{begun, count_map}
 use Rattle.pay_group.proofs.Counting.{counted, few, one_more}
@@ -36,6 +36,11 @@ vouched_for f members l few backed =
     let found = counted (λ m. begins l m.1 && m.0) members (omega (arith, some, few, count_split (λ m. begins l m.1) (λ m. m.0) members)) in
     let is = both_true (begins l found.1.1) found.1.0 found.3 in
     (found.1, (found.0, slice_get_within members found.0 found.1 found.2, get_or_from_slice_get members found.0 found.1 found.1 found.2), is.1, begun l found.1.1 is.0)
+
+pub backed_listed : BackedIsListed
+backed_listed f lists l backed =
+    let found = counted (begins l) lists (omega (arith, backed)) in
+    (found.0, found.1, found.2, begun l found.1 found.3)
 
 -- ---- one list, or a split
 

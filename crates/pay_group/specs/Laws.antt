@@ -1,5 +1,5 @@
 -- What a group's list is: there is one or a split, and a correct member has it.
-use Rattle.std.specs.Prelude.{◌≡◌, ◌⊎◌, ℕ, ◌≤◌, ◌<◌, Bool, true, not, List, length, map, Contains}
+use Rattle.std.specs.Prelude.{◌≡◌, ◌⊎◌, ℕ, ◌≤◌, ◌<◌, Bool, true, not, List, length, map, slice_get, Some, Contains}
 use Rattle.std.specs.List.{count_by}
 use Rattle.pay_channel.specs.Prefix.{IsPrefix}
 use Rattle.pay_group.specs.Backing.{IsBacked, IsGroupList, IsSplit}
@@ -27,3 +27,9 @@ BackedIsVouchedFor =
     (f : ℕ) (members : List (Bool × List (List ℕ))) (l : List (List ℕ))
     → count_by (λ m. not m.0) members ≤ f → IsBacked f (map (λ m. m.1) members) l
     → (m : Bool × List (List ℕ)) × Contains members m × (m.0 ≡ true) × IsPrefix l m.1
+
+-- what is backed is how one of the lists begins
+abbrev pub BackedIsListed : Type 0
+BackedIsListed =
+    (f : ℕ) (lists : List (List (List ℕ))) (l : List (List ℕ)) → IsBacked f lists l
+    → (k : ℕ) × (list : List (List ℕ)) × (slice_get lists k ≡ Some list) × IsPrefix l list

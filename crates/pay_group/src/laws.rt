@@ -1,6 +1,6 @@
 //! Laws of the definitions. Each function's contract is the law.
 
-ghost use Rattle.pay_group.specs.Laws.{BackedIsVouchedFor, ListOrSplit, NoListOfASplit};
+ghost use Rattle.pay_group.specs.Laws.{BackedIsListed, BackedIsVouchedFor, ListOrSplit, NoListOfASplit};
 ghost use Rattle.pay_group.specs.Laws.{OneGroupList};
 
 /// Of more lists than members may lie the group has one list, or two values are split: one of the two, and one list.
@@ -13,4 +13,9 @@ pub fn list_or_split()
 /// Where at most `f` of the members lie, the group's list is how the list of a correct member begins.
 pub fn backed_is_vouched_for()
     ensures { BackedIsVouchedFor }
+{}
+
+/// What more than `f` lists begin with is how one of them begins.
+pub fn backed_is_listed()
+    ensures { BackedIsListed }
 {}

@@ -40,6 +40,9 @@ pub fn group_lists<'a, S: Source>(
         → IsGroupList faults (map (λ s. S.lists s.now owner) sources.now) list) }
     ensures split { IfErr result (λ fault. (owner place : ℕ) → fault ≡ Split owner place →
         (owner < accounts) × IsSplit faults (map (λ s. S.lists s.now owner) sources.now) place) }
+    ensures before { IfErr result (λ fault. (owner place account : ℕ) → fault ≡ Split owner place
+        → account < owner → (list : List (List ℕ))
+        × IsGroupList faults (map (λ s. S.lists s.now account) sources.now) list) }
 {
     let mut lists = Vec::with_capacity(alloc, usize::from(accounts))?;
     for owner in 0..accounts {

@@ -1,5 +1,5 @@
-use Rattle.std.proofs.Common.{◌≡◌, ℕ, zero, suc, ◌+◌, ◌<◌, List, [], ◌∷◌, ◌++◌, Bor, Some, length, length-append, map, slice_get, sym, ap, subst, ◌∙◌}
-use Rattle.std.proofs.lemmas.Option.{none-some, same_Some}
+use Rattle.std.proofs.Common.{◌≡◌, ℕ, zero, suc, ◌+◌, ◌<◌, List, [], ◌∷◌, ◌++◌, Bor, Some, length, length-append, map, slice_get, sym, ap, subst, ◌∙◌, get_or, arith}
+use Rattle.std.proofs.lemmas.Option.{none-some, same_Some, slice_get-get_or}
 use Rattle.std.proofs.lemmas.Result.{err_from_is_err_and}
 use Rattle.pay_group.specs.Backing.{IsGroupList, IsSplit}
 use Rattle.pay_group.proofs.lists.group_lists.Goals as goal
@@ -20,6 +20,15 @@ returns-in_err-group_list-clause-split g c =
       subst (λ o. o < c.args.accounts) (sym split.0) c.loop-owner-test.true,
       subst (λ o. IsSplit c.args.faults (map (λ (s : Bor g.row.S.Denot). g.S.Source.lists s.now o) c.args.sources.now) place) (sym split.0) split.1,
     ))
+
+pub returns-in_err-group_list-clause-before : goal.returns-in_err-group_list-clause-before
+returns-in_err-group_list-clause-before g c =
+    let p = err_from_is_err_and c.from_residual-in_err-group_list.result c.from_residual-in_err-group_list.ensures.1 in
+    rw p.1 (λ owner place account is lt.
+    let split = c.in_err-group_list.ensures.split owner place (sym p.2 ∙ is) in
+    let within : account < length c.loop-owner.lists.items = omega (arith, lt, split.0, c.loop-owner.invariant.count) in
+    let list = get_or c.loop-owner.lists.items account [] in
+    (list, c.loop-owner.invariant.each account list (slice_get-get_or c.loop-owner.lists.items account [] within)))
 
 pub loop-owner-preserved : goal.loop-owner-preserved
 loop-owner-preserved g c =

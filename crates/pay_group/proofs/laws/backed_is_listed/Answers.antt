@@ -1,0 +1,5 @@
+use Rattle.pay_group.proofs.Vouching.{backed_listed}
+use Rattle.pay_group.proofs.laws.backed_is_listed.Goals as goal
+
+pub returns : goal.returns
+returns c = backed_listed
