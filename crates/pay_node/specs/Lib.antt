@@ -1,5 +1,4 @@
 pub mod Requests
-pub mod Shown
 pub mod Receipts
 pub mod Seats
 pub mod Sending

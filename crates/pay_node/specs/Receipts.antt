@@ -2,7 +2,8 @@
 use Rattle.std.specs.Prelude.{◌≡◌, ℕ, ◌+◌, ◌≤◌, nat_lt, min, Bool, true, false, if◌then◌else◌, List, [], ◌∷◌, take, length, slice_get, slice_index, Some, Result, Ok, Err}
 use Rattle.pay_frame.specs.Frame.{BodyFields}
 use Rattle.pay_channel.specs.History.{list_of}
-use Rattle.pay_book.specs.Statement.{statement_of}
+use Rattle.pay_book.specs.Excerpt.{ExcerptFields}
+use Rattle.pay_book.specs.Statement.{StatementFields, statement_of}
 use Rattle.pay_member.specs.declared.member.TheConstants.{MOST_FETCHED}
 use Rattle.pay_member.specs.declared.event.Event.{Event}
 use Rattle.pay_member.specs.declared.reply.Reply.{Reply}
@@ -14,10 +15,9 @@ use Rattle.pay_member.specs.declared.standing.PaymentState.{PaymentState}
 use Rattle.pay_member.specs.Group.{group_in}
 use Rattle.pay_member.specs.Events.{events}
 use Rattle.pay_member.specs.Book.{book_after}
-use Rattle.pay_member.specs.Reading.{state_of, fetched}
+use Rattle.pay_member.specs.Reading.{state_of, fetched, entries_shown, waiting_shown}
 use Rattle.pay_member.specs.Refusal.{refusal}
 use Rattle.pay_member.specs.Member.{MemberFields}
-use Rattle.pay_node.specs.Shown.{StatementFields}
 use Rattle.pay_node.specs.declared.question.Question.{Question}
 use Rattle.pay_node.specs.declared.question.Question.TheVariants as question
 use Rattle.pay_node.specs.declared.shown.Shown.{Shown}
@@ -44,12 +44,28 @@ statement_in m account =
 abbrev pub statement_shown : MemberFields → ℕ → Result StatementFields QueryFault
 statement_shown m account = if nat_lt account m.genesis.members then Ok (statement_in m account) else Err query.NoAccount
 
+-- what settled of an account from a number on
+abbrev pub entries_answer : MemberFields → ℕ → ℕ → Result ExcerptFields QueryFault
+entries_answer m account from =
+    if nat_lt account m.genesis.members
+    then Ok (entries_shown m.genesis m.keys.own (events m.history) account from)
+    else Err query.NoAccount
+
+-- what is known of an account and isn't settled
+abbrev pub waiting_answer : MemberFields → ℕ → Result ExcerptFields QueryFault
+waiting_answer m account =
+    if nat_lt account m.genesis.members
+    then Ok (waiting_shown m.genesis m.keys.own (events m.history) account)
+    else Err query.NoAccount
+
 -- the answer to a question
 abbrev pub shown_of : MemberFields → Question → Shown
 shown_of m (question.Sent from max) =
     shown.Sent (fetched m.genesis m.keys.own (events m.history) from (min max MOST_FETCHED))
 shown_of m (question.State owner seq) = shown.State (state_shown m owner seq)
 shown_of m (question.Statement account) = shown.Statement (statement_shown m account)
+shown_of m (question.Entries account from) = shown.Entries (entries_answer m account from)
+shown_of m (question.Waiting account) = shown.Entries (waiting_answer m account)
 shown_of m question.Fronts = shown.Fronts (book_after m.genesis m.keys.own (events m.history)).front
 
 -- ---- receipts

@@ -39,5 +39,5 @@ pub use node::{MOST_SEATS, Node};
 pub use question::Question;
 pub use receipt::{Call, Receipt};
 pub use seat::Seat;
-pub use shown::{Bodies, SettledCounts, Shown, Statement};
+pub use shown::{Bodies, SettledCounts, Shown};
 pub use stopped::Stopped;

@@ -24,9 +24,9 @@ use crate::question::Question;
 use crate::request::Account;
 use crate::seat::Seat;
 use crate::showing::show;
-use crate::shown::{Shown, Statement};
+use crate::shown::Shown;
 use crate::stopped::Stopped;
-use pay_book::Settle;
+use pay_book::{Excerpt, Settle, Statement};
 use pay_channel::laws::{one_event_more, taken_in_order};
 use pay_echo::Instance;
 use pay_frame::{Body, Bytes, FrameRef, Kind, read_one};
@@ -267,7 +267,7 @@ impl<I: Instance + Drop, B: Settle + Drop, S: Beginning> Node<I, B, S> {
     {
         match self.read(rt, alloc, seat, Question::Sent { from, max })? {
             Shown::Sent(bodies) => Ok(bodies.into_vec()),
-            Shown::State(_) | Shown::Statement(_) | Shown::Fronts(_) => unreachable!(),
+            _ => unreachable!(),
         }
     }
 
@@ -304,7 +304,7 @@ impl<I: Instance + Drop, B: Settle + Drop, S: Beginning> Node<I, B, S> {
     {
         match self.read(rt, alloc, seat, Question::State { owner, seq })? {
             Shown::State(answer) => answer,
-            Shown::Sent(_) | Shown::Statement(_) | Shown::Fronts(_) => unreachable!(),
+            _ => unreachable!(),
         }
     }
 
@@ -323,7 +323,46 @@ impl<I: Instance + Drop, B: Settle + Drop, S: Beginning> Node<I, B, S> {
     {
         match self.read(rt, alloc, seat, Question::Statement(account))? {
             Shown::Statement(answer) => answer,
-            Shown::Sent(_) | Shown::State(_) | Shown::Fronts(_) => unreachable!(),
+            _ => unreachable!(),
+        }
+    }
+
+    /// What settled of an account from a number on: at most 1,000 entries.
+    pub fn entries<R: Wait>(
+        &self,
+        rt: &R,
+        alloc: Global,
+        seat: &mut Seat,
+        account: u16,
+        from: u64,
+    ) -> Result<Excerpt, QueryFault>
+        ensures shown { result ≢ Err QueryFault.Memory
+            → IsShown self.now seat.old seat.new (Question.Entries account from)
+            (Shown.Entries result) }
+        ensures memory { result ≡ Err QueryFault.Memory → seat.new ≡ seat.old }
+    {
+        match self.read(rt, alloc, seat, Question::Entries { account, from })? {
+            Shown::Entries(answer) => answer,
+            _ => unreachable!(),
+        }
+    }
+
+    /// What is known of an account and isn't settled: the first 1,000 entries.
+    pub fn waiting<R: Wait>(
+        &self,
+        rt: &R,
+        alloc: Global,
+        seat: &mut Seat,
+        account: u16,
+    ) -> Result<Excerpt, QueryFault>
+        ensures shown { result ≢ Err QueryFault.Memory
+            → IsShown self.now seat.old seat.new (Question.Waiting account)
+            (Shown.Entries result) }
+        ensures memory { result ≡ Err QueryFault.Memory → seat.new ≡ seat.old }
+    {
+        match self.read(rt, alloc, seat, Question::Waiting(account))? {
+            Shown::Entries(answer) => answer,
+            _ => unreachable!(),
         }
     }
 
@@ -340,7 +379,7 @@ impl<I: Instance + Drop, B: Settle + Drop, S: Beginning> Node<I, B, S> {
     {
         match self.read(rt, alloc, seat, Question::Fronts)? {
             Shown::Fronts(fronts) => Ok(fronts.into_vec()),
-            Shown::Sent(_) | Shown::State(_) | Shown::Statement(_) => unreachable!(),
+            _ => unreachable!(),
         }
     }
 

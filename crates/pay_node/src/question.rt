@@ -7,6 +7,10 @@ pub enum Question {
     State { owner: u16, seq: u32 },
     /// An account's statement, with its balance.
     Statement(u16),
+    /// What settled of an account from a number on.
+    Entries { account: u16, from: u64 },
+    /// What is known of an account and isn't settled.
+    Waiting(u16),
     /// How many entries are settled of each account.
     Fronts,
 }

@@ -2,8 +2,8 @@
 
 ghost use Rattle.std.specs.Prelude.{◌≡◌, ◌↔◌, IsTrue};
 
-use crate::shown::{Shown, Statement};
-use pay_book::Line;
+use crate::shown::Shown;
+use pay_book::{Entry, Excerpt, Line, Statement};
 use pay_frame::Body;
 use pay_link::Checked;
 use pay_member::Event;
@@ -46,6 +46,8 @@ pub(crate) fn is_same_shown(a: &Shown, b: &Shown) -> bool
         (Shown::State(a), Shown::State(b)) => a == b,
         (Shown::Statement(Ok(a)), Shown::Statement(Ok(b))) => is_same_statement(a, b),
         (Shown::Statement(Err(a)), Shown::Statement(Err(b))) => a == b,
+        (Shown::Entries(Ok(a)), Shown::Entries(Ok(b))) => is_same_excerpt(a, b),
+        (Shown::Entries(Err(a)), Shown::Entries(Err(b))) => a == b,
         (Shown::Fronts(a), Shown::Fronts(b)) => a.as_slice() == b.as_slice(),
         _ => false,
     }
@@ -58,6 +60,28 @@ fn is_same_statement(a: &Statement, b: &Statement) -> bool
 }
 
 fn are_same_lines(a: &[Line], b: &[Line]) -> bool
+    ensures { IsTrue result ↔ (a.now ≡ b.now) }
+{
+    if a.len() != b.len() {
+        return false;
+    }
+    for k in 0..a.len() {
+        if a[k] != b[k] {
+            return false;
+        }
+    }
+    true
+}
+
+fn is_same_excerpt(a: &Excerpt, b: &Excerpt) -> bool
+    ensures { IsTrue result ↔ (a.now ≡ b.now) }
+{
+    a.first() == b.first()
+        && a.balance() == b.balance()
+        && are_same_entries(a.entries(), b.entries())
+}
+
+fn are_same_entries(a: &[(u32, Entry)], b: &[(u32, Entry)]) -> bool
     ensures { IsTrue result ↔ (a.now ≡ b.now) }
 {
     if a.len() != b.len() {

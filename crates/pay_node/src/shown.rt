@@ -1,6 +1,6 @@
 ghost use Rattle.std.specs.Prelude.{◌≡◌, [], ◌∷◌, IfOk};
 
-use pay_book::Line;
+use pay_book::{Excerpt, Statement};
 use pay_frame::Body;
 use pay_member::{PaymentState, QueryFault};
 use std::alloc::{AllocError, Global};
@@ -15,6 +15,8 @@ pub enum Shown {
     State(Result<PaymentState, QueryFault>),
     /// The account's lines and its balance; `NoAccount` where there is no such account.
     Statement(Result<Statement, QueryFault>),
+    /// Entries of the account that follow one another; `NoAccount` where there is no such account.
+    Entries(Result<Excerpt, QueryFault>),
     /// By account, from 0 on.
     Fronts(SettledCounts),
 }
@@ -29,6 +31,8 @@ impl Shown {
             Shown::State(answer) => Ok(Shown::State(*answer)),
             Shown::Statement(Ok(statement)) => Ok(Shown::Statement(Ok(statement.copy(alloc)?))),
             Shown::Statement(Err(fault)) => Ok(Shown::Statement(Err(*fault))),
+            Shown::Entries(Ok(excerpt)) => Ok(Shown::Entries(Ok(excerpt.copy(alloc)?))),
+            Shown::Entries(Err(fault)) => Ok(Shown::Entries(Err(*fault))),
             Shown::Fronts(counts) => Ok(Shown::Fronts(counts.copy(alloc)?)),
         }
     }
@@ -89,63 +93,6 @@ impl Bodies {
             bodies.push(body.copy(alloc)?)?;
         }
         Ok(Bodies { bodies })
-    }
-}
-
-/// The lines of an account, and its balance.
-#[derive(Drop)]
-pub struct Statement {
-    lines: Vec<Line>,
-    balance: u64,
-}
-
-impl Model for Statement {
-    ghost use Rattle.pay_node.specs.Shown.{StatementFields};
-
-    ghost Value = { StatementFields };
-
-    ghost view = { λ s. record { lines = s.lines.items; balance = s.balance } };
-}
-
-impl Statement {
-    /// Of lines in the order in which `pay_book::statement` gives them, and the account's balance.
-    pub fn new(lines: Vec<Line>, balance: u64) -> Statement
-        ensures { result ≡ record { lines = lines.items; balance = balance } }
-    {
-        Statement { lines, balance }
-    }
-
-    /// The account's own settled entries, then the payments to it, by owner.
-    pub fn lines(&self) -> &[Line]
-        ensures { result.now ≡ self.now.lines }
-    {
-        self.lines.as_slice()
-    }
-
-    /// The account's balance, in the unit of the genesis's opening balances.
-    pub fn balance(&self) -> u64
-        ensures { result ≡ self.now.balance }
-    {
-        self.balance
-    }
-
-    /// The lines and the balance, given out.
-    pub fn into_parts(self) -> (Vec<Line>, u64)
-        ensures lines { result.0.items ≡ self.lines }
-        ensures balance { result.1 ≡ self.balance }
-    {
-        (self.lines, self.balance)
-    }
-
-    /// An equal statement, unless memory is refused.
-    pub fn copy(&self, alloc: Global) -> Result<Statement, AllocError>
-        ensures { IfOk result (λ copy. copy ≡ self.now) }
-    {
-        let lines = Vec::from_slice(alloc, self.lines.as_slice())?;
-        Ok(Statement {
-            lines,
-            balance: self.balance,
-        })
     }
 }
 
