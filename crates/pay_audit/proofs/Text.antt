@@ -7,21 +7,21 @@ use Rattle.std.proofs.lemmas.List.{length-map}
 use Rattle.std.proofs.lemmas.List.Elements.{All-cons, All-nil}
 use Rattle.std.proofs.lemmas.List.FromFn.{length-range_with_len}
 use Rattle.std.proofs.lemmas.Str.{is_utf8-from_IsUtf8}
-use Rattle.serde_json.specs.Data.{Data, depth, items_depth}
+use Rattle.serde_json.specs.Data.{Data, depth, items_depth, object}
 use Rattle.serde_json.specs.Read.{max_depth, read}
 use Rattle.serde_json.specs.View.{items_of}
 use Rattle.serde_json.specs.Written.{has_float, items_have_float}
 use Rattle.pay_channel.specs.History.{seqs}
 use Rattle.pay_channel.specs.ListLaws.{ListedIsDelivered, ListIsShort}
 use Rattle.pay_link.specs.Json.{value_in}
-use Rattle.pay_link.specs.Genesis.{IsGenesis}
+use Rattle.pay_link.specs.Genesis.{GenesisFields, IsGenesis}
 use Rattle.pay_member.specs.Events.{events}
 use Rattle.pay_member.specs.Group.{group_in}
 use Rattle.pay_member.specs.Laws.{BookIsSettled, DeliveredAreValues}
 use Rattle.pay_member.specs.Legal.{IsValue, Legal}
 use Rattle.pay_member.specs.Member.{MemberFields}
 use Rattle.pay_audit.specs.Export.{AreShort, ExportFields, IsExport, export_in, list_in}
-use Rattle.pay_audit.specs.Exporting.{export_data, exported, list_data, lists_by, number_data, value_data}
+use Rattle.pay_audit.specs.Exporting.{export_data, exported, genesis_members, list_data, lists_by, number_data, value_data}
 use Rattle.pay_audit.specs.ReadBack.{ExportReadsBack, HasValues}
 use Rattle.pay_audit.proofs.Pushing.{balances, fronts}
 
@@ -49,6 +49,11 @@ whole e =
     none_of (items_have_float (items_of (map number_data e.balances))) (items_have_float (items_of (map number_data e.front)))
     (items_have_float (items_of (map list_data e.lists))) (items_have_float (items_of (map number_data e.genesis.opening)))
     (numbers_whole e.balances) (numbers_whole e.front) (lists_whole e.lists) (numbers_whole e.genesis.opening)
+
+pub genesis_whole : (g : GenesisFields) → has_float (object (genesis_members g)) ≡ false
+genesis_whole g = numbers_last (items_have_float (items_of (map number_data g.opening))) (numbers_whole g.opening) where
+  numbers_last : (o : Bool) → o ≡ false → (false || (false || (o || false))) ≡ false
+  numbers_last o e = cc
 
 -- ---- not deep
 

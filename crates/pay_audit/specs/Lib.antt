@@ -14,3 +14,4 @@ pub mod Auditor
 pub mod Columns
 pub mod Gathering
 pub mod Former
+pub mod ByLists

@@ -1,4 +1,5 @@
 ghost use Rattle.std.specs.Prelude.{◌≡◌, ◌+◌, ◌^◌, ◌<◌, length, IfOk};
+ghost use Rattle.pay_audit.specs.Export.{lists_of};
 ghost use Rattle.pay_audit.specs.Verdict.{book_of, first_from, fork_between, fork_from, fork_place};
 ghost use Rattle.pay_audit.specs.Verdict.{other_genesis, other_genesis_at};
 ghost use Rattle.pay_audit.specs.Verdict.{verdict_of, wrong_balance_of, wrong_book, wrong_front_of};
@@ -22,8 +23,8 @@ pub fn audit(alloc: Global, exports: &[Export]) -> Result<Verdict, AllocError>
     Ok(auditor.verdict())
 }
 
-// The first export that begins with another genesis than the first of all.
-pub(crate) fn other_genesis(exports: &[Export]) -> Option<Verdict>
+/// The first export that begins with another genesis than the first of all.
+pub fn other_genesis(exports: &[Export]) -> Option<Verdict>
     ensures { result ≡ other_genesis exports.now }
 {
     let first = exports.first()?;
@@ -148,6 +149,16 @@ fn fork_between(one: usize, export: &Export, other: usize, against: &Export) -> 
         }
     }
     None
+}
+
+/// The first place that the lists of an account in two exports both have and where their values differ.
+pub fn difference_at(one: &Export, other: &Export, account: u16) -> Option<u32>
+    requires one { account < one.now.genesis.members }
+    requires other { account < other.now.genesis.members }
+    ensures { result ≡ fork_place (lists_of one.now account) (lists_of other.now account) }
+{
+    let account = usize::from(account);
+    fork_place(&one.lists[account], &other.lists[account])
 }
 
 // The first place that two lists both have and where their values differ.

@@ -1,4 +1,5 @@
-ghost use Rattle.std.specs.Prelude.{◌≡◌, ◌<◌};
+ghost use Rattle.std.specs.Prelude.{◌≡◌, ◌<◌, slice_index};
+ghost use Rattle.pay_audit.specs.Export.{IsExport};
 
 use crate::owner_list::OwnerList;
 use pay_channel::Source;
@@ -51,8 +52,25 @@ impl Export {
     pub fn member(&self) -> u16
         ensures value { result ≡ self.now.member }
         ensures limit { self.now.member < self.now.genesis.members }
+        ensures limits { IsExport self.now }
     {
         self.member
+    }
+
+    /// How many entries of an account it says are settled.
+    pub fn front(&self, account: u16) -> u64
+        requires { account < self.now.genesis.members }
+        ensures { result ≡ slice_index self.now.front account }
+    {
+        self.front[usize::from(account)]
+    }
+
+    /// The balance of an account, as it says.
+    pub fn balance(&self, account: u16) -> u64
+        requires { account < self.now.genesis.members }
+        ensures { result ≡ slice_index self.now.balances account }
+    {
+        self.balances[usize::from(account)]
     }
 }
 

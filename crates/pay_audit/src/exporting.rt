@@ -59,7 +59,7 @@ pub fn export_text<I: Instance + Drop, B: Settle + Drop>(
 }
 
 /// Puts what the ledger began with into an object that has nothing yet.
-fn put_genesis(
+pub(crate) fn put_genesis(
     alloc: Global,
     parts: &mut Map<String, Value>,
     genesis: &Genesis,
@@ -142,7 +142,7 @@ fn lists_of<I: Instance + Drop, B: Settle + Drop>(
     Ok(Value::Array(lists))
 }
 
-fn list_of<S: Source>(alloc: Global, source: &S, owner: u16) -> Result<Value, AllocError>
+pub(crate) fn list_of<S: Source>(alloc: Global, source: &S, owner: u16) -> Result<Value, AllocError>
     ensures { IfOk result (λ value. view value ≡ list_data (S.lists source.now owner)) }
 {
     let mut values = Vec::new(alloc);

@@ -15,6 +15,7 @@
 
 mod auditing;
 mod auditor;
+mod by_lists;
 mod comparison;
 mod differences;
 mod export_fault;
@@ -32,11 +33,13 @@ mod reading;
 mod replay_fault;
 mod replaying;
 mod settling;
+mod shown;
 mod verdict;
 mod wrong;
 
-pub use auditing::audit;
+pub use auditing::{audit, difference_at, other_genesis};
 pub use auditor::Auditor;
+pub use by_lists::export_of_lists;
 pub use export_fault::ExportFault;
 pub use export_writing::write_export;
 pub use exported::Export;
@@ -47,4 +50,5 @@ pub use reading::read_export;
 pub use replay_fault::ReplayFault;
 pub use replaying::replay;
 pub use settling::settled;
+pub use shown::{genesis_text, next_genesis, shown_text};
 pub use verdict::Verdict;

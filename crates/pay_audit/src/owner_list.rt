@@ -1,6 +1,7 @@
 ghost use Rattle.std.specs.Prelude.{◌≡◌, ◌<◌, ◌≤◌, [], length, slice_get, IfOk};
 ghost use Rattle.pay_frame.specs.declared.limits.TheConstants.{SEQS};
 
+use pay_channel::Source;
 use pay_frame::Bytes;
 use std::alloc::{AllocError, Global};
 use std::marker::Model;
@@ -47,6 +48,24 @@ impl OwnerList {
         let mut ends = Vec::with_capacity(alloc, values.len())?;
         for value in values {
             bytes.extend_from_slice(value.as_slice())?;
+            ends.push(bytes.len())?;
+        }
+        Ok(OwnerList { bytes, ends })
+    }
+
+    /// The list of this owner in a source.
+    pub(crate) fn from_source<S: Source>(
+        alloc: Global,
+        source: &S,
+        owner: u16,
+    ) -> Result<OwnerList, AllocError>
+        requires { length (S.lists source.now owner) ≤ SEQS }
+        ensures { IfOk result (λ list. list ≡ S.lists source.now owner) }
+    {
+        let mut bytes = Vec::new(alloc);
+        let mut ends = Vec::new(alloc);
+        for place in 0..source.length(owner) {
+            bytes.extend_from_slice(source.at(owner, place))?;
             ends.push(bytes.len())?;
         }
         Ok(OwnerList { bytes, ends })
