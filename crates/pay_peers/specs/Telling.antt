@@ -24,7 +24,8 @@ SeatSays n old (desk.Ask value) (desk.Refused teller.Memory) new = ⊥
 SeatSays n old (desk.Ask value) (desk.Refused teller.NoAccount) new = ⊥
 SeatSays n old (desk.Ask value) (desk.Queried told) new = ⊥
 SeatSays n old (desk.Ask value) (desk.Stood state) new = ⊥
-SeatSays n old (desk.Ask value) (desk.Stated lines balance) new = ⊥
+SeatSays n old (desk.Ask value) (desk.Stated statement) new = ⊥
+SeatSays n old (desk.Ask value) (desk.Listed excerpt) new = ⊥
 SeatSays n old (desk.Ask value) (desk.Settled fronts) new = ⊥
 SeatSays n old (desk.Query account) (desk.Queried told) new = IsAnswered n old new (event.Query account) (Ok (reply.Told told))
 SeatSays n old (desk.Query account) (desk.Refused teller.NoAccount) new =
@@ -33,7 +34,8 @@ SeatSays n old (desk.Query account) (desk.Refused teller.Memory) new = ⊥
 SeatSays n old (desk.Query account) (desk.Refused teller.Spent) new = ⊥
 SeatSays n old (desk.Query account) (desk.Asked seq) new = ⊥
 SeatSays n old (desk.Query account) (desk.Stood state) new = ⊥
-SeatSays n old (desk.Query account) (desk.Stated lines balance) new = ⊥
+SeatSays n old (desk.Query account) (desk.Stated statement) new = ⊥
+SeatSays n old (desk.Query account) (desk.Listed excerpt) new = ⊥
 SeatSays n old (desk.Query account) (desk.Settled fronts) new = ⊥
 SeatSays n old (desk.State owner seq) (desk.Stood state) new =
     IsShown n old new (question.State owner seq) (shown.State (Ok state))
@@ -43,11 +45,12 @@ SeatSays n old (desk.State owner seq) (desk.Refused teller.Memory) new = ⊥
 SeatSays n old (desk.State owner seq) (desk.Refused teller.Spent) new = ⊥
 SeatSays n old (desk.State owner seq) (desk.Asked number) new = ⊥
 SeatSays n old (desk.State owner seq) (desk.Queried told) new = ⊥
-SeatSays n old (desk.State owner seq) (desk.Stated lines balance) new = ⊥
+SeatSays n old (desk.State owner seq) (desk.Stated statement) new = ⊥
+SeatSays n old (desk.State owner seq) (desk.Listed excerpt) new = ⊥
 SeatSays n old (desk.State owner seq) (desk.Settled fronts) new = ⊥
-SeatSays n old (desk.Statement account) (desk.Stated lines balance) new =
+SeatSays n old (desk.Statement account) (desk.Stated statement) new =
     IsShown n old new (question.Statement account)
-    (shown.Statement (Ok (record { lines = lines; balance = balance })))
+    (shown.Statement (Ok statement))
 SeatSays n old (desk.Statement account) (desk.Refused teller.NoAccount) new =
     IsShown n old new (question.Statement account) (shown.Statement (Err query.NoAccount))
 SeatSays n old (desk.Statement account) (desk.Refused teller.Memory) new = ⊥
@@ -56,12 +59,36 @@ SeatSays n old (desk.Statement account) (desk.Asked seq) new = ⊥
 SeatSays n old (desk.Statement account) (desk.Queried told) new = ⊥
 SeatSays n old (desk.Statement account) (desk.Stood state) new = ⊥
 SeatSays n old (desk.Statement account) (desk.Settled fronts) new = ⊥
+SeatSays n old (desk.Statement account) (desk.Listed excerpt) new = ⊥
+SeatSays n old (desk.Entries account from) (desk.Listed excerpt) new =
+    IsShown n old new (question.Entries account from) (shown.Entries (Ok excerpt))
+SeatSays n old (desk.Entries account from) (desk.Refused teller.NoAccount) new =
+    IsShown n old new (question.Entries account from) (shown.Entries (Err query.NoAccount))
+SeatSays n old (desk.Entries account from) (desk.Refused teller.Memory) new = ⊥
+SeatSays n old (desk.Entries account from) (desk.Refused teller.Spent) new = ⊥
+SeatSays n old (desk.Entries account from) (desk.Asked seq) new = ⊥
+SeatSays n old (desk.Entries account from) (desk.Queried told) new = ⊥
+SeatSays n old (desk.Entries account from) (desk.Stood state) new = ⊥
+SeatSays n old (desk.Entries account from) (desk.Stated statement) new = ⊥
+SeatSays n old (desk.Entries account from) (desk.Settled fronts) new = ⊥
+SeatSays n old (desk.Waiting account) (desk.Listed excerpt) new =
+    IsShown n old new (question.Waiting account) (shown.Entries (Ok excerpt))
+SeatSays n old (desk.Waiting account) (desk.Refused teller.NoAccount) new =
+    IsShown n old new (question.Waiting account) (shown.Entries (Err query.NoAccount))
+SeatSays n old (desk.Waiting account) (desk.Refused teller.Memory) new = ⊥
+SeatSays n old (desk.Waiting account) (desk.Refused teller.Spent) new = ⊥
+SeatSays n old (desk.Waiting account) (desk.Asked seq) new = ⊥
+SeatSays n old (desk.Waiting account) (desk.Queried told) new = ⊥
+SeatSays n old (desk.Waiting account) (desk.Stood state) new = ⊥
+SeatSays n old (desk.Waiting account) (desk.Stated statement) new = ⊥
+SeatSays n old (desk.Waiting account) (desk.Settled fronts) new = ⊥
 SeatSays n old desk.Fronts (desk.Settled fronts) new = IsShown n old new question.Fronts (shown.Fronts fronts)
 SeatSays n old desk.Fronts (desk.Refused fault) new = ⊥
 SeatSays n old desk.Fronts (desk.Asked seq) new = ⊥
 SeatSays n old desk.Fronts (desk.Queried told) new = ⊥
 SeatSays n old desk.Fronts (desk.Stood state) new = ⊥
-SeatSays n old desk.Fronts (desk.Stated lines balance) new = ⊥
+SeatSays n old desk.Fronts (desk.Stated statement) new = ⊥
+SeatSays n old desk.Fronts (desk.Listed excerpt) new = ⊥
 
 -- A node as a teller, and the seat that it is called from.
 pub record TellerFields : Type 0 where

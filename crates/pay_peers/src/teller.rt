@@ -1,7 +1,7 @@
 ghost use Rattle.std.specs.Prelude.{◌≡◌};
 ghost use Rattle.pay_peers.specs.Telling.{TellerSays, values_told};
 
-use pay_book::{Line, Settle};
+use pay_book::{Excerpt, Settle, Statement};
 use pay_desk::{Teller, TellerFault};
 use pay_echo::Instance;
 use pay_frame::Bytes;
@@ -103,9 +103,28 @@ where
         }
     }
 
-    fn statement(&mut self, alloc: Global, account: u16) -> Result<(Vec<Line>, u64), TellerFault> {
+    fn statement(&mut self, alloc: Global, account: u16) -> Result<Statement, TellerFault> {
         match self.node.statement(self.rt, alloc, &mut self.seat, account) {
-            Ok(statement) => Ok(statement.into_parts()),
+            Ok(statement) => Ok(statement),
+            Err(QueryFault::NoAccount) => Err(TellerFault::NoAccount),
+            Err(QueryFault::Memory) => Err(TellerFault::Memory),
+        }
+    }
+
+    fn entries(&mut self, alloc: Global, account: u16, from: u64) -> Result<Excerpt, TellerFault> {
+        match self
+            .node
+            .entries(self.rt, alloc, &mut self.seat, account, from)
+        {
+            Ok(excerpt) => Ok(excerpt),
+            Err(QueryFault::NoAccount) => Err(TellerFault::NoAccount),
+            Err(QueryFault::Memory) => Err(TellerFault::Memory),
+        }
+    }
+
+    fn waiting(&mut self, alloc: Global, account: u16) -> Result<Excerpt, TellerFault> {
+        match self.node.waiting(self.rt, alloc, &mut self.seat, account) {
+            Ok(excerpt) => Ok(excerpt),
             Err(QueryFault::NoAccount) => Err(TellerFault::NoAccount),
             Err(QueryFault::Memory) => Err(TellerFault::Memory),
         }
