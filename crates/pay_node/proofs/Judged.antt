@@ -1,7 +1,7 @@
 -- What a judge of receipts finds, one after the other, is what makes a seat right.
-use Rattle.std.proofs.Common.{◌≡◌, ◌≢◌, ◌↔◌, ℕ, ◌+◌, ◌<◌, ◌≤◌, zero, suc, Bool, false, rules, Result, Ok, Err, IfOk, IsTrue, List, [], ◌∷◌, ◌++◌, ⊎_elim, length, take, drop, get_or, sym, ap, ◌∙◌, subst, arith}
+use Rattle.std.proofs.Common.{◌≡◌, ◌↔◌, ℕ, ◌+◌, ◌<◌, ◌≤◌, zero, suc, Bool, eqb, false, rules, Result, Ok, Err, IfOk, IsTrue, List, [], ◌∷◌, ◌++◌, ⊎_elim, length, take, drop, get_or, sym, ap, ◌∙◌, subst, arith}
 use Rattle.std.specs.List.{All, AllPairs}
-use Rattle.std.proofs.lemmas.Bool.{cases_eq}
+use Rattle.std.proofs.lemmas.Bool.{cases_eq, eq-eqb, eqb-true}
 use Rattle.std.proofs.lemmas.List.{length-take-le, drop_more, get_or-take, get_or_default, take_more}
 use Rattle.std.proofs.lemmas.List.Quantifiers.{all_pairs_push}
 use Rattle.std.proofs.lemmas.List.Elements.{All-nil, All-cons, All-head, All-tail, All-weaker}
@@ -10,7 +10,7 @@ use Rattle.pay_member.specs.Member.{MemberFields}
 use Rattle.pay_node.specs.declared.receipt.Receipt.{Receipt}
 use Rattle.pay_node.specs.Receipts.{IsBorneOut, entries_after}
 use Rattle.pay_node.specs.Judging.{AreBorneOut, IsNextBorneOut}
-use Rattle.pay_node.specs.Seats.{SeatFields, Right, entries_told, entries_under, since}
+use Rattle.pay_node.specs.Seats.{HasItsEntries, SeatFields, Right, entries_told, entries_under, since}
 use Rattle.pay_node.proofs.Rights.{borne_out_bound}
 
 -- ---- pairs
@@ -142,15 +142,34 @@ judged_on first was now h stamp least rs i r at before below here next after =
       subst (λ n. AreBorneOut m stamp least rs ↔ AreBorneOut m stamp n (drop (i + 1) rs)) (sym long) step,
     )
 
+pub has_its :
+    (m : MemberFields) (base : ℕ) (seat : SeatFields) (a b : ℕ) → a ≡ entries_under seat.stamp (since base m) → b ≡ entries_told seat
+    → IsTrue (eqb a b) ↔ HasItsEntries m base seat
+unfolding HasItsEntries
+has_its m base seat a b under told =
+    ((λ is. sym under ∙ eqb-true a b is ∙ told), (λ its. eq-eqb a b (under ∙ its ∙ sym told)))
+
 pub not_counted :
-    (m : MemberFields) (base : ℕ) (seat : SeatFields) (a b : ℕ) → a ≡ entries_under seat.stamp (since base m) → b ≡ entries_told seat → a ≢ b
+    (m : MemberFields) (base : ℕ) (seat : SeatFields) (says : Bool) → IsTrue says ↔ HasItsEntries m base seat → says ≡ false
     → IsTrue false ↔ Right m base seat
-not_counted m base seat a b under told other = ((λ is. absurd (search rules)), (λ right. absurd (other (under ∙ right.counted ∙ sym told))))
+unfolding HasItsEntries
+not_counted m base seat says is failed = (
+  (λ yes. absurd (search rules)),
+  (λ right. subst IsTrue failed (is.1 right.counted)),
+)
+
+-- in whichever order a seat is looked at
+pub known_right : (m : MemberFields) (base : ℕ) (seat : SeatFields) → HasItsEntries m base seat
+    → All (λ (r : Receipt). (base ≤ r.seen) × IsBorneOut m seat.stamp r.seen r.call) seat.receipts
+    → AllPairs (λ (r later : Receipt). entries_after r ≤ later.seen) seat.receipts → Right m base seat
+unfolding HasItsEntries
+known_right m base seat its each ordered = record { counted = its; each = each; ordered = ordered }
 
 pub judged_so :
-    {E : Type 0} (m : MemberFields) (base : ℕ) (seat : SeatFields) (answer : Result Bool E) → entries_under seat.stamp (since base m) ≡ entries_told seat
+    {E : Type 0} (m : MemberFields) (base : ℕ) (seat : SeatFields) (answer : Result Bool E) → HasItsEntries m base seat
     → IfOk answer (λ says. IsTrue says ↔ AreBorneOut m seat.stamp base seat.receipts)
     → IfOk answer (λ says. IsTrue says ↔ Right m base seat)
+unfolding HasItsEntries
 judged_so m base seat (Ok says) counted is =
     let law = right_is m base seat counted in ((λ yes. law.0 (is.0 yes)), (λ right. is.1 (law.1 right)))
 judged_so m base seat (Err error) counted is = tt

@@ -7,7 +7,7 @@ use Rattle.std.proofs.lemmas.List.Elements.{All-nil, All-cons, All-head, All-tai
 use Rattle.pay_member.specs.declared.entry.HistoryEntry.{HistoryEntry}
 use Rattle.pay_member.specs.Member.{MemberFields}
 use Rattle.pay_node.specs.Seats.{SeatFields}
-use Rattle.pay_node.specs.Closing.{IsKept, IsVerdict, lesser}
+use Rattle.pay_node.specs.Closing.{IsVerdictBy, lesser}
 
 -- ---- the least from a number on
 
@@ -94,18 +94,18 @@ apart_least : (count s n t : ℕ) → (count ≤ n → s ≤ n) → t < s → co
 apart_least count s n t least less above same = (let h = least (omega arith) in absurd (omega arith))
 
 verdict_of :
-    (m : MemberFields) (base count : ℕ) (seats : List SeatFields) (first found : Option ℕ) → ((lower : ℕ) → lower < count → IsKept m base lower seats)
+    (holds : ℕ → Type 0) (m : MemberFields) (base count : ℕ) (seats : List SeatFields) (first found : Option ℕ) → ((lower : ℕ) → lower < count → holds lower)
     → Found count stamp_of None seats first → Found count entry_stamp first (drop base m.history) found → IfSome found (λ s. count ≤ s)
-    → IsVerdict m base count seats found
-verdict_of m base count seats (Some q) None kept of_seats of_entries from = absurd (some_none q of_entries.0)
-verdict_of m base count seats None None kept of_seats of_entries from = λ stamp. record {
+    → IsVerdictBy holds m base count seats found
+verdict_of holds m base count seats (Some q) None kept of_seats of_entries from = absurd (some_none q of_entries.0)
+verdict_of holds m base count seats None None kept of_seats of_entries from = λ stamp. record {
   own = λ below. kept stamp below;
   other = λ above. record {
     unseated = All-weaker (λ s. s.stamp < count) (λ s. s.stamp ≢ stamp) (λ s less. apart_below count s.stamp stamp less above) seats of_seats.1;
     nowhere = All-weaker (λ e. e.stamp < count) (λ e. e.stamp ≢ stamp) (λ e less. apart_below count e.stamp stamp less above) (drop base m.history) of_entries.1;
   };
 }
-verdict_of m base count seats None (Some s) kept of_seats of_entries from = record {
+verdict_of holds m base count seats None (Some s) kept of_seats of_entries from = record {
   wrong = λ settled. (let unused = settled.other from in absurd (some_none s (sym (of_entries.0 unused.nowhere))));
   least = λ stamp less. record {
     own = λ below. kept stamp below;
@@ -115,7 +115,7 @@ verdict_of m base count seats None (Some s) kept of_seats of_entries from = reco
     };
   };
 }
-verdict_of m base count seats (Some q) (Some s) kept of_seats of_entries from = record {
+verdict_of holds m base count seats (Some q) (Some s) kept of_seats of_entries from = record {
   wrong = λ settled. (
       let unused = settled.other from in
       let same : q ≡ s = some_is q s (of_entries.0 unused.nowhere) in
@@ -130,13 +130,13 @@ verdict_of m base count seats (Some q) (Some s) kept of_seats of_entries from = 
 }
 
 pub verdict :
-    (m : MemberFields) (base count : ℕ) (seats : List SeatFields) (history : List HistoryEntry) (first found : Option ℕ)
-    → ((lower : ℕ) → lower < count → IsKept m base lower seats)
+    (holds : ℕ → Type 0) (m : MemberFields) (base count : ℕ) (seats : List SeatFields) (history : List HistoryEntry) (first found : Option ℕ)
+    → ((lower : ℕ) → lower < count → holds lower)
     → first ≡ fold (λ least (s : SeatFields). lesser count least s.stamp) None seats → history ≡ drop base m.history
-    → found ≡ fold (λ least (e : HistoryEntry). lesser count least e.stamp) first history → IsVerdict m base count seats found
-verdict m base count seats history first found kept is_first at is_found =
+    → found ≡ fold (λ least (e : HistoryEntry). lesser count least e.stamp) first history → IsVerdictBy holds m base count seats found
+verdict holds m base count seats history first found kept is_first at is_found =
     let of_seats = subst (Found count stamp_of None seats) (sym is_first) (found_in count stamp_of None seats) in
     let found_there : found ≡ least_in count entry_stamp first (drop base m.history) = is_found ∙ ap (least_in count entry_stamp first) at in
     let of_entries = subst (Found count entry_stamp first (drop base m.history)) (sym found_there) (found_in count entry_stamp first (drop base m.history)) in
     let from = subst (λ o. IfSome o (λ s. count ≤ s)) (sym is_first) (found_from count stamp_of None seats tt) in
-    verdict_of m base count seats first found kept of_seats of_entries (subst (λ o. IfSome o (λ s. count ≤ s)) (sym found_there) (found_from count entry_stamp first (drop base m.history) from))
+    verdict_of holds m base count seats first found kept of_seats of_entries (subst (λ o. IfSome o (λ s. count ≤ s)) (sym found_there) (found_from count entry_stamp first (drop base m.history) from))

@@ -5,7 +5,7 @@ use Rattle.pay_member.specs.Member.{MemberFields}
 use Rattle.pay_node.specs.declared.close_fault.CloseFault.{CloseFault}
 use Rattle.pay_node.specs.declared.close_fault.CloseFault.TheVariants.{Memory, Mismatch}
 use Rattle.pay_node.specs.Nodes.{IsOwn, NodeFields, base_of}
-use Rattle.pay_node.specs.Seats.{SeatFields, Right, since}
+use Rattle.pay_node.specs.Seats.{HasItsEntries, SeatFields, Right, since}
 
 abbrev pub seats_with : ℕ → List SeatFields → List SeatFields
 seats_with stamp seats = filter (λ s. s.stamp == stamp) seats
@@ -21,23 +21,48 @@ pub record IsUnused (m : MemberFields) (base stamp : ℕ) (seats : List SeatFiel
   pub unseated : All (λ s. s.stamp ≢ stamp) seats
   pub nowhere : All (λ e. e.stamp ≢ stamp) (since base m).history
 
--- A stamp below the number of seats is one seat's, which is right. Any other is nobody's.
-pub record IsSettled (m : MemberFields) (base count : ℕ) (seats : List SeatFields) (stamp : ℕ) : Type 0 where
-  pub own : stamp < count → IsKept m base stamp seats
+-- one seat has the stamp, and was told of as many entries as the history has under it from the base on
+pub record IsCounted (m : MemberFields) (base stamp : ℕ) (seats : List SeatFields) : Type 0 where
+  pub seat : SeatFields
+  pub one : seats_with stamp seats ≡ seat ∷ []
+  pub counted : HasItsEntries m base seat
+
+-- ---- all stamps
+
+-- Of a stamp below the number of seats this holds. Any other is nobody's.
+pub record IsSettledBy (holds : ℕ → Type 0) (m : MemberFields) (base count : ℕ) (seats : List SeatFields) (stamp : ℕ) : Type 0 where
+  pub own : stamp < count → holds stamp
   pub other : count ≤ stamp → IsUnused m base stamp seats
 
+-- the least stamp that isn't settled so
+pub record IsLeastBy (holds : ℕ → Type 0) (m : MemberFields) (base count : ℕ) (seats : List SeatFields) (stamp : ℕ) : Type 0 where
+  pub wrong : ¬ (IsSettledBy holds m base count seats stamp)
+  pub least : (lower : ℕ) → lower < stamp → IsSettledBy holds m base count seats lower
+
+-- what a judge of all stamps finds
+abbrev pub IsVerdictBy : (ℕ → Type 0) → MemberFields → ℕ → ℕ → List SeatFields → Option ℕ → Type 0
+IsVerdictBy holds m base count seats None = (stamp : ℕ) → IsSettledBy holds m base count seats stamp
+IsVerdictBy holds m base count seats (Some stamp) = IsLeastBy holds m base count seats stamp
+
+-- each seat's is one seat's, which is right
 abbrev pub AllSettled : MemberFields → ℕ → ℕ → List SeatFields → Type 0
-AllSettled m base count seats = (stamp : ℕ) → IsSettled m base count seats stamp
+AllSettled m base count seats = (stamp : ℕ) → IsSettledBy (λ s. IsKept m base s seats) m base count seats stamp
 
--- the least stamp that isn't settled
-pub record IsLeastWrong (m : MemberFields) (base count : ℕ) (seats : List SeatFields) (stamp : ℕ) : Type 0 where
-  pub wrong : ¬ (IsSettled m base count seats stamp)
-  pub least : (lower : ℕ) → lower < stamp → IsSettled m base count seats lower
+abbrev pub IsLeastWrong : MemberFields → ℕ → ℕ → List SeatFields → ℕ → Type 0
+IsLeastWrong m base count seats stamp = IsLeastBy (λ s. IsKept m base s seats) m base count seats stamp
 
--- what a judge of the seats finds
 abbrev pub IsVerdict : MemberFields → ℕ → ℕ → List SeatFields → Option ℕ → Type 0
-IsVerdict m base count seats None = AllSettled m base count seats
-IsVerdict m base count seats (Some stamp) = IsLeastWrong m base count seats stamp
+IsVerdict m base count seats found = IsVerdictBy (λ s. IsKept m base s seats) m base count seats found
+
+-- each seat's is one seat's, which counts its entries
+abbrev pub AllCounted : MemberFields → ℕ → ℕ → List SeatFields → Type 0
+AllCounted m base count seats = (stamp : ℕ) → IsSettledBy (λ s. IsCounted m base s seats) m base count seats stamp
+
+abbrev pub IsLeastUncounted : MemberFields → ℕ → ℕ → List SeatFields → ℕ → Type 0
+IsLeastUncounted m base count seats stamp = IsLeastBy (λ s. IsCounted m base s seats) m base count seats stamp
+
+abbrev pub IsCount : MemberFields → ℕ → ℕ → List SeatFields → Option ℕ → Type 0
+IsCount m base count seats found = IsVerdictBy (λ s. IsCounted m base s seats) m base count seats found
 
 -- Why a node isn't closed: the member isn't its own, so that the very first stamp is wrong; or it is, and this stamp is
 -- the least that isn't settled. Where memory was refused, no more is known of the receipts.
@@ -52,6 +77,11 @@ IsFault n m seats (Mismatch stamp) =
 abbrev pub IsKeptFrom : MemberFields → ℕ → ℕ → Bool → List SeatFields → Type 0
 IsKeptFrom m base stamp true seats = seats_with stamp seats ≡ []
 IsKeptFrom m base stamp false seats = IsKept m base stamp seats
+
+-- the same of its entries alone
+abbrev pub IsCountedFrom : MemberFields → ℕ → ℕ → Bool → List SeatFields → Type 0
+IsCountedFrom m base stamp true seats = seats_with stamp seats ≡ []
+IsCountedFrom m base stamp false seats = IsCounted m base stamp seats
 
 -- the least stamp from a number on, so far, and with one more
 abbrev pub lesser : ℕ → Option ℕ → ℕ → Option ℕ

@@ -4,7 +4,6 @@ use Rattle.pay_frame.specs.Frame.{BodyFields}
 use Rattle.pay_channel.specs.History.{list_of}
 use Rattle.pay_book.specs.Excerpt.{ExcerptFields}
 use Rattle.pay_book.specs.Statement.{StatementFields, statement_of}
-use Rattle.pay_member.specs.declared.member.TheConstants.{MOST_FETCHED}
 use Rattle.pay_member.specs.declared.event.Event.{Event}
 use Rattle.pay_member.specs.declared.reply.Reply.{Reply}
 use Rattle.pay_member.specs.declared.fault.MemberFault.{MemberFault}
@@ -58,10 +57,10 @@ waiting_answer m account =
     then Ok (waiting_shown m.genesis m.keys.own (events m.history) account)
     else Err query.NoAccount
 
--- the answer to a question
+-- the answer to a question; 16 bodies at most are shown at once
 abbrev pub shown_of : MemberFields → Question → Shown
 shown_of m (question.Sent from max) =
-    shown.Sent (fetched m.genesis m.keys.own (events m.history) from (min max MOST_FETCHED))
+    shown.Sent (fetched m.genesis m.keys.own (events m.history) from (min max 16))
 shown_of m (question.State owner seq) = shown.State (state_shown m owner seq)
 shown_of m (question.Statement account) = shown.Statement (statement_shown m account)
 shown_of m (question.Entries account from) = shown.Entries (entries_answer m account from)

@@ -27,6 +27,10 @@ entries_under stamp m = count_by (λ e. e.stamp == stamp) m.history
 abbrev pub since : ℕ → MemberFields → MemberFields
 since base m = record m { history = drop base m.history }
 
+-- from the base on, the history has as many entries under the seat's stamp as the seat was told of
+unfoldable pub HasItsEntries : MemberFields → ℕ → SeatFields → Type 0
+HasItsEntries m base seat = entries_under seat.stamp (since base m) ≡ entries_told seat
+
 -- From the base on, the history has as many entries under the seat's stamp as the seat was told of. Each receipt saw
 -- those before the base and is borne out by the history, and none saw fewer entries than there were when one before it
 -- was answered.

@@ -2,10 +2,10 @@
 
 ghost use Rattle.std.specs.Prelude.{◌≡◌, ◌↔◌, ◌≢◌, ◌≤◌, None, IfOk, IsTrue, length};
 ghost use Rattle.std.specs.List.{All, fold};
-ghost use Rattle.pay_node.specs.Closing.{IsKept, IsVerdict, lesser};
+ghost use Rattle.pay_node.specs.Closing.{IsCount, IsCounted, IsKept, IsVerdict, lesser};
 ghost use Rattle.pay_node.specs.Judging.{EachBorneOut};
 
-use crate::judging::{entries_since, is_right};
+use crate::judging::{entries_since, has_its_entries, is_right};
 use crate::once::bears_out_each;
 use crate::seat::Seat;
 use pay_book::Settle;
@@ -35,6 +35,27 @@ pub(crate) fn least_wrong<I: Instance + Drop, B: Settle + Drop>(
     Ok(least_of_entries(of_seats, since, count))
 }
 
+/// The least stamp that isn't even one seat's with as many entries as that was told of, if there is one. It takes no
+/// memory.
+pub(crate) fn least_uncounted<I: Instance + Drop, B: Settle + Drop>(
+    member: &Member<I, B>,
+    base: usize,
+    count: u16,
+    seats: &[Seat],
+) -> Option<u16>
+    requires { base ≤ length member.now.history }
+    ensures { IsCount member.now base count seats.now result }
+{
+    for stamp in 0..count {
+        if !is_counted(member, base, seats, stamp) {
+            return Some(stamp);
+        }
+    }
+    let of_seats = least_of_seats(seats, count);
+    let since = entries_since(member.history(), base);
+    least_of_entries(of_seats, since, count)
+}
+
 // Whether one seat has a stamp, and is right.
 fn is_kept<I: Instance + Drop, B: Settle + Drop>(
     alloc: Global,
@@ -58,6 +79,28 @@ fn is_kept<I: Instance + Drop, B: Settle + Drop>(
         }
     }
     Ok(met)
+}
+
+// Whether one seat has a stamp, and was told of as many entries as there are.
+fn is_counted<I: Instance + Drop, B: Settle + Drop>(
+    member: &Member<I, B>,
+    base: usize,
+    seats: &[Seat],
+    stamp: u16,
+) -> bool
+    requires { base ≤ length member.now.history }
+    ensures { IsTrue result ↔ IsCounted member.now base stamp seats.now }
+{
+    let mut met = false;
+    for seat in seats {
+        if seat.stamp() == stamp {
+            if met || !has_its_entries(member, base, seat) {
+                return false;
+            }
+            met = true;
+        }
+    }
+    met
 }
 
 // The least stamp of a seat from a number on.

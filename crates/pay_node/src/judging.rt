@@ -8,7 +8,7 @@ ghost use Rattle.pay_member.specs.Legal.{Legal};
 ghost use Rattle.pay_member.specs.Refusal.{refusal};
 ghost use Rattle.pay_node.specs.Judging.{AreBorneOut, EachBorneOut, IsNextBorneOut};
 ghost use Rattle.pay_node.specs.Receipts.{IsBorneOut, entries_after, has_entry, shown_of};
-ghost use Rattle.pay_node.specs.Seats.{Right};
+ghost use Rattle.pay_node.specs.Seats.{HasItsEntries, Right};
 
 use crate::question::Question;
 use crate::receipt::{Call, Receipt};
@@ -35,19 +35,31 @@ pub(crate) fn is_right<I: Instance + Drop, B: Settle + Drop>(
     requires known { IsTrue is_each_known → EachBorneOut member.now seat.now }
     ensures { IfOk result (λ says. IsTrue says ↔ Right member.now base seat.now) }
 {
+    if !has_its_entries(member, base, seat) {
+        return Ok(false);
+    }
     let history = member.history();
     let receipts = seat.receipts();
     let stamp = seat.stamp();
-    let since = entries_since(history, base);
-    if entries_under(since, stamp) != entries_told(receipts) {
-        return Ok(false);
-    }
     if is_each_known && are_in_order(base, receipts) {
         return Ok(true);
     }
     let mut fresh = anew(alloc, member)?;
     replay_to(alloc, &mut fresh, history, base)?;
     are_borne_out(alloc, &mut fresh, history, stamp, receipts)
+}
+
+/// Whether a history has as many entries under a seat's stamp, from a base on, as the seat was told of.
+pub(crate) fn has_its_entries<I: Instance + Drop, B: Settle + Drop>(
+    member: &Member<I, B>,
+    base: usize,
+    seat: &Seat,
+) -> bool
+    requires { base ≤ length member.now.history }
+    ensures { IsTrue result ↔ HasItsEntries member.now base seat.now }
+{
+    let since = entries_since(member.history(), base);
+    entries_under(since, seat.stamp()) == entries_told(seat.receipts())
 }
 
 /// The entries of a history from a base on.

@@ -1,11 +1,11 @@
 ghost use Rattle.std.specs.Prelude.{◌≡◌, ◌↔◌, IfErr, IfOk, IsTrue};
-ghost use Rattle.pay_node.specs.Closing.{AllSettled, IsFault};
+ghost use Rattle.pay_node.specs.Closing.{AllSettled, IsCount, IsFault};
 ghost use Rattle.pay_node.specs.Nodes.{IsOwn, base_of};
 
 use crate::beginning::Beginning;
 use crate::begun::Begun;
 use crate::close_fault::CloseFault;
-use crate::closing::least_wrong;
+use crate::closing::{least_uncounted, least_wrong};
 use crate::node::Node;
 use crate::seat::Seat;
 use pay_book::Settle;
@@ -88,6 +88,15 @@ impl<I: Instance + Drop, B: Settle + Drop, S: Beginning> Stopped<I, B, S> {
             Ok(Some(stamp)) => Err((CloseFault::Mismatch(stamp), self)),
             Err(_) => Err((CloseFault::Memory, self)),
         }
+    }
+
+    /// The least stamp that closing finds without memory, if it finds one: one that is missing, doubled or not of this
+    /// node, or has another number of entries than its seat was told of.
+    pub fn least_uncounted(&self, seats: &[Seat]) -> Option<u16>
+        ensures { IsCount self.now.member (base_of self.now.node) self.now.node.seats seats.now
+            result }
+    {
+        least_uncounted(self.member.member(), self.member.base(), self.seats, seats)
     }
 
     // Whether the member is the node's own.

@@ -1,24 +1,30 @@
-use Rattle.std.proofs.Common.{◌≡◌, eqb, List, drop, sym, ap, ◌∙◌, rules}
-use Rattle.std.specs.List.{count_by}
-use Rattle.pay_member.specs.declared.entry.HistoryEntry.{HistoryEntry}
+use Rattle.std.proofs.Common.{◌≡◌, ◌≤◌, false, refl, subst, rules}
+use Rattle.std.specs.List.{All, AllPairs}
 use Rattle.pay_node.specs.declared.receipt.Receipt.{Receipt}
-use Rattle.pay_node.specs.Receipts.{has_entry}
-use Rattle.pay_node.specs.Seats.{entries_told, entries_under, since}
-use Rattle.pay_node.proofs.Judged.{judged_so, judged_there, not_counted}
+use Rattle.pay_node.specs.Judging.{EachBorneOut}
+use Rattle.pay_node.specs.Receipts.{entries_after}
+use Rattle.pay_node.specs.Seats.{HasItsEntries, Right}
+use Rattle.pay_node.proofs.Judged.{judged_so, judged_there, known_right, not_counted}
 use Rattle.pay_node.proofs.judging.is_right.Goals as goal
 
-pub returns-then-entries_under-entries_told : goal.returns-then-entries_under-entries_told
-returns-then-entries_under-entries_told g c =
-    let at : c.entries_since-since.result.now ≡ drop c.args.base c.args.member.now.history = c.entries_since-since.ensures ∙ ap (drop c.args.base) c.history-history.ensures.value in
-    let under : c.entries_under.result ≡ entries_under c.args.seat.now.stamp (since c.args.base c.args.member.now) = c.entries_under.ensures ∙ (λ i. count_by (λ (e : HistoryEntry). eqb e.stamp (c.stamp-stamp.ensures i)) (at i)) in
-    let told : c.entries_told.result ≡ entries_told c.args.seat.now = c.entries_told.ensures ∙ ap (λ (l : List Receipt). count_by (λ (r : Receipt). has_entry r.call) l) c.receipts-receipts.ensures in
-    not_counted c.args.member.now c.args.base c.args.seat.now c.entries_under.result c.entries_told.result under told c.if-entries_under-entries_told.true
+pub returns-then-not-has_its_entries : goal.returns-then-not-has_its_entries
+returns-then-not-has_its_entries g c =
+    let failed : c.has_its_entries.result ≡ false = search rules in
+    not_counted c.args.member.now c.args.base c.args.seat.now c.has_its_entries.result c.has_its_entries.ensures failed
+
+pub returns-then-are_in_order : goal.returns-then-are_in_order
+returns-then-are_in_order g c =
+    let its : HasItsEntries c.args.member.now c.args.base c.args.seat.now = search rules in
+    let rs = c.receipts-receipts.ensures in
+    let since = subst (All (λ (r : Receipt). c.args.base ≤ r.seen)) rs (c.are_in_order.ensures.since (search rules)) in
+    let ordered = subst (AllPairs (λ (r later : Receipt). entries_after r ≤ later.seen)) rs (c.are_in_order.ensures.ordered (search rules)) in
+    let known : EachBorneOut c.args.member.now c.args.seat.now = c.requires.known (search rules) in
+    let right : Right c.args.member.now c.args.base c.args.seat.now = known_right _ _ _ its (λ k d within. (since k d within, known k d within)) ordered in
+    ((λ _. right), (λ _. refl))
 
 pub returns : goal.returns
 returns g c =
-    let at : c.entries_since-since.result.now ≡ drop c.args.base c.args.member.now.history = c.entries_since-since.ensures ∙ ap (drop c.args.base) c.history-history.ensures.value in
-    let under : c.entries_under.result ≡ entries_under c.args.seat.now.stamp (since c.args.base c.args.member.now) = c.entries_under.ensures ∙ (λ i. count_by (λ (e : HistoryEntry). eqb e.stamp (c.stamp-stamp.ensures i)) (at i)) in
-    let told : c.entries_told.result ≡ entries_told c.args.seat.now = c.entries_told.ensures ∙ ap (λ (l : List Receipt). count_by (λ (r : Receipt). has_entry r.call) l) c.receipts-receipts.ensures in
-    judged_so c.args.member.now c.args.base c.args.seat.now c.are_borne_out.result (sym under ∙ c.if-entries_under-entries_told.false ∙ told)
+    let its : HasItsEntries c.args.member.now c.args.base c.args.seat.now = search rules in
+    judged_so c.args.member.now c.args.base c.args.seat.now c.are_borne_out.result its
     (judged_there c.args.member.now c.in_ok-fresh.fresh c.replay_to.new.member c.args.base c.history-history.result.now c.args.seat.now c.stamp-stamp.result c.receipts-receipts.result.now c.are_borne_out.result
     c.in_ok-fresh.ensures (search rules) (search rules) c.history-history.ensures.value c.stamp-stamp.ensures c.receipts-receipts.ensures c.are_borne_out.ensures)
