@@ -40,7 +40,7 @@ row_has from count number above below =
 -- ---- the window
 
 -- others are under way behind the frame that was due, or it was the last one
-due_cases : (w : Window) (next : ℕ)
+pub due_cases : (w : Window) (next : ℕ)
     → ((w.due + 1 < w.asked) × (due_behind w next ≡ w.due + 1)) ⊎ ((w.asked ≤ w.due + 1) × (due_behind w next ≡ max w.asked next))
 due_cases w next = go (cases_Bool (ltb (w.due + 1) w.asked)) where
   go : (ltb (w.due + 1) w.asked ≡ true) ⊎ (ltb (w.due + 1) w.asked ≡ false)
@@ -48,10 +48,10 @@ due_cases w next = go (cases_Bool (ltb (w.due + 1) w.asked)) where
   go (inl more) = inl (ltb-true (w.due + 1) w.asked more, ap (λ b. cond b (w.due + 1) (max w.asked next)) more)
   go (inr last) = inr (ltb-false (w.due + 1) w.asked last, ap (λ b. cond b (w.due + 1) (max w.asked next)) last)
 
-abbrev room : ℕ → Window → ℕ → ℕ
+abbrev pub room : ℕ → Window → ℕ → ℕ
 room ahead w next = min (min (ahead - (from_behind w next - due_behind w next)) 2) (2 ^ 64 - 1 - from_behind w next)
 
-count_cases : (ahead : ℕ) (w : Window) (next : ℕ)
+pub count_cases : (ahead : ℕ) (w : Window) (next : ℕ)
     → ((next ≤ from_behind w next) × (count_behind ahead w next ≡ room ahead w next)) ⊎ ((from_behind w next < next) × (count_behind ahead w next ≡ 0))
 count_cases ahead w next = go (cases_Bool (nat_le next (from_behind w next))) where
   go : (nat_le next (from_behind w next) ≡ true) ⊎ (nat_le next (from_behind w next) ≡ false)

@@ -121,7 +121,7 @@ of_answer k peer w f (Err fault.Memory) one sender due order = same_none k peer 
 -- ---- both ways
 
 -- a message is the frame
-frame_is : OpenedIs → (k : KeyFields) (f : FrameFields) (o : OpenedFields) → incoming_at k f ≡ Ok (Message o) → o.frame ≡ f
+pub frame_is : OpenedIs → (k : KeyFields) (f : FrameFields) (o : OpenedFields) → incoming_at k f ≡ Ok (Message o) → o.frame ≡ f
 unfolding incoming_at
 frame_is law k f o is = at (judgement k f) refl is where
   same_message : (x : OpenedFields) → ◌≡◌ {A = Result Incoming LinkFault} (Ok (Message x)) (Ok (Message o)) → x ≡ o

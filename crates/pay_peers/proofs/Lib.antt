@@ -4,5 +4,6 @@ pub mod ByOne
 pub mod Fed
 pub mod Feedings
 pub mod Growings
+pub mod Opening
 pub mod Together
 pub mod Wants

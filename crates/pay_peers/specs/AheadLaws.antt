@@ -1,5 +1,5 @@
 -- Laws of asking ahead.
-use Rattle.std.specs.Prelude.{◌≡◌, ℕ, ◌+◌, ◌-◌, ◌^◌, ◌<◌, ◌≤◌, List, Some, ⊤}
+use Rattle.std.specs.Prelude.{◌≡◌, ℕ, ◌+◌, ◌-◌, ◌^◌, ◌<◌, ◌≤◌, zero, suc, min, List, [], ◌∷◌, ◌++◌, Some, ⊤}
 use Rattle.std.specs.List.{All, AllPairs, Contains}
 use Rattle.pay_frame.specs.Frame.{FrameFields}
 use Rattle.pay_link.specs.declared.link_fault.LinkFault.TheVariants.{NotForMe, UnknownSender, UnknownOwner, BadTag, Repeat, Gap}
@@ -10,7 +10,7 @@ use Rattle.pay_peers.specs.declared.asking.Asking.{Asking}
 use Rattle.pay_peers.specs.declared.window.Window.{Window}
 use Rattle.pay_peers.specs.Ahead.{IsFedAhead}
 use Rattle.pay_peers.specs.Feeding.{IsFed}
-use Rattle.pay_peers.specs.Window.{asked_behind, moved}
+use Rattle.pay_peers.specs.Window.{asked_behind, first_window, moved, row_of}
 
 -- something is asked for that didn't come yet, and no more than may be
 pub record IsUnderWay (ahead : ℕ) (w : Window) : Type 0 where
@@ -31,6 +31,22 @@ abbrev pub AskedOnce : Type 0
 AskedOnce =
     (ahead : ℕ) (w : Window) (next : ℕ) → 0 < ahead → IsUnderWay ahead w → (moved ahead w next).asked < 2 ^ 64 - 1
     → AsksEachOnce ahead w (moved ahead w next) (asked_behind ahead w (Some next))
+
+-- the window of a connection once so many frames came in the order of their numbers, and what was asked for by then
+abbrev pub window_after : ℕ → ℕ → Window
+window_after ahead zero = first_window
+window_after ahead (suc came) = moved ahead (window_after ahead came) (suc came)
+
+abbrev pub asked_after : ℕ → ℕ → List ℕ
+asked_after ahead zero = 0 ∷ []
+asked_after ahead (suc came) = asked_after ahead came ++ asked_behind ahead (window_after ahead came) (Some (suc came))
+
+-- It opens by one with each frame, up to `ahead` and no further. All numbers from 0 on were asked for, each once.
+abbrev pub OpensByOne : Type 0
+OpensByOne =
+    (ahead came : ℕ) → 0 < ahead → came + ahead < 2 ^ 64 - 1
+    → (window_after ahead came ≡ record { due = came; asked = came + min (came + 1) ahead })
+    × (asked_after ahead came ≡ row_of 0 (came + min (came + 1) ahead))
 
 -- The frame was taken, or is one that was taken before, as each frame is that comes in the order of the numbers; or it
 -- didn't open.

@@ -1,11 +1,10 @@
 -- Which frames of a peer are asked for ahead on one connection.
 use Rattle.std.specs.Prelude.{ℕ, ◌+◌, ◌-◌, ◌^◌, ◌<◌, ◌≤◌, zero, suc, nat_le, nat_lt, min, max, if◌then◌else◌, List, [], ◌∷◌, Option, Some, None}
-use Rattle.pay_peers.specs.declared.window.TheConstants.{MOST_AHEAD}
 use Rattle.pay_peers.specs.declared.window.Window.{Window}
 
 -- so many frames may be asked for and not come yet
 abbrev pub CanAskAhead : ℕ → Type 0
-CanAskAhead count = (0 < count) × (count ≤ MOST_AHEAD)
+CanAskAhead count = (0 < count) × (count ≤ 64)
 
 -- on a new connection: the first frame alone was asked for
 abbrev pub first_window : Window

@@ -15,7 +15,8 @@ use std::alloc::AllocError;
 use std::sync::Wait;
 use std::sync::atomic::AtomicBool;
 
-/// The frame that a WANT asks for, once its body is sent, or none once it is told to stop.
+/// The frame that a WANT asks for, once its body is sent, or none once it is told to stop. It is sealed for whom the
+/// seat is.
 pub(crate) fn answer_want<I, B, S, R, T>(
     context: &NodeContext<'_, R, I, B, S, T>,
     stop: &AtomicBool,
@@ -27,9 +28,9 @@ where
     S: Beginning,
     R: Wait,
     T: Tagger,
-    requires { IsPeer context.now.node.now.keys wanted.now.from }
+    requires { IsPeer context.now.node.now.keys wanted.now.seated.now.0 }
     ensures { IfOk result (λ reply. IfSome reply (λ bytes.
-        IsSentTo context.now.node.now wanted.now.from wanted.now.number bytes.items)) }
+        IsSentTo context.now.node.now wanted.now.seated.now.0 wanted.now.number bytes.items)) }
 {
     if !context
         .node
@@ -37,8 +38,8 @@ where
     {
         return Ok(None);
     }
-    let mut seat = wanted.seat.lock(context.rt);
-    sealed_from(context, &mut *seat, wanted.from, wanted.number)
+    let mut seat = wanted.seated.1.lock(context.rt);
+    sealed_from(context, &mut *seat, wanted.seated.0, wanted.number)
 }
 
 // The frame to a peer with the body at a place of what was sent, if it is there: what is sealed is

@@ -13,7 +13,7 @@ pub(crate) const MOST_AT_ONCE: usize = 64;
 /// first, which may be waited for, and those behind it up to a WANT that has to be.
 pub(crate) fn without_waiting(held: &[u8], sent: u64) -> usize
     ensures together { GoTogether held.now sent result }
-    ensures most { result ≤ MOST_AT_ONCE }
+    ensures most { result ≤ 64 }
 {
     // laws that the proof stands on: the calls do nothing
     frame_sizes();

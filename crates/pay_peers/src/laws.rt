@@ -1,10 +1,16 @@
 //! Laws of asking ahead. Each body does nothing but name the laws that it stands on: the contract is the law.
 
-ghost use Rattle.pay_peers.specs.AheadLaws.{AheadByOne, AskedOnce};
+ghost use Rattle.pay_peers.specs.AheadLaws.{AheadByOne, AskedOnce, OpensByOne};
 
 /// No number is asked for twice on one connection, and none is left out that is due.
 pub fn asked_once()
     ensures { AskedOnce }
+{}
+
+/// While frames come in their order a window opens by one with each, up to as many as may be under way, and all numbers
+/// from 0 on are asked for, each once.
+pub fn opens_by_one()
+    ensures { OpensByOne }
 {}
 
 /// Asking ahead by one frame is not asking ahead.

@@ -1,6 +1,6 @@
 //! Workers that read from peers, each in a thread of its own.
 
-ghost use Rattle.std.specs.Prelude.{◌≡◌};
+ghost use Rattle.std.specs.Prelude.{◌≡◌, ◌↔◌, ◌<◌, IsTrue, length};
 ghost use Rattle.pay_peers.specs.Growing.{EachGrows, Grows, HasGrown};
 
 use crate::asking::Asking;
@@ -13,6 +13,7 @@ use pay_book::Settle;
 use pay_echo::Instance;
 use pay_hmac::Tagger;
 use pay_io::{Input, Output};
+use pay_link::laws::opened;
 use pay_node::{Beginning, Gate};
 use std::sync::Wait;
 use std::thread;
@@ -108,7 +109,7 @@ where
         D: Dial<In, Out>,
         In: Input + Drop,
         Out: Output + Drop,
-        ensures { Grows asking.old.seat asking.new.seat }
+        ensures { Grows peer asking.old.seat asking.new.seat }
     {
         let mut patience = Patience::new(self.dials);
         for _ in self.context.rt.forever() {
@@ -128,13 +129,17 @@ where
         }
     }
 
-    // Feeds the node from one connection. Answers whether a frame came that opened.
+    // Feeds the node from one connection. Answers whether a frame came that was handed in.
     fn feed<In, Out>(&self, peer: u16, asking: &mut Asking, reader: In, writer: Out) -> bool
     where
         In: Input + Drop,
         Out: Output + Drop,
-        ensures { Grows asking.old.seat asking.new.seat }
+        ensures seat { Grows peer asking.old.seat asking.new.seat }
+        ensures met { IsTrue result
+            ↔ (length asking.old.seat.receipts < length asking.new.seat.receipts) }
     {
+        // a law that the proof stands on: the call does nothing
+        opened();
         if !self.context.node.keys().is_peer(peer) {
             return false;
         }

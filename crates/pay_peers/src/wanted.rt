@@ -13,11 +13,10 @@ use pay_member::{Incoming, open_frame};
 use pay_node::Seat;
 use std::sync::Mutex;
 
-/// A WANT that opens: who sent it, its seat, and which frame it asks for.
+/// A WANT that opens: its sender with the seat that it has, and which frame it asks for.
 #[derive(Drop)]
 pub(crate) struct Wanted<'a> {
-    pub(crate) seat: &'a Mutex<Seat>,
-    pub(crate) from: u16,
+    pub(crate) seated: &'a (u16, Mutex<Seat>),
     pub(crate) number: u64,
 }
 
@@ -29,8 +28,8 @@ pub(crate) fn open_want<'a, T: Tagger>(
     frame: FrameRef<'_>,
 ) -> Option<Wanted<'a>>
     ensures some { IfSome result (λ w.
-        IsWant keys.now seats.now (fields_of frame.entry) w.from w.number) }
-    ensures peer { IfSome result (λ w. IsPeer keys.now w.from) }
+        IsWant keys.now seats.now (fields_of frame.entry) w.seated.now.0 w.number) }
+    ensures peer { IfSome result (λ w. IsPeer keys.now w.seated.now.0) }
     ensures none { IfNone result ((from number : ℕ)
         → ¬ (IsWant keys.now seats.now (fields_of frame.entry) from number)) }
 {
@@ -38,19 +37,20 @@ pub(crate) fn open_want<'a, T: Tagger>(
         return None;
     };
     match seat_of(seats, from) {
-        Some(seat) => Some(Wanted { seat, from, number }),
+        Some(seated) => Some(Wanted { seated, number }),
         None => None,
     }
 }
 
-// The seat of a peer.
-fn seat_of(seats: &[(u16, Mutex<Seat>)], peer: u16) -> Option<&Mutex<Seat>>
+// A peer with its seat.
+fn seat_of(seats: &[(u16, Mutex<Seat>)], peer: u16) -> Option<&(u16, Mutex<Seat>)>
+    ensures its { IfSome result (λ seated. seated.now.0 ≡ peer) }
     ensures some { IfSome result (λ _. Any (λ s. s.0 ≡ peer) seats.now) }
     ensures none { IfNone result (All (λ s. s.0 ≢ peer) seats.now) }
 {
-    for (of, seat) in seats {
-        if *of == peer {
-            return Some(seat);
+    for seated in seats {
+        if seated.0 == peer {
+            return Some(seated);
         }
     }
     None

@@ -30,7 +30,7 @@ impl Ahead {
 
     /// As many as may be.
     pub fn most() -> Ahead
-        ensures { result.count ≡ MOST_AHEAD }
+        ensures { result.count ≡ 64 }
     {
         Ahead { count: MOST_AHEAD }
     }

@@ -73,7 +73,7 @@ where
             Some(wanted) => wanted,
             None => return Ok(true),
         };
-        if !self.goes_on(wanted.from) {
+        if !self.goes_on(wanted.seated.0) {
             return Ok(false);
         }
         let answer = answer_want(context, self.stop, &wanted)?;

@@ -1,5 +1,5 @@
 use Rattle.pay_peers.proofs.Growings.{run_grows}
 use Rattle.pay_peers.proofs.readers.Workers.feed.Goals as goal
 
-pub returns : goal.returns
-returns g c = run_grows _ _ _ _ _ _ _ _ c.read_ahead.ensures.fed
+pub returns-clause-seat : goal.returns-clause-seat
+returns-clause-seat g c = run_grows c.opened.ensures _ _ _ _ _ _ _ _ c.read_ahead.ensures.fed

@@ -11,12 +11,12 @@ returns-in-None g c =
 pub returns-in_ok-extend_from_slice-in-Some-answer : goal.returns-in_ok-extend_from_slice-in-Some-answer
 returns-in_ok-extend_from_slice-in-Some-answer g c =
     let want = rw c.keys.ensures at c.in-Some.ensures.some in
-    let sent : IsSentTo c.args.self.now.context.now.node.now c.in-Some.wanted.from c.in-Some.wanted.number c.in-Some-answer.bytes.items = rw c.in-Some-answer.is at c.in_ok-answer.ensures in
+    let sent : IsSentTo c.args.self.now.context.now.node.now c.in-Some.wanted.seated.now.0 c.in-Some.wanted.number c.in-Some-answer.bytes.items = rw c.in-Some-answer.is at c.in_ok-answer.ensures in
     let longer : c.extend_from_slice.new.self.items ≡ c.args.out.now.items ++ c.in-Some-answer.bytes.items = search rules in
     record {
       handles = (
         c.in-Some-answer.bytes.items,
-        inl (record { from = c.in-Some.wanted.from; number = c.in-Some.wanted.number; want = want; sent = sent }),
+        inl (record { from = c.in-Some.wanted.seated.now.0; number = c.in-Some.wanted.number; want = want; sent = sent }),
         longer,
       );
     }
