@@ -42,6 +42,25 @@ def several_on_one_line():
 
 
 @test
+def what_waits_is_listed():
+    for exchange in (desks.WAITING, desks.UNCOVERED):
+        lines, answers = zip(*exchange)
+        shows(desk(lines_of(lines)), 0, lines_of(answers))
+        model = desks.Desk(0, GENESIS["opening"])
+        same([model.answer(line.encode()) for line in lines], list(answers), "the model")
+
+
+@test
+def no_more_than_a_thousand_entries_are_shown():
+    for several, values in ((1, 1001), (32, 32)):
+        lines = [f"PAYS {number} {' '.join(several * ['1 7'])}" for number in range(values)]
+        shown = [f"waiting 0 {number} seq {number // several} to 1 7" for number in range(1000)]
+        asked = [f"asked {number} seq {number}" for number in range(values)]
+        wanted = lines_of([*asked, *shown, "end 0 short 0"])
+        shows(desk(lines_of([*lines, "WAITING 0"])), 0, wanted, of=f"{several} payments in a value")
+
+
+@test
 def example_of_a_desk():
     with open(os.path.join(TOP, "examples", "desk.txt"), encoding="ascii") as lines:
         text = lines.read()

@@ -7,6 +7,7 @@ group of several, and alone there is nobody to pay: so no balance moves.
 MOST_LINE = 1024
 MOST_PAYMENTS = 32
 ASKS = 65536
+MOST_SHOWN = 1000
 
 BAD_LINE = "refused 1 BadLine"
 NO_ACCOUNT = "refused 2 NoAccount"
@@ -55,6 +56,36 @@ EXCHANGE = [
     ("STATEMENT 0", "end 0 balance 100"),
     ("STATE 0 3", "state 0 3 asked"),
     ("FRONT", "front 0 0 0 0"),
+    ("ENTRIES 0 0", "end 0 0"),
+    ("ENTRIES 3 7", "end 3 7"),
+    ("ENTRIES 0 18446744073709551615", "end 0 18446744073709551615"),
+    ("ENTRIES 4 0", NO_ACCOUNT),
+    ("ENTRIES 65536 0", NO_ACCOUNT),
+    ("WAITING 1", "end 1 short 0"),
+    ("WAITING 4", NO_ACCOUNT),
+    ("WAITING 65536", NO_ACCOUNT),
+]
+
+# Lines to a fresh desk of the same member on what waits, and their answers, some of several lines.
+WAITING = [
+    ("WAITING 0", "end 0 short 0"),
+    ("PAY 1 1 30", "asked 1 seq 0"),
+    ("WAITING 0", "waiting 0 0 seq 0 to 1 30\nend 0 short 0"),
+    ("PAYS 2 2 70 3 1", "asked 2 seq 1"),
+    (
+        "WAITING 0",
+        "waiting 0 0 seq 0 to 1 30\nwaiting 0 1 seq 1 to 2 70\nwaiting 0 2 seq 1 to 3 1\nend 0 short 0",
+    ),
+    ("WAITING 3", "end 3 short 0"),
+    ("ENTRIES 0 0", "end 0 0"),
+]
+
+# The same where the first payment is more than the balance.
+UNCOVERED = [
+    ("PAY 1 3 120", "asked 1 seq 0"),
+    ("PAY 2 1 5", "asked 2 seq 1"),
+    ("WAITING 0", "waiting 0 0 seq 0 to 3 120\nwaiting 0 1 seq 1 to 1 5\nend 0 short 20"),
+    ("BALANCE 0", "balance 0 100"),
 ]
 
 # Lines of several payments to a fresh desk of the same member, and their answers.
@@ -151,6 +182,20 @@ BAD_LINES = [
     "STATEMENT",
     "STATEMENT 0 0",
     "STATEMENTS 0",
+    "ENTRIES",
+    "ENTRIES 0",
+    "ENTRIES 0 ",
+    "ENTRIES 0 0 0",
+    "ENTRIES 0 00",
+    "ENTRIES 0 x",
+    "ENTRIES 0 18446744073709551616",
+    "ENTRY 0 0",
+    "entries 0 0",
+    "WAITING",
+    "WAITING ",
+    "WAITING 0 0",
+    "WAITING 00",
+    "waiting 0",
     "FRONT ",
     "FRONT 0",
     "FRONTS",
@@ -179,6 +224,7 @@ class Desk:
         words = line.split(b" ")
         several = range(3, 2 + 2 * MOST_PAYMENTS, 2)
         counts = {b"PAY": [3], b"PAYS": several, b"BALANCE": [1], b"STATE": [2], b"STATEMENT": [1], b"FRONT": [0]}
+        counts |= {b"ENTRIES": [2], b"WAITING": [1]}
         numbers = [number(word) for word in words[1:]]
         if len(line) > MOST_LINE or len(numbers) not in counts.get(words[0], []) or None in numbers:
             return BAD_LINE
@@ -222,6 +268,21 @@ class Desk:
             return NO_ACCOUNT
         return f"end {account} balance {self.opening[account]}"
 
+    def entries(self, account, first):
+        """Nothing is settled, so there is none from any number on."""
+        return NO_ACCOUNT if account >= len(self.opening) else f"end {account} {first}"
+
+    def waiting(self, account):
+        """All payments of the own account, numbered from 0; of any other account nothing is known."""
+        if account >= len(self.opening):
+            return NO_ACCOUNT
+        asked = sorted(self.kept.values(), key=lambda kept: kept[-1]) if account == self.own else []
+        pairs = [(seq, to, amount) for _, pairs, seq in asked for to, amount in pairs]
+        shown = enumerate(pairs[:MOST_SHOWN])
+        lines = [f"waiting {account} {number} seq {seq} to {to} {amount}" for number, (seq, to, amount) in shown]
+        short = max(pairs[0][2] - self.opening[account], 0) if pairs else 0
+        return "\n".join([*lines, f"end {account} short {short}"])
+
     def front(self):
         return "front" + len(self.opening) * " 0"
 
@@ -233,7 +294,7 @@ def random_lines(seeded, accounts, count):
         return seeded.choice([seeded.randrange(accounts), seeded.randrange(accounts + 2), *others])
 
     def line():
-        kind = seeded.randrange(10)
+        kind = seeded.randrange(12)
         if kind < 5:
             count = seeded.choice([1, 1, 2, 3, 31, 32, 33])
             pairs = [f"{some(65536, 65537)} {seeded.choice([0, 1, 2, 30, 2**64 - 1])}" for _ in range(count)]
@@ -244,6 +305,8 @@ def random_lines(seeded, accounts, count):
             f"BALANCE {some(2**64 - 1)}",
             f"STATE {some(65536)} {seeded.choice([0, 1, 5, 20, 65535, 65536])}",
             f"STATEMENT {some(65536)}",
+            f"ENTRIES {some(65536)} {seeded.choice([0, 1, 2**64 - 1])}",
+            f"WAITING {some(65536)}",
             "FRONT",
             seeded.choice(BAD_LINES),
         )[kind - 5]

@@ -113,7 +113,11 @@ class Node:
         return self.line()
 
     def statement(self, account):
-        self.write(f"STATEMENT {account}\n")
+        return self.lines_of(f"STATEMENT {account}")
+
+    def lines_of(self, line):
+        """The answer to a line whose last line begins with `end`."""
+        self.write(f"{line}\n")
         lines = [self.line()]
         while not lines[-1].startswith("end "):
             lines.append(self.line())

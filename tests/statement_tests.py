@@ -67,6 +67,29 @@ def a_nodes_own_statements():
 
 
 @test
+def a_nodes_entries_and_what_waits():
+    """All members tell the same of each account, from whatever entry on."""
+    with Group([100, 0, 0, 50]) as group:
+        for own, order, payee, amount in ((0, 1, 1, 30), (3, 1, 0, 20), (0, 2, 2, 15), (1, 1, 3, 5), (2, 1, 0, 500)):
+            group.pay(own, order, payee, amount, seq=order - 1)
+        same(group.nodes[3].ask("PAYS 2 1 4 2 6"), "asked 2 seq 1", "several payments")
+        group.settle([2, 1, 0, 3], [75, 29, 21, 25])
+        for line, wanted in (
+            ("ENTRIES 0 0", ["entry 0 0 seq 0 to 1 30", "entry 0 1 seq 1 to 2 15", "end 0 2"]),
+            ("ENTRIES 3 0", ["entry 3 0 seq 0 to 0 20", "entry 3 1 seq 1 to 1 4", "entry 3 2 seq 1 to 2 6", "end 3 3"]),
+            ("ENTRIES 3 1", ["entry 3 1 seq 1 to 1 4", "entry 3 2 seq 1 to 2 6", "end 3 3"]),
+            ("ENTRIES 3 2", ["entry 3 2 seq 1 to 2 6", "end 3 3"]),
+            ("ENTRIES 3 3", ["end 3 3"]),
+            ("ENTRIES 2 0", ["end 2 0"]),
+            ("WAITING 0", ["end 0 short 0"]),
+        ):
+            for own, node in group.nodes.items():
+                same(node.lines_of(line), wanted, f"{line} at node {own}")
+        same(group.nodes[2].lines_of("WAITING 2"), ["waiting 2 0 seq 0 to 0 500", "end 2 short 479"], "what waits")
+        group.stop()
+
+
+@test
 def faults_of_a_statements_export():
     for wrong, members, fault in audits.FAULTS:
         shows(statement_of(changed(members), "0"), 2, "", f"payd: export {fault}\n", of=wrong)

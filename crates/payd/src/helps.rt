@@ -43,6 +43,8 @@ most.
   BALANCE A          an account's balance
   STATE OWNER SEQ    what became of the payment under a number of an account
   STATEMENT A        all that settled of an account, and what was paid to it
+  ENTRIES A E        what settled of an account from entry E on, 1,000 entries at most
+  WAITING A          what an account asked for or listed and isn't settled, 1,000 entries at most
   FRONT              how many entries of each account are settled
 
 Output: the answer to each line.
@@ -50,6 +52,8 @@ Output: the answer to each line.
   balance A B
   state OWNER SEQ WORD            unknown, asked, waiting or settled
   out SEQ to PAYEE AMOUNT, void SEQ, in OWNER SEQ AMOUNT, end A balance B
+  entry A E seq S to PAYEE AMOUNT, entry A E seq S void, end A E
+  waiting A E seq S to PAYEE AMOUNT, waiting A E seq S void, end A short B
   front F0 F1 ..
   refused C NAME                  1 BadLine, 2 NoAccount, 3 ZeroOrSelf, 4 IdUsed, 5 Spent, 0 Memory
 
