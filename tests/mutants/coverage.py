@@ -33,6 +33,7 @@ WITHOUT_OTHER_BODY = {
     "pay_peers::teller::NodeTeller::into_seat",
     "pay_peers::teller::NodeTeller::new",
     "pay_record::reading::EntryRecords::new",
+    "pay_service::shared_desk::SharedDesk::into_desk",
 }
 
 

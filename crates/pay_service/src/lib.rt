@@ -1,0 +1,17 @@
+//! One desk that several clients use at a time, each by a stream of lines and answers of its own.
+//!
+//! A [`SharedDesk`] has the desk under a lock. [`serve_client`] answers the lines of one client,
+//! each by the desk as it stands then, and in their order. What is kept of payments is that of all
+//! clients: whoever gives an id again has the answer that it had.
+#![tactic(auto)]
+
+mod beside;
+mod client;
+mod service;
+mod service_desk;
+mod shared_desk;
+
+pub use beside::serve_two;
+pub use client::serve_client;
+pub use service::Service;
+pub use shared_desk::SharedDesk;
