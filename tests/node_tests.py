@@ -592,6 +592,10 @@ def void_and_uncovered_payments_at_a_desk():
             same([node.statement(account) for account in range(4)], wanted, f"the statements at {own}")
             for owner, seq, state in ((0, 0, "settled"), (0, 1, "waiting"), (0, 2, "unknown"), (3, 0, "settled")):
                 until(lambda: node.ask(f"STATE {owner} {seq}"), f"state {owner} {seq} {state}", of=f"at {own}")
+            entries = ["entry 3 0 seq 0 void", "entry 3 1 seq 1 to 0 5", "end 3 2"]
+            same(node.lines_of("ENTRIES 3 0"), entries, f"the entries of member 3 at {own}")
+            waiting = ["waiting 0 1 seq 1 to 2 500", "end 0 short 425"]
+            same(node.lines_of("WAITING 0"), waiting, f"what waits of member 0 at {own}")
         group.stop()
 
 

@@ -18,7 +18,8 @@ unfoldable pub settled_from : Standing → (ℕ → List (List ℕ)) → ℕ →
 settled_from book lists account from =
     take MOST_SHOWN
     (drop from
-    (take (slice_index book.front account) (numbered_entries_of (length book.opening) lists account)))
+    (take (slice_index book.front account)
+    (numbered_entries_of (length book.opening) lists account)))
 
 abbrev pub settled_excerpt : Standing → (ℕ → List (List ℕ)) → ℕ → ℕ → ExcerptFields
 settled_excerpt book lists account from =

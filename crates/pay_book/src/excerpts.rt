@@ -79,8 +79,8 @@ impl Excerpt {
     }
 }
 
-/// What settled of an account from a number on. It takes time for what is shown and for what settled
-/// behind it, and none where nothing did.
+/// What settled of an account from a number on. It takes time for what is shown and for what
+/// settled after that, and none where nothing did.
 pub fn settled_excerpt<S: Source, B: Settle>(
     alloc: Global,
     source: &S,

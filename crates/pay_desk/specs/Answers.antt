@@ -104,12 +104,14 @@ AnswersStatement says account old text new =
     Unless (account_fault old.accounts account) old text new
     (Calls says (call.Statement account) call.Stated (stated_words account) old text new)
 
-abbrev pub AnswersEntries : {T : Type 0} → (T → Call → TellerReply → T → Type 0) → ℕ → ℕ → Desk T → List ℕ → Desk T → Type 0
+abbrev pub AnswersEntries :
+    {T : Type 0} → (T → Call → TellerReply → T → Type 0) → ℕ → ℕ → Desk T → List ℕ → Desk T → Type 0
 AnswersEntries says account from old text new =
     Unless (account_fault old.accounts account) old text new
     (Calls says (call.Entries account from) call.Listed (settled_words account) old text new)
 
-abbrev pub AnswersWaiting : {T : Type 0} → (T → Call → TellerReply → T → Type 0) → ℕ → Desk T → List ℕ → Desk T → Type 0
+abbrev pub AnswersWaiting :
+    {T : Type 0} → (T → Call → TellerReply → T → Type 0) → ℕ → Desk T → List ℕ → Desk T → Type 0
 AnswersWaiting says account old text new =
     Unless (account_fault old.accounts account) old text new
     (Calls says (call.Waiting account) call.Listed (waiting_words account) old text new)
@@ -124,7 +126,8 @@ Answers says (Some (Pay order)) old text new = AnswersPay says (kept_under order
 Answers says (Some (Balance account)) old text new = AnswersBalance says account old text new
 Answers says (Some (State owner seq)) old text new = AnswersState says owner seq old text new
 Answers says (Some (Statement account)) old text new = AnswersStatement says account old text new
-Answers says (Some (Entries account from)) old text new = AnswersEntries says account from old text new
+Answers says (Some (Entries account from)) old text new =
+    AnswersEntries says account from old text new
 Answers says (Some (Waiting account)) old text new = AnswersWaiting says account old text new
 Answers says (Some Front) old text new = AnswersFront says old text new
 

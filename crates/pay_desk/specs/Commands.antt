@@ -67,7 +67,8 @@ entries_command words =
 
 -- `A`
 unfoldable pub waiting_command : List (List ℕ) → Option Command
-waiting_command words = option_and_then (λ account. if_last (drop 1 words) (Waiting account)) (first_number words)
+waiting_command words =
+    option_and_then (λ account. if_last (drop 1 words) (Waiting account)) (first_number words)
 
 -- the command of this name
 abbrev pub command_of : List (List ℕ) → List ℕ → Option Command

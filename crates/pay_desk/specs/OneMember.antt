@@ -37,11 +37,14 @@ reply_by m (State owner seq) =
 reply_by m (Statement account) =
     if_account m account
     (Stated (record {
-      lines = statement_of m.genesis.members (list_of (group_in m.genesis m.keys.own) (events m.history)) (slice_index (book_of m).front) account;
+      lines = statement_of m.genesis.members
+          (list_of (group_in m.genesis m.keys.own) (events m.history))
+          (slice_index (book_of m).front) account;
       balance = slice_index (book_of m).balances account;
     }))
 reply_by m (Entries account from) =
-    if_account m account (Listed (entries_shown m.genesis m.keys.own (events m.history) account from))
+    if_account m account
+    (Listed (entries_shown m.genesis m.keys.own (events m.history) account from))
 reply_by m (Waiting account) =
     if_account m account (Listed (waiting_shown m.genesis m.keys.own (events m.history) account))
 reply_by m Fronts = Settled (book_of m).front

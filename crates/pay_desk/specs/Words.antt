@@ -58,14 +58,15 @@ statement_words account lines balance = flat_map line_words lines ++ end_words a
 
 -- ` to PAYEE AMOUNT` or ` void`
 unfoldable pub payment_words : Entry → List ℕ
-payment_words (entry.Pay payee amount) = codes " to " ++ decimal payee ++ codes " " ++ decimal amount
+payment_words (entry.Pay payee amount) =
+    codes " to " ++ decimal payee ++ codes " " ++ decimal amount
 payment_words entry.Void = codes " void"
 
 -- `WORD A E seq S to PAYEE AMOUNT` or `WORD A E seq S void`: entry E of account A
 unfoldable pub entry_words : List ℕ → ℕ → ℕ → ℕ × Entry → List ℕ
 entry_words word account number e =
-    word ++ codes " " ++ decimal account ++ codes " " ++ decimal number ++ codes " seq " ++ decimal e.0
-    ++ payment_words e.1 ++ end_of_line
+    word ++ codes " " ++ decimal account ++ codes " " ++ decimal number ++ codes " seq "
+    ++ decimal e.0 ++ payment_words e.1 ++ end_of_line
 
 -- entries one after the other, the first of this number
 unfoldable pub entries_words : List ℕ → ℕ → ℕ → List (ℕ × Entry) → List ℕ
@@ -75,7 +76,8 @@ entries_words word account number (e ∷ entries) =
 
 -- `end A E`
 unfoldable pub next_words : ℕ → ℕ → List ℕ
-next_words account number = codes "end " ++ decimal account ++ codes " " ++ decimal number ++ end_of_line
+next_words account number =
+    codes "end " ++ decimal account ++ codes " " ++ decimal number ++ end_of_line
 
 -- a line for each settled entry, and the number of the next
 unfoldable pub settled_words : ℕ → ExcerptFields → List ℕ
@@ -90,7 +92,8 @@ short_by balance (e ∷ entries) = amount_of e.1 - balance
 
 -- `end A short B`
 unfoldable pub short_words : ℕ → ℕ → List ℕ
-short_words account short = codes "end " ++ decimal account ++ codes " short " ++ decimal short ++ end_of_line
+short_words account short =
+    codes "end " ++ decimal account ++ codes " short " ++ decimal short ++ end_of_line
 
 -- a line for each entry that waits, and what the balance is short of for the first
 unfoldable pub waiting_words : ℕ → ExcerptFields → List ℕ

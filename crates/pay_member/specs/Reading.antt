@@ -23,12 +23,14 @@ state_of g own events owner seq =
 unfoldable pub fetched : GenesisFields → ℕ → List Event → ℕ → ℕ → List BodyFields
 fetched g own events number count = take count (drop number (out (group_in g own) events))
 
--- An account's values as far as a member knows them: those of its list and, of its own account, what
--- it was asked to broadcast and hasn't listed yet.
+-- An account's values as far as a member knows them: those of its list and, of its own account,
+-- what it was asked to broadcast and hasn't listed yet.
 unfoldable pub values_known : GenesisFields → ℕ → List Event → ℕ → List (List ℕ)
 values_known g own events account =
     list_of (group_in g own) events account
-    ++ (if account == own then drop (length (list_of (group_in g own) events account)) (asked events) else [])
+    ++ (if account == own
+    then drop (length (list_of (group_in g own) events account)) (asked events)
+    else [])
 
 -- what settled of an account from a number on
 abbrev pub entries_shown : GenesisFields → ℕ → List Event → ℕ → ℕ → ExcerptFields
