@@ -313,6 +313,24 @@ def port_that_is_taken():
 
 
 @test
+def a_free_port_is_had_whatever_its_number():
+    """No clause says so: the fault that names a port may be answered of any."""
+    alone = {"members": 1, "faults": 0, "opening": [7]}
+    for least in (1024, 9001, 32768, 49152, 65000):
+        port = next(it for it in range(least, 65536) if is_free(it))
+        wanted = "front 0\n" + export_text(0, [7], [[]], [0], [7])
+        shows(node_alone(b"FRONT\n", 0, alone, [port]), 0, wanted, of=f"port {port}")
+
+
+def is_free(port):
+    try:
+        socket.create_server(("127.0.0.1", port)).close()
+        return True
+    except OSError:
+        return False
+
+
+@test
 def a_node_takes_its_port_again():
     """Also where connections on it were open when it ended."""
     with Group(OPENING) as group:

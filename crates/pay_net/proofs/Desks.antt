@@ -1,5 +1,5 @@
 -- The desk's seat was the fresh one with the last stamp, and is among those that the history bears out.
-use Rattle.std.proofs.Common.{◌≡◌, ◌≢◌, ℕ, ◌-◌, ◌==◌, Bool, true, false, nat_lt, Some, Option, Result, Ok, IfOk, List, [], ◌∷◌, ◌++◌, length, slice_get, refl, sym, ap, ◌∙◌, subst, arith}
+use Rattle.std.proofs.Common.{◌≡◌, ◌≢◌, ℕ, ◌-◌, ◌==◌, Bool, true, false, nat_lt, Some, Option, Result, Ok, List, [], ◌∷◌, ◌++◌, length, slice_get, refl, sym, ap, ◌∙◌, subst, arith}
 use Rattle.std.proofs.lemmas.Bool.{eq-eqb, ltb-true, ltb-false}
 use Rattle.std.proofs.lemmas.List.{get_or_at, length_push}
 use Rattle.std.proofs.lemmas.List.Elements.{All-get_or, filter-append}
@@ -10,9 +10,7 @@ use Rattle.pay_member.specs.Member.{MemberFields}
 use Rattle.pay_node.specs.Closing.{AllSettled, seats_with}
 use Rattle.pay_node.specs.Nodes.{AreFresh, NodeFields, fresh_seat}
 use Rattle.pay_node.specs.Seats.{Right, SeatFields}
-use Rattle.pay_net.specs.declared.receipts.Receipts.{Receipts}
-use Rattle.pay_net.specs.declared.receipts.Receipts.TheVariants.{BorneOut}
-use Rattle.pay_net.specs.Running.{HasServed, IsClosed}
+use Rattle.pay_net.specs.Running.{HasServed}
 
 -- ---- the last seat
 
@@ -74,15 +72,3 @@ pub right_at_end : (m : MemberFields) (base count : ℕ) (seats others : List Se
 right_at_end m base count seats others desk is settled =
     by_stamp m base count others desk (nat_lt desk.stamp count) refl
     (subst (λ (all : List SeatFields). AllSettled m base count all) is settled)
-
--- the same end, of what is the same
-pub closed_so :
-    {E : Type 0} (r : Result (MemberFields × Receipts) E) (n node : NodeFields) (k kept : List Kept) (input left b before a after : Option (List ℕ))
-    → n ≡ node → k ≡ kept → b ≡ before → a ≡ after
-    → IfOk r (λ ended. ended.1 ≡ BorneOut → IsClosed n k ended.0 input left b a)
-    → IfOk r (λ ended. ended.1 ≡ BorneOut → IsClosed node kept ended.0 input left before after)
-closed_so r n node k kept input left b before a after same_node same_kept same_before same_after closed =
-    subst (λ (x : Option (List ℕ)). IfOk r (λ ended. ended.1 ≡ BorneOut → IsClosed node kept ended.0 input left before x)) same_after
-    (subst (λ (x : Option (List ℕ)). IfOk r (λ ended. ended.1 ≡ BorneOut → IsClosed node kept ended.0 input left x a)) same_before
-    (subst (λ (x : List Kept). IfOk r (λ ended. ended.1 ≡ BorneOut → IsClosed node x ended.0 input left b a)) same_kept
-    (subst (λ (x : NodeFields). IfOk r (λ ended. ended.1 ≡ BorneOut → IsClosed x k ended.0 input left b a)) same_node closed)))

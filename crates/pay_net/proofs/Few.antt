@@ -9,7 +9,6 @@ use Rattle.std.proofs.lemmas.List.{take-append-drop, take_all}
 use Rattle.std.proofs.lemmas.List.Quantifiers.{position-Some}
 use Rattle.std.proofs.lemmas.List.Sums.{sum_by-append, sum_by-set, count_by_more_no, count_by_more_yes, fails_before_first}
 use Rattle.pay_net.specs.declared.guest.Guest.{Guest}
-use Rattle.pay_net.specs.declared.guest.TheConstants.{MOST_OF_A_PEER}
 use Rattle.pay_net.specs.Guests.{AreFewOfEach, claimed, is_at, is_of, who_makes_place_for, without}
 
 nobody : Guest
@@ -67,8 +66,8 @@ none_at_all p gs is =
     ap (count_by p) (sym (take_all (length gs) gs (omega arith))) ∙ none_before p gs (length gs) (omega arith) past
 
 room_where : (peer : ℕ) (gs : List Guest) (b : Bool) (at : Option ℕ) → AreFewOfEach gs
-    → nat_lt (count_by (is_of peer) gs) MOST_OF_A_PEER ≡ b → position (is_of peer) gs ≡ at
-    → count_by (is_of peer) (without (cond b None at) gs) < MOST_OF_A_PEER
+    → nat_lt (count_by (is_of peer) gs) 2 ≡ b → position (is_of peer) gs ≡ at
+    → count_by (is_of peer) (without (cond b None at) gs) < 2
 room_where peer gs true at few is first = ltb-true _ _ is
 room_where peer gs false None few is first =
     let none = none_at_all (is_of peer) gs first in
@@ -78,16 +77,16 @@ room_where peer gs false (Some i) few is first =
     omega (arith, few peer, one_fewer (is_of peer) gs i found.0 found.1)
 
 -- who makes place for a peer leaves it room
-room_for : (peer : ℕ) (gs : List Guest) → AreFewOfEach gs → count_by (is_of peer) (without (who_makes_place_for peer gs) gs) < MOST_OF_A_PEER
+room_for : (peer : ℕ) (gs : List Guest) → AreFewOfEach gs → count_by (is_of peer) (without (who_makes_place_for peer gs) gs) < 2
 room_for peer gs few = room_where peer gs _ _ few refl refl
 
 set_where : (gs : List Guest) (place peer other i : ℕ) (b : Bool) → (peer == other) ≡ b → i < length gs → AreFewOfEach gs
-    → count_by (is_of peer) gs < MOST_OF_A_PEER → count_by (is_of other) (slice_set gs i (record { place = place; peer = Some peer })) ≤ MOST_OF_A_PEER
+    → count_by (is_of peer) gs < 2 → count_by (is_of other) (slice_set gs i (record { place = place; peer = Some peer })) ≤ 2
 set_where gs place peer other i true is within few room =
     let same : peer ≡ other = eqb-true peer other is in
     let kept = sum_by-set (λ (x : Guest). cond (is_of other x) 1 0) gs i (record { place = place; peer = Some peer }) nobody within in
     let one : cond (peer == other) 1 0 ≡ 1 = ap {B = ℕ} (λ (v : Bool). cond v 1 0) is in
-    let free = subst (λ (n : ℕ). count_by (is_of n) gs < MOST_OF_A_PEER) same room in
+    let free = subst (λ (n : ℕ). count_by (is_of n) gs < 2) same room in
     omega (arith, kept, one, free)
 set_where gs place peer other i false is within few room =
     let kept = sum_by-set (λ (x : Guest). cond (is_of other x) 1 0) gs i (record { place = place; peer = Some peer }) nobody within in
@@ -95,14 +94,14 @@ set_where gs place peer other i false is within few room =
     omega (arith, kept, none, few other)
 
 claimed_where : (gs : List Guest) (place peer : ℕ) (at : Option ℕ) → position (is_at place) gs ≡ at → AreFewOfEach gs
-    → count_by (is_of peer) gs < MOST_OF_A_PEER
+    → count_by (is_of peer) gs < 2
     → AreFewOfEach (option_map_or (λ (i : ℕ). slice_set gs i (record { place = place; peer = Some peer })) at gs)
 claimed_where gs place peer None is few room other = few other
 claimed_where gs place peer (Some i) is few room other =
     let found = position-Some (is_at place) gs i nobody is in
     set_where gs place peer other i (peer == other) refl found.0 few room
 
-few_claimed : (gs : List Guest) (place peer : ℕ) → AreFewOfEach gs → count_by (is_of peer) gs < MOST_OF_A_PEER → AreFewOfEach (claimed place peer gs)
+few_claimed : (gs : List Guest) (place peer : ℕ) → AreFewOfEach gs → count_by (is_of peer) gs < 2 → AreFewOfEach (claimed place peer gs)
 few_claimed gs place peer few room = claimed_where gs place peer (position (is_at place) gs) refl few room
 
 -- what a claim leaves
@@ -111,5 +110,5 @@ pub few_after : (gs rest after : List Guest) (at : Option ℕ) (place peer : ℕ
 few_after gs rest after at place peer few who within left set =
     let kept = subst AreFewOfEach (sym left) (few_without gs at within few) in
     let apart = left ∙ ap (λ (o : Option ℕ). without o gs) who in
-    let room = subst (λ (xs : List Guest). count_by (is_of peer) xs < MOST_OF_A_PEER) (sym apart) (room_for peer gs few) in
+    let room = subst (λ (xs : List Guest). count_by (is_of peer) xs < 2) (sym apart) (room_for peer gs few) in
     subst AreFewOfEach (sym set) (few_claimed rest place peer kept room)

@@ -1,3 +1,5 @@
 mod Few
 mod Desks
+mod Endings
+mod Seatings
 pub mod Starts

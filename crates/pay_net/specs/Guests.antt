@@ -2,7 +2,6 @@
 use Rattle.std.specs.Prelude.{◌==◌, ℕ, ◌≤◌, Bool, false, cond, List, length, Option, Some, None, nat_lt, is_none, option_and_then, count_by, position, remove, slice_get, slice_set}
 use Rattle.std.specs.Option.{option_map, option_map_or, option_or}
 use Rattle.pay_net.specs.declared.guest.Guest.{Guest}
-use Rattle.pay_net.specs.declared.guest.TheConstants.{MOST_OF_A_PEER}
 
 -- no WANT of it has opened
 abbrev pub is_stranger : Guest → Bool
@@ -14,8 +13,9 @@ is_of peer g = option_map_or (λ p. p == peer) g.peer false
 abbrev pub is_at : ℕ → Guest → Bool
 is_at place g = g.place == place
 
+-- two of a peer at most
 abbrev pub AreFewOfEach : List Guest → Type 0
-AreFewOfEach guests = (peer : ℕ) → count_by (is_of peer) guests ≤ MOST_OF_A_PEER
+AreFewOfEach guests = (peer : ℕ) → count_by (is_of peer) guests ≤ 2
 
 -- ---- who makes place
 
@@ -29,7 +29,7 @@ who_makes_place guests = option_or (position is_stranger guests) (oldest guests)
 -- for one more of a peer: the older of its two, and nobody where it has fewer
 abbrev pub who_makes_place_for : ℕ → List Guest → Option ℕ
 who_makes_place_for peer guests =
-    cond (nat_lt (count_by (is_of peer) guests) MOST_OF_A_PEER) None (position (is_of peer) guests)
+    cond (nat_lt (count_by (is_of peer) guests) 2) None (position (is_of peer) guests)
 
 -- ---- what becomes of the list
 

@@ -3,4 +3,5 @@ pub mod Guests
 pub mod Ports
 pub mod Starting
 pub mod Running
+pub mod Seating
 pub mod Contacts

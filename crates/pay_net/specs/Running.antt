@@ -1,21 +1,33 @@
 -- What is left of a node once it has ended.
-use Rattle.std.specs.Prelude.{◌≡◌, ℕ, ◌*◌, ◌-◌, List, [], ◌∷◌, ◌++◌, length, Option, Result, Ok}
+use Rattle.std.specs.Prelude.{◌≡◌, ◌⊎◌, ℕ, ◌*◌, ◌-◌, ◌+◌, ◌≤◌, ◌==◌, zero, suc, if◌then◌else◌, List, [], ◌∷◌, ◌++◌, length, map, slice_get, Option, Some, None, Result, Ok, Err, IsErrOf, ⊤}
+use Rattle.std.specs.List.{All}
 use Rattle.pay_desk.specs.declared.desk.Desk.{Desk}
 use Rattle.pay_desk.specs.declared.kept.Kept.{Kept}
 use Rattle.pay_desk.specs.Desk.{WritesAnswers}
+use Rattle.pay_io.specs.declared.limits.TheConstants.{MOST_READS}
 use Rattle.pay_io.specs.declared.stream_fault.StreamFault.{StreamFault}
+use Rattle.pay_io.specs.declared.stream_fault.StreamFault.TheVariants.{Memory, Read, Write, Bound}
+use Rattle.pay_io.specs.Device.{Gave, RoseBy}
+use Rattle.pay_link.specs.Keys.{KeyFields}
 use Rattle.pay_member.specs.Legal.{Legal}
 use Rattle.pay_member.specs.Member.{MemberFields}
-use Rattle.pay_node.specs.Closing.{AllSettled}
-use Rattle.pay_node.specs.Nodes.{IsOwn, NodeFields, base_of, fresh_seat}
+use Rattle.pay_node.specs.declared.close_fault.CloseFault.{CloseFault}
+use Rattle.pay_node.specs.declared.close_fault.CloseFault.TheVariants as close
+use Rattle.pay_node.specs.Closing.{AllCounted, AllSettled, IsFault, IsLeastUncounted}
+use Rattle.pay_node.specs.Nodes.{IsOwn, NodeFields, StoppedFields, base_of, fresh_seat}
 use Rattle.pay_node.specs.Seats.{Right, SeatFields}
+use Rattle.pay_peers.specs.Growing.{Grows}
 use Rattle.pay_peers.specs.Telling.{TellerFields, TellerSays}
 use Rattle.pay_net.specs.declared.node_fault.NodeFault.{NodeFault}
-use Rattle.pay_net.specs.declared.node_fault.NodeFault.TheVariants.{Port}
+use Rattle.pay_net.specs.declared.node_fault.NodeFault.TheVariants.{Close, Engine, Port}
+use Rattle.pay_net.specs.declared.receipts.Receipts.{Receipts}
+use Rattle.pay_net.specs.declared.receipts.Receipts.TheVariants.{BorneOut, Unjudged}
 
 -- the node of a member: two seats for each peer, and one for the desk
 abbrev pub node_of : MemberFields → NodeFields
 node_of m = record { genesis = m.genesis; keys = m.keys; seats = 2 * length m.keys.keys - 1; beginning = m.history }
+
+-- ---- the threads
 
 -- a node's desk before any line, which calls it from this seat and goes on with what is kept
 abbrev pub desk_from : NodeFields → List Kept → SeatFields → Desk TellerFields
@@ -33,13 +45,30 @@ pub record HasServed (n : NodeFields) (kept : List Kept) (old new : SeatFields) 
   pub seat : desk.teller.seat ≡ new
   pub wrote : WritesAnswers TellerSays (desk_from n kept old) desk input left before after ended
 
--- The seats of a node whose desk came to the end of its input: those of the peers' threads, and behind them the desk's,
--- which was the fresh one with the last stamp.
+-- the members below a number, but for this one
+abbrev pub others_below : ℕ → ℕ → List ℕ
+others_below own zero = []
+others_below own (suc peer) = if peer == own then others_below own peer else others_below own peer ++ peer ∷ []
+
+abbrev pub peers_of : KeyFields → List ℕ
+peers_of k = others_below k.own (length k.keys)
+
+-- a peer, and a seat that was fresh and has receipts of that peer's frames alone
+abbrev pub IsReader : ℕ × SeatFields → Type 0
+IsReader reader = Grows reader.0 (fresh_seat reader.1.stamp) reader.1
+
+-- The seats of a node whose desk came to the end of its input: those that its peers were read from, one for each in
+-- order, those of which they were answered, and behind them the desk's, which was the fresh one with the last stamp.
 pub record HasRun (n : NodeFields) (kept : List Kept) (seats : List SeatFields) (input left before after : Option (List ℕ)) : Type 0 where
-  pub others : List SeatFields
+  pub readers : List (ℕ × SeatFields)
+  pub writers : List SeatFields
   pub desk : SeatFields
-  pub all : seats ≡ others ++ desk ∷ []
+  pub all : seats ≡ (map (λ r. r.1) readers ++ writers) ++ desk ∷ []
+  pub peers : map (λ r. r.0) readers ≡ peers_of n.keys
+  pub read : All IsReader readers
   pub served : HasServed n kept (fresh_seat (n.seats - 1)) desk input left before after (Ok tt)
+
+-- ---- a member that is handed back
 
 -- The node's own member. Its history begins with the one that the node began with, and a single thread could have made
 -- it. From there on it bears out all that was told from the node's seats: so also each answer that its desk wrote.
@@ -51,6 +80,68 @@ pub record IsClosed (n : NodeFields) (kept : List Kept) (m : MemberFields) (inpu
   pub ran : HasRun n kept seats input left before after
   pub right : Right m (base_of n) ran.desk
 
--- a fault says that this port can't be had
-abbrev pub NamesPort : NodeFault → ℕ → Type 0
-NamesPort fault port = fault ≡ Port port
+-- The same, but that it is only known to have as many entries under each stamp as its seat was told of.
+pub record IsUnjudged (n : NodeFields) (kept : List Kept) (m : MemberFields) (input left before after : Option (List ℕ)) : Type 0 where
+  pub own : IsOwn n m
+  pub legal : Legal m.genesis m.keys m.history
+  pub seats : List SeatFields
+  pub counted : AllCounted m (base_of n) n.seats seats
+  pub ran : HasRun n kept seats input left before after
+
+-- ---- why none is
+
+-- The node ended with these seats, and its member, with some legal history, isn't closed with them. Where memory was
+-- refused, the stamp is the least of those whose entries aren't as many as their seat was told of.
+pub record IsMismatch (n : NodeFields) (kept : List Kept) (stamp : ℕ) (input left before after : Option (List ℕ)) : Type 0 where
+  pub member : MemberFields
+  pub legal : Legal member.genesis member.keys member.history
+  pub seats : List SeatFields
+  pub ran : HasRun n kept seats input left before after
+  pub wrong :
+      IsFault n member seats (close.Mismatch stamp)
+      ⊎ (IsOwn n member × IsLeastUncounted member (base_of n) n.seats seats stamp)
+
+-- the desk ended with this fault
+pub record IsDeskFault (n : NodeFields) (kept : List Kept) (fault : StreamFault) (input left before after : Option (List ℕ)) : Type 0 where
+  pub desk : SeatFields
+  pub served : HasServed n kept (fresh_seat (n.seats - 1)) desk input left before after (Err fault)
+
+-- Its own port of these can't be had. Or memory was refused. Or the desk ended with this fault; of writing, all may also
+-- have come to its end, and the history couldn't be kept then. Or it isn't closed; that closing lacks memory is no fault.
+abbrev pub IsNodeFault : NodeFields → List Kept → List ℕ → Option (List ℕ) → Option (List ℕ) → Option (List ℕ) → Option (List ℕ) → NodeFault → Type 0
+IsNodeFault n kept ports input left before after (Port port) = slice_get ports n.keys.own ≡ Some port
+IsNodeFault n kept ports input left before after (Engine Memory) = ⊤
+IsNodeFault n kept ports input left before after (Engine Read) = IsDeskFault n kept Read input left before after
+IsNodeFault n kept ports input left before after (Engine Bound) = IsDeskFault n kept Bound input left before after
+IsNodeFault n kept ports input left before after (Engine Write) =
+    IsDeskFault n kept Write input left before after
+    ⊎ ((seats : List SeatFields) × HasRun n kept seats input left before after)
+IsNodeFault n kept ports input left before after (Close close.Memory) = ⊥
+IsNodeFault n kept ports input left before after (Close (close.Mismatch stamp)) = IsMismatch n kept stamp input left before after
+
+-- ---- how it ended
+
+abbrev pub HasEnded : NodeFields → List Kept → List ℕ → Option (List ℕ) → Option (List ℕ) → Option (List ℕ) → Option (List ℕ) → Result (MemberFields × Receipts) NodeFault → Type 0
+HasEnded n kept ports input left before after (Ok (m, BorneOut)) = IsClosed n kept m input left before after
+HasEnded n kept ports input left before after (Ok (m, Unjudged)) = IsUnjudged n kept m input left before after
+HasEnded n kept ports input left before after (Err fault) = IsNodeFault n kept ports input left before after fault
+
+-- by what closing found, and the least stamp whose entries aren't as many as its seat was told of: a member, or a stamp
+abbrev pub ended_by : Result MemberFields (CloseFault × StoppedFields) → Option ℕ → Result (MemberFields × Receipts) ℕ
+ended_by (Ok m) uncounted = Ok (m, BorneOut)
+ended_by (Err (close.Mismatch stamp, stopped)) uncounted = Err stamp
+ended_by (Err (close.Memory, stopped)) None = Ok (stopped.member, Unjudged)
+ended_by (Err (close.Memory, stopped)) (Some stamp) = Err stamp
+
+-- the same, as the end of a node
+abbrev pub as_fault : Result (MemberFields × Receipts) ℕ → Result (MemberFields × Receipts) NodeFault
+as_fault (Ok ended) = Ok ended
+as_fault (Err stamp) = Err (Close (close.Mismatch stamp))
+
+-- What the counts of the desk's input tell of a node, as of an engine: a fault of reading comes of a read that failed;
+-- so many reads are made at most, and after a fault of the bound they were, each of which gave a byte.
+pub record CountsReads {T In : Type 0} (calls failures : In → ℕ) (remaining : In → Option (List ℕ)) (old new : In) (result : Result T NodeFault) : Type 0 where
+  pub read : IsErrOf result (Engine Read) → RoseBy 1 (failures old) (failures new)
+  pub most : calls new ≤ calls old + MOST_READS
+  pub bound : IsErrOf result (Engine Bound) → RoseBy MOST_READS (calls old) (calls new)
+  pub gave : IsErrOf result (Engine Bound) → Gave MOST_READS (remaining old) (remaining new)

@@ -1,6 +1,6 @@
-ghost use Rattle.std.specs.Prelude.{◌≡◌, ◌+◌, min, None, Some, if◌then◌else◌};
+ghost use Rattle.std.specs.Prelude.{◌≡◌, ◌+◌, min, None, Some, if◌then◌else◌, IfSome};
 ghost use Rattle.std.specs.Option.{option_or};
-ghost use Rattle.pay_net.specs.Contacts.{is_lost, news_when_heard};
+ghost use Rattle.pay_net.specs.Contacts.{MayFollow, is_lost, news_when_heard};
 ghost use Rattle.pay_net.specs.declared.news.News.TheVariants.{GivenUp, Lost};
 
 use crate::news::News;
@@ -31,6 +31,7 @@ impl Contact {
     /// The peer was heard. Answers what is to be told of it, if anything is.
     pub(crate) fn hear(&mut self) -> Option<News>
         ensures news { result ≡ news_when_heard self.old.last }
+        ensures in_turn { IfSome result (MayFollow self.old.last) }
         ensures last { self.new.last ≡ option_or result self.old.last }
         ensures missed { self.new.missed ≡ 0 }
     {
@@ -46,6 +47,7 @@ impl Contact {
         ensures missed { self.new.missed ≡ min (self.old.missed + 1) u64.MAX }
         ensures news { result
             ≡ (if is_lost self.old.last self.new.missed silence then Some Lost else None) }
+        ensures in_turn { IfSome result (MayFollow self.old.last) }
         ensures last { self.new.last ≡ option_or result self.old.last }
     {
         self.missed = self.missed.saturating_add(1);

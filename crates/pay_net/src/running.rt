@@ -1,14 +1,18 @@
-ghost use Rattle.std.specs.Prelude.{◌≡◌, ◌≢◌, ◌+◌, ◌-◌, ◌*◌, ◌<◌, ◌++◌, ◌∷◌, ℕ, List, Option, []};
-ghost use Rattle.std.specs.Prelude.{Some, IfErr, IfOk, length, slice_get};
+ghost use Rattle.std.specs.Prelude.{◌≡◌, ◌≢◌, ◌+◌, ◌*◌, ◌<◌, ◌++◌, ◌∷◌, ℕ, List, Option, []};
+ghost use Rattle.std.specs.Prelude.{IfOk, IsErrOf, MatchResult, OnOk, length, map};
+ghost use Rattle.std.specs.List.{All};
 ghost use Rattle.pay_desk.specs.declared.kept.Kept.{Kept};
 ghost use Rattle.pay_desk.specs.Desk.{WritesAnswers};
-ghost use Rattle.pay_node.specs.Nodes.{AreFresh, IsOwn};
+ghost use Rattle.pay_io.specs.Counts.{KeepsCounts, itself};
+ghost use Rattle.pay_io.specs.declared.stream_fault.StreamFault.TheVariants.{Bound, Read};
+ghost use Rattle.pay_node.specs.Nodes.{AreFresh};
 ghost use Rattle.pay_node.specs.Seats.{SeatFields};
+ghost use Rattle.pay_peers.specs.Growing.{EachGrows};
 ghost use Rattle.pay_peers.specs.Telling.{TellerSays};
-ghost use Rattle.pay_net.specs.declared.receipts.Receipts.TheVariants.{BorneOut};
-ghost use Rattle.pay_node.specs.declared.close_fault.CloseFault.TheVariants.{Memory};
-ghost use Rattle.pay_net.specs.declared.node_fault.NodeFault.TheVariants.{Close};
-ghost use Rattle.pay_net.specs.Running.{HasRun, HasServed, IsClosed, NamesPort, desk_from, node_of};
+ghost use Rattle.pay_net.specs.declared.node_fault.NodeFault.TheVariants.{Engine};
+ghost use Rattle.pay_net.specs.Running.{CountsReads, HasEnded, HasRun, HasServed, IsNodeFault};
+ghost use Rattle.pay_net.specs.Running.{as_fault, desk_from, ended_by, node_of, others_below};
+ghost use Rattle.pay_net.specs.Seating.{IsFresh, SeatsOne};
 
 use crate::accepting::{Answering, MOST_CONNECTIONS, accept_all};
 use crate::config::NodeConfig;
@@ -28,7 +32,7 @@ use pay_hmac::Tagger;
 use pay_io::{Input, Output, StreamFault};
 use pay_kept::{Behind, Keeper};
 use pay_member::Member;
-use pay_node::{Beginning, CloseFault, Node, OpenGate, Seat};
+use pay_node::{Beginning, CloseFault, Node, OpenGate, Seat, Stopped};
 use pay_peers::{Asking, NodeContext, NodeTeller, Observer, run_readers};
 use std::alloc::{AllocError, Global};
 use std::marker::Brand;
@@ -67,7 +71,8 @@ struct Running<'a, H, I: Instance + Drop, B: Settle + Drop, S: Beginning, T, O, 
 ///
 /// It listens on its own port, which the fault `Port` names where it can't be had, and dials those of all others. A
 /// fault of the desk ends it too, and is answered. Nothing that follows from the history leaves the node before its
-/// keeper has kept that: where it can't, writes fail, and so does the end.
+/// keeper has kept that: where it can't, writes fail, and so does the end. No clause names a keeper's refusal, so none
+/// says of the fault `Write` that a write failed.
 pub fn run_node<H, I, B, T, O, K, In, Out>(
     rt: &H,
     alloc: Global,
@@ -87,15 +92,12 @@ where
     In: Input,
     Out: Output,
     requires ports { length config.now.ports.now ≡ length start.member.keys.keys }
-    ensures own { IfOk result.0 (λ ended. IsOwn (node_of start.member) ended.0) }
-    ensures closed { IfOk result.0 (λ ended. ended.1 ≡ BorneOut
-        → IsClosed (node_of start.member) start.kept ended.0
+    ensures ended { HasEnded (node_of start.member) start.kept config.now.ports.now
         (In.remaining reader.old) (In.remaining reader.new)
-        (Out.contents writer) (Out.contents result.1)) }
+        (Out.contents writer) (Out.contents result.1) result.0 }
     ensures durable { IfOk result.0 (λ _. K.kept config.now.keeper.now (node_of start.member)) }
-    ensures port { IfErr result.0 (λ fault. (port : ℕ) → NamesPort fault port
-        → slice_get config.now.ports.now start.member.keys.own ≡ Some port) }
-    ensures kept { IfErr result.0 (λ fault. fault ≢ Close Memory) }
+    ensures reads { CountsReads In.call_count In.failure_count In.remaining
+        reader.old reader.new result.0 }
 {
     run_begun::<H, I, B, Brand, T, O, K, In, Out>(rt, alloc, start, tagger, config, reader, writer)
 }
@@ -122,15 +124,12 @@ where
     Out: Output,
     requires beginning { start.member.history ≡ S.beginning }
     requires ports { length config.now.ports.now ≡ length start.member.keys.keys }
-    ensures own { IfOk result.0 (λ ended. IsOwn (node_of start.member) ended.0) }
-    ensures closed { IfOk result.0 (λ ended. ended.1 ≡ BorneOut
-        → IsClosed (node_of start.member) start.kept ended.0
+    ensures ended { HasEnded (node_of start.member) start.kept config.now.ports.now
         (In.remaining reader.old) (In.remaining reader.new)
-        (Out.contents writer) (Out.contents result.1)) }
+        (Out.contents writer) (Out.contents result.1) result.0 }
     ensures durable { IfOk result.0 (λ _. K.kept config.now.keeper.now (node_of start.member)) }
-    ensures port { IfErr result.0 (λ fault. (port : ℕ) → NamesPort fault port
-        → slice_get config.now.ports.now start.member.keys.own ≡ Some port) }
-    ensures kept { IfErr result.0 (λ fault. fault ≢ Close Memory) }
+    ensures reads { CountsReads In.call_count In.failure_count In.remaining
+        reader.old reader.new result.0 }
 {
     let (member, kept) = start.into_parts();
     let members = member.keys().members();
@@ -170,22 +169,22 @@ where
     B: Settle + Drop,
     S: Beginning,
     K: Keeper,
-    ensures own { IfOk result (λ ended. IsOwn node ended.0) }
-    ensures closed { (kept : List Kept) (input left before after : Option (List ℕ))
-        → IfOk ran (λ seats. HasRun node kept seats.items input left before after)
-        → IfOk result (λ ended. ended.1 ≡ BorneOut
-        → IsClosed node kept ended.0 input left before after) }
+    ensures ended { (kept : List Kept) (ports : List ℕ) (input left before after : Option (List ℕ))
+        → MatchResult ran (λ seats. HasRun node kept seats.items input left before after)
+        (IsNodeFault node kept ports input left before after)
+        → HasEnded node kept ports input left before after result }
     ensures durable { IfOk result (λ _. K.kept keeper.now node) }
-    ensures port { IfErr ran (λ fault. (port : ℕ) → NamesPort fault port → ⊥)
-        → IfErr result (λ fault. (port : ℕ) → NamesPort fault port → ⊥) }
-    ensures kept { IfErr ran (λ fault. fault ≢ Close Memory)
-        → IfErr result (λ fault. fault ≢ Close Memory) }
+    ensures read { IsErrOf result (Engine Read) → IsErrOf ran (Engine Read) }
+    ensures bound { IsErrOf result (Engine Bound) → IsErrOf ran (Engine Bound) }
 {
     let seats = ran?;
     if !keeper.keep(rt, &node) {
         return Err(NodeFault::Engine(StreamFault::Write));
     }
-    closed(alloc, node, seats.as_slice())
+    match closed(alloc, node, seats.as_slice()) {
+        Ok(ended) => Ok(ended),
+        Err(stamp) => Err(NodeFault::Close(CloseFault::Mismatch(stamp))),
+    }
 }
 
 // Runs the threads of a node until the input of its desk ends, and hands all seats back.
@@ -210,11 +209,15 @@ where
     Out: Output,
     requires fresh { AreFresh context.now.node.now.seats seats.items }
     requires count { context.now.node.now.seats + 1 ≡ 2 * length context.now.node.now.keys.keys }
-    ensures ran { IfOk result (λ seats. HasRun context.now.node.now kept seats.items
+    ensures ran { MatchResult result
+        (λ seats. HasRun context.now.node.now kept seats.items
+        (In.remaining reader.old) (In.remaining reader.new)
+        (Out.contents writer.old) (Out.contents writer.new))
+        (IsNodeFault context.now.node.now kept config.now.ports.now
         (In.remaining reader.old) (In.remaining reader.new)
         (Out.contents writer.old) (Out.contents writer.new)) }
-    ensures port { IfErr result (λ fault. (port : ℕ) → NamesPort fault port → ⊥) }
-    ensures kept { IfErr result (λ fault. fault ≢ Close Memory) }
+    ensures counts { KeepsCounts (λ fault. Engine fault) In.call_count In.failure_count
+        In.remaining Out.failure_count reader.old reader.new writer.old writer.new result }
 {
     let NodeContext { rt, alloc, .. } = *context;
     let members = context.node.keys().members();
@@ -234,25 +237,36 @@ where
     running.run_all(kept, seats, reader, writer)
 }
 
-// The member of a node that no thread calls any more, if it is the node's own and no receipt was found that it doesn't
-// bear out.
+// The member of a node that no thread calls any more, or the stamp for which it isn't closed.
 fn closed<I: Instance + Drop, B: Settle + Drop, S: Beginning>(
     alloc: Global,
     node: Node<I, B, S>,
     seats: &[Seat],
-) -> Result<(Member<I, B>, Receipts), NodeFault>
-    ensures own { IfOk result (λ ended. IsOwn node ended.0) }
-    ensures closed { (kept : List Kept) (input left before after : Option (List ℕ))
+) -> Result<(Member<I, B>, Receipts), u16>
+    ensures { (kept : List Kept) (ports : List ℕ) (input left before after : Option (List ℕ))
         → HasRun node kept seats.now input left before after
-        → IfOk result (λ ended. ended.1 ≡ BorneOut
-        → IsClosed node kept ended.0 input left before after) }
-    ensures port { IfErr result (λ fault. (port : ℕ) → NamesPort fault port → ⊥) }
-    ensures kept { IfErr result (λ fault. fault ≢ Close Memory) }
+        → HasEnded node kept ports input left before after (as_fault result) }
 {
-    match node.stop().close(alloc, seats) {
+    let stopped = node.stop();
+    let uncounted = stopped.least_uncounted(seats);
+    ended(stopped.close(alloc, seats), uncounted)
+}
+
+// The same, by what closing found, and the stamp that is found without memory. A member that isn't known to be wrong is
+// handed back, judged or not.
+fn ended<I: Instance + Drop, B: Settle + Drop, S: Beginning>(
+    found: Result<Member<I, B>, (CloseFault, Stopped<I, B, S>)>,
+    uncounted: Option<u16>,
+) -> Result<(Member<I, B>, Receipts), u16>
+    ensures { result ≡ ended_by found uncounted }
+{
+    match found {
         Ok(member) => Ok((member, Receipts::BorneOut)),
-        Err((CloseFault::Memory, stopped)) => Ok((stopped.into_member(), Receipts::Unjudged)),
-        Err((fault, _)) => Err(NodeFault::Close(fault)),
+        Err((CloseFault::Mismatch(stamp), _)) => Err(stamp),
+        Err((CloseFault::Memory, stopped)) => match uncounted {
+            None => Ok((stopped.into_member(), Receipts::Unjudged)),
+            Some(stamp) => Err(stamp),
+        },
     }
 }
 
@@ -277,17 +291,23 @@ where
         requires fresh { AreFresh self.now.context.now.node.now.seats seats.items }
         requires count { self.now.context.now.node.now.seats + 1
             ≡ 2 * length self.now.context.now.node.now.keys.keys }
-        ensures ran { IfOk result (λ seats. HasRun self.now.context.now.node.now kept seats.items
+        ensures ran { MatchResult result
+            (λ seats. HasRun self.now.context.now.node.now kept seats.items
+            (In.remaining reader.old) (In.remaining reader.new)
+            (Out.contents writer.old) (Out.contents writer.new))
+            (IsNodeFault self.now.context.now.node.now kept self.now.config.now.ports.now
             (In.remaining reader.old) (In.remaining reader.new)
             (Out.contents writer.old) (Out.contents writer.new)) }
-        ensures port { IfErr result (λ fault. (port : ℕ) → NamesPort fault port → ⊥) }
-        ensures kept { IfErr result (λ fault. fault ≢ Close Memory) }
+        ensures counts { KeepsCounts (λ fault. Engine fault) In.call_count In.failure_count
+            In.remaining Out.failure_count reader.old reader.new writer.old writer.new result }
     {
         let keys = self.context.node.keys();
         let seats = seated(self.context.alloc, keys.own(), keys.members(), seats)?;
         let (seats, ended) = self.run(kept, seats, reader, writer);
-        ended?;
-        Ok(gathered(seats)?)
+        match ended {
+            Ok(()) => Ok(gathered(seats)?),
+            Err(fault) => Err(NodeFault::Engine(fault)),
+        }
     }
 
     // Answers the lines of the desk while the workers run. Where no thread can be made they run last, and end at once.
@@ -298,9 +318,13 @@ where
         reader: &mut In,
         writer: &mut Out,
     ) -> (Seats, Result<(), StreamFault>)
-        ensures { HasServed self.now.context.now.node.now kept seats.desk result.0.desk
+        ensures served { HasServed self.now.context.now.node.now kept seats.desk result.0.desk
             (In.remaining reader.old) (In.remaining reader.new)
             (Out.contents writer.old) (Out.contents writer.new) result.1 }
+        ensures counts { KeepsCounts itself In.call_count In.failure_count In.remaining
+            Out.failure_count reader.old reader.new writer.old writer.new result.1 }
+        ensures readers { EachGrows seats.readers.items result.0.readers.items }
+        ensures left { result.0.left.items ≡ seats.left.items }
     {
         let Seats {
             mut readers,
@@ -324,16 +348,20 @@ where
     }
 
     // Reads from all peers and answers those who connect, until told to stop.
-    fn work(&self, readers: &mut Vec<(u16, Asking)>, writers: &[(u16, Mutex<Seat>)]) {
-        thread::join(
+    fn work(&self, readers: &mut Vec<(u16, Asking)>, writers: &[(u16, Mutex<Seat>)])
+        ensures { EachGrows readers.old.items readers.new.items }
+    {
+        thread::join_mut(
             self.context.rt,
-            || self.write(writers),
-            || self.read(readers.as_mut_slice()),
+            &mut || self.write(writers),
+            &mut || self.read(readers),
         );
     }
 
     // Reads from all peers, each in a thread of its own.
-    fn read(&self, readers: &mut [(u16, Asking)]) {
+    fn read(&self, readers: &mut Vec<(u16, Asking)>)
+        ensures { EachGrows readers.old.items readers.new.items }
+    {
         let dialer = Dialer {
             rt: self.context.rt,
             ports: self.config.ports,
@@ -347,7 +375,7 @@ where
             self.contacts,
             self.config.dials,
             self.config.ahead,
-            readers,
+            readers.as_mut_slice(),
         );
     }
 
@@ -398,9 +426,11 @@ where
         reader: &mut In,
         writer: &mut Out,
     ) -> Result<(), StreamFault>
-        ensures { WritesAnswers TellerSays desk.old desk.new
+        ensures text { WritesAnswers TellerSays desk.old desk.new
             (In.remaining reader.old) (In.remaining reader.new)
             (Out.contents writer.old) (Out.contents writer.new) result }
+        ensures counts { KeepsCounts itself In.call_count In.failure_count In.remaining
+            Out.failure_count reader.old reader.new writer.old writer.new result }
     {
         let ended = run_desk(self.context.alloc, desk, reader, writer);
         self.stop_workers();
@@ -424,18 +454,20 @@ where
 fn seated(alloc: Global, own: u16, members: u16, seats: Vec<Seat>) -> Result<Seats, AllocError>
     requires own { own < members }
     requires count { length seats.items + 1 ≡ 2 * members }
-    ensures { IfOk result (λ seated. (others : List SeatFields)
+    requires fresh { All IsFresh seats.items }
+    ensures desk { IfOk result (λ seated. (others : List SeatFields)
         × (seats.items ≡ others ++ seated.desk ∷ [])) }
+    ensures peers { IfOk result (λ seated.
+        map (λ r. r.0) seated.readers.items ≡ others_below own members) }
+    ensures fresh { IfOk result (λ seated. All (λ r. IsFresh r.1.seat) seated.readers.items) }
+    ensures left { IfOk result (λ seated. seated.left.items ≡ []) }
 {
     let mut left = seats;
     let desk = last_of(&mut left);
     let mut readers = Vec::new(alloc);
     let mut writers = Vec::new(alloc);
     for peer in 0..members {
-        if peer != own {
-            readers.push((peer, Asking::new(last_of(&mut left))))?;
-            writers.push((peer, Mutex::new(last_of(&mut left))))?;
-        }
+        seat_peer(own, peer, &mut readers, &mut writers, &mut left)?;
     }
     Ok(Seats {
         readers,
@@ -443,6 +475,27 @@ fn seated(alloc: Global, own: u16, members: u16, seats: Vec<Seat>) -> Result<Sea
         desk,
         left,
     })
+}
+
+// Gives the reader of a peer and the writers to it a seat each, and none to the member itself.
+fn seat_peer(
+    own: u16,
+    peer: u16,
+    readers: &mut Vec<(u16, Asking)>,
+    writers: &mut Vec<(u16, Mutex<Seat>)>,
+    left: &mut Vec<Seat>,
+) -> Result<(), AllocError>
+    requires { peer ≢ own → 1 < length left.old.items }
+    ensures own { peer ≡ own → readers.new.items ≡ readers.old.items }
+    ensures none { peer ≡ own → left.new.items ≡ left.old.items }
+    ensures peer { OnOk result (peer ≢ own → SeatsOne peer readers.old.items
+        readers.new.items left.old.items left.new.items) }
+{
+    if peer != own {
+        readers.push((peer, Asking::new(last_of(left))))?;
+        writers.push((peer, Mutex::new(last_of(left))))?;
+    }
+    Ok(())
 }
 
 // The last of the seats that are left.
@@ -453,10 +506,11 @@ fn last_of(left: &mut Vec<Seat>) -> Seat
     left.remove(left.len() - 1)
 }
 
-// All seats in one list, the desk's at its end.
+// All seats in one list, the readers' first and the desk's at its end.
 fn gathered(seats: Seats) -> Result<Vec<Seat>, AllocError>
-    ensures { IfOk result (λ all. (others : List SeatFields)
-        × (all.items ≡ others ++ seats.desk ∷ [])) }
+    requires { seats.left.items ≡ [] }
+    ensures { IfOk result (λ all. (writers : List SeatFields)
+        × (all.items ≡ (map (λ r. r.1.seat) seats.readers.items ++ writers) ++ seats.desk ∷ [])) }
 {
     let Seats {
         readers,
@@ -471,7 +525,10 @@ fn gathered(seats: Seats) -> Result<Vec<Seat>, AllocError>
     Ok(all)
 }
 
-fn gather_readers(all: &mut Vec<Seat>, readers: Vec<(u16, Asking)>) -> Result<(), AllocError> {
+fn gather_readers(all: &mut Vec<Seat>, readers: Vec<(u16, Asking)>) -> Result<(), AllocError>
+    ensures { OnOk result
+        (all.new.items ≡ all.old.items ++ map (λ r. r.1.seat) readers.items) }
+{
     for (_, asking) in readers {
         let Asking { seat, window: _ } = asking;
         all.push(seat)?;
@@ -479,7 +536,9 @@ fn gather_readers(all: &mut Vec<Seat>, readers: Vec<(u16, Asking)>) -> Result<()
     Ok(())
 }
 
-fn gather_writers(all: &mut Vec<Seat>, writers: Vec<(u16, Mutex<Seat>)>) -> Result<(), AllocError> {
+fn gather_writers(all: &mut Vec<Seat>, writers: Vec<(u16, Mutex<Seat>)>) -> Result<(), AllocError>
+    ensures { OnOk result ((more : List SeatFields) × (all.new.items ≡ all.old.items ++ more)) }
+{
     for (_, seat) in writers {
         all.push(seat.into_inner())?;
     }

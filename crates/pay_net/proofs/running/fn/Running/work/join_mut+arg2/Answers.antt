@@ -1,5 +1,5 @@
 use denote.Param.Send.{param_send}
-use Rattle.pay_net.proofs.running.fn.Running.work.join+arg2.Goals as goal
+use Rattle.pay_net.proofs.running.fn.Running.work.join_mut+arg2.Goals as goal
 
 pub write-requires-send-I : goal.write-requires-send-I
 write-requires-send-I g c κs within = param_send _ _ c.requires.1.1.1.1.1.1.1.0
