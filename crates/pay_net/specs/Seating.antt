@@ -1,5 +1,5 @@
 -- How the seats of a node are given to its threads.
-use Rattle.std.specs.Prelude.{◌≡◌, ◌≢◌, ℕ, List, [], ◌∷◌, ◌++◌, map}
+use Rattle.std.specs.Prelude.{◌≡◌, ℕ, List, [], ◌∷◌, ◌++◌, map}
 use Rattle.std.specs.List.{All}
 use Rattle.pay_node.specs.Nodes.{fresh_seat}
 use Rattle.pay_node.specs.Seats.{SeatFields}

@@ -1,6 +1,5 @@
 -- WANTs of numbers in a row.
 use Rattle.std.proofs.Common.{◌≡◌, ℕ, ◌+◌, zero, suc, List, [], ◌∷◌, ◌++◌, sym, ap, ◌∙◌, arith, append-nil, append_assoc}
-use Rattle.std.specs.List.{flat_map}
 use Rattle.std.proofs.lemmas.Grind.{flat_map-append}
 use Rattle.pay_frame.specs.Frame.{frame_bytes}
 use Rattle.pay_link.specs.Keys.{KeyFields}

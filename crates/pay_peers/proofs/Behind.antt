@@ -1,9 +1,8 @@
 -- What is asked for behind an answer.
-use Rattle.std.proofs.Common.{◌≡◌, ◌⊎◌, inl, inr, ℕ, ◌+◌, ◌-◌, ◌^◌, ◌<◌, ◌≤◌, zero, suc, min, max, cond, ltb, Bool, true, false, List, [], ◌∷◌, length, get_or, Some, refl, sym, ap, ◌∙◌, subst, arith}
+use Rattle.std.proofs.Common.{◌≡◌, ◌⊎◌, inl, inr, ℕ, ◌+◌, ◌-◌, ◌^◌, ◌<◌, ◌≤◌, zero, suc, min, max, cond, ltb, true, false, [], ◌∷◌, length, get_or, Some, refl, ap, ◌∙◌, arith}
 use Rattle.std.specs.Prelude.{nat_le}
 use Rattle.std.specs.List.{All, AllPairs, Contains}
-use Rattle.std.proofs.lemmas.Bool.{cases_Bool, leb-true, leb-false, le-leb, ltb-true, ltb-false}
-use Rattle.std.proofs.Math.Nat.{max-eq_right, max-eq_left, le-max_left, le-max_right}
+use Rattle.std.proofs.lemmas.Bool.{cases_Bool, leb-true, leb-false, ltb-true, ltb-false}
 use Rattle.pay_peers.specs.declared.window.Window.{Window}
 use Rattle.pay_peers.specs.AheadLaws.{AsksEachOnce, IsUnderWay}
 use Rattle.pay_peers.specs.Window.{asked_behind, count_behind, due_behind, from_behind, moved, row_of}

@@ -1,5 +1,5 @@
 -- Asking ahead by one frame.
-use Rattle.std.proofs.Common.{◌≡◌, ℕ, ◌+◌, ◌-◌, ◌^◌, ◌<◌, ◌≤◌, cond, ltb, Bool, true, false, if◌then◌else◌, List, [], ◌∷◌, ◌++◌, Option, Some, None, Result, Ok, Err, refl, sym, ap, ◌∙◌, subst, arith, append-nil, length}
+use Rattle.std.proofs.Common.{◌≡◌, ℕ, ◌+◌, ◌-◌, ◌^◌, ◌<◌, ◌≤◌, cond, ltb, Bool, true, false, if◌then◌else◌, List, [], ◌∷◌, Option, Some, None, Result, Ok, Err, refl, sym, ap, ◌∙◌, subst, arith, append-nil, length}
 use Rattle.std.proofs.lemmas.Bool.{lt-ltb}
 use Rattle.std.specs.Option.{option_map}
 use Rattle.std.specs.Str.{bytes_eq}
@@ -9,12 +9,11 @@ use Rattle.pay_link.specs.Keys.{KeyFields, is_peer, key_for}
 use Rattle.pay_link.specs.Opening.{OpenedFields, judgement, opened_fields, right_tag}
 use Rattle.pay_link.specs.Sealing.{wanted}
 use Rattle.pay_link.specs.declared.link_fault.LinkFault.{LinkFault}
-use Rattle.pay_link.specs.declared.link_fault.LinkFault.TheVariants.{NotForMe, UnknownSender, UnknownOwner, BadTag, Repeat, Gap}
+use Rattle.pay_link.specs.declared.link_fault.LinkFault.TheVariants.{NotForMe, UnknownSender, UnknownOwner, BadTag}
 use Rattle.pay_member.specs.declared.incoming.Incoming.{Incoming}
 use Rattle.pay_member.specs.declared.incoming.Incoming.TheVariants.{Message, Want}
 use Rattle.pay_member.specs.declared.received.Received.{Received}
-use Rattle.pay_member.specs.declared.outcome.Outcome.{Outcome}
-use Rattle.pay_member.specs.declared.outcome.Outcome.TheVariants.{Took, Wanted, Frame, Link, WrongKey}
+use Rattle.pay_member.specs.declared.outcome.Outcome.TheVariants.{Link}
 use Rattle.pay_member.specs.declared.take_fault.TakeFault.{TakeFault}
 use Rattle.pay_member.specs.declared.take_fault.TakeFault.TheVariants as fault
 use Rattle.pay_member.specs.declared.took.Took.{Took as Reply}
@@ -22,9 +21,8 @@ use Rattle.pay_member.specs.Bringing.{incoming_at, incoming_of, is_want}
 use Rattle.pay_member.specs.Serving.{bytes_of}
 use Rattle.pay_node.specs.Nodes.{IsAnsweredAs, NodeFields, next_of, outcome_of}
 use Rattle.pay_node.specs.Seats.{SeatFields}
-use Rattle.pay_peers.specs.declared.asking.Asking.{Asking}
 use Rattle.pay_peers.specs.declared.window.Window.{Window}
-use Rattle.pay_peers.specs.Ahead.{IsFedAhead, next_told, wants}
+use Rattle.pay_peers.specs.Ahead.{next_told, wants}
 use Rattle.pay_peers.specs.AheadLaws.{AheadByOne, IsInOrder}
 use Rattle.pay_peers.specs.Window.{asked_behind, window_behind}
 use Rattle.pay_peers.proofs.Behind.{one_behind}

@@ -1,5 +1,5 @@
 -- A frame that was due and brought, and the WANTs behind its answer.
-use Rattle.std.proofs.Common.{◌≡◌, ℕ, List, [], Option, Some, None, refl, ap, ◌∙◌}
+use Rattle.std.proofs.Common.{◌≡◌, ℕ, [], Some, None, refl, ap, ◌∙◌}
 use Rattle.pay_frame.specs.Frame.{FrameFields}
 use Rattle.pay_member.specs.declared.received.Received.{Received}
 use Rattle.pay_node.specs.Nodes.{IsReceived, NodeFields}

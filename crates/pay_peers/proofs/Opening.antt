@@ -1,8 +1,8 @@
 -- A window opens by one with each frame that comes.
-use Rattle.std.proofs.Common.{◌≡◌, ◌⊎◌, inl, inr, ℕ, ◌+◌, ◌-◌, ◌^◌, ◌<◌, ◌≤◌, zero, suc, min, max, List, [], ◌∷◌, ◌++◌, Some, refl, sym, ap, ◌∙◌, subst, arith}
+use Rattle.std.proofs.Common.{◌≡◌, ◌⊎◌, inl, inr, ℕ, ◌+◌, ◌-◌, ◌^◌, ◌<◌, ◌≤◌, zero, suc, min, max, ◌∷◌, ◌++◌, Some, refl, sym, ap, ◌∙◌, arith}
 use Rattle.pay_peers.specs.declared.window.Window.{Window}
-use Rattle.pay_peers.specs.AheadLaws.{OpensByOne, asked_after, window_after}
-use Rattle.pay_peers.specs.Window.{asked_behind, count_behind, due_behind, first_window, from_behind, moved, row_of}
+use Rattle.pay_peers.specs.AheadLaws.{OpensByOne, window_after}
+use Rattle.pay_peers.specs.Window.{asked_behind, count_behind, due_behind, from_behind, row_of}
 use Rattle.pay_peers.proofs.Behind.{count_cases, due_cases, room}
 
 -- a row on from where another ends

@@ -1,9 +1,7 @@
 use Rattle.std.proofs.Common.{◌≡◌, List, ℕ, subst}
-use Rattle.pay_engine.specs.Handling.{Start}
 use Rattle.pay_peers.specs.declared.asking.Asking.{Asking}
 use Rattle.pay_peers.specs.Ahead.{HasFedAhead}
 use Rattle.pay_peers.specs.Feeding.{want_for_all}
-use Rattle.pay_peers.specs.Window.{first_window}
 use Rattle.pay_peers.proofs.Feedings.{first_is}
 use Rattle.pay_peers.proofs.reading_ahead.read_ahead.Goals as goal
 
