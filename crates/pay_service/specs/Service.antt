@@ -2,22 +2,23 @@
 use Rattle.std.specs.Prelude.{◌≡◌, ℕ, Bool, true, List, Option, Result, Ok, Err, IfSome}
 use Rattle.std.specs.Io.KnownBytes.{IsAtEnd}
 use Rattle.pay_io.specs.declared.stream_fault.StreamFault.{StreamFault}
+use Rattle.pay_text.specs.Answers.{Answers}
 use Rattle.pay_text.specs.Lines.{lines_within}
 use Rattle.pay_text.specs.Engine.{AnswersAll, AnswersFirst}
 use Rattle.pay_desk.specs.declared.command.TheConstants.{MOST_LINE}
 use Rattle.pay_desk.specs.declared.desk.Desk.{Desk}
 use Rattle.pay_desk.specs.Calls.{Call, TellerReply}
 use Rattle.pay_desk.specs.Desk.{DeskSays}
-use Rattle.pay_desk.specs.Laws.{KeepsAll}
 
--- A desk of this group and account. It keeps just what was broadcast since its member began,
--- whichever client asked for it: these values before its teller was made, and the others through
--- that; each value under an id of its own.
-pub record IsServiceDesk {T : Type 0} (asked : T → List (List ℕ)) (accounts own : ℕ)
-    (before : List (List ℕ)) (desk : Desk T) : Type 0 where
-  pub group : desk.accounts ≡ accounts
-  pub account : desk.own ≡ own
-  pub keeps : KeepsAll asked before desk
+-- What some lines, each answered, made of the desk with which the service began: whichever client
+-- sent each.
+pub record IsServiceDesk {T : Type 0} (says : T → Call → TellerReply → T → Type 0)
+    (Begins : Desk T → Type 0) (desk : Desk T) : Type 0 where
+  pub first : Desk T
+  pub begins : Begins first
+  pub lines : List (Option (List ℕ))
+  pub text : List ℕ
+  pub answered : Answers (DeskSays says) first lines text true desk
 
 -- What a client is answered to a line: what some desk of the service answers, which is one of the
 -- service after it too.

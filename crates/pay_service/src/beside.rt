@@ -26,16 +26,16 @@ pub fn serve_two<R, T, S, In, Out, In2, Out2>(
 where
     R: Threads + Wait + Sync,
     T: Teller + Drop + Send,
-    S: Service + Send,
+    S: Service<T> + Send,
     In: Input + Send,
     Out: Output + Send,
     In2: Input,
     Out2: Output,
     ensures first { WritesClientsAnswers T.says
-        (IsServiceDesk T.asked S.accounts S.own S.before) (In.remaining reader.old)
+        (IsServiceDesk T.says S.begins) (In.remaining reader.old)
         (In.remaining reader.new) (Out.contents writer.old) (Out.contents writer.new) result.0 }
     ensures second { WritesClientsAnswers T.says
-        (IsServiceDesk T.asked S.accounts S.own S.before) (In2.remaining other_reader.old)
+        (IsServiceDesk T.says S.begins) (In2.remaining other_reader.old)
         (In2.remaining other_reader.new) (Out2.contents other_writer.old)
         (Out2.contents other_writer.new) result.1 }
 {

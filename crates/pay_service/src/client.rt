@@ -12,16 +12,16 @@ use std::sync::Wait;
 
 // One client of a desk.
 #[derive(Drop)]
-struct Client<'a, R, T: Teller + Drop, S: Service> {
+struct Client<'a, R, T: Teller + Drop, S: Service<T>> {
     rt: &'a R,
     desk: &'a SharedDesk<T, S>,
 }
 
-impl<R: Wait, T: Teller + Drop, S: Service> Answerer for Client<'_, R, T, S> {
+impl<R: Wait, T: Teller + Drop, S: Service<T>> Answerer for Client<'_, R, T, S> {
     // Each line is answered by the desk as it stands then, whatever lines of other clients came
     // before.
     ghost says = { λ old line text on new. ClientSays T.says
-        (IsServiceDesk T.asked S.accounts S.own S.before) line text on };
+        (IsServiceDesk T.says S.begins) line text on };
 
     ghost gives_up = { λ old new. new ≡ old };
 
@@ -46,11 +46,11 @@ pub fn serve_client<R, T, S, In, Out>(
 where
     R: Wait,
     T: Teller + Drop,
-    S: Service,
+    S: Service<T>,
     In: Input,
     Out: Output,
     ensures text { WritesClientsAnswers T.says
-        (IsServiceDesk T.asked S.accounts S.own S.before) (In.remaining reader.old)
+        (IsServiceDesk T.says S.begins) (In.remaining reader.old)
         (In.remaining reader.new) (Out.contents writer.old) (Out.contents writer.new) result }
     ensures counts { KeepsCounts itself In.call_count In.failure_count In.remaining
         Out.failure_count reader.old reader.new writer.old writer.new result }

@@ -1,25 +1,16 @@
-ghost use Rattle.std.specs.Prelude.{ℕ, List, []};
-
+use pay_desk::Teller;
 use std::marker::Brand;
 
-/// What is the same of a service's desk whoever locks it. Who starts the service picks it, so that
-/// the type of what lies under the lock can name it.
-pub trait Service {
-    // How many accounts there are.
-    ghost accounts: { ℕ };
+/// The desk with which a service begins. Who starts the service picks it, so that the type of what
+/// lies under the lock can name it.
+pub trait Service<T: Teller> {
+    ghost use Rattle.pay_desk.specs.declared.desk.Desk.{Desk};
 
-    // The own account.
-    ghost own: { ℕ };
-
-    // The values that were broadcast since the member began, before the desk's teller was made.
-    ghost before: { List (List ℕ) };
+    // Whether this is that desk.
+    ghost begins: { Desk T → Type 0 };
 }
 
 /// It is picked where a service is started.
-impl Service for Brand {
-    ghost accounts = { 0 };
-
-    ghost own = { 0 };
-
-    ghost before = { [] };
+impl<T: Teller> Service<T> for Brand {
+    ghost begins = { λ desk. ⊥ };
 }

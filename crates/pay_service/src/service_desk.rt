@@ -5,19 +5,19 @@ ghost use Rattle.pay_desk.specs.Desk.{DeskSays};
 ghost use Rattle.pay_service.specs.Service.{IsServiceDesk};
 
 use crate::service::Service;
-use pay_desk::{Desk, Teller, a_desk_asks_once};
+use pay_desk::{Desk, Teller};
 use pay_text::{Answer, Answerer};
 use std::alloc::{AllocError, Global};
 use std::marker::{Model, PhantomData};
 
 /// What lies under the lock: a desk of the service.
 #[derive(Drop)]
-pub(crate) struct ServiceDesk<T: Teller + Drop, S: Service> {
+pub(crate) struct ServiceDesk<T: Teller + Drop, S: Service<T>> {
     desk: Desk<T>,
     of: PhantomData<S>,
 }
 
-impl<T: Teller + Drop, S: Service> Model for ServiceDesk<T, S> {
+impl<T: Teller + Drop, S: Service<T>> Model for ServiceDesk<T, S> {
     ghost use Rattle.pay_desk.specs.declared.desk.Desk.{Desk};
     ghost use Rattle.pay_service.specs.Service.{IsServiceDesk};
 
@@ -25,12 +25,12 @@ impl<T: Teller + Drop, S: Service> Model for ServiceDesk<T, S> {
 
     ghost view = { λ s. s.desk };
 
-    ghost invariant = { λ s. IsServiceDesk T.asked S.accounts S.own S.before s.desk };
+    ghost invariant = { λ s. IsServiceDesk T.says S.begins s.desk };
 }
 
-impl<T: Teller + Drop, S: Service> ServiceDesk<T, S> {
+impl<T: Teller + Drop, S: Service<T>> ServiceDesk<T, S> {
     pub(crate) fn new(desk: Desk<T>) -> ServiceDesk<T, S>
-        requires { IsServiceDesk T.asked S.accounts S.own S.before desk }
+        requires { S.begins desk }
         ensures { result ≡ desk }
     {
         ServiceDesk {
@@ -41,7 +41,7 @@ impl<T: Teller + Drop, S: Service> ServiceDesk<T, S> {
 
     pub(crate) fn into_desk(self) -> Desk<T>
         ensures value { result ≡ self }
-        ensures is { IsServiceDesk T.asked S.accounts S.own S.before result }
+        ensures is { IsServiceDesk T.says S.begins result }
     {
         self.desk
     }
@@ -52,13 +52,12 @@ impl<T: Teller + Drop, S: Service> ServiceDesk<T, S> {
         alloc: Global,
         line: Option<&[u8]>,
     ) -> Result<Answer, AllocError>
-        ensures was { IsServiceDesk T.asked S.accounts S.own S.before self.old }
+        ensures was { IsServiceDesk T.says S.begins self.old }
         ensures answer { IfOk result (λ answer. DeskSays T.says self.old
             (option_copied line.entry) (bytes_of answer.text) answer.goes_on self.new) }
         ensures err { OnErr result (self.new ≡ self.old) }
-        ensures is { IsServiceDesk T.asked S.accounts S.own S.before self.new }
+        ensures is { IsServiceDesk T.says S.begins self.new }
     {
-        a_desk_asks_once::<T>();
         self.desk.answer(alloc, line)
     }
 }

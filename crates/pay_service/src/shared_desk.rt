@@ -7,14 +7,14 @@ use std::sync::Mutex;
 
 /// A desk that several threads use, each for one line at a time.
 #[derive(Drop)]
-pub struct SharedDesk<T: Teller + Drop, S: Service> {
+pub struct SharedDesk<T: Teller + Drop, S: Service<T>> {
     pub(crate) desk: Mutex<ServiceDesk<T, S>>,
 }
 
-impl<T: Teller + Drop, S: Service> SharedDesk<T, S> {
-    /// Shares a desk that keeps all that was broadcast since its member began.
+impl<T: Teller + Drop, S: Service<T>> SharedDesk<T, S> {
+    /// Shares the desk with which the service begins.
     pub fn new(desk: Desk<T>) -> SharedDesk<T, S>
-        requires { IsServiceDesk T.asked S.accounts S.own S.before desk }
+        requires { S.begins desk }
     {
         SharedDesk {
             desk: Mutex::new(ServiceDesk::new(desk)),
@@ -23,7 +23,7 @@ impl<T: Teller + Drop, S: Service> SharedDesk<T, S> {
 
     /// The desk, once no client uses it any more.
     pub fn into_desk(self) -> Desk<T>
-        ensures { IsServiceDesk T.asked S.accounts S.own S.before result }
+        ensures { IsServiceDesk T.says S.begins result }
     {
         self.desk.into_inner().into_desk()
     }

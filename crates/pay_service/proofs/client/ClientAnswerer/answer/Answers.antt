@@ -4,5 +4,5 @@ use Rattle.pay_service.proofs.client.ClientAnswerer.answer.Goals as goal
 
 pub returns-clause-ok : goal.returns-clause-ok
 returns-clause-ok g c =
-    client_said g.T.Teller.says (IsServiceDesk g.T.Teller.asked g.S.Service.accounts g.S.Service.own g.S.Service.before) c.answer.result _ _ _
+    client_said g.T.Teller.says (IsServiceDesk g.T.Teller.says g.S.Service.begins) c.answer.result _ _ _
     c.answer.ensures.was c.answer.ensures.answer c.answer.ensures.is
