@@ -57,7 +57,7 @@ pub all_taken :
     (record_of : R → LoggedFields → List ℕ) (IsLoggable : R → LoggedFields → Type 0)
     → ((a b : S) (p : List ℕ) → takes a b p → records b ≡ records a)
     → ((a b : S) (p : List ℕ) → takes a b p
-        → HasTaken (record_of (records a)) (IsLoggable (records a)) (member a) (member b) (ids a) (ids b) p)
+    → HasTaken (record_of (records a)) (IsLoggable (records a)) (member a) (member b) (ids a) (ids b) p)
     → TakesAll takes old new ps
     → HasTaken (record_of (records old)) (IsLoggable (records old)) (member old) (member new) (ids old) (ids new) (flat_map (λ p. p) ps)
 all_taken new old [] takes member ids records record_of IsLoggable stay one same =

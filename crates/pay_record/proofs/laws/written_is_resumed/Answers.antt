@@ -47,7 +47,7 @@ resumed law reading k key header file kept further was m ids qs log found (inl w
 resumed law reading k key header file kept further was m ids qs log found (inr (inl with)) =
     let same : was.ps ++ flat_map record_of further ∷ [] ≡ qs = reading key header file (was.ps ++ flat_map record_of further ∷ []) qs with log in
     inr (inl (same_entries law k m ids qs (kept ++ further) (All-append (IsLoggable k) kept further was.loggable was.others) found
-        (both kept further was.ps was.acknowledged ∙ ap (λ (ps : List (List ℕ)). joined ps) same)))
+    (both kept further was.ps was.acknowledged ∙ ap (λ (ps : List (List ℕ)). joined ps) same)))
 resumed law reading k key header file kept further was m ids qs log found (inr (inr stray)) = inr (inr stray)
 
 pub returns : goal.returns
