@@ -11,6 +11,7 @@ import tempfile
 import threading
 
 import group_model
+from frames import payment
 from nodes import Node, free_ports, until, write_json
 from peers import ended
 from runs import SECONDS, TOP, same, test
@@ -212,6 +213,79 @@ def a_secret_of_nobody_has_no_keys():
         same(tool(folder, "keys", "group.json", "other.secret"), (1, "", none), "the keys of another's secret")
         no = "tools/group: group.json: it is no secret that 'new' wrote\n"
         same(tool(folder, "keys", "group.json", "group.json"), (1, "", no), "keys of what is no secret")
+
+
+# ---- the next group
+
+# What the members of the group that `set_up` makes export: 0 has paid 30 to 1, and 3 waits for 10 more. Member 2 alone
+# lists a payment of 5 to itself.
+PAID, WAITS, CLAIM = (payment(payee=payee, amount=amount).hex() for payee, amount in ((1, 30), (0, 60), (2, 5)))
+SETTLED = {"members": MEMBERS, "faults": 1, "opening": [100, 0, 0, 50], "front": [1, 0, 0, 0]}
+SETTLED.update(lists=[[PAID], [], [], [WAITS]], balances=[70, 30, 0, 50])
+
+
+def put_exports(folder, own):
+    for member in own:
+        given = {**SETTLED, "member": member}
+        if member == 2:
+            given["lists"] = [[PAID], [], [], [WAITS, CLAIM]]
+        write_json(folder, f"export-{member}", given)
+    return [f"export-{member}" for member in own]
+
+
+@test
+def the_next_group_opens_with_the_balances_of_the_book():
+    with set_up() as folder:
+        group = json.loads(read(folder, "group.json"))
+        status, text, errors = tool(folder, "next", "group.json", *put_exports(folder, (0, 2, 3)))
+        told = "not settled, by the old numbers: "
+        lines = ["waits account 3 entry 0 seq 0 to 0 amount 60 short 10", "beyond 1 account 3 seq 1"]
+        same((status, errors), (0, "".join(f"{told}{line}\n" for line in lines)), "what is told")
+        put(folder, "next.json", text)
+        after = json.loads(text)
+        wanted = {**group, "opening": [70, 30, 0, 50], "group": after["group"]}
+        same(after, wanted, "all but openings and `group` stays")
+        same(after["group"] != group["group"], True, "`group` is another one")
+        keys = [json.loads(does(folder, "keys", name, "0.secret"))["keys"] for name in ("group.json", "next.json")]
+        same(set(keys[0]) & set(keys[1]), {""}, "keys that both groups have")
+
+
+@test
+def a_member_that_leaves_gives_its_balance_to_an_heir():
+    with set_up() as folder:
+        named = {**json.loads(read(folder, "group.json")), "names": ["Ann", "Bob", "Cy", "Di"]}
+        put(folder, "named.json", json.dumps(named))
+        exports = put_exports(folder, (0, 1))
+        words = ["--leaves", "0:1", "--faults", "0", "named.json", *exports]
+        status, text, errors = tool(folder, "next", *words)
+        after = json.loads(text)
+        told = (status, after["members"], after["opening"], after["names"])
+        same(told, (0, 3, [100, 0, 50], named["names"][1:]), "who is in the next group")
+        same((after["public"], after["ports"]), (named["public"][1:], named["ports"][1:]), "of those that stay")
+        lines = ["member 0 leaves: its balance goes to member 1"]
+        lines += [f"member {it} is member {it - 1} now" for it in (1, 2, 3)]
+        same(errors.splitlines()[:4], lines, "what is told")
+
+
+@test
+def no_next_group():
+    with set_up() as folder:
+        exports = put_exports(folder, (0, 1))
+        other = {**json.loads(read(folder, "group.json")), "opening": [101, 0, 0, 50]}
+        put(folder, "other.json", json.dumps(other))
+        for words, why in (
+            (["group.json", exports[0]], "these exports have no book: 6 few 1"),
+            (["group.json", exports[0], "gone"], "these exports have no book: payd: file gone"),
+            (["other.json", *exports], "these exports are of another group than other.json"),
+            (["--leaves", "0:4", "group.json", *exports], "there is no member 4"),
+            (
+                ["--leaves", "0:1", "--leaves", "1:2", "group.json", *exports],
+                "member 1, who is to get the balance of member 0, leaves too",
+            ),
+            (["--leaves", "0:1", "--leaves", "0:2", "group.json", *exports], "a member leaves twice"),
+            (["--leaves", "0:1", "group.json", *exports], "faults has to be fewer than a third of the members"),
+        ):
+            same(tool(folder, "next", *words), (1, "", f"tools/group: {why}\n"), f"{words}")
 
 
 # ---- nodes

@@ -53,7 +53,7 @@ def manual_and_completions():
         subprocess.run([INSTALL, prefix], check=True, capture_output=True, timeout=SECONDS)
         with open(os.path.join(prefix, "share", "man", "man1", "payd.1"), encoding="ascii") as page:
             text = page.read()
-        for command in ("CHECK", "SIM", "DESK", "NODE", "EXPORT", "AUDIT", "STATEMENT", "JOURNAL"):
+        for command in ("CHECK", "SIM", "DESK", "NODE", "EXPORT", "AUDIT", "BOOK", "STATEMENT", "JOURNAL"):
             same(text.count(f".SH {command}\n"), 1, f"the manual page on {command}")
         script = os.path.join(prefix, "share", "bash-completion", "completions", "payd")
         write_json(folder, "my keys.json", {})
@@ -86,7 +86,7 @@ def completions_for_each_shell():
         for shell, place in COMPLETIONS.items():
             with open(os.path.join(folder, place), encoding="ascii") as file:
                 words = set(re.findall(r"[a-z]+", file.read()))
-            wanted = "check sim desk node export audit statement journal genesis keys ports dials ahead data stay"
+            wanted = "check sim desk node export audit book statement journal genesis keys ports dials ahead data stay"
             same(set(wanted.split()) - words, set(), f"words that the completions for {shell} lack")
 
 

@@ -10,6 +10,7 @@ import tempfile
 import xml.etree.ElementTree as xml
 
 import audits
+import group_books
 from audits import FORKED, FRESH, PAID, PAID_ON, TWO_ENTRIES, WORKED
 from frames import payment, payments
 from runs import SECONDS, TOP, UNWRITTEN, run_to_nobody, same, test
@@ -124,14 +125,57 @@ def pages_as_the_model_has_them():
 
 @test
 def pages_of_groups():
-    """The verdict is that of all, and the book shown is that of the export with the most settled entries."""
+    """The verdict is that of all. The group's book is shown, or that of the export with the most settled entries."""
     for _, exports, line in audits.ROWS:
         page = Page(exports)
         same(page.said("h1"), [f"Audit: {line}"], f"the verdict of {exports}")
         counts = [sum(audits.largest_front(it)) for it in exports]
         rows = [(k, f"{k}.json", it["member"], counts[k]) for k, it in enumerate(exports)]
         same(page.rows("exports"), rows, f"the exports of {exports}")
-        agrees(page, exports[counts.index(max(counts))])
+        has_book = group_books.fault_of(exports) is None
+        agrees(page, group_books.book_of(exports) if has_book else exports[counts.index(max(counts))])
+
+
+@test
+def claims_of_single_exports():
+    """A payment that one export adds isn't settled on the page, though the audit is clean."""
+    forged = [[], [], [], [payment(payee=0, amount=5).hex(), payment(payee=1, amount=45).hex(), ""]]
+    forger = {**PAID, "lists": forged, "front": [0, 0, 0, 3], "balances": [5, 45, 0, 0], "member": 3}
+    page = Page([PAID, FRESH, forger])
+    same(page.said("h1"), ["Audit: clean"], "the audit")
+    same(any("may be made up all the same" in it for it in page.said("p")), True, "what clean means")
+    agrees(page, PAID)
+    same(page.rows("claims"), [(2, 3, 1, "45 to account 1", "none", 1)], "what export 2 adds")
+    same(any("what at least 2 of the exports have" in it for it in page.said("p")), True, "what is shown")
+    page = Page([PAID, FRESH])
+    agrees(page, FRESH)
+    same(page.rows("claims"), [(0, 3, 0, "5 to account 0", "none", 0)], "what one of two has")
+
+
+@test
+def both_payments_of_a_fork():
+    page = Page([PAID, FORKED, {**PAID, "member": 3}])
+    meaning = (
+        "Exports 0 and 1 have different payments of account 3 at seq 0: export 0 pays 5 to account 0 (2 exports),"
+        " export 1 5 to account 1 (1 export)."
+    )
+    same(meaning in page.said("p"), True, "both payments")
+    same(page.rows("claims"), [(1, 3, 0, "5 to account 1", "5 to account 0", 0)], "what export 1 has")
+
+
+@test
+def pages_without_a_book():
+    for exports, why in (
+        ([PAID], "There is no book of the group: there are no more exports, 1, than members may lie."),
+        ([PAID, PAID], "There is no book of the group: exports 0 and 1 are of one member."),
+        (
+            [PAID, {**PAID, "member": 1}, FORKED, {**FORKED, "member": 3}],
+            "two payments of account 3 at seq 0 are each in more exports than members may lie.",
+        ),
+    ):
+        page = Page(exports)
+        same(any(it.endswith(why) for it in page.said("p")), True, why)
+        same(page.rows("claims"), [], "claims")
 
 
 @test

@@ -8,7 +8,7 @@ use Rattle.clap.specs.declared.builder.action.ArgAction.TheVariants.{Append, Set
 use Rattle.clap.specs.declared.builder.Command.{Command}
 use Rattle.clap.specs.declared.builder.command.Command.TheViews.{out-Command}
 use Rattle.payd.specs.declared.words.Job.{Job}
-use Rattle.payd.specs.declared.words.Job.TheVariants.{Check, Desk, Node, Export, Audit, Statement, Journal, Sim}
+use Rattle.payd.specs.declared.words.Job.TheVariants.{Check, Desk, Node, Export, Audit, Book, Statement, Journal, Sim}
 
 -- an option that takes a word
 abbrev pub option_rule : Text → Rule
@@ -64,6 +64,13 @@ files_rule = record (new_rule (codes "files")) { required = true; action = Some 
 abbrev pub audit_app : App
 audit_app = with_rule (with_rule (new_app (codes "audit")) files_rule) (option_rule (codes "jobs"))
 
+-- `book`, which takes files, and is written as a genesis or as an export where that is asked for
+abbrev pub book_app : App
+book_app =
+    with_rule
+    (with_rule (with_rule (new_app (codes "book")) files_rule) (flag_rule (codes "genesis")))
+    (flag_rule (codes "export"))
+
 -- the name of a file with an export
 abbrev pub export_rule : Rule
 export_rule = record (new_rule (codes "export")) { required = true; value_names = 1 }
@@ -98,9 +105,11 @@ payd_app =
     (with_subcommand
     (with_subcommand
     (with_subcommand
+    (with_subcommand
     (with_subcommand (with_subcommand (with_subcommand payd_alone check_app.top) desk_app.top) node_app.top)
     export_app.top)
     audit_app.top)
+    book_app.top)
     statement_app.top)
     journal_app.top)
     sim_app.top
@@ -116,13 +125,15 @@ pub record IsArgument (o : Arg) (r : Rule) : Type 0 where
   pub global : o.global ≡ false
 
 -- a command, and what it is given: the names of files and of a folder, an account, a date, and the words that say the
--- threads of a check or an audit, and of a node its dials, how many frames it asks for ahead, and whether it stays
+-- threads of a check or an audit, how a book is written, and of a node its dials, how many frames it asks for ahead, and
+-- whether it stays
 pub data Asked : Type 0 where
   check : Option Text → Option Text → Option Text → Asked
   desk : Text → Text → Asked
   node : Text → Text → Text → Option Text → Option Text → Option Text → Bool → Asked
   exported : Text → Text → Text → Asked
   audit : List Text → Option Text → Asked
+  book : List Text → Bool → Bool → Asked
   statement : Text → Option Text → Asked
   journal : Text → Option Text → Asked
   sim : Asked
@@ -139,6 +150,7 @@ asked (Node words) =
 asked (Export genesis keys folder) = exported genesis.now keys.now folder.now
 asked (Audit files jobs) =
     audit (map (λ name. name.now) files.items) (option_map (λ word. word.now) jobs)
+asked (Book files as_genesis as_export) = book (map (λ name. name.now) files.items) as_genesis as_export
 asked (Statement export account) = statement export.now (option_map (λ word. word.now) account)
 asked (Journal export date) = journal export.now (option_map (λ word. word.now) date)
 asked Sim = sim
@@ -174,6 +186,9 @@ files_of rows = unwrap_or (all_of (codes "files") rows) []
 abbrev pub audit_asked : List Row → Asked
 audit_asked rows = audit (files_of rows) (first_of (codes "jobs") rows)
 
+abbrev pub book_asked : List Row → Asked
+book_asked rows = book (files_of rows) (is_set (codes "genesis") rows) (is_set (codes "export") rows)
+
 abbrev pub statement_asked : List Row → Asked
 statement_asked rows = statement (named (codes "export") rows) (first_of (codes "account") rows)
 
@@ -186,6 +201,7 @@ asked_of name rows =
     else if bytes_eq name (codes "node") then node_asked rows
     else if bytes_eq name (codes "export") then export_asked rows
     else if bytes_eq name (codes "audit") then audit_asked rows
+    else if bytes_eq name (codes "book") then book_asked rows
     else if bytes_eq name (codes "statement") then statement_asked rows
     else if bytes_eq name (codes "journal") then journal_asked rows
     else if bytes_eq name (codes "sim") then sim

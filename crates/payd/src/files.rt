@@ -2,6 +2,7 @@
 //! jobs: of these `batches` reads and judges as many side by side.
 
 ghost use Rattle.std.specs.Prelude.{◌≡◌, ◌+◌, ◌≤◌, ℕ, List, IfErr, IfOk, IfSome, map, take};
+ghost use Rattle.std.specs.List.{AllZip};
 ghost use Rattle.std.specs.Option.{option_map};
 ghost use Rattle.pay_link.specs.Keys.{IsKeysOf};
 ghost use Rattle.payd.specs.Files.{AreKeysIn, IsExportOf, IsExportStop, IsExportsStop, IsGenesisOf};
@@ -129,6 +130,25 @@ pub(crate) fn verdict_on<'a, F: NamedFiles>(
         auditor = auditor.take(alloc, export)?;
     }
     Ok(auditor.verdict())
+}
+
+/// The exports in the files of these names, in their order. All are in memory at once.
+pub(crate) fn exports_of<'a, F: NamedFiles>(
+    alloc: Global,
+    files: &F,
+    names: &[&'a str],
+) -> Result<Vec<Export>, Stop<'a>>
+    ensures read { IfOk result (λ exports. AllZip (IsExportOf (F.holds files.now))
+        (map (λ name. name.now) names.now) exports.items) }
+    ensures stop { IfErr result (IsExportsStop (F.holds files.now)
+        (map (λ name. name.now) names.now)) }
+{
+    let mut exports = Vec::new(alloc);
+    for name in names {
+        let export = export_of(alloc, files, name)?;
+        exports.push(export)?;
+    }
+    Ok(exports)
 }
 
 /// The export in the file of this name.

@@ -133,6 +133,36 @@ the write fails.
 
 Example: payd audit member-0.json member-1.json";
 
+pub(crate) const BOOK_ABOUT: &str =
+    "Reads exports of a group's members and writes what more of them have than may lie";
+
+pub(crate) const BOOK_HELP: &str = "\
+Input: a file of JSON for each export, of different members and more of them than may lie: f + 1 or more.
+
+Output: the book of the group. Its list of an account is the longest list with which at least f + 1 of the
+exports begin: where f members lie at most, a correct member has it. Exports are named by their places
+from 0.
+  account A settled E balance B                          for each account
+  waits account A entry E seq S to PAYEE amount AMOUNT   what isn't settled, the first of an account
+                                                         with short D: what its balance lacks
+  waits account A entry E seq S void                     one that moves nothing
+  differs X account A seq S                              X has another value there than the book
+  beyond X account A seq S                               X goes on there, where the book ends
+  total T                                                all balances
+Or one line, where there is no book: the first of these that there is.
+  1 genesis X                 X begins otherwise than export 0
+  5 twice X Y                 X and Y are of one member
+  6 few K                     K exports are no more than members may lie
+  7 split account A seq S     two values there have f + 1 exports each: more than f members lie
+
+  --genesis   in place of the lines the genesis of the next group: each account opens with its balance
+  --export    in place of the lines the book as an export of the first one's member
+
+Status: 0 for a book, 1 where there is none, 2 for words or a file that can't be read, 3 where memory or
+the write fails.
+
+Example: payd book member-0.json member-1.json member-2.json";
+
 pub(crate) const STATEMENT_ABOUT: &str =
     "Reads an export of a member and writes the statement of an account, or of each";
 

@@ -46,7 +46,7 @@ use std::thread::Threads;
 use std::time::Clock;
 use std::{env, io};
 use stop::Stop;
-use texts::statement_said;
+use texts::{book_over, form_of, statement_said};
 use words::{Job, job_of};
 
 /// A member, in the forms of its parts that the program runs.
@@ -78,6 +78,16 @@ fn main(rt: HostRuntime) -> ExitCode {
         Ok(Job::Audit { files, jobs }) => {
             status_of_audit(&rt, audit(alloc, &rt, &rt, files.as_slice(), jobs))
         }
+        Ok(
+            Job::Book {
+                files,
+                as_genesis,
+                as_export,
+            },
+        ) => status_of_book(
+            &rt,
+            book(alloc, &rt, files.as_slice(), as_genesis, as_export),
+        ),
         Ok(Job::Statement { export, account }) => {
             status_of(&rt, statement(alloc, &rt, export, account))
         }
@@ -178,6 +188,21 @@ fn audit<'a>(
     Ok(verdict)
 }
 
+/// Writes the book of the group by the exports in the files of these names, and says whether there is one.
+fn book<'a>(
+    alloc: Global,
+    rt: &(impl Files + Print),
+    names: &[&'a str],
+    as_genesis: bool,
+    as_export: bool,
+) -> Result<bool, Stop<'a>> {
+    let form = form_of(as_genesis, as_export)?;
+    let said = book_over(alloc, rt, names, form)?;
+    let is_book = said.is_book;
+    print_text(rt, said.text)?;
+    Ok(is_book)
+}
+
 /// Writes the statement of an account, or those of all, by the export in this file.
 fn statement<'a>(
     alloc: Global,
@@ -265,6 +290,15 @@ fn status_of_audit(rt: &impl Eprint, ended: Result<Verdict, Stop>) -> ExitCode {
     match ended {
         Ok(Verdict::Clean) => ExitCode::SUCCESS,
         Ok(_) => ExitCode::from(1),
+        Err(stop) => status_of(rt, Err(stop)),
+    }
+}
+
+/// Where there is no book its line says why.
+fn status_of_book(rt: &impl Eprint, ended: Result<bool, Stop>) -> ExitCode {
+    match ended {
+        Ok(true) => ExitCode::SUCCESS,
+        Ok(false) => ExitCode::from(1),
         Err(stop) => status_of(rt, Err(stop)),
     }
 }

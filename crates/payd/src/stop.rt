@@ -11,7 +11,7 @@ use pay_link::{GenesisFault, KeysFault};
 use pay_log::LogFault;
 use pay_net::{NodeFault, PortsFault};
 use pay_node::CloseFault;
-use std::alloc::AllocError;
+use std::alloc::{AllocError, AllocFailed};
 use std::fmt;
 use thiserror::Error;
 
@@ -51,6 +51,9 @@ pub(crate) enum Stop<'a> {
     /// This word says no count of threads.
     #[error("jobs {0}: no count from 1 to 8")]
     Jobs(&'a str),
+    /// A book is to be written in two ways.
+    #[error("book: --genesis or --export, and not both")]
+    Forms,
     /// This word names no account of the export.
     #[error("account {0}")]
     Account(&'a str),
@@ -145,6 +148,14 @@ impl<'a> From<AllocError> for Stop<'a> {
     }
 }
 
+impl<'a, T: Drop> From<AllocFailed<T>> for Stop<'a> {
+    ghost from_gives = { λ _ stop. stop ≡ Engine Memory };
+
+    fn from(_: AllocFailed<T>) -> Stop<'a> {
+        Stop::Engine(EngineFault::Memory)
+    }
+}
+
 impl Stop<'_> {
     /// The status with which the program ends.
     pub(crate) fn status(&self) -> u8 {
@@ -169,6 +180,7 @@ impl Stop<'_> {
             | Stop::Dials(_)
             | Stop::Ahead(_)
             | Stop::Jobs(_)
+            | Stop::Forms
             | Stop::Account(_)
             | Stop::Date(_) => 2,
         }

@@ -3,7 +3,8 @@ ghost use Rattle.clap.specs.Words.{AddsSubcommand, FailsBy, fault_of, first_of, 
 ghost use Rattle.clap.specs.Words.{subcommand_of, subcommand_rows_of};
 ghost use Rattle.payd.specs.Job.{IsArgument, IsCommand, account_rule, asked, asked_by, asked_in};
 ghost use Rattle.payd.specs.Job.{asked_of};
-ghost use Rattle.payd.specs.Job.{audit_app, audit_asked, check_app, check_asked, desk_app};
+ghost use Rattle.payd.specs.Job.{audit_app, audit_asked, book_app, book_asked, check_app};
+ghost use Rattle.payd.specs.Job.{check_asked, desk_app};
 ghost use Rattle.payd.specs.Job.{desk_asked, export_app, export_asked, export_rule, files_of};
 ghost use Rattle.payd.specs.Job.{files_rule, flag_rule, is_set, journal_app};
 ghost use Rattle.payd.specs.Job.{journal_asked, named, node_app, node_asked, option_rule};
@@ -11,9 +12,9 @@ ghost use Rattle.payd.specs.Job.{payd_alone, payd_app, required_rule, statement_
 ghost use Rattle.payd.specs.Job.{statement_asked};
 
 use crate::helps::{
-    ABOUT, AUDIT_ABOUT, AUDIT_HELP, CHECK_ABOUT, CHECK_HELP, DESK_ABOUT, DESK_HELP, EXPORT_ABOUT,
-    EXPORT_HELP, JOURNAL_ABOUT, JOURNAL_HELP, NODE_ABOUT, NODE_HELP, SIM_ABOUT, SIM_HELP,
-    STATEMENT_ABOUT, STATEMENT_HELP, VERSION,
+    ABOUT, AUDIT_ABOUT, AUDIT_HELP, BOOK_ABOUT, BOOK_HELP, CHECK_ABOUT, CHECK_HELP, DESK_ABOUT,
+    DESK_HELP, EXPORT_ABOUT, EXPORT_HELP, JOURNAL_ABOUT, JOURNAL_HELP, NODE_ABOUT, NODE_HELP,
+    SIM_ABOUT, SIM_HELP, STATEMENT_ABOUT, STATEMENT_HELP, VERSION,
 };
 use clap::{Arg, ArgAction, ArgMatches, Command, Error};
 use std::alloc::{AllocError, Global};
@@ -47,6 +48,13 @@ pub(crate) enum Job<'a> {
     Audit {
         files: Vec<&'a str>,
         jobs: Option<&'a str>,
+    },
+    /// Write the book of the group by the exports in the files of these names: in lines, or as one of
+    /// these.
+    Book {
+        files: Vec<&'a str>,
+        as_genesis: bool,
+        as_export: bool,
     },
     /// Write the statement of this account, or of all, by the export in the file of this name.
     Statement {
@@ -127,6 +135,8 @@ fn command_job<'a>(
         Ok(export_job(command))
     } else if name == "audit" {
         audit_job(alloc, command)
+    } else if name == "book" {
+        book_job(alloc, command)
     } else if name == "statement" {
         Ok(statement_job(command))
     } else if name == "journal" {
@@ -195,12 +205,23 @@ fn audit_job<'a>(alloc: Global, audit: &ArgMatches<'a>) -> Result<Job<'a>, Alloc
     })
 }
 
-/// The names of files that `audit` was given.
-fn files_in<'a>(alloc: Global, audit: &ArgMatches<'a>) -> Result<Vec<&'a str>, AllocError>
-    ensures { IfOk result (λ files.
-        map (λ name. name.now) files.items ≡ files_of (rows_of (found_of audit.now))) }
+/// The job of `book` with these files and flags.
+fn book_job<'a>(alloc: Global, book: &ArgMatches<'a>) -> Result<Job<'a>, AllocError>
+    ensures { IfOk result (λ job. asked job ≡ book_asked (rows_of (found_of book.now))) }
 {
-    match audit.get_strs("files") {
+    Ok(Job::Book {
+        files: files_in(alloc, book)?,
+        as_genesis: is_set(book, "genesis"),
+        as_export: is_set(book, "export"),
+    })
+}
+
+/// The names of files that a command was given.
+fn files_in<'a>(alloc: Global, command: &ArgMatches<'a>) -> Result<Vec<&'a str>, AllocError>
+    ensures { IfOk result (λ files.
+        map (λ name. name.now) files.items ≡ files_of (rows_of (found_of command.now))) }
+{
+    match command.get_strs("files") {
         Some(files) => Ok(Vec::from_slice(alloc, files)?),
         None => Ok(Vec::new(alloc)),
     }
@@ -260,6 +281,7 @@ fn payd<'a>(alloc: Global) -> Result<Command<'a>, AllocError>
     let program = with_command(program, node(alloc));
     let program = with_command(program, exporting(alloc));
     let program = with_command(program, audit(alloc));
+    let program = with_command(program, book(alloc));
     let program = with_command(program, statement(alloc));
     let program = with_command(program, journal(alloc));
     with_command(program, Ok(titled(alloc, "sim", SIM_ABOUT, SIM_HELP)))
@@ -358,6 +380,24 @@ fn audit<'a>(alloc: Global) -> Result<Command<'a>, AllocError>
     titled(alloc, "audit", AUDIT_ABOUT, AUDIT_HELP)
         .arg(files(alloc))?
         .arg(option(alloc, "jobs", "COUNT", "How many threads read exports"))
+}
+
+/// The command `book`, its files and its flags.
+fn book<'a>(alloc: Global) -> Result<Command<'a>, AllocError>
+    ensures { IfOk result (λ command. IsCommand command book_app) }
+{
+    titled(alloc, "book", BOOK_ABOUT, BOOK_HELP)
+        .arg(files(alloc))?
+        .arg(flag(
+            alloc,
+            "genesis",
+            "Writes the genesis of the next group in place of the lines",
+        ))?
+        .arg(flag(
+            alloc,
+            "export",
+            "Writes the book as an export in place of the lines",
+        ))
 }
 
 /// The command `statement`, its export and its account.
