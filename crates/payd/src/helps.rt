@@ -82,7 +82,7 @@ loses its account.
 The member listens on its own port of 127.0.0.1 and dials those of all others, a thousand times some
 10 milliseconds apart and again after each connection that brought a frame. So a group's nodes are
 started within a few seconds, or with --dials:
-  --dials COUNT    a peer is given up behind so many dials in a row that brought no frame
+  --dials COUNT    a peer is given up after so many dials in a row that brought no frame
   --dials always   no peer is given up
 The pauses then grow from 10 milliseconds to a second, each twice the one before. Standard error has a
 line when a peer is met, is lost and is given up: payd: peer 2 met. Ports below those that
