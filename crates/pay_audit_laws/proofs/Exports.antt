@@ -42,7 +42,7 @@ range_at n a below =
 shown_at : (f : ℕ → List (List ℕ)) (n a : ℕ) → a < n → slice_get (map f (range_with_len 0 n)) a ≡ Some (f a)
 shown_at f n a below = slice_get-map f (range_with_len 0 n) a ∙ ap (option_map f) (range_at n a below)
 
-shown : (f : ℕ → List (List ℕ)) (n a : ℕ) → a < n → list_in (map f (range_with_len 0 n)) a ≡ f a
+pub shown : (f : ℕ → List (List ℕ)) (n a : ℕ) → a < n → list_in (map f (range_with_len 0 n)) a ≡ f a
 shown f n a below = get_or_from_slice_get (map f (range_with_len 0 n)) a (f a) [] (shown_at f n a below)
 
 count : (f : ℕ → List (List ℕ)) (n : ℕ) → length (map f (range_with_len 0 n)) ≡ n
@@ -76,7 +76,7 @@ either_agree xs ys (inr p) = λ s v w hv hw. sym (begins_agree ys xs p s w v hw 
 -- ---- what one member exports
 
 -- the export of a member that has these lists
-abbrev export_with : GenesisFields → ℕ → (ℕ → List (List ℕ)) → ExportFields
+abbrev pub export_with : GenesisFields → ℕ → (ℕ → List (List ℕ)) → ExportFields
 export_with g own lists = record {
   genesis = g;
   member = own;
@@ -92,7 +92,7 @@ exported_is m = refl
 export_by : GenesisFields → ℕ → List Event → ExportFields
 export_by g own history = export_with g own (list_of (group_in g own) history)
 
-exported_by : (m : MemberFields) (g : GenesisFields) (history : List Event) → m.genesis ≡ g → events m.history ≡ history
+pub exported_by : (m : MemberFields) (g : GenesisFields) (history : List Event) → m.genesis ≡ g → events m.history ≡ history
     → exported m ≡ export_with g m.keys.own (list_of (group_in g m.keys.own) history)
 unfolding export_by
 exported_by m g history same took =

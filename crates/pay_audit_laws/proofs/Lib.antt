@@ -1,2 +1,3 @@
 mod Exports
 mod Worlds
+mod Books
