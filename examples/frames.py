@@ -34,7 +34,7 @@ def payments(pairs):
 
 
 def fault_at(place, byte, head):
-    """Why no frame has this byte at this place behind these bytes, if none has."""
+    """Why no frame has this byte at this place after these bytes, if none has."""
     length = int.from_bytes(head[:2], "big")
     is_want = head[3:4] == bytes([WANT])
     if place == 0:

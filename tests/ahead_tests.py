@@ -57,7 +57,7 @@ def a_window_opens_with_each_frame():
         (64, sends[:1], [0, 1, 2]),
         (1, sends, [0, 1, 2, 3]),
         (2, sends, [0, 1, 2, 3, 4]),
-        # the frame again is out of turn, and what comes behind it isn't read
+        # the frame again is out of turn, and what comes after it isn't read
         (64, [sends[0], *sends], [0, 1, 2]),
         # so is another member's
         (64, [frame(SEND, 2, 0, 0, owner=2), *sends], [0]),
@@ -104,7 +104,7 @@ def a_peer_that_is_killed_and_started_anew():
 
 
 def wants(numbers):
-    """WANTs of member 3 to member 0, one behind the other."""
+    """WANTs of member 3 to member 0, one after the other."""
     return b"".join(frame(WANT, 3, 0, number) for number in numbers)
 
 
@@ -117,7 +117,7 @@ def frames_of_payments(count):
 
 @test
 def no_frame_is_held_back_while_another_is_waited_for():
-    """What is there of one text of WANTs comes at once, and what is behind one that is waited for comes with that."""
+    """What is there of one text of WANTs comes at once, and what is after one that is waited for comes with that."""
     with Group([9, 0, 0, 0], running=[0]) as group, connected(group.ports[0]) as stream:
         for seq in range(3):
             group.pay(0, seq, payee=1, amount=1, seq=seq)

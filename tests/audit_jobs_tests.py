@@ -63,7 +63,7 @@ def random_audits_are_the_same_with_each():
 
 @test
 def faults_of_files_keep_their_order():
-    """A verdict comes behind all files, and a fault that is found sooner behind one that is named before it."""
+    """A verdict comes after all files, and a fault that is found sooner after one that is named before it."""
     long = json.dumps(audits.export([7], [65536 * [""]], [65536], [7]))
     files = {"paid": audits.PAID, "forked": audits.FORKED, "text": "{", "shape": "[]", "long": long, "torn": long + "x"}
     for words, wanted in (

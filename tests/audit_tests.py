@@ -95,7 +95,7 @@ def a_fault_of_a_file_comes_before_each_verdict():
 
 
 def audit_of_pipes(contents, meanwhile):
-    """The audit of a file `first`, and behind it of pipes, each of which gives its content to one reader. As soon as
+    """The audit of a file `first`, and after it of pipes, each of which gives its content to one reader. As soon as
     the first pipe is opened, the file's content is another."""
     with tempfile.TemporaryDirectory() as folder:
         first = os.path.join(folder, "first")
@@ -141,7 +141,7 @@ def words_of_audit():
 
 @test
 def exports_of_runs():
-    """Members export before the last frames are brought, and behind them; then one value of one list is another."""
+    """Members export before the last frames are brought, and after them; then one value of one list is another."""
     seeded, clean, others = random.Random(31), 0, set()
     for seed in range(20):
         *commands, bring_all, show = RandomScripts(seed).script().decode("ascii").splitlines()

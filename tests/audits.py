@@ -309,7 +309,7 @@ def audit(exports):
 
 
 def played(lines):
-    """The model's world behind the lines of a script, or None where one of them ends the run."""
+    """The model's world after the lines of a script, or None where one of them ends the run."""
     world = World(lines[0])
     try:
         for line in lines[1:]:
@@ -320,7 +320,7 @@ def played(lines):
 
 
 def exports_in(world, lines):
-    """What correct members export behind a script that ends with `show`: what is shown, and the model's lists."""
+    """What correct members export after a script that ends with `show`: what is shown, and the model's lists."""
     status, output, errors = run(["sim"], "".join(f"{line}\n" for line in lines).encode("ascii"))
     same((status, errors), (0, ""), f"{lines}")
     exports, shown_lines = [], output.splitlines()[-len(world.members) :]

@@ -16,7 +16,7 @@ PAUSE = 0.005
 
 
 class Crowd:
-    """The members of a group beside a node that run. Behind its `with` none of their threads is left."""
+    """The members of a group beside a node that run. After its `with` none of their threads is left."""
 
     def __init__(self, node, ports, opening, running):
         self.node = node

@@ -123,7 +123,7 @@ def frames(seeded):
 
 
 def frame_in_front(stream):
-    """The size of the frame in front, or number and name of the fault, with the input's end behind the stream."""
+    """The size of the frame in front, or number and name of the fault, with the input's end after the stream."""
     for place, byte in enumerate(stream[: HEAD.size]):
         fault = fault_at(place, byte, stream[:place])
         if fault:

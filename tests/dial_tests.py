@@ -13,7 +13,7 @@ from runs import GENESIS, PAYD, SECONDS, key_texts, same, shows, test, with_file
 
 OPENING = GENESIS["opening"]
 
-# How many seconds behind the others a peer starts: more than a thousand dials take, 10 milliseconds apart.
+# How many seconds after the others a peer starts: more than a thousand dials take, 10 milliseconds apart.
 LATE = 15
 
 PAIR = {"members": 2, "faults": 0, "opening": [5, 5]}
@@ -105,7 +105,7 @@ def said_of(node, peer):
 
 @test
 def late_peer_is_met():
-    """It starts long behind the others, and all that it and they have paid settles."""
+    """It starts long after the others, and all that it and they have paid settles."""
     with Group(OPENING, running=[]) as group:
         for own in range(3):
             group.start(own, options=ALWAYS)

@@ -16,7 +16,7 @@ MOST_WORDS = 900
 
 PAGES = ["README.md", "CONTRIBUTING.md"]
 PAGES += [f"docs/{it}" for it in files_below(f"{TOP}/docs", ".md")]
-# Calls, laws, types and records in backticks, and behind a colon the clauses that are named of each of them.
+# Calls, laws, types and records in backticks, and after a colon the clauses that are named of each of them.
 NAMED = re.compile(r"((?:`[\w:]+`(?:, | and )?)+): ((?:`\w+`(?: \([^)]*\))?(?:, | and )?)+)")
 # What may be a call, a type, a crate or a clause, on pages whose names are those of the tree.
 CALL = re.compile(r"`(\w+(?:::\w+)*)`")
@@ -28,7 +28,7 @@ OF_THE_BOOK = {"sentecho", "sentready"}
 
 
 def headings_of(page):
-    """What a link may name behind '#', as a page's reader makes it of the headings."""
+    """What a link may name after '#', as a page's reader makes it of the headings."""
     heads = re.findall(r"^#+ (.*)$", read_file(f"{TOP}/{page}"), re.MULTILINE)
     return [re.sub(r"[^\w\- ]", "", it.lower()).strip().replace(" ", "-") for it in heads]
 
@@ -42,7 +42,7 @@ def links_of(page):
 
 
 class Clauses:
-    """What may be named as a clause, behind the name of what it is a clause of."""
+    """What may be named as a clause, after the name of what it is a clause of."""
 
     def __init__(self):
         crates = read_crates()
@@ -52,7 +52,7 @@ class Clauses:
         # types by their other names, and the statement of each law that has one clause without a name
         self.types = dict(re.findall(r"^pub type (\w+)\S* = (\w+)", sources, re.MULTILINE))
         self.statements = dict(re.findall(r"^pub fn (\w+)\(\)\n    ensures { (\w+) }\n{", sources, re.MULTILINE))
-        # each definition, up to the empty line behind it
+        # each definition, up to the empty line after it
         self.definitions = dict(re.findall(r"^\w+ pub (\w+)(.*?)\n$", specs, re.MULTILINE | re.DOTALL))
         self.records = dict(re.findall(r"^pub record (\w+)(.*?)\n$", specs, re.MULTILINE | re.DOTALL))
 
@@ -81,7 +81,7 @@ def clauses_named(page):
     for paths, named in NAMED.findall(read_file(f"{TOP}/{page}")):
         owner = ""
         for path in re.findall(r"`([\w:]+)`", paths):
-            # the calls behind one are of the same type, unless they name another
+            # the calls after one are of the same type, unless they name another
             owner = path.rpartition("::")[0] or owner
             whole = f"{owner}::{path.rpartition('::')[2]}".removeprefix("::")
             yield from ((whole, it) for it in re.findall(r"`(\w+)`", re.sub(r"\([^)]*\)", "", named)))

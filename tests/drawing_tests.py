@@ -76,7 +76,7 @@ def picture_of_several_payments():
 
 @test
 def picture_of_a_run_that_ends_early():
-    """What was played before is drawn, and nothing of what stands behind."""
+    """What was played before is drawn, and nothing of what stands after."""
     world = '{"members": 4, "faults": 1, "opening": [100, 0, 0, 50], "liars": [3]}'
     forged = "lie 0 1 next send 0 0 0100020000000000000005"
     for lines, dots, arrows, end in (

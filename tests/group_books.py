@@ -28,7 +28,7 @@ def backed(exports, account, faults):
 
 
 def split_at(exports, account, faults):
-    """The first number under which two values are backed, behind the same ones."""
+    """The first number under which two values are backed, after the same ones."""
     found = [
         len(one) - 1
         for one in backed(exports, account, faults)

@@ -68,7 +68,7 @@ class Run:
         self.was_refused = library.was_refused()
 
     def play(self):
-        """Whether the node lives until its input ends. Each answer is the right one, perhaps behind a refusal."""
+        """Whether the node lives until its input ends. Each answer is the right one, perhaps after a refusal."""
         try:
             self.ask(ASKED)
             self.is_settled = self.settles()
@@ -181,7 +181,7 @@ def each_read_of_a_socket_fails(library):
 
 @hostile
 def each_write_to_a_socket_fails_or_takes_little(library):
-    """One that takes nothing is one that fails; behind one that takes a byte the others go out."""
+    """One that takes nothing is one that fails; after one that takes a byte the others go out."""
     for way, more in (("failed", {}), ("took nothing", {"send_size": 0}), ("took a byte", {"send_size": 1})):
         calls, cuts = ends_one_connection(library, "send", **more)
         is_right = cuts == 0 if way == "took a byte" else cuts >= LEAST_CUTS

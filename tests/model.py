@@ -226,7 +226,7 @@ class BadLine(Exception):
 
 
 class Ended(Exception):
-    """A run that ends behind a line, with a status."""
+    """A run that ends after a line, with a status."""
 
     def __init__(self, line, status):
         self.line = line

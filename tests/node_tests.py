@@ -479,7 +479,7 @@ def wants_are_answered_one_by_one():
             for byte in frame(WANT, 3, 0, 1):
                 one.sendall(bytes([byte]))
             same(received(one), echo, "the first connection")
-            # wrong ones get no answer, and those behind them get theirs
+            # wrong ones get no answer, and those after them get theirs
             wrong = frame(WANT, 3, 0, 0, key=bytes(32)) + frame(WANT, 3, 1, 0) + frame(SEND, 3, 0, 0, owner=3)
             one.sendall(wrong + frame(WANT, 3, 0, 1) + frame(WANT, 3, 0, 2))
             same(received(one), echo, "behind wrong ones")

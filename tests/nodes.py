@@ -174,7 +174,7 @@ class Node:
 class Group:
     """A folder with the files of a group with the test keys, and those of its members that run.
 
-    Behind its `with` no process is left, however it ends.
+    After its `with` no process is left, however it ends.
     """
 
     def __init__(self, opening, running=None, ports=None, options=()):

@@ -131,7 +131,7 @@ def ended(stream):
 class Liar:
     """A member that tells each of the others another story, and another one on each connection.
 
-    A story is a list of bodies, from which WANTs are answered. Behind the end of a story the connection ends, behind
+    A story is a list of bodies, from which WANTs are answered. After the end of a story the connection ends, after
     that of the last one nothing more comes.
     """
 
@@ -281,7 +281,7 @@ def byte_by_byte(stream, own, peer):
 
 
 def silence(stream, own, peer):
-    """Half a frame, and nothing behind it for as long as the other stays."""
+    """Half a frame, and nothing after it for as long as the other stays."""
     stream.sendall(frame(SEND, own, peer, 0, owner=own, seq=9)[: HEAD.size + 5])
     while stream.recv(4096):
         pass

@@ -32,7 +32,7 @@ def unknown_words_are_refused():
 
 
 def shown_commands(text):
-    """The commands of a text's console blocks, each with the output that is shown behind it."""
+    """The commands of a text's console blocks, each with the output that is shown after it."""
     for block in re.findall(r"^```console\n(.*?)^```$", text, re.MULTILINE | re.DOTALL):
         for example in re.split(r"^\$ ", block, flags=re.MULTILINE)[1:]:
             command, _, output = example.partition("\n")

@@ -19,7 +19,7 @@ from runs import TOP, same
 
 NEW = "payd: log: new\n"
 AGAIN = re.compile(r"payd: log: (\d+) entries of (\d+) payments, started again\n")
-# How many lines an owner gives at once at most, and how many old ones it gives again behind a start.
+# How many lines an owner gives at once at most, and how many old ones it gives again after a start.
 BURST = 8
 OLD_ONES = 5
 # No account runs dry: each payment is of another amount, by which it is known, and they sum to less than this.
@@ -178,7 +178,7 @@ class Owner(threading.Thread):
 
 
 def kill(group, owns):
-    """Kills those of these nodes that run, one right behind the other, and says how many."""
+    """Kills those of these nodes that run, one right after the other, and says how many."""
     nodes = [group.nodes[own] for own in owns if own in group.nodes]
     running = [node for node in nodes if not node.is_killed]
     for node in running:

@@ -97,7 +97,7 @@ def run_on(stdin, stdout):
 
 
 def run_byte_by_byte(stream, words=()):
-    """As run, with each byte written by itself and a pause behind it."""
+    """As run, with each byte written by itself and a pause after it."""
     child = subprocess.Popen(
         [PAYD, *words], stdin=subprocess.PIPE, stdout=subprocess.PIPE, stderr=subprocess.PIPE, bufsize=0
     )

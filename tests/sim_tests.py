@@ -136,7 +136,7 @@ def script_with_one_byte_changed():
 
 @test
 def lines_of_the_bound():
-    # JSON takes blanks behind the group, so that its line can be of any length
+    # JSON takes blanks after the group, so that its line can be of any length
     for size in (4095, 4096, 4097, 8192, 70000):
         sim(FOUR_ONE_LIAR.encode().ljust(size) + b"\nshow\n", of=f"a first line of {size} bytes")
         for line in (b"raw 0 " + b"00" * 4096, b"show", b""):

@@ -54,7 +54,7 @@ def statements_rest_on_lists_alone():
 
 @test
 def a_nodes_own_statements():
-    """What a node answered is what its export says behind its end."""
+    """What a node answered is what its export says after its end."""
     with Group([100, 0, 0, 50]) as group:
         for own, order, payee, amount in ((0, 1, 1, 30), (3, 1, 0, 20), (0, 2, 2, 15), (1, 1, 3, 5), (2, 1, 0, 500)):
             group.pay(own, order, payee, amount, seq=order - 1)

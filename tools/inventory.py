@@ -126,7 +126,7 @@ def without_brackets(text):
 
 
 def read_clauses(lines, function):
-    """Reads a function's clauses from the lines behind the one that names it, up to its body or its end."""
+    """Reads a function's clauses from the lines after the one that names it, up to its body or its end."""
     depth = 0
     for line in lines:
         clause = CLAUSE.match(line) if depth == 0 else None

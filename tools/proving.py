@@ -146,7 +146,7 @@ def build(rt, crate):
 def forget(crate, paths):
     """Has rt build those crates again of which a file was touched while they were built, and all above them.
 
-    (rt compares the text before a build with that behind it: a file may have been another in between.)
+    (rt compares the text before a build with that after it: a file may have been another in between.)
     """
     touched = {it.split("/")[1] for it in paths if it.startswith("crates/")}
     for it in [*crate.below(), crate]:

@@ -92,7 +92,7 @@ def joined(crate, batch: list[Place]) -> dict[str, str]:
 
 
 def with_twin(own: list[tuple[str, str]], place: Place, behind: str) -> str:
-    """What stands behind a function's body, with a twin of this body right behind the function's end. It ensures only
+    """What stands after a function's body, with a twin of this body right after the function's end. It ensures only
     the clause that has to kill it, where the mutant names one."""
     at, name = place.mutant.at, own[place.mutant.at][0]
     head = re.sub(rf"\bfn {name}\b", f"fn {name}{place.ending}", item(own[at - 1][1], name), count=1)
@@ -182,7 +182,7 @@ def own_errors(function: str, report: Report) -> list[Error]:
 
 def is_whole_answer(proof: str, line: int, column: int) -> bool:
     """Whether what begins at a place of a proof file is an answer to its goal, or one of its cases: no step of it, as
-    what stands in brackets or behind a 'let'."""
+    what stands in brackets or after a 'let'."""
     lines = proof.splitlines(True)[:line]
     before = "".join([*lines[:-1], lines[-1][: column - 1]]) if lines else ""
     answer = re.split(r"(?m)^pub [\w-]+ : goal\..*\n", before)[-1]

@@ -47,7 +47,7 @@ class Place:
 
 
 def lines_of(path: str, marks: tuple[str, ...]) -> list[tuple[str, str]]:
-    """The lines of an edit, each as its mark and what stands behind it."""
+    """The lines of an edit, each as its mark and what stands after it."""
     lines = [it.partition(": ")[::2] for it in read_file(path).splitlines()]
     other = next((": ".join(it) for it in lines if it[0] not in marks or not it[1]), "")
     if other:
@@ -56,7 +56,7 @@ def lines_of(path: str, marks: tuple[str, ...]) -> list[tuple[str, str]]:
 
 
 def marked(lines: list[tuple[str, str]], mark: str) -> list[str]:
-    """What stands behind a mark, line by line."""
+    """What stands after a mark, line by line."""
     return [text for it, text in lines if it == mark]
 
 

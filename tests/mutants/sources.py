@@ -21,8 +21,8 @@ def write_files(folder: str, texts: dict[str, str]) -> None:
 
 
 def cut(source: str) -> list[tuple[str, str]]:
-    """Cuts a source into functions' bodies, each behind its function's name, and what stands between them, behind ''.
-    A body begins behind the first '{' of a line that is indented as its 'fn' is, and ends before a line that is '}'
+    """Cuts a source into functions' bodies, each after its function's name, and what stands between them, after ''.
+    A body begins after the first '{' of a line that is indented as its 'fn' is, and ends before a line that is '}'
     with that indentation."""
     parts, name, indent, is_inside = [("", "")], "", None, False
     for line in source.splitlines(True):
@@ -95,7 +95,7 @@ def named(file: str, head: str, name: str) -> str:
 
 
 def owner_of(head: str) -> str | None:
-    """How the prover names what a function belongs to: the type of an impl, and behind it the trait where it is of one.
+    """How the prover names what a function belongs to: the type of an impl, and after it the trait where it is of one.
     Nothing, where that doesn't name the function's proof."""
     if not head.startswith("impl"):
         return None
