@@ -11,6 +11,8 @@ mod cuts;
 #[cfg(test)]
 mod echo;
 #[cfg(test)]
+mod failing;
+#[cfg(test)]
 mod groups;
 #[cfg(test)]
 mod members;

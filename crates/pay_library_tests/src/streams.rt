@@ -16,10 +16,10 @@ use std::process::Abort;
 use std::test::Fail;
 
 /// The length of a frame with no value, and so of a WANT.
-const FRAME: usize = 56;
+pub(crate) const FRAME: usize = 56;
 
 /// A frame of member 0, as another program makes it with its test key, twice.
-const TWICE: &str =
+pub(crate) const TWICE: &str =
     "0036010100000001000000000000000000000000000000005f12d89ce8c7abea683f0a05ef33cbece12e0cde1d4330bb9b635f1c06e23b620036010100000001000000000000000000000000000000005f12d89ce8c7abea683f0a05ef33cbece12e0cde1d4330bb9b635f1c06e23b62";
 
 /// A frame under a tag of zeros, which doesn't open.
@@ -28,7 +28,7 @@ const MISTAGGED: &str =
 
 /// What member 1 asks of member 0, as another program tags it: its frame 0, and then twice its
 /// frame 1.
-const WANTS: &str =
+pub(crate) const WANTS: &str =
     "003601040001000000000000000000000000000000000000244be1e1d2b6c34b2e0eded224b9e9bc03045e0dd6060b250f2a7f38257e8908003601040001000000000000000000010000000000000000abc08308999c120482dbcf8386bff193850732924e3bacd9ac0a94968a840db3003601040001000000000000000000010000000000000000abc08308999c120482dbcf8386bff193850732924e3bacd9ac0a94968a840db3";
 
 /// The key of members 0 and 1, which no other frame here is tagged under.
@@ -36,7 +36,7 @@ const KEY: [u8; 32] = [
     0, 0, 0, 0, 0, 0, 0, 0, 0, 0, 0, 0, 0, 0, 0, 0, 0, 0, 0, 0, 0, 0, 0, 0, 0, 0, 0, 0, 0, 0, 0, 1,
 ];
 
-fn fresh(alloc: Global) -> Result<Member<PlainInstance, PlainBook>, Fail>
+pub(crate) fn fresh(alloc: Global) -> Result<Member<PlainInstance, PlainBook>, Fail>
     ensures { IfOk result (λ member. IsPeer member.keys 0) }
 {
     let genesis = Genesis::new(alloc, 4, 1, &[100, 0, 0, 50])?;
