@@ -4,13 +4,12 @@ use Rattle.std.proofs.lemmas.Bool.{eq-eqb, ltb-true, ltb-false}
 use Rattle.std.proofs.lemmas.List.{get_or_at, length_push}
 use Rattle.std.proofs.lemmas.List.Elements.{All-get_or, filter-append}
 use Rattle.std.proofs.lemmas.Option.{slice_get-get_or}
-use Rattle.pay_desk.specs.declared.kept.Kept.{Kept}
 use Rattle.pay_io.specs.declared.stream_fault.StreamFault.{StreamFault}
 use Rattle.pay_member.specs.Member.{MemberFields}
 use Rattle.pay_node.specs.Closing.{AllSettled, seats_with}
 use Rattle.pay_node.specs.Nodes.{AreFresh, NodeFields, fresh_seat}
 use Rattle.pay_node.specs.Seats.{Right, SeatFields}
-use Rattle.pay_net.specs.Running.{HasServed}
+use Rattle.pay_net.specs.Running.{DeskStart, HasServed}
 
 -- ---- the last seat
 
@@ -34,12 +33,12 @@ last_is_fresh count seats others desk fresh is =
     (subst (λ (all : List SeatFields). slice_get all (length others) ≡ Some desk) (sym is) (at_end others desk)) in
     some_same desk (fresh_seat (count - 1)) (sym here ∙ fresh.each (count - 1) (omega arith))
 
-pub served_well : (n : NodeFields) (kept : List Kept) (old fresh new : SeatFields) (input left before after : Option (List ℕ)) (ended : Result Unit StreamFault) (done : Unit)
-    → old ≡ fresh → ended ≡ Ok done → HasServed n kept old new input left before after ended
-    → HasServed n kept fresh new input left before after (Ok tt)
-served_well n kept old fresh new input left before after ended done same well served =
-    subst (λ (e : Result Unit StreamFault). HasServed n kept fresh new input left before after e) well
-    (subst (λ (seat : SeatFields). HasServed n kept seat new input left before after ended) same served)
+pub served_well : (n : NodeFields) (start : DeskStart) (old fresh new : SeatFields) (input left before after : Option (List ℕ)) (ended : Result Unit StreamFault) (done : Unit)
+    → old ≡ fresh → ended ≡ Ok done → HasServed n start old new input left before after ended
+    → HasServed n start fresh new input left before after (Ok tt)
+served_well n start old fresh new input left before after ended done same well served =
+    subst (λ (e : Result Unit StreamFault). HasServed n start fresh new input left before after e) well
+    (subst (λ (seat : SeatFields). HasServed n start seat new input left before after ended) same served)
 
 -- ---- a seat among those that are settled
 

@@ -3,3 +3,4 @@ mod Desks
 mod Endings
 mod Seatings
 pub mod Starts
+mod Serving

@@ -5,14 +5,13 @@ use Rattle.std.proofs.lemmas.Bool.{cases_eq, eq-eqb, ne_eqb}
 use Rattle.std.proofs.lemmas.List.{get_or_append_left, get_or_at, length_push, map_push}
 use Rattle.std.proofs.lemmas.List.Elements.{All-cons, All-head, All-map, All-nil, All-push, All-tail}
 use Rattle.std.proofs.lemmas.Option.{get_or_from_slice_get}
-use Rattle.pay_desk.specs.declared.kept.Kept.{Kept}
 use Rattle.pay_io.specs.declared.stream_fault.StreamFault.{StreamFault}
 use Rattle.pay_link.specs.Keys.{KeyFields}
 use Rattle.pay_node.specs.Nodes.{AreFresh, NodeFields, fresh_seat}
 use Rattle.pay_node.specs.Seats.{SeatFields}
 use Rattle.pay_peers.specs.declared.asking.Asking.{Asking}
 use Rattle.pay_peers.specs.Growing.{EachGrows, Grows, HasGrown}
-use Rattle.pay_net.specs.Running.{HasRun, HasServed, IsDeskFault, IsReader, others_below, peers_of}
+use Rattle.pay_net.specs.Running.{DeskStart, HasRun, HasServed, IsDeskFault, IsReader, others_below, peers_of}
 use Rattle.pay_net.specs.Seating.{AreSeated, IsFresh, SeatsOne}
 use Rattle.pay_net.proofs.Desks.{last_is_fresh, served_well}
 
@@ -148,13 +147,13 @@ map_twice f h [] = refl
 map_twice f h (x ∷ xs) = ap (λ l. h (f x) ∷ l) (map_twice f h xs)
 
 pub has_run :
-    (n : NodeFields) (kept : List Kept) (first all : List SeatFields) (desk last : SeatFields) (old new : List (ℕ × Asking)) (input left before after : Option (List ℕ))
+    (n : NodeFields) (start : DeskStart) (first all : List SeatFields) (desk last : SeatFields) (old new : List (ℕ × Asking)) (input left before after : Option (List ℕ))
     (ended : Result Unit StreamFault) (done : Unit)
     → AreFresh n.seats first → (others : List SeatFields) × (first ≡ others ++ desk ∷ [])
     → map (λ (r : ℕ × Asking). r.0) old ≡ peers_of n.keys → All (λ (r : ℕ × Asking). IsFresh r.1.seat) old → EachGrows old new
     → (writers : List SeatFields) × (all ≡ (map (λ (r : ℕ × Asking). r.1.seat) new ++ writers) ++ last ∷ [])
-    → ended ≡ Ok done → HasServed n kept desk last input left before after ended → HasRun n kept all input left before after
-has_run n kept first all desk last old new input left before after ended done fresh seated peers readers grown gathered well served = record {
+    → ended ≡ Ok done → HasServed n start desk last input left before after ended → HasRun n start all input left before after
+has_run n start first all desk last old new input left before after ended done fresh seated peers readers grown gathered well served = record {
   readers = map reader_from new;
   writers = gathered.0;
   desk = last;
@@ -165,20 +164,20 @@ has_run n kept first all desk last old new input left before after ended done fr
 }
 
 -- a desk that ended with a fault
-pub served_from : (n : NodeFields) (kept : List Kept) (first others : List SeatFields) (desk last : SeatFields) (input left before after : Option (List ℕ)) (ended : Result Unit StreamFault)
-    → AreFresh n.seats first → first ≡ others ++ desk ∷ [] → HasServed n kept desk last input left before after ended
-    → HasServed n kept (fresh_seat (n.seats - 1)) last input left before after ended
-served_from n kept first others desk last input left before after ended fresh is served =
-    subst (λ (seat : SeatFields). HasServed n kept seat last input left before after ended) (last_is_fresh _ first others desk fresh is) served
+pub served_from : (n : NodeFields) (start : DeskStart) (first others : List SeatFields) (desk last : SeatFields) (input left before after : Option (List ℕ)) (ended : Result Unit StreamFault)
+    → AreFresh n.seats first → first ≡ others ++ desk ∷ [] → HasServed n start desk last input left before after ended
+    → HasServed n start (fresh_seat (n.seats - 1)) last input left before after ended
+served_from n start first others desk last input left before after ended fresh is served =
+    subst (λ (seat : SeatFields). HasServed n start seat last input left before after ended) (last_is_fresh _ first others desk fresh is) served
 
 pub desk_failed :
-    (n : NodeFields) (kept : List Kept) (first others : List SeatFields) (desk last : SeatFields) (input left before after : Option (List ℕ)) (ended : Result Unit StreamFault) (fault : StreamFault)
-    → AreFresh n.seats first → first ≡ others ++ desk ∷ [] → ended ≡ Err fault → HasServed n kept desk last input left before after ended
-    → IsDeskFault n kept fault input left before after
-desk_failed n kept first others desk last input left before after ended fault fresh is failed served = record {
+    (n : NodeFields) (start : DeskStart) (first others : List SeatFields) (desk last : SeatFields) (input left before after : Option (List ℕ)) (ended : Result Unit StreamFault) (fault : StreamFault)
+    → AreFresh n.seats first → first ≡ others ++ desk ∷ [] → ended ≡ Err fault → HasServed n start desk last input left before after ended
+    → IsDeskFault n start fault input left before after
+desk_failed n start first others desk last input left before after ended fault fresh is failed served = record {
   desk = last;
-  served = served_from n kept first others desk last input left before after (Err fault) fresh is
-      (subst (λ (e : Result Unit StreamFault). HasServed n kept desk last input left before after e) failed served);
+  served = served_from n start first others desk last input left before after (Err fault) fresh is
+      (subst (λ (e : Result Unit StreamFault). HasServed n start desk last input left before after e) failed served);
 }
 
 -- the peers, by their number and the own one

@@ -1,9 +1,10 @@
 -- What is left of a node once it has ended.
-use Rattle.std.specs.Prelude.{◌≡◌, ◌⊎◌, ℕ, ◌*◌, ◌-◌, ◌+◌, ◌≤◌, ◌==◌, zero, suc, if◌then◌else◌, List, [], ◌∷◌, ◌++◌, length, map, slice_get, Option, Some, None, Result, Ok, Err, IsErrOf, ⊤}
+use Rattle.std.specs.Prelude.{◌≡◌, ◌⊎◌, ℕ, ◌*◌, ◌-◌, ◌+◌, ◌≤◌, ◌==◌, zero, suc, if◌then◌else◌, Bool, true, false, is_some, List, [], ◌∷◌, ◌++◌, length, map, slice_get, Option, Some, None, Result, Ok, Err, IsErrOf, ⊤}
 use Rattle.std.specs.List.{All}
 use Rattle.pay_desk.specs.declared.desk.Desk.{Desk}
 use Rattle.pay_desk.specs.declared.kept.Kept.{Kept}
 use Rattle.pay_desk.specs.Desk.{WritesAnswers}
+use Rattle.pay_service.specs.Service.{IsServiceDesk, WritesClientsAnswers}
 use Rattle.pay_io.specs.declared.limits.TheConstants.{MOST_READS}
 use Rattle.pay_io.specs.declared.stream_fault.StreamFault.{StreamFault}
 use Rattle.pay_io.specs.declared.stream_fault.StreamFault.TheVariants.{Memory, Read, Write, Bound}
@@ -38,12 +39,30 @@ desk_from n kept seat = record {
   kept = kept;
 }
 
+-- What a node's desk goes on with, and whether other clients than that of its input give it lines.
+pub record DeskStart : Type 0 where
+  pub kept : List Kept
+  pub shared : Bool
+
+-- of a node that may have a socket for other clients
+abbrev pub desk_start : {X : Type 0} → List Kept → Option X → DeskStart
+desk_start kept socket = record { kept = kept; shared = is_some socket }
+
+-- What is written of the desk's input, by how it ended. Where no other client gives the desk lines: the answers of this
+-- one desk to all of them. Where others do: to each line the answer of the desk as it stood then, and the desk is what
+-- all answered lines, whoever gave them, made of the first one.
+abbrev pub WritesServed : Bool → Desk TellerFields → Desk TellerFields → Option (List ℕ) → Option (List ℕ) → Option (List ℕ) → Option (List ℕ) → Result Unit StreamFault → Type 0
+WritesServed false first last input left before after ended = WritesAnswers TellerSays first last input left before after ended
+WritesServed true first last input left before after ended =
+    IsServiceDesk TellerSays (λ desk. desk ≡ first) last
+    × WritesClientsAnswers TellerSays (IsServiceDesk TellerSays (λ desk. desk ≡ first)) input left before after ended
+
 -- What the node's desk wrote of its input, by how it ended: each answer is what the node told it, of which its seat has
 -- the receipt.
-pub record HasServed (n : NodeFields) (kept : List Kept) (old new : SeatFields) (input left before after : Option (List ℕ)) (ended : Result Unit StreamFault) : Type 0 where
+pub record HasServed (n : NodeFields) (start : DeskStart) (old new : SeatFields) (input left before after : Option (List ℕ)) (ended : Result Unit StreamFault) : Type 0 where
   pub desk : Desk TellerFields
   pub seat : desk.teller.seat ≡ new
-  pub wrote : WritesAnswers TellerSays (desk_from n kept old) desk input left before after ended
+  pub wrote : WritesServed start.shared (desk_from n start.kept old) desk input left before after ended
 
 -- the members below a number, but for this one
 abbrev pub others_below : ℕ → ℕ → List ℕ
@@ -59,72 +78,72 @@ IsReader reader = Grows reader.0 (fresh_seat reader.1.stamp) reader.1
 
 -- The seats of a node whose desk came to the end of its input: those that its peers were read from, one for each in
 -- order, those of which they were answered, and behind them the desk's, which was the fresh one with the last stamp.
-pub record HasRun (n : NodeFields) (kept : List Kept) (seats : List SeatFields) (input left before after : Option (List ℕ)) : Type 0 where
+pub record HasRun (n : NodeFields) (start : DeskStart) (seats : List SeatFields) (input left before after : Option (List ℕ)) : Type 0 where
   pub readers : List (ℕ × SeatFields)
   pub writers : List SeatFields
   pub desk : SeatFields
   pub all : seats ≡ (map (λ r. r.1) readers ++ writers) ++ desk ∷ []
   pub peers : map (λ r. r.0) readers ≡ peers_of n.keys
   pub read : All IsReader readers
-  pub served : HasServed n kept (fresh_seat (n.seats - 1)) desk input left before after (Ok tt)
+  pub served : HasServed n start (fresh_seat (n.seats - 1)) desk input left before after (Ok tt)
 
 -- ---- a member that is handed back
 
 -- The node's own member. Its history begins with the one that the node began with, and a single thread could have made
 -- it. From there on it bears out all that was told from the node's seats: so also each answer that its desk wrote.
-pub record IsClosed (n : NodeFields) (kept : List Kept) (m : MemberFields) (input left before after : Option (List ℕ)) : Type 0 where
+pub record IsClosed (n : NodeFields) (start : DeskStart) (m : MemberFields) (input left before after : Option (List ℕ)) : Type 0 where
   pub own : IsOwn n m
   pub legal : Legal m.genesis m.keys m.history
   pub seats : List SeatFields
   pub settled : AllSettled m (base_of n) n.seats seats
-  pub ran : HasRun n kept seats input left before after
+  pub ran : HasRun n start seats input left before after
   pub right : Right m (base_of n) ran.desk
 
 -- The same, but that it is only known to have as many entries under each stamp as its seat was told of.
-pub record IsUnjudged (n : NodeFields) (kept : List Kept) (m : MemberFields) (input left before after : Option (List ℕ)) : Type 0 where
+pub record IsUnjudged (n : NodeFields) (start : DeskStart) (m : MemberFields) (input left before after : Option (List ℕ)) : Type 0 where
   pub own : IsOwn n m
   pub legal : Legal m.genesis m.keys m.history
   pub seats : List SeatFields
   pub counted : AllCounted m (base_of n) n.seats seats
-  pub ran : HasRun n kept seats input left before after
+  pub ran : HasRun n start seats input left before after
 
 -- ---- why none is
 
 -- The node ended with these seats, and its member, with some legal history, isn't closed with them. Where memory was
 -- refused, the stamp is the least of those whose entries aren't as many as their seat was told of.
-pub record IsMismatch (n : NodeFields) (kept : List Kept) (stamp : ℕ) (input left before after : Option (List ℕ)) : Type 0 where
+pub record IsMismatch (n : NodeFields) (start : DeskStart) (stamp : ℕ) (input left before after : Option (List ℕ)) : Type 0 where
   pub member : MemberFields
   pub legal : Legal member.genesis member.keys member.history
   pub seats : List SeatFields
-  pub ran : HasRun n kept seats input left before after
+  pub ran : HasRun n start seats input left before after
   pub wrong :
       IsFault n member seats (close.Mismatch stamp)
       ⊎ (IsOwn n member × IsLeastUncounted member (base_of n) n.seats seats stamp)
 
 -- the desk ended with this fault
-pub record IsDeskFault (n : NodeFields) (kept : List Kept) (fault : StreamFault) (input left before after : Option (List ℕ)) : Type 0 where
+pub record IsDeskFault (n : NodeFields) (start : DeskStart) (fault : StreamFault) (input left before after : Option (List ℕ)) : Type 0 where
   pub desk : SeatFields
-  pub served : HasServed n kept (fresh_seat (n.seats - 1)) desk input left before after (Err fault)
+  pub served : HasServed n start (fresh_seat (n.seats - 1)) desk input left before after (Err fault)
 
 -- Its own port of these can't be had. Or memory was refused. Or the desk ended with this fault; of writing, all may also
 -- have come to its end, and the history couldn't be kept then. Or it isn't closed; that closing lacks memory is no fault.
-abbrev pub IsNodeFault : NodeFields → List Kept → List ℕ → Option (List ℕ) → Option (List ℕ) → Option (List ℕ) → Option (List ℕ) → NodeFault → Type 0
-IsNodeFault n kept ports input left before after (Port port) = slice_get ports n.keys.own ≡ Some port
-IsNodeFault n kept ports input left before after (Engine Memory) = ⊤
-IsNodeFault n kept ports input left before after (Engine Read) = IsDeskFault n kept Read input left before after
-IsNodeFault n kept ports input left before after (Engine Bound) = IsDeskFault n kept Bound input left before after
-IsNodeFault n kept ports input left before after (Engine Write) =
-    IsDeskFault n kept Write input left before after
-    ⊎ ((seats : List SeatFields) × HasRun n kept seats input left before after)
-IsNodeFault n kept ports input left before after (Close close.Memory) = ⊥
-IsNodeFault n kept ports input left before after (Close (close.Mismatch stamp)) = IsMismatch n kept stamp input left before after
+abbrev pub IsNodeFault : NodeFields → DeskStart → List ℕ → Option (List ℕ) → Option (List ℕ) → Option (List ℕ) → Option (List ℕ) → NodeFault → Type 0
+IsNodeFault n start ports input left before after (Port port) = slice_get ports n.keys.own ≡ Some port
+IsNodeFault n start ports input left before after (Engine Memory) = ⊤
+IsNodeFault n start ports input left before after (Engine Read) = IsDeskFault n start Read input left before after
+IsNodeFault n start ports input left before after (Engine Bound) = IsDeskFault n start Bound input left before after
+IsNodeFault n start ports input left before after (Engine Write) =
+    IsDeskFault n start Write input left before after
+    ⊎ ((seats : List SeatFields) × HasRun n start seats input left before after)
+IsNodeFault n start ports input left before after (Close close.Memory) = ⊥
+IsNodeFault n start ports input left before after (Close (close.Mismatch stamp)) = IsMismatch n start stamp input left before after
 
 -- ---- how it ended
 
-abbrev pub HasEnded : NodeFields → List Kept → List ℕ → Option (List ℕ) → Option (List ℕ) → Option (List ℕ) → Option (List ℕ) → Result (MemberFields × Receipts) NodeFault → Type 0
-HasEnded n kept ports input left before after (Ok (m, BorneOut)) = IsClosed n kept m input left before after
-HasEnded n kept ports input left before after (Ok (m, Unjudged)) = IsUnjudged n kept m input left before after
-HasEnded n kept ports input left before after (Err fault) = IsNodeFault n kept ports input left before after fault
+abbrev pub HasEnded : NodeFields → DeskStart → List ℕ → Option (List ℕ) → Option (List ℕ) → Option (List ℕ) → Option (List ℕ) → Result (MemberFields × Receipts) NodeFault → Type 0
+HasEnded n start ports input left before after (Ok (m, BorneOut)) = IsClosed n start m input left before after
+HasEnded n start ports input left before after (Ok (m, Unjudged)) = IsUnjudged n start m input left before after
+HasEnded n start ports input left before after (Err fault) = IsNodeFault n start ports input left before after fault
 
 -- by what closing found, and the least stamp whose entries aren't as many as its seat was told of: a member, or a stamp
 abbrev pub ended_by : Result MemberFields (CloseFault × StoppedFields) → Option ℕ → Result (MemberFields × Receipts) ℕ

@@ -6,22 +6,28 @@ use pay_io::{Reader, Writer};
 use pay_kept::{Behind, Keeper};
 use pay_node::{Beginning, Node, Seat};
 use pay_peers::{Admission, NodeContext, Observer, PeerEvent, write_peer};
-use std::net::{TcpListener, TcpStream};
+use std::net::TcpStream;
 use std::sync::atomic::{AtomicBool, Ordering};
 use std::sync::{Mutex, Wait};
-use std::thread;
 use std::thread::Threads;
 use std::time::{Clock, Duration};
+use std::{io, thread};
 
 /// How many connections that others dialed may stand at once: of each peer of the largest group two, and two whose
 /// senders aren't known yet.
 pub const MOST_CONNECTIONS: u16 = 256;
 
 /// How long an acceptor sleeps after a connection that it couldn't take.
-const PAUSE_MILLIS: u64 = 10;
+pub(crate) const PAUSE_MILLIS: u64 = 10;
 
 /// How long it sleeps where a connection was given up, before it looks for its place.
 const LEAVE_MILLIS: u64 = 1;
+
+/// Where connections come in.
+pub(crate) trait Door {
+    /// Waits for the next one.
+    fn next(&self) -> io::Result<TcpStream>;
+}
 
 /// Who answers those that connect. Its threads know of it that it may be shared.
 pub(crate) trait Host {
@@ -125,14 +131,15 @@ where
 
 /// Takes connections and has each answered, in a thread of its own, until the node stops and the listening socket is
 /// shut. Returns once all of these threads have ended.
-pub(crate) fn accept_all<R, S>(rt: &R, host: &S, stop: &AtomicBool, listener: &TcpListener)
+pub(crate) fn accept_all<R, S, D>(rt: &R, host: &S, stop: &AtomicBool, door: &D)
 where
     R: Threads + Wait + Clock + Sync,
     S: Host + Sync,
+    D: Door,
 {
     thread::scope(thread::scope_env(), rt, |scope| {
         for _ in rt.forever() {
-            let stream = next_connection(rt, stop, listener);
+            let stream = next_connection(rt, stop, door);
             if stop.load(Ordering::SeqCst) {
                 return;
             }
@@ -151,13 +158,9 @@ where
 }
 
 // Waits for a connection. Where none can be had it pauses, unless the node stops: the next one may fail at once too.
-fn next_connection<R: Clock>(
-    rt: &R,
-    stop: &AtomicBool,
-    listener: &TcpListener,
-) -> Option<TcpStream> {
-    match listener.accept() {
-        Ok((stream, _)) => Some(stream),
+fn next_connection<R: Clock, D: Door>(rt: &R, stop: &AtomicBool, door: &D) -> Option<TcpStream> {
+    match door.next() {
+        Ok(stream) => Some(stream),
         Err(_) => {
             if !stop.load(Ordering::SeqCst) {
                 thread::sleep(rt, Duration::from_millis(PAUSE_MILLIS));

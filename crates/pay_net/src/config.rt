@@ -1,7 +1,8 @@
+use crate::desk_socket::DeskSocket;
 use crate::ports::Ports;
 use pay_peers::{Ahead, Dials};
 
-/// How a node meets its peers, and who keeps its history.
+/// How a node meets its peers and its desk's clients, and who keeps its history.
 #[derive(Drop)]
 pub struct NodeConfig<'a, O, K> {
     /// Where each member listens.
@@ -14,4 +15,6 @@ pub struct NodeConfig<'a, O, K> {
     pub observer: &'a O,
     /// Has to have kept the history before anything leaves the node that follows from it.
     pub keeper: &'a K,
+    /// Where further clients call on the desk, if they may.
+    pub socket: Option<&'a DeskSocket>,
 }

@@ -9,10 +9,12 @@
 #![tactic(auto)]
 
 mod accepting;
+mod clients;
 mod config;
 mod connections;
 mod contact;
 mod contacts;
+mod desk_socket;
 mod dialing;
 mod guest;
 mod guest_list;
@@ -27,7 +29,9 @@ mod running;
 mod start;
 
 pub use accepting::MOST_CONNECTIONS;
+pub use clients::MOST_CLIENTS;
 pub use config::NodeConfig;
+pub use desk_socket::DeskSocket;
 pub use news::News;
 pub use node_fault::NodeFault;
 pub use ports::Ports;

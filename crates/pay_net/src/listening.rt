@@ -1,3 +1,4 @@
+use crate::accepting::Door;
 use std::io;
 use std::net::{IpAddr, Ipv4Addr, Net, Shutdown, SocketAddr, TcpListener, TcpStream};
 use std::os::fd::OwnedFd;
@@ -5,7 +6,7 @@ use std::os::fd::OwnedFd;
 /// A socket that listens on a port of this machine.
 #[derive(Drop)]
 pub(crate) struct Listening {
-    pub(crate) listener: TcpListener,
+    listener: TcpListener,
     // The same socket under the type that can be shut: who waits for a connection then gets an error, at once.
     same: TcpStream,
 }
@@ -24,5 +25,12 @@ impl Listening {
     /// Ends the wait for connections for good.
     pub(crate) fn shut(&self) {
         let _ = self.same.shutdown(Shutdown::Both);
+    }
+}
+
+impl Door for Listening {
+    fn next(&self) -> io::Result<TcpStream> {
+        let (stream, _) = self.listener.accept()?;
+        Ok(stream)
     }
 }

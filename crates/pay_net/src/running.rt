@@ -1,8 +1,8 @@
 ghost use Rattle.std.specs.Prelude.{◌≡◌, ◌≢◌, ◌+◌, ◌*◌, ◌<◌, ◌++◌, ◌∷◌, ℕ, List, Option, []};
 ghost use Rattle.std.specs.Prelude.{IfOk, IsErrOf, MatchResult, OnOk, length, map};
 ghost use Rattle.std.specs.List.{All};
-ghost use Rattle.pay_desk.specs.declared.kept.Kept.{Kept};
 ghost use Rattle.pay_desk.specs.Desk.{WritesAnswers};
+ghost use Rattle.pay_service.specs.Service.{IsServiceDesk, WritesClientsAnswers};
 ghost use Rattle.pay_io.specs.Counts.{KeepsCounts, itself};
 ghost use Rattle.pay_io.specs.declared.stream_fault.StreamFault.TheVariants.{Bound, Read};
 ghost use Rattle.pay_node.specs.Nodes.{AreFresh};
@@ -11,13 +11,16 @@ ghost use Rattle.pay_peers.specs.Growing.{EachGrows};
 ghost use Rattle.pay_peers.specs.Telling.{TellerSays};
 ghost use Rattle.pay_net.specs.declared.node_fault.NodeFault.TheVariants.{Engine};
 ghost use Rattle.pay_net.specs.Running.{CountsReads, HasEnded, HasRun, HasServed, IsNodeFault};
-ghost use Rattle.pay_net.specs.Running.{as_fault, desk_from, ended_by, node_of, others_below};
+ghost use Rattle.pay_net.specs.Running.{DeskStart, as_fault, desk_from, desk_start, ended_by, node_of};
+ghost use Rattle.pay_net.specs.Running.{others_below};
 ghost use Rattle.pay_net.specs.Seating.{IsFresh, SeatsOne};
 
 use crate::accepting::{Answering, MOST_CONNECTIONS, accept_all};
+use crate::clients::{Clients, MOST_CLIENTS};
 use crate::config::NodeConfig;
 use crate::connections::Connections;
 use crate::contacts::Contacts;
+use crate::desk_socket::DeskSocket;
 use crate::dialing::Dialer;
 use crate::guests::Guests;
 use crate::listening::Listening;
@@ -26,7 +29,7 @@ use crate::node_fault::NodeFault;
 use crate::receipts::Receipts;
 use crate::start::NodeStart;
 use pay_book::Settle;
-use pay_desk::{Desk, KeptValues, run_desk};
+use pay_desk::{Desk, KeptValues, Teller, run_desk};
 use pay_echo::Instance;
 use pay_hmac::Tagger;
 use pay_io::{Input, Output, StreamFault};
@@ -34,6 +37,7 @@ use pay_kept::{Behind, Keeper};
 use pay_member::Member;
 use pay_node::{Beginning, CloseFault, Node, OpenGate, Seat, Stopped};
 use pay_peers::{Asking, NodeContext, NodeTeller, Observer, run_readers};
+use pay_service::{Service, SharedDesk, serve_client};
 use std::alloc::{AllocError, Global};
 use std::marker::Brand;
 use std::net::{Net, TcpListener, TcpStream};
@@ -61,13 +65,15 @@ struct Running<'a, H, I: Instance + Drop, B: Settle + Drop, S: Beginning, T, O, 
     listening: &'a Listening,
     dialed: &'a Connections,
     guests: &'a Guests,
+    clients: &'a Connections,
     contacts: &'a Contacts<'a, H, O>,
     stop: &'a AtomicBool,
 }
 
 /// Runs a member as a node among its peers until the input of its desk ends, and hands the member back, with whether
 /// its history was held against all that was told from the seats: memory may be refused for that, and the member is
-/// not to be lost then. The desk goes on with what is kept of the member's payments.
+/// not to be lost then. The desk goes on with what is kept of the member's payments. Where the config has a socket,
+/// clients there give it lines too, between those of the input.
 ///
 /// It listens on its own port, which the fault `Port` names where it can't be had, and dials those of all others. A
 /// fault of the desk ends it too, and is answered. Nothing that follows from the history leaves the node before its
@@ -92,7 +98,8 @@ where
     In: Input,
     Out: Output,
     requires ports { length config.now.ports.now ≡ length start.member.keys.keys }
-    ensures ended { HasEnded (node_of start.member) start.kept config.now.ports.now
+    ensures ended { HasEnded (node_of start.member)
+        (desk_start start.kept config.now.socket) config.now.ports.now
         (In.remaining reader.old) (In.remaining reader.new)
         (Out.contents writer) (Out.contents result.1) result.0 }
     ensures durable { IfOk result.0 (λ _. K.kept config.now.keeper.now (node_of start.member)) }
@@ -124,7 +131,8 @@ where
     Out: Output,
     requires beginning { start.member.history ≡ S.beginning }
     requires ports { length config.now.ports.now ≡ length start.member.keys.keys }
-    ensures ended { HasEnded (node_of start.member) start.kept config.now.ports.now
+    ensures ended { HasEnded (node_of start.member)
+        (desk_start start.kept config.now.socket) config.now.ports.now
         (In.remaining reader.old) (In.remaining reader.new)
         (Out.contents writer) (Out.contents result.1) result.0 }
     ensures durable { IfOk result.0 (λ _. K.kept config.now.keeper.now (node_of start.member)) }
@@ -169,10 +177,10 @@ where
     B: Settle + Drop,
     S: Beginning,
     K: Keeper,
-    ensures ended { (kept : List Kept) (ports : List ℕ) (input left before after : Option (List ℕ))
-        → MatchResult ran (λ seats. HasRun node kept seats.items input left before after)
-        (IsNodeFault node kept ports input left before after)
-        → HasEnded node kept ports input left before after result }
+    ensures ended { (start : DeskStart) (ports : List ℕ) (input left before after : Option (List ℕ))
+        → MatchResult ran (λ seats. HasRun node start seats.items input left before after)
+        (IsNodeFault node start ports input left before after)
+        → HasEnded node start ports input left before after result }
     ensures durable { IfOk result (λ _. K.kept keeper.now node) }
     ensures read { IsErrOf result (Engine Read) → IsErrOf ran (Engine Read) }
     ensures bound { IsErrOf result (Engine Bound) → IsErrOf ran (Engine Bound) }
@@ -210,10 +218,10 @@ where
     requires fresh { AreFresh context.now.node.now.seats seats.items }
     requires count { context.now.node.now.seats + 1 ≡ 2 * length context.now.node.now.keys.keys }
     ensures ran { MatchResult result
-        (λ seats. HasRun context.now.node.now kept seats.items
+        (λ seats. HasRun context.now.node.now (desk_start kept config.now.socket) seats.items
         (In.remaining reader.old) (In.remaining reader.new)
         (Out.contents writer.old) (Out.contents writer.new))
-        (IsNodeFault context.now.node.now kept config.now.ports.now
+        (IsNodeFault context.now.node.now (desk_start kept config.now.socket) config.now.ports.now
         (In.remaining reader.old) (In.remaining reader.new)
         (Out.contents writer.old) (Out.contents writer.new)) }
     ensures counts { KeepsCounts (λ fault. Engine fault) In.call_count In.failure_count
@@ -223,6 +231,7 @@ where
     let members = context.node.keys().members();
     let dialed = Connections::new(alloc, members)?;
     let guests = Guests::new(alloc, MOST_CONNECTIONS)?;
+    let clients = Connections::new(alloc, MOST_CLIENTS)?;
     let stop = AtomicBool::new(false);
     let contacts = Contacts::new(rt, alloc, config.observer, &stop, members)?;
     let running = Running {
@@ -231,6 +240,7 @@ where
         listening,
         dialed: &dialed,
         guests: &guests,
+        clients: &clients,
         contacts: &contacts,
         stop: &stop,
     };
@@ -243,9 +253,9 @@ fn closed<I: Instance + Drop, B: Settle + Drop, S: Beginning>(
     node: Node<I, B, S>,
     seats: &[Seat],
 ) -> Result<(Member<I, B>, Receipts), u16>
-    ensures { (kept : List Kept) (ports : List ℕ) (input left before after : Option (List ℕ))
-        → HasRun node kept seats.now input left before after
-        → HasEnded node kept ports input left before after (as_fault result) }
+    ensures { (start : DeskStart) (ports : List ℕ) (input left before after : Option (List ℕ))
+        → HasRun node start seats.now input left before after
+        → HasEnded node start ports input left before after (as_fault result) }
 {
     let stopped = node.stop();
     let uncounted = stopped.least_uncounted(seats);
@@ -292,10 +302,12 @@ where
         requires count { self.now.context.now.node.now.seats + 1
             ≡ 2 * length self.now.context.now.node.now.keys.keys }
         ensures ran { MatchResult result
-            (λ seats. HasRun self.now.context.now.node.now kept seats.items
+            (λ seats. HasRun self.now.context.now.node.now
+            (desk_start kept self.now.config.now.socket) seats.items
             (In.remaining reader.old) (In.remaining reader.new)
             (Out.contents writer.old) (Out.contents writer.new))
-            (IsNodeFault self.now.context.now.node.now kept self.now.config.now.ports.now
+            (IsNodeFault self.now.context.now.node.now
+            (desk_start kept self.now.config.now.socket) self.now.config.now.ports.now
             (In.remaining reader.old) (In.remaining reader.new)
             (Out.contents writer.old) (Out.contents writer.new)) }
         ensures counts { KeepsCounts (λ fault. Engine fault) In.call_count In.failure_count
@@ -318,7 +330,8 @@ where
         reader: &mut In,
         writer: &mut Out,
     ) -> (Seats, Result<(), StreamFault>)
-        ensures served { HasServed self.now.context.now.node.now kept seats.desk result.0.desk
+        ensures served { HasServed self.now.context.now.node.now
+            (desk_start kept self.now.config.now.socket) seats.desk result.0.desk
             (In.remaining reader.old) (In.remaining reader.new)
             (Out.contents writer.old) (Out.contents writer.new) result.1 }
         ensures counts { KeepsCounts itself In.call_count In.failure_count In.remaining
@@ -333,11 +346,21 @@ where
             left,
         } = seats;
         let mut desk = self.desk(kept, desk);
-        let (_, ended) = thread::join_mut(
-            self.context.rt,
-            &mut || self.work(&mut readers, writers.as_slice()),
-            &mut || self.answer_lines(&mut desk, reader, writer),
-        );
+        let workers = writers.as_slice();
+        let (desk, ended) = match self.config.socket {
+            None => {
+                let ended = self.serve_alone(&mut desk, &mut readers, workers, reader, writer);
+                (desk, ended)
+            }
+            Some(socket) => self.serve_clients::<_, Brand, In, Out>(
+                desk,
+                socket,
+                &mut readers,
+                workers,
+                reader,
+                writer,
+            ),
+        };
         let seats = Seats {
             readers,
             writers,
@@ -345,6 +368,130 @@ where
             left,
         };
         (seats, ended)
+    }
+
+    // Answers the lines of a desk that nobody else uses.
+    fn serve_alone<In: Input, Out: Output>(
+        &self,
+        desk: &mut Desk<NodeTeller<'a, H, I, B, S, K>>,
+        readers: &mut Vec<(u16, Asking)>,
+        writers: &[(u16, Mutex<Seat>)],
+        reader: &mut In,
+        writer: &mut Out,
+    ) -> Result<(), StreamFault>
+        ensures text { WritesAnswers TellerSays desk.old desk.new
+            (In.remaining reader.old) (In.remaining reader.new)
+            (Out.contents writer.old) (Out.contents writer.new) result }
+        ensures counts { KeepsCounts itself In.call_count In.failure_count In.remaining
+            Out.failure_count reader.old reader.new writer.old writer.new result }
+        ensures readers { EachGrows readers.old.items readers.new.items }
+    {
+        let (_, ended) = thread::join_mut(
+            self.context.rt,
+            &mut || self.work(readers, writers),
+            &mut || self.answer_lines(desk, reader, writer),
+        );
+        ended
+    }
+
+    // Answers the lines of a desk that those use as well who call on a socket.
+    fn serve_clients<W, V, In, Out>(
+        &self,
+        desk: Desk<W>,
+        socket: &DeskSocket,
+        readers: &mut Vec<(u16, Asking)>,
+        writers: &[(u16, Mutex<Seat>)],
+        reader: &mut In,
+        writer: &mut Out,
+    ) -> (Desk<W>, Result<(), StreamFault>)
+    where
+        W: Teller + Drop + Send,
+        V: Service<W> + Send,
+        In: Input,
+        Out: Output,
+        requires { V.begins desk }
+        ensures is { IsServiceDesk W.says V.begins result.0 }
+        ensures text { WritesClientsAnswers W.says (IsServiceDesk W.says V.begins)
+            (In.remaining reader.old) (In.remaining reader.new)
+            (Out.contents writer.old) (Out.contents writer.new) result.1 }
+        ensures counts { KeepsCounts itself In.call_count In.failure_count In.remaining
+            Out.failure_count reader.old reader.new writer.old writer.new result.1 }
+        ensures readers { EachGrows readers.old.items readers.new.items }
+    {
+        let shared = SharedDesk::<W, V>::new(desk);
+        let ended = self.serve_shared(&shared, socket, readers, writers, reader, writer);
+        (shared.into_desk(), ended)
+    }
+
+    // The same, of the desk under its lock.
+    fn serve_shared<W, V, In, Out>(
+        &self,
+        desk: &SharedDesk<W, V>,
+        socket: &DeskSocket,
+        readers: &mut Vec<(u16, Asking)>,
+        writers: &[(u16, Mutex<Seat>)],
+        reader: &mut In,
+        writer: &mut Out,
+    ) -> Result<(), StreamFault>
+    where
+        W: Teller + Drop + Send,
+        V: Service<W> + Send,
+        In: Input,
+        Out: Output,
+        ensures text { WritesClientsAnswers W.says (IsServiceDesk W.says V.begins)
+            (In.remaining reader.old) (In.remaining reader.new)
+            (Out.contents writer.old) (Out.contents writer.new) result }
+        ensures counts { KeepsCounts itself In.call_count In.failure_count In.remaining
+            Out.failure_count reader.old reader.new writer.old writer.new result }
+        ensures readers { EachGrows readers.old.items readers.new.items }
+    {
+        let (_, ended) = thread::join_mut(
+            self.context.rt,
+            &mut || self.work_and_welcome(desk, socket, readers, writers),
+            &mut || self.answer_client(desk, reader, writer),
+        );
+        ended
+    }
+
+    // Does what workers do, and answers the clients on a socket, until told to stop.
+    fn work_and_welcome<W: Teller + Drop + Send, V: Service<W> + Send>(
+        &self,
+        desk: &SharedDesk<W, V>,
+        socket: &DeskSocket,
+        readers: &mut Vec<(u16, Asking)>,
+        writers: &[(u16, Mutex<Seat>)],
+    )
+        ensures { EachGrows readers.old.items readers.new.items }
+    {
+        thread::join_mut(
+            self.context.rt,
+            &mut || self.welcome(desk, socket),
+            &mut || self.work(readers, writers),
+        );
+    }
+
+    // Answers the clients on a socket, each in a thread of its own.
+    fn welcome<W: Teller + Drop + Send, V: Service<W> + Send>(
+        &self,
+        desk: &SharedDesk<W, V>,
+        socket: &DeskSocket,
+    ) {
+        let NodeContext {
+            rt,
+            alloc,
+            node,
+            ..
+        } = *self.context;
+        let clients = Clients {
+            rt,
+            alloc,
+            node,
+            keeper: self.config.keeper,
+            desk,
+            connections: self.clients,
+            stop: self.stop,
+        };
+        accept_all(rt, &clients, self.stop, socket);
     }
 
     // Reads from all peers and answers those who connect, until told to stop.
@@ -389,12 +536,7 @@ where
             observer: self.contacts,
             stop: self.stop,
         };
-        accept_all(
-            self.context.rt,
-            &answering,
-            self.stop,
-            &self.listening.listener,
-        );
+        accept_all(self.context.rt, &answering, self.stop, self.listening);
     }
 }
 
@@ -437,6 +579,25 @@ where
         ended
     }
 
+    // Answers the lines of one client among others, and then stops the workers.
+    fn answer_client<W: Teller + Drop, V: Service<W>, In: Input, Out: Output>(
+        &self,
+        desk: &SharedDesk<W, V>,
+        reader: &mut In,
+        writer: &mut Out,
+    ) -> Result<(), StreamFault>
+        ensures text { WritesClientsAnswers W.says (IsServiceDesk W.says V.begins)
+            (In.remaining reader.old) (In.remaining reader.new)
+            (Out.contents writer.old) (Out.contents writer.new) result }
+        ensures counts { KeepsCounts itself In.call_count In.failure_count In.remaining
+            Out.failure_count reader.old reader.new writer.old writer.new result }
+    {
+        let NodeContext { rt, alloc, .. } = *self.context;
+        let ended = serve_client(rt, alloc, desk, reader, writer);
+        self.stop_workers();
+        ended
+    }
+
     // Ends all that a worker can wait for. The flag is set first: who finds it unset is shut or woken here.
     fn stop_workers(&self) {
         self.stop.store(true, Ordering::SeqCst);
@@ -444,6 +605,10 @@ where
         let rt = self.context.rt;
         self.dialed.shut_all(rt);
         self.guests.shut_all(rt);
+        if let Some(socket) = self.config.socket {
+            socket.shut();
+        }
+        self.clients.shut_all(rt);
         for leave in self.guests.all_leave() {
             self.context.node.stop_waiting(rt, leave);
         }

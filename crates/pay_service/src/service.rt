@@ -1,9 +1,8 @@
-use pay_desk::Teller;
 use std::marker::Brand;
 
 /// The desk with which a service begins. Who starts the service picks it, so that the type of what
 /// lies under the lock can name it.
-pub trait Service<T: Teller> {
+pub trait Service<T> {
     ghost use Rattle.pay_desk.specs.declared.desk.Desk.{Desk};
 
     // Whether this is that desk.
@@ -11,6 +10,6 @@ pub trait Service<T: Teller> {
 }
 
 /// It is picked where a service is started.
-impl<T: Teller> Service<T> for Brand {
+impl<T> Service<T> for Brand {
     ghost begins = { λ desk. ⊥ };
 }

@@ -8,7 +8,7 @@ use Rattle.clap.specs.declared.builder.action.ArgAction.TheVariants.{Append, Set
 use Rattle.clap.specs.declared.builder.Command.{Command}
 use Rattle.clap.specs.declared.builder.command.Command.TheViews.{out-Command}
 use Rattle.payd.specs.declared.words.Job.{Job}
-use Rattle.payd.specs.declared.words.Job.TheVariants.{Check, Desk, Node, Export, Audit, Book, Statement, Journal, Sim}
+use Rattle.payd.specs.declared.words.Job.TheVariants.{Check, Desk, Node, Send, Export, Audit, Book, Statement, Journal, Sim}
 
 -- an option that takes a word
 abbrev pub option_rule : Text → Rule
@@ -33,11 +33,12 @@ check_app =
 abbrev pub desk_app : App
 desk_app = with_rule (with_rule (new_app (codes "desk")) (required_rule (codes "genesis"))) (required_rule (codes "keys"))
 
--- `node`, which needs both, and ports, and takes dials, how many frames are asked for ahead, and a folder, with which it
--- may stay
+-- `node`, which needs both, and ports, and takes dials, how many frames are asked for ahead, a folder, with which it may
+-- stay, and a socket
 abbrev pub node_app : App
 node_app =
     with_rule
+    (with_rule
     (with_rule
     (with_rule
     (with_rule
@@ -47,7 +48,18 @@ node_app =
     (option_rule (codes "dials")))
     (option_rule (codes "ahead")))
     (option_rule (codes "data")))
-    (flag_rule (codes "stay"))
+    (flag_rule (codes "stay")))
+    (option_rule (codes "socket"))
+
+-- lines, if any are given
+abbrev pub lines_rule : Rule
+lines_rule = record (new_rule (codes "lines")) { action = Some Append; value_names = 1 }
+
+-- `send`, which takes a folder, a socket and lines
+abbrev pub send_app : App
+send_app =
+    with_rule (with_rule (with_rule (new_app (codes "send")) lines_rule) (option_rule (codes "data")))
+    (option_rule (codes "socket"))
 
 -- `export`, which needs both, and a folder
 abbrev pub export_app : App
@@ -106,7 +118,9 @@ payd_app =
     (with_subcommand
     (with_subcommand
     (with_subcommand
+    (with_subcommand
     (with_subcommand (with_subcommand (with_subcommand payd_alone check_app.top) desk_app.top) node_app.top)
+    send_app.top)
     export_app.top)
     audit_app.top)
     book_app.top)
@@ -124,13 +138,14 @@ pub record IsArgument (o : Arg) (r : Rule) : Type 0 where
   pub rule : rule_of o ≡ r
   pub global : o.global ≡ false
 
--- a command, and what it is given: the names of files and of a folder, an account, a date, and the words that say the
--- threads of a check or an audit, how a book is written, and of a node its dials, how many frames it asks for ahead, and
--- whether it stays
+-- a command, and what it is given: the names of files, of a folder and of a socket, an account, a date, lines, and the
+-- words that say the threads of a check or an audit, how a book is written, and of a node its dials, how many frames it
+-- asks for ahead, and whether it stays
 pub data Asked : Type 0 where
   check : Option Text → Option Text → Option Text → Asked
   desk : Text → Text → Asked
-  node : Text → Text → Text → Option Text → Option Text → Option Text → Bool → Asked
+  node : Text → Text → Text → Option Text → Option Text → Option Text → Bool → Option Text → Asked
+  sent : List Text → Option Text → Option Text → Asked
   exported : Text → Text → Text → Asked
   audit : List Text → Option Text → Asked
   book : List Text → Bool → Bool → Asked
@@ -147,6 +162,10 @@ asked (Desk genesis keys) = desk genesis.now keys.now
 asked (Node words) =
     node words.genesis.now words.keys.now words.ports.now (option_map (λ word. word.now) words.dials)
     (option_map (λ word. word.now) words.ahead) (option_map (λ name. name.now) words.folder) words.stays
+    (option_map (λ name. name.now) words.socket)
+asked (Send words) =
+    sent (map (λ line. line.now) words.lines.items) (option_map (λ name. name.now) words.folder)
+    (option_map (λ name. name.now) words.socket)
 asked (Export genesis keys folder) = exported genesis.now keys.now folder.now
 asked (Audit files jobs) =
     audit (map (λ name. name.now) files.items) (option_map (λ word. word.now) jobs)
@@ -175,7 +194,13 @@ abbrev pub node_asked : List Row → Asked
 node_asked rows =
     node (named (codes "genesis") rows) (named (codes "keys") rows) (named (codes "ports") rows)
     (first_of (codes "dials") rows) (first_of (codes "ahead") rows) (first_of (codes "data") rows)
-    (is_set (codes "stay") rows)
+    (is_set (codes "stay") rows) (first_of (codes "socket") rows)
+
+abbrev pub lines_of : List Row → List Text
+lines_of rows = unwrap_or (all_of (codes "lines") rows) []
+
+abbrev pub send_asked : List Row → Asked
+send_asked rows = sent (lines_of rows) (first_of (codes "data") rows) (first_of (codes "socket") rows)
 
 abbrev pub export_asked : List Row → Asked
 export_asked rows = exported (named (codes "genesis") rows) (named (codes "keys") rows) (named (codes "data") rows)
@@ -199,6 +224,7 @@ abbrev pub asked_of : Text → List Row → Asked
 asked_of name rows =
     if bytes_eq name (codes "desk") then desk_asked rows
     else if bytes_eq name (codes "node") then node_asked rows
+    else if bytes_eq name (codes "send") then send_asked rows
     else if bytes_eq name (codes "export") then export_asked rows
     else if bytes_eq name (codes "audit") then audit_asked rows
     else if bytes_eq name (codes "book") then book_asked rows

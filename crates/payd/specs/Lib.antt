@@ -7,3 +7,4 @@ pub mod Ahead
 pub mod Texts
 pub mod Jobs
 pub mod Outcomes
+pub mod Sending

@@ -79,6 +79,12 @@ loses its account.
                   is none, one node has it at a time, and payd export writes its export
   --stay          at the end of the lines a node with a folder goes on until it is killed
 
+A node with a folder also listens on the Unix socket FOLDER/desk, which only the owner may open, for
+16 clients at once: each sends lines and has their answers in order, as payd send. All use one desk: an
+ID is one payment, whoever gives it. A client that is silent for 600 seconds is closed, and so is one
+that takes no answer for as long.
+  --socket PATH   the node listens there in place of FOLDER/desk, also without a folder
+
 The member listens on its own port of 127.0.0.1 and dials those of all others, a thousand times some
 10 milliseconds apart and again after each connection that brought a frame. So a group's nodes are
 started within a few seconds, or with --dials:
@@ -93,9 +99,23 @@ Of each peer as many as 64 frames are asked for before the first of them is ther
 
 Status: 0 at the input's end, 1 where what was told isn't borne out by the member's history, 2 for words
 or a file that can't be read, or a folder that isn't this member's, 3 where memory, a read, a write, the
-own port or the folder fails, or after 1,000,000 reads.
+own port, the socket or the folder fails, or after 1,000,000 reads.
 
 Example: payd node --genesis examples/genesis.json --keys examples/keys-0.json --ports examples/ports.json";
+
+pub(crate) const SEND_ABOUT: &str = "Has a node that runs answer lines, for an account's owner";
+
+pub(crate) const SEND_HELP: &str = "\
+Input: lines as those of payd desk, each a word of the command line, or those on standard input. The node
+is named by --data, its folder, or by --socket, the socket on which it listens.
+
+Output: the answers, in order, each once it is there.
+
+Status: 0 where no line was refused, 1 where one was, 2 for words that can't be read, 3 where nobody
+listens there, where the node ended before it answered, or where memory, a read or a write fails, or
+after 1,000,000 reads. A line that wasn't answered may be given again: under its ID it pays once.
+
+Example: payd send --data member 'PAY 7 1 30' FRONT";
 
 pub(crate) const EXPORT_ABOUT: &str =
     "Writes the export of a member that a node keeps in a folder, while no node has it";

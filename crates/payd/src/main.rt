@@ -15,6 +15,8 @@ mod keeping;
 mod nodes;
 mod ports;
 mod saying;
+mod sending;
+mod sockets;
 mod staying;
 mod stop;
 mod texts;
@@ -39,12 +41,13 @@ use pay_link::{Genesis, Keys};
 use pay_member::Member;
 use pay_pending::WaitingBook;
 use pay_sim::{SimEnd, run_sim};
+use sending::call;
 use std::alloc::{AllocError, AllocGlobal, Global};
 use std::process::ExitCode;
 use std::rt::{Env, Files};
 use std::thread::Threads;
 use std::time::Clock;
-use std::{env, io};
+use std::{env, io, thread};
 use stop::Stop;
 use texts::{book_over, form_of, statement_said};
 use words::{Job, job_of};
@@ -68,6 +71,13 @@ fn main(rt: HostRuntime) -> ExitCode {
         ) => status_of(&rt, check(alloc, &rt, genesis, keys, jobs)),
         Ok(Job::Desk { genesis, keys }) => status_of(&rt, serve_desk(alloc, &rt, genesis, keys)),
         Ok(Job::Node(words)) => status_of(&rt, serve_node(alloc, &rt, words)),
+        Ok(Job::Send(words)) => match call(alloc, &rt, words) {
+            Ok((sending, answers)) => match thread::spawn(&rt, move || sending.send(&rt)) {
+                Ok(_) => status_of_send(&rt, answers.write(alloc, &rt)),
+                Err(_) => status_of(&rt, Err(Stop::Engine(EngineFault::Memory))),
+            },
+            Err(stop) => status_of(&rt, Err(stop)),
+        },
         Ok(
             Job::Export {
                 genesis,
@@ -299,6 +309,15 @@ fn status_of_book(rt: &impl Eprint, ended: Result<bool, Stop>) -> ExitCode {
     match ended {
         Ok(true) => ExitCode::SUCCESS,
         Ok(false) => ExitCode::from(1),
+        Err(stop) => status_of(rt, Err(stop)),
+    }
+}
+
+/// A line that was refused has its answer already.
+fn status_of_send(rt: &impl Eprint, ended: Result<bool, Stop>) -> ExitCode {
+    match ended {
+        Ok(false) => ExitCode::SUCCESS,
+        Ok(true) => ExitCode::from(1),
         Err(stop) => status_of(rt, Err(stop)),
     }
 }

@@ -10,6 +10,7 @@ use crate::folders::{Opened, open_kept_member, open_member};
 use crate::keeping::SayingKept;
 use crate::ports::ports_of;
 use crate::saying::{Found, Saying, say_in_memory, say_start};
+use crate::sockets::{NamedSocket, listen, socket_path};
 use crate::staying::{Lines, judge_stay};
 use crate::stop::Stop;
 use crate::words::NodeWords;
@@ -36,12 +37,13 @@ use std::sync::atomic::AtomicBool;
 use std::thread::Threads;
 use std::time::Clock;
 
-/// How a node meets its peers, as words and a file say.
+/// How a node meets its peers and its desk's clients, as words and a file say.
 #[derive(Drop)]
 struct Meeting {
     ports: Ports,
     dials: Dials,
     ahead: Ahead,
+    socket: Option<NamedSocket>,
 }
 
 impl Meeting {
@@ -55,6 +57,17 @@ impl Meeting {
             ahead: self.ahead,
             observer,
             keeper,
+            socket: match &self.socket {
+                Some(named) => Some(&named.socket),
+                None => None,
+            },
+        }
+    }
+
+    // Nobody may call on the desk any more.
+    fn leave(&self, rt: &impl Files) {
+        if let Some(socket) = &self.socket {
+            socket.remove(rt);
         }
     }
 }
@@ -86,18 +99,26 @@ where
     let keys = keys_of(alloc, rt, &genesis, Some(words.keys))?;
     let ports = ports_of(alloc, rt, &genesis, words.ports)?;
     warn_of_keys(rt, words.keys);
-    let meeting = Meeting {
+    let path = socket_path(alloc, words.folder, words.socket)?;
+    let mut meeting = Meeting {
         ports,
         dials,
         ahead,
+        socket: None,
     };
-    match words.folder {
-        None => serve_in_memory(alloc, rt, genesis, keys, &meeting),
+    let ended = match words.folder {
+        None => {
+            meeting.socket = listen(rt, path)?;
+            serve_in_memory(alloc, rt, genesis, keys, &meeting)
+        }
         Some(folder) => {
             let opened = open_member(alloc, rt, &genesis, &keys, folder)?;
+            meeting.socket = listen(rt, path)?;
             serve_kept(alloc, rt, opened, &meeting, words.stays)
         }
-    }
+    };
+    meeting.leave(rt);
+    ended
 }
 
 // The node of a fresh member, which is lost with it.

@@ -36,6 +36,18 @@ pub(crate) enum Stop<'a> {
     /// A node is to stay that has no folder.
     #[error("stay: only with --data")]
     Stay,
+    /// A client names no node, or two.
+    #[error("send: --data or --socket")]
+    NoNode,
+    /// The socket of this name can't be had.
+    #[error("socket {0}")]
+    Socket(String),
+    /// Nobody listens on the socket of this name.
+    #[error("nobody listens on {0}")]
+    Nobody(String),
+    /// The node ended before it answered all lines.
+    #[error("the node ended before it answered")]
+    Unanswered,
     /// The own port can't be had.
     #[error("port {0}")]
     Port(u16),
@@ -169,6 +181,9 @@ impl Stop<'_> {
             | Stop::Close(CloseFault::Memory)
             | Stop::Log(LogFault::Memory | LogFault::Disk | LogFault::Held)
             | Stop::Port(_)
+            | Stop::Socket(_)
+            | Stop::Nobody(_)
+            | Stop::Unanswered
             | Stop::Clock => 3,
             Stop::Genesis(_)
             | Stop::Keys(_)
@@ -176,6 +191,7 @@ impl Stop<'_> {
             | Stop::Export(_)
             | Stop::Log(_)
             | Stop::Stay
+            | Stop::NoNode
             | Stop::File(_)
             | Stop::Dials(_)
             | Stop::Ahead(_)

@@ -6,15 +6,16 @@ ghost use Rattle.payd.specs.Job.{asked_of};
 ghost use Rattle.payd.specs.Job.{audit_app, audit_asked, book_app, book_asked, check_app};
 ghost use Rattle.payd.specs.Job.{check_asked, desk_app};
 ghost use Rattle.payd.specs.Job.{desk_asked, export_app, export_asked, export_rule, files_of};
-ghost use Rattle.payd.specs.Job.{files_rule, flag_rule, is_set, journal_app};
+ghost use Rattle.payd.specs.Job.{files_rule, flag_rule, is_set, journal_app, lines_of, lines_rule};
 ghost use Rattle.payd.specs.Job.{journal_asked, named, node_app, node_asked, option_rule};
-ghost use Rattle.payd.specs.Job.{payd_alone, payd_app, required_rule, statement_app};
+ghost use Rattle.payd.specs.Job.{payd_alone, payd_app, required_rule, send_app, send_asked};
+ghost use Rattle.payd.specs.Job.{statement_app};
 ghost use Rattle.payd.specs.Job.{statement_asked};
 
 use crate::helps::{
     ABOUT, AUDIT_ABOUT, AUDIT_HELP, BOOK_ABOUT, BOOK_HELP, CHECK_ABOUT, CHECK_HELP, DESK_ABOUT,
     DESK_HELP, EXPORT_ABOUT, EXPORT_HELP, JOURNAL_ABOUT, JOURNAL_HELP, NODE_ABOUT, NODE_HELP,
-    SIM_ABOUT, SIM_HELP, STATEMENT_ABOUT, STATEMENT_HELP, VERSION,
+    SEND_ABOUT, SEND_HELP, SIM_ABOUT, SIM_HELP, STATEMENT_ABOUT, STATEMENT_HELP, VERSION,
 };
 use clap::{Arg, ArgAction, ArgMatches, Command, Error};
 use std::alloc::{AllocError, Global};
@@ -37,6 +38,8 @@ pub(crate) enum Job<'a> {
     },
     /// Answer these lines over a node of that member among its peers, as these words say.
     Node(NodeWords<'a>),
+    /// Have such a node answer lines, as these words say.
+    Send(SendWords<'a>),
     /// Write the export of that member by the folder of this name.
     Export {
         genesis: &'a str,
@@ -83,6 +86,18 @@ pub(crate) struct NodeWords<'a> {
     /// The folder in which the member is kept, if one is named, and whether it stays when the lines end.
     pub(crate) folder: Option<&'a str>,
     pub(crate) stays: bool,
+    /// The socket on which clients may call on its desk, if one is named.
+    pub(crate) socket: Option<&'a str>,
+}
+
+/// The words of a client of a node's desk.
+#[derive(Drop)]
+pub(crate) struct SendWords<'a> {
+    /// The lines, or none: then they are on standard input.
+    pub(crate) lines: Vec<&'a str>,
+    /// The folder or the socket of the node.
+    pub(crate) folder: Option<&'a str>,
+    pub(crate) socket: Option<&'a str>,
 }
 
 /// What the words ask for, the program's name the first of them; or help, the version, or what is
@@ -131,6 +146,8 @@ fn command_job<'a>(
         Ok(desk_job(command))
     } else if name == "node" {
         Ok(node_job(command))
+    } else if name == "send" {
+        send_job(alloc, command)
     } else if name == "export" {
         Ok(export_job(command))
     } else if name == "audit" {
@@ -181,7 +198,19 @@ fn node_job<'a>(node: &ArgMatches<'a>) -> Job<'a>
         ahead: given(node, "ahead"),
         folder: given(node, "data"),
         stays: is_set(node, "stay"),
+        socket: given(node, "socket"),
     })
+}
+
+/// The job of `send` with these lines and options.
+fn send_job<'a>(alloc: Global, send: &ArgMatches<'a>) -> Result<Job<'a>, AllocError>
+    ensures { IfOk result (λ job. asked job ≡ send_asked (rows_of (found_of send.now))) }
+{
+    Ok(Job::Send(SendWords {
+        lines: lines_in(alloc, send)?,
+        folder: given(send, "data"),
+        socket: given(send, "socket"),
+    }))
 }
 
 /// The job of `export` with these options.
@@ -223,6 +252,17 @@ fn files_in<'a>(alloc: Global, command: &ArgMatches<'a>) -> Result<Vec<&'a str>,
 {
     match command.get_strs("files") {
         Some(files) => Ok(Vec::from_slice(alloc, files)?),
+        None => Ok(Vec::new(alloc)),
+    }
+}
+
+/// The lines that a command was given.
+fn lines_in<'a>(alloc: Global, command: &ArgMatches<'a>) -> Result<Vec<&'a str>, AllocError>
+    ensures { IfOk result (λ lines.
+        map (λ line. line.now) lines.items ≡ lines_of (rows_of (found_of command.now))) }
+{
+    match command.get_strs("lines") {
+        Some(lines) => Ok(Vec::from_slice(alloc, lines)?),
         None => Ok(Vec::new(alloc)),
     }
 }
@@ -279,6 +319,7 @@ fn payd<'a>(alloc: Global) -> Result<Command<'a>, AllocError>
     let program = with_command(Ok(payd_alone(alloc)), check(alloc));
     let program = with_command(program, desk(alloc));
     let program = with_command(program, node(alloc));
+    let program = with_command(program, send(alloc));
     let program = with_command(program, exporting(alloc));
     let program = with_command(program, audit(alloc));
     let program = with_command(program, book(alloc));
@@ -360,7 +401,23 @@ fn node<'a>(alloc: Global) -> Result<Command<'a>, AllocError>
             alloc,
             "stay",
             "Goes on at the end of the lines, with a folder",
+        ))?
+        .arg(option(
+            alloc,
+            "socket",
+            "PATH",
+            "The socket for further clients, in place of desk in the folder",
         ))
+}
+
+/// The command `send`, its lines and its options.
+fn send<'a>(alloc: Global) -> Result<Command<'a>, AllocError>
+    ensures { IfOk result (λ command. IsCommand command send_app) }
+{
+    titled(alloc, "send", SEND_ABOUT, SEND_HELP)
+        .arg(lines(alloc))?
+        .arg(option(alloc, "data", "FOLDER", "The folder of the node"))?
+        .arg(option(alloc, "socket", "PATH", "The socket of the node"))
 }
 
 /// The command `export` and its options.
@@ -491,4 +548,14 @@ fn files<'a>(alloc: Global) -> Arg<'a>
         .action(ArgAction::Append)
         .value_name("FILE")
         .help("A file of JSON with an export")
+}
+
+/// Lines for a desk.
+fn lines<'a>(alloc: Global) -> Arg<'a>
+    ensures { IsArgument result lines_rule }
+{
+    Arg::new(alloc, "lines")
+        .action(ArgAction::Append)
+        .value_name("LINE")
+        .help("A line for the desk, in place of standard input")
 }

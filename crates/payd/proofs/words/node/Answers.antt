@@ -10,4 +10,5 @@ returns c =
     let four = one_argument_more _ _ _ _ _ three c.option.ensures c.in_ok-arg-4.ensures in
     let five = one_argument_more _ _ _ _ _ four c.option-2.ensures c.in_ok-arg-5.ensures in
     let six = one_argument_more _ _ _ _ _ five c.option-3.ensures c.in_ok-arg-6.ensures in
-    IfOk-weaker c.arg-7.result _ _ (λ r h. one_argument_more _ _ _ _ _ six c.flag.ensures h) c.arg-7.ensures
+    let seven = one_argument_more _ _ _ _ _ six c.flag.ensures c.in_ok-arg-7.ensures in
+    IfOk-weaker c.arg-8.result _ _ (λ r h. one_argument_more _ _ _ _ _ seven c.option-4.ensures h) c.arg-8.ensures

@@ -1,5 +1,5 @@
 use denote.Param.Send.{param_send}
-use Rattle.pay_net.proofs.running.fn.Running.run.join_mut+arg2.Goals as goal
+use Rattle.pay_net.proofs.running.fn.Running.work_and_welcome.join_mut+arg3.Goals as goal
 
 pub work-requires-send-I : goal.work-requires-send-I
 work-requires-send-I g c κs within = param_send _ _ c.requires.1.1.1.1.1.1.1.0

@@ -1,0 +1,233 @@
+//! A client of a node's desk.
+
+ghost use Rattle.std.specs.Prelude.{◌≡◌};
+ghost use Rattle.pay_io.specs.Device.{counted};
+ghost use Rattle.payd.specs.Sending.{Relays, counted_if, is_last, is_refusal};
+
+use crate::sockets::socket_path;
+use crate::stop::Stop;
+use crate::words::SendWords;
+use pay_engine::EngineFault;
+use pay_io::{Reader, StreamFault, Writer, write_all};
+use pay_text::{Answer, Answerer, Text, run_lines};
+use std::alloc::{AllocError, Global};
+use std::net::{Net, Shutdown};
+use std::os::unix::net::UnixStream;
+use std::sync::Arc;
+use std::sync::atomic::{AtomicU64, Ordering};
+use std::io;
+
+/// How long a line of an answer may be: that of `FRONT` has fewer than a thousand bytes in the largest group.
+const MOST_ANSWER: usize = 4096;
+
+/// How many bytes of standard input are sent at a time.
+const PIECE: usize = 4096;
+
+/// The count of lines that were sent, while some may follow, and where they can't be read.
+const STILL_SENDING: u64 = u64::MAX;
+
+const UNREAD: u64 = u64::MAX - 1;
+
+/// What was answered so far.
+#[derive(Drop)]
+pub(crate) struct Relay {
+    answered: u64,
+    refused: u64,
+}
+
+impl Answerer for Relay {
+    ghost says = { λ old line text on new. Relays old line text on new };
+
+    ghost gives_up = { λ old new. new ≡ old };
+
+    fn answer(&mut self, alloc: Global, line: Option<&[u8]>) -> Result<Answer, AllocError> {
+        let Some(line) = line else {
+            return Ok(Answer {
+                text: Text::Fixed(""),
+                goes_on: false,
+            });
+        };
+        let mut text = Vec::from_slice(alloc, line)?;
+        text.push(b'\n')?;
+        self.answered = counted_if(is_last(line), self.answered);
+        self.refused = counted_if(is_refusal(line), self.refused);
+        Ok(Answer {
+            text: Text::Made(text),
+            goes_on: true,
+        })
+    }
+}
+
+// One more, if this is so.
+fn counted_if(is_one: bool, count: u64) -> u64
+    ensures { result ≡ counted_if is_one count }
+{
+    if is_one {
+        count.saturating_add(1)
+    } else {
+        count
+    }
+}
+
+fn is_refusal(line: &[u8]) -> bool
+    ensures { result ≡ is_refusal line.now }
+{
+    line.starts_with(b"refused ")
+}
+
+// Whether it is the last line of an answer.
+fn is_last(line: &[u8]) -> bool
+    ensures { result ≡ is_last line.now }
+{
+    is_refusal(line)
+        || line.starts_with(b"asked ")
+        || line.starts_with(b"balance ")
+        || line.starts_with(b"state ")
+        || line.starts_with(b"end ")
+        || line.starts_with(b"front ")
+}
+
+/// What a thread sends to a node's desk, in which nobody waits for it: a node that ends first ends the program.
+#[derive(Drop)]
+pub(crate) struct Sending {
+    stream: UnixStream,
+    /// The lines, or nothing: then they are those of standard input.
+    text: Vec<u8>,
+    sent: Arc<AtomicU64>,
+}
+
+impl Sending {
+    /// Sends the lines, and ends the stream behind them.
+    pub(crate) fn send(self, rt: &impl Input) {
+        let count = if self.text.is_empty() {
+            send_input(&mut Reader::new(rt.reader()), &self.stream)
+        } else {
+            send_text(&self.stream, self.text.as_slice())
+        };
+        self.sent.store(count, Ordering::SeqCst);
+        let _ = self.stream.shutdown(Shutdown::Write);
+    }
+}
+
+/// What a node's desk answers, and how many lines were sent to it.
+#[derive(Drop)]
+pub(crate) struct Answers {
+    stream: UnixStream,
+    sent: Arc<AtomicU64>,
+}
+
+impl Answers {
+    /// Writes the answers as they come. Answers whether one was a refusal.
+    pub(crate) fn write<'a>(&self, alloc: Global, rt: &impl Print) -> Result<bool, Stop<'a>> {
+        let mut relay = Relay {
+            answered: 0,
+            refused: 0,
+        };
+        let mut reader = Reader::new(&self.stream);
+        let mut writer = Writer::new(io::writer(rt));
+        let ended = run_lines(alloc, MOST_ANSWER, &mut relay, &mut reader, &mut writer);
+        match ended {
+            Ok(_) | Err(StreamFault::Read) => said_of(&relay, self.sent.load(Ordering::SeqCst)),
+            Err(fault) => Err(Stop::from(fault)),
+        }
+    }
+}
+
+/// Calls on a node's desk: what is to be sent to it, and what it answers.
+pub(crate) fn call<'a>(
+    alloc: Global,
+    rt: &impl Net,
+    words: SendWords<'a>,
+) -> Result<(Sending, Answers), Stop<'a>> {
+    let stream = connect(alloc, rt, words.folder, words.socket)?;
+    let text = text_of(alloc, words.lines.as_slice())?;
+    let sent = Arc::new(alloc, AtomicU64::new(STILL_SENDING))?;
+    let Ok(own) = stream.try_clone() else {
+        return Err(Stop::Engine(EngineFault::Memory));
+    };
+    let sending = Sending {
+        stream: own,
+        text,
+        sent: Arc::try_clone(&sent)?,
+    };
+    Ok((sending, Answers { stream, sent }))
+}
+
+// What is said at the end, by how many lines were sent.
+fn said_of<'a>(relay: &Relay, sent: u64) -> Result<bool, Stop<'a>> {
+    if sent == UNREAD {
+        return Err(Stop::Engine(EngineFault::Read));
+    }
+    if sent != relay.answered {
+        return Err(Stop::Unanswered);
+    }
+    Ok(relay.refused > 0)
+}
+
+// Calls on the socket that the words name.
+fn connect<'a>(
+    alloc: Global,
+    rt: &impl Net,
+    folder: Option<&str>,
+    socket: Option<&str>,
+) -> Result<UnixStream, Stop<'a>> {
+    if folder.is_some() && socket.is_some() {
+        return Err(Stop::NoNode);
+    }
+    let Some(path) = socket_path(alloc, folder, socket)? else {
+        return Err(Stop::NoNode);
+    };
+    match UnixStream::connect(rt, path.as_str()) {
+        Ok(stream) => Ok(stream),
+        Err(_) => Err(Stop::Nobody(path)),
+    }
+}
+
+// The lines of the command, as a text.
+fn text_of(alloc: Global, lines: &[&str]) -> Result<Vec<u8>, AllocError> {
+    let mut text = Vec::new(alloc);
+    for line in lines {
+        text.extend_from_slice(line.as_bytes())?;
+        text.push(b'\n')?;
+    }
+    Ok(text)
+}
+
+// Sends a text of whole lines, and answers how many they are.
+fn send_text(stream: &UnixStream, text: &[u8]) -> u64 {
+    let mut writer = Writer::new(stream);
+    match write_all(&mut writer, text) {
+        Ok(()) => line_feeds(text),
+        Err(_) => STILL_SENDING,
+    }
+}
+
+// Sends an input, and answers how many lines it has.
+fn send_input(reader: &mut impl pay_io::Input, stream: &UnixStream) -> u64 {
+    let mut writer = Writer::new(stream);
+    let mut piece = [0u8; PIECE];
+    let mut count: u64 = 0;
+    let mut is_whole = true;
+    for _ in 0..u64::MAX {
+        let Ok(size) = reader.read(&mut piece) else {
+            return UNREAD;
+        };
+        if size == 0 {
+            break;
+        }
+        if write_all(&mut writer, &piece[..size]).is_err() {
+            return STILL_SENDING;
+        }
+        count = count.saturating_add(line_feeds(&piece[..size]));
+        is_whole = piece[size - 1] == b'\n';
+    }
+    if is_whole {
+        count
+    } else {
+        count.saturating_add(1)
+    }
+}
+
+fn line_feeds(text: &[u8]) -> u64 {
+    text.iter().filter(|byte| **byte == b'\n').count() as u64
+}

@@ -1,0 +1,52 @@
+//! The socket of a node's desk, by the words that name it.
+
+use crate::stop::Stop;
+use pay_net::DeskSocket;
+use std::alloc::{AllocError, Global};
+use std::fs;
+use std::net::Net;
+use std::rt::Files;
+
+/// What it is called in a node's folder.
+const DESK: &str = "desk";
+
+/// A socket on which a node listens, and its name, under which it is removed at the end.
+#[derive(Drop)]
+pub(crate) struct NamedSocket {
+    pub(crate) socket: DeskSocket,
+    path: String,
+}
+
+impl NamedSocket {
+    /// Removes the socket's name: nobody may call on it any more.
+    pub(crate) fn remove(&self, rt: &impl Files) {
+        let _ = fs::remove_file(rt, self.path.as_str());
+    }
+}
+
+/// The name of a node's socket: the one that is given, or the one in its folder.
+pub(crate) fn socket_path(
+    alloc: Global,
+    folder: Option<&str>,
+    socket: Option<&str>,
+) -> Result<Option<String>, AllocError> {
+    match (socket, folder) {
+        (Some(path), _) => Ok(Some(String::from_str(alloc, path)?)),
+        (None, Some(folder)) => Ok(Some(format!(in alloc; "{folder}/{DESK}")?)),
+        (None, None) => Ok(None),
+    }
+}
+
+/// Listens on a node's socket, if it has one.
+pub(crate) fn listen<'a, R: Files + Net>(
+    rt: &R,
+    path: Option<String>,
+) -> Result<Option<NamedSocket>, Stop<'a>> {
+    let Some(path) = path else {
+        return Ok(None);
+    };
+    match DeskSocket::bind(rt, path.as_str()) {
+        Ok(socket) => Ok(Some(NamedSocket { socket, path })),
+        Err(_) => Err(Stop::Socket(path)),
+    }
+}
