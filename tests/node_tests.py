@@ -54,6 +54,22 @@ def four_nodes_beside_a_stranger():
 
 
 @test
+def a_desk_that_is_polled_keeps_no_more():
+    """However often a desk is asked the same while nothing new comes, a node keeps one receipt of each answer."""
+    with Group(OPENING) as group:
+        group.pay(0, 7, payee=1, amount=30, seq=0)
+        group.settle([1, 0, 0, 0], [70, 30, 0, 50])
+        node, kept = group.nodes[1], []
+        for _ in range(2):
+            for _ in range(3_000):
+                polled = node.front(), node.lines_of("ENTRIES 0 0"), node.lines_of("WAITING 0")
+                same(polled, ([1, 0, 0, 0], ["entry 0 0 seq 0 to 1 30", "end 0 1"], ["end 0 short 0"]), "what is polled")
+            kept.append(node.status("VmRSS"))
+        same(kept[1] - kept[0] < 500, True, f"{kept[0]} kibibytes, and {kept[1]} behind 9,000 polls more")
+        group.stop()
+
+
+@test
 def payments_wait_for_each_other():
     with Group([0, 0, 0, 50]) as group:
         group.pay(0, 1, payee=1, amount=10, seq=0)

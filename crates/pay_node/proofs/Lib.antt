@@ -2,6 +2,7 @@ pub mod Counted
 pub mod Fresh
 pub mod Judged
 pub mod Kept
+pub mod Latest
 pub mod Replayed
 pub mod Replays
 pub mod Rights

@@ -7,8 +7,8 @@ use Rattle.pay_node.specs.declared.question.Question.TheVariants as question
 use Rattle.pay_node.specs.declared.receipt.Receipt.{Receipt}
 use Rattle.pay_node.specs.declared.shown.Shown.TheVariants as shown
 use Rattle.pay_node.specs.Nodes.{IsOwn, IsShown, NodeFields}
-use Rattle.pay_node.specs.Receipts.{ShowsAlone, reading_receipt, shown_of}
-use Rattle.pay_node.specs.Seats.{SeatFields, with_receipts}
+use Rattle.pay_node.specs.Receipts.{ShowsAlone, reading, reading_receipt, shown_of}
+use Rattle.pay_node.specs.Seats.{KeepsReceipt, SeatFields}
 use Rattle.pay_node.specs.Sending.{sent_by}
 
 -- the place that is marked for a number, if there is one
@@ -42,7 +42,7 @@ abbrev pub IsNoted : MemberFields → SeatFields → SeatFields → ℕ → Opti
 IsNoted m before after number (Some body) = IsKeptOnce m before after number body
 IsNoted m before after number None =
     (shown.Sent [] ≡ shown_of m (question.Sent number 1))
-    × (after ≡ with_receipts before (reading_receipt (length m.history) (question.Sent number 1) (shown.Sent [])))
+    × KeepsReceipt before after (reading (length m.history) (question.Sent number 1) (shown.Sent []))
 
 -- The node's member, with some legal history, sent this body at the number, and the seat keeps its receipt.
 pub record IsShownOnce (n : NodeFields) (before after : SeatFields) (number : ℕ) (body : BodyFields) : Type 0 where

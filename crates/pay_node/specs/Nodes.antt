@@ -30,8 +30,8 @@ use Rattle.pay_member.specs.Legal.{Legal}
 use Rattle.pay_member.specs.Member.{MemberFields}
 use Rattle.pay_node.specs.declared.question.Question.{Question}
 use Rattle.pay_node.specs.declared.shown.Shown.{Shown}
-use Rattle.pay_node.specs.Receipts.{shown_of, receipts_of, reading_receipt}
-use Rattle.pay_node.specs.Seats.{SeatFields, with_receipts}
+use Rattle.pay_node.specs.Receipts.{shown_of, receipts_of, reading}
+use Rattle.pay_node.specs.Seats.{KeepsReceipt, SeatFields, with_receipts}
 
 -- What is known of a node without its lock: its group's genesis, the keys with which it opens frames, how many seats
 -- it has, and the history that its member began with.
@@ -75,13 +75,13 @@ pub record IsAnswered (n : NodeFields) (before after : SeatFields) (event : Even
   pub is : IsAnswer member event answer
   pub receipt : after ≡ with_receipts before (receipts_of (length member.history) event answer)
 
--- The node's member, with some legal history, shows this, and the seat has the receipt.
+-- The node's member, with some legal history, shows this, and the seat keeps the receipt.
 pub record IsShown (n : NodeFields) (before after : SeatFields) (question : Question) (shown : Shown) : Type 0 where
   pub member : MemberFields
   pub own : IsOwn n member
   pub legal : Legal member.genesis member.keys member.history
   pub is : shown ≡ shown_of member question
-  pub receipt : after ≡ with_receipts before (reading_receipt (length member.history) question shown)
+  pub receipt : KeepsReceipt before after (reading (length member.history) question shown)
 
 -- ---- what is brought
 

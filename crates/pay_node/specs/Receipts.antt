@@ -104,8 +104,11 @@ receipts_of seen event (Err WrongKey) = record { seen = seen; call = Handed even
 receipts_of seen event (Err NoAccount) = record { seen = seen; call = Handed event (Err NoAccount) } ∷ []
 
 -- of what was read
+abbrev pub reading : ℕ → Question → Shown → Receipt
+reading seen question shown = record { seen = seen; call = Read question shown }
+
 abbrev pub reading_receipt : ℕ → Question → Shown → List Receipt
-reading_receipt seen question shown = record { seen = seen; call = Read question shown } ∷ []
+reading_receipt seen question shown = reading seen question shown ∷ []
 
 -- the receipt shows this body alone, as that of a number
 abbrev pub ShowsAlone : Receipt → ℕ → BodyFields → Type 0

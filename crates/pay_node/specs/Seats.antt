@@ -1,8 +1,9 @@
 -- Seats, and when a history bears out all that a seat was told.
-use Rattle.std.specs.Prelude.{◌≡◌, ℕ, ◌≤◌, ◌==◌, List, ◌++◌, Option, drop, length}
-use Rattle.std.specs.List.{All, AllPairs, count_by}
+use Rattle.std.specs.Prelude.{◌≡◌, ◌⊎◌, ℕ, ◌≤◌, ◌-◌, ◌==◌, List, [], ◌∷◌, ◌++◌, Option, drop, length}
+use Rattle.std.specs.List.{All, AllPairs, Contains, count_by}
 use Rattle.pay_member.specs.Member.{MemberFields}
 use Rattle.pay_node.specs.declared.receipt.Receipt.{Receipt}
+use Rattle.pay_node.specs.declared.seat.TheConstants.{LATEST}
 use Rattle.pay_node.specs.Receipts.{IsBorneOut, has_entry, entries_after}
 
 -- A stamp, the receipts of the calls that were made under it, oldest first, and the marks: at which place among them is
@@ -14,6 +15,16 @@ pub record SeatFields : Type 0 where
 
 abbrev pub with_receipts : SeatFields → List Receipt → SeatFields
 with_receipts seat more = record seat { receipts = seat.receipts ++ more }
+
+-- the last receipts, in which one is looked for before it is left once more
+abbrev pub latest : SeatFields → List Receipt
+latest seat = drop (length seat.receipts - LATEST) seat.receipts
+
+-- The seat keeps this receipt. If it was among the latest, nothing changes; else the seat has a receipt more, if any.
+pub record KeepsReceipt (before after : SeatFields) (r : Receipt) : Type 0 where
+  pub kept : Contains after.receipts r
+  pub once : Contains (latest before) r → after ≡ before
+  pub more : (after ≡ before) ⊎ (after ≡ with_receipts before (r ∷ []))
 
 -- how many of the calls have an entry
 abbrev pub entries_told : SeatFields → ℕ

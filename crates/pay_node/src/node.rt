@@ -231,7 +231,7 @@ impl<I: Instance + Drop, B: Settle + Drop, S: Beginning> Node<I, B, S> {
         begun.hand_in(alloc, seat, account, account)
     }
 
-    /// Reads of the member what a question asks for.
+    /// Reads of the member what a question asks for. Where the seat's latest receipts say just that, none is left.
     fn read<R: Wait>(
         &self,
         rt: &R,
@@ -247,8 +247,7 @@ impl<I: Instance + Drop, B: Settle + Drop, S: Beginning> Node<I, B, S> {
         let begun = self.locked(rt);
         let member = begun.member();
         let shown = show(alloc, member, question)?;
-        let copy = shown.copy(alloc)?;
-        seat.note(member, question, copy)?;
+        seat.note(alloc, member, question, &shown)?;
         Ok(shown)
     }
 

@@ -1,8 +1,8 @@
 ghost use Rattle.std.specs.Prelude.{◌≡◌, ◌↔◌, [], ◌∷◌, IsTrue};
-ghost use Rattle.pay_node.specs.Receipts.{ShowsAlone};
+ghost use Rattle.pay_node.specs.Receipts.{ShowsAlone, reading};
 
 use crate::question::Question;
-use crate::same::is_same_body;
+use crate::same::{is_same_body, is_same_shown};
 use crate::shown::Shown;
 use pay_frame::Body;
 use pay_member::{Event, MemberFault, Reply};
@@ -42,6 +42,19 @@ impl Receipt {
                 shown: Shown::Sent(bodies),
             } => *from == number && *max == 1 && is_alone(bodies.as_slice(), body),
             _ => false,
+        }
+    }
+
+    /// Whether it is of this question with this answer, at a history of so many entries.
+    pub(crate) fn is_reading(&self, seen: usize, question: Question, shown: &Shown) -> bool
+        ensures { IsTrue result ↔ (self.now ≡ reading seen question shown.now) }
+    {
+        match &self.call {
+            Call::Read {
+                question: asked,
+                shown: told,
+            } => self.seen == seen && *asked == question && is_same_shown(told, shown),
+            Call::Handed { .. } => false,
         }
     }
 }

@@ -1,11 +1,13 @@
 ghost use Rattle.std.specs.Prelude.{◌≡◌, ◌≢◌, ◌↔◌, ◌+◌, ◌<◌, ℕ, Some, Err, [], ◌++◌, IfOk, IsTrue};
 ghost use Rattle.std.specs.Prelude.{OnErr, OnOk, length, max, vec_len, vec_capacity};
+ghost use Rattle.std.specs.List.{Contains};
 ghost use Rattle.pay_member.specs.Answer.{IsAnswer};
 ghost use Rattle.pay_member.specs.Legal.{Legal};
 ghost use Rattle.pay_member.specs.Member.{with_entry};
 ghost use Rattle.pay_node.specs.Keeping.{IsKeptFor, IsNoted, mark_of};
-ghost use Rattle.pay_node.specs.Receipts.{reading_receipt, receipts_of, shown_of};
-ghost use Rattle.pay_node.specs.Seats.{SeatFields, StaysRight, with_receipts};
+ghost use Rattle.pay_node.specs.Receipts.{reading, reading_receipt, receipts_of, shown_of};
+ghost use Rattle.pay_node.specs.Seats.{KeepsReceipt, SeatFields, StaysRight, latest};
+ghost use Rattle.pay_node.specs.Seats.{with_receipts};
 
 use crate::marks::Marks;
 use crate::question::Question;
@@ -18,6 +20,9 @@ use pay_frame::Body;
 use pay_member::{Event, Member, MemberFault, Reply};
 use std::alloc::{AllocError, Global};
 use std::marker::Model;
+
+/// In how many of its last receipts a seat looks for one that says the same.
+pub const LATEST: usize = 256;
 
 /// From where calls are made, one at a time: a stamp, a receipt of each call that was answered, and which of them is
 /// of a body that was fetched once.
@@ -104,27 +109,41 @@ impl Seat {
         answer
     }
 
-    /// Keeps the receipt of what a member shows to a question. What was right stays so.
+    /// Keeps the receipt of what a member shows to a question. Where it is among the latest, no second one is left. What
+    /// was right stays so.
     pub(crate) fn note<I: Instance + Drop, B: Settle + Drop>(
         &mut self,
+        alloc: Global,
         member: &Member<I, B>,
         question: Question,
-        shown: Shown,
+        shown: &Shown,
     ) -> Result<(), AllocError>
-        requires shown { shown ≡ shown_of member.now question }
-        ensures receipt { OnOk result (self.new ≡ with_receipts self.old
-            (reading_receipt (length member.now.history) question shown)) }
+        requires shown { shown.now ≡ shown_of member.now question }
+        ensures receipt { OnOk result (KeepsReceipt self.old self.new
+            (reading (length member.now.history) question shown.now)) }
         ensures err { OnErr result (self.new ≡ self.old) }
         ensures legal { OnOk result (Legal member.now.genesis member.now.keys
             member.now.history) }
         ensures own { StaysRight member.now self.old member.now self.new }
     {
         let seen = member.history().len();
+        if has_reading(self.latest(), seen, question, shown) {
+            return Ok(());
+        }
+        let shown = shown.copy(alloc)?;
         self.receipts.push(Receipt {
             seen,
             call: Call::Read { question, shown },
         })?;
         Ok(())
+    }
+
+    // The receipts among which one is looked for before it is left once more.
+    fn latest(&self) -> &[Receipt]
+        ensures { result.now ≡ latest self.now }
+    {
+        let first = self.receipts.len().saturating_sub(LATEST);
+        &self.receipts[first..]
     }
 
     /// A copy of the body that a member sent at a place of all, if it is there. Where a receipt is kept that shows this
@@ -151,7 +170,7 @@ impl Seat {
                     max: 1,
                 };
                 let none = Shown::Sent(Bodies::new(Vec::new(alloc)));
-                self.note(member, question, none)?;
+                self.note(alloc, member, question, &none)?;
                 Ok(None)
             }
             Some(body) => {
@@ -206,6 +225,18 @@ impl Seat {
         });
         Ok(())
     }
+}
+
+// Whether one of these receipts is of this question with this answer, at a history of so many entries.
+fn has_reading(receipts: &[Receipt], seen: usize, question: Question, shown: &Shown) -> bool
+    ensures { IsTrue result ↔ Contains receipts.now (reading seen question shown.now) }
+{
+    for receipt in receipts {
+        if receipt.is_reading(seen, question, shown) {
+            return true;
+        }
+    }
+    false
 }
 
 // Keeps the receipt of an event that was handed in, for which there is room; refused memory has none.

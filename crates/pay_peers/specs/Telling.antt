@@ -15,7 +15,7 @@ use Rattle.pay_node.specs.declared.shown.Shown.TheVariants as shown
 use Rattle.pay_node.specs.Nodes.{IsAnswered, IsShown, NodeFields}
 use Rattle.pay_node.specs.Seats.{SeatFields}
 
--- What a seat is told of a desk's call: the node's member, with some legal history, answers so, and the seat has the
+-- What a seat is told of a desk's call: the node's member, with some legal history, answers so, and the seat keeps the
 -- receipt.
 abbrev pub SeatSays : NodeFields → SeatFields → desk.Call → desk.TellerReply → SeatFields → Type 0
 SeatSays n old (desk.Ask value) (desk.Asked seq) new = IsAnswered n old new (event.Ask value) (Ok (reply.Asked seq))

@@ -1,11 +1,25 @@
-use Rattle.std.proofs.Common.{◌≡◌, length, rules}
-use Rattle.pay_node.specs.Receipts.{reading_receipt}
-use Rattle.pay_node.specs.Seats.{SeatFields, with_receipts}
+use Rattle.std.proofs.Common.{◌≡◌, Contains, length, rules}
+use Rattle.pay_node.specs.Receipts.{reading, reading_receipt}
+use Rattle.pay_node.specs.Seats.{SeatFields, latest, with_receipts}
+use Rattle.pay_node.proofs.Latest.{kept_already, kept_more}
 use Rattle.pay_node.proofs.Rights.{reading_stays}
 use Rattle.pay_node.proofs.seat.Seat.note.Goals as goal
+
+pub returns-then-has_reading-clause-receipt : goal.returns-then-has_reading-clause-receipt
+returns-then-has_reading-clause-receipt g c =
+    let found : Contains (latest c.args.self.now) (reading (length c.args.member.now.history) c.args.question c.args.shown.now) = search rules in
+    kept_already c.args.self.now (reading (length c.args.member.now.history) c.args.question c.args.shown.now) found
+
+pub returns-clause-receipt : goal.returns-clause-receipt
+returns-clause-receipt g c =
+    let r = reading (length c.args.member.now.history) c.args.question c.args.shown.now in
+    let after : SeatFields = record { stamp = c.self.inside.stamp; receipts = c.push.new.self.items; marks = c.self.inside.marks } in
+    let missing : ¬ (Contains (latest c.args.self.now) r) = search rules in
+    let at : after ≡ with_receipts c.args.self.now (reading_receipt (length c.args.member.now.history) c.args.question c.args.shown.now) = search rules in
+    kept_more c.args.self.now after r missing at
 
 pub returns-clause-own : goal.returns-clause-own
 returns-clause-own g c =
     let after : SeatFields = record { stamp = c.self.inside.stamp; receipts = c.push.new.self.items; marks = c.self.inside.marks } in
-    let at : after ≡ with_receipts c.args.self.now (reading_receipt (length c.args.member.now.history) c.args.question c.args.shown) = search rules in
-    reading_stays c.args.member.now c.args.self.now after c.args.question c.args.shown c.requires.shown at
+    let at : after ≡ with_receipts c.args.self.now (reading_receipt (length c.args.member.now.history) c.args.question c.args.shown.now) = search rules in
+    reading_stays c.args.member.now c.args.self.now after c.args.question c.args.shown.now c.requires.shown at

@@ -4,8 +4,8 @@ use Rattle.pay_frame.specs.Frame.{BodyFields}
 use Rattle.pay_node.specs.declared.question.Question.TheVariants as question
 use Rattle.pay_node.specs.declared.shown.Shown.TheVariants as shown
 use Rattle.pay_node.specs.Keeping.{IsKeptFor, IsKeptOnce}
-use Rattle.pay_node.specs.Receipts.{reading_receipt}
-use Rattle.pay_node.specs.Seats.{with_receipts}
+use Rattle.pay_node.specs.Receipts.{reading, reading_receipt}
+use Rattle.pay_node.specs.Seats.{KeepsReceipt}
 use Rattle.pay_node.specs.Sending.{sent_by}
 use Rattle.pay_node.proofs.Kept.{kept_now, kept_stays, none_shown}
 use Rattle.pay_node.proofs.seat.Seat.note_once.Goals as goal
@@ -21,8 +21,8 @@ returns-in_ok-note-in-None-clause-noted g c =
     let none : slice_get (sent_by c.args.member.now) c.args.number ≡ None = search rules in
     let empty : c.new-in-None.result ≡ [] = search rules in (
       none_shown c.args.member.now c.args.number none,
-      c.in_ok-note-in-None.ensures.receipt
-          ∙ ap (λ (xs : List BodyFields). with_receipts c.args.self.now (reading_receipt (length c.args.member.now.history) (question.Sent c.args.number 1) (shown.Sent xs))) empty,
+      subst (λ (xs : List BodyFields). KeepsReceipt c.args.self.now c.note.new.self (reading (length c.args.member.now.history) (question.Sent c.args.number 1) (shown.Sent xs)))
+          empty c.in_ok-note-in-None.ensures.receipt,
     )
 
 pub returns-in_ok-keep_body-in-Some-clause-noted : goal.returns-in_ok-keep_body-in-Some-clause-noted
