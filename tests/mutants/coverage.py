@@ -9,7 +9,7 @@ from kit import TOP
 from sources import read_file
 import inventory
 
-# Public functions that have no other body: they lend or hand out the one value of its type that they have, or an empty
+# Public functions that have no other body: they lend, share or hand out the one value of its type that they have, or an empty
 # one that nothing at hand could fill; or a trait's of which there is no impl.
 WITHOUT_OTHER_BODY = {
     "pay_audit::exported::Export::genesis",
@@ -21,6 +21,7 @@ WITHOUT_OTHER_BODY = {
     "pay_kept::behind::Behind::into_inner",
     "pay_kept::following::Following::new",
     "pay_link::checked::Checked::body",
+    "pay_link::checked::Checked::copy",
     "pay_link::opened::Opened::frame",
     "pay_log::log::Log::into_device",
     "pay_log::sink::Payloads::new",

@@ -1,73 +1,73 @@
 ghost use Rattle.std.specs.Prelude.{◌≡◌, ◌↔◌, IfOk, IsTrue};
 ghost use Rattle.pay_link.specs.Checked.{IsChecked, IsFor};
 
+use crate::checked_parts::CheckedParts;
 use crate::keys::Keys;
 use pay_frame::{Body, TAG_LEN};
 use std::alloc::{AllocError, Global};
 use std::marker::Model;
+use std::sync::Arc;
 
-/// A frame by itself that was opened, with the key that it was opened under.
+/// A frame by itself that was opened, with the key that it was opened under. Copies share it.
 ///
 /// Its type keeps that the frame is within its limits, that its tag is right under that key, and
 /// that it is no WANT. `Opened::own`, `sealed` and `copy` alone make one. Like `Keys` it has no
 /// `Debug`, so that no line of a log shows the key.
 #[derive(Drop)]
 pub struct Checked {
-    pub(crate) from: u16,
-    pub(crate) to: u16,
-    pub(crate) number: u64,
-    pub(crate) body: Body,
-    pub(crate) tag: [u8; TAG_LEN],
-    pub(crate) key: [u8; 32],
+    parts: Arc<CheckedParts, Global>,
 }
 
 impl Model for Checked {
-    ghost use Rattle.pay_frame.specs.Frame.{frame_of_parts};
-    ghost use Rattle.pay_link.specs.Checked.{CheckedFields, IsChecked};
+    ghost use Rattle.pay_link.specs.Checked.{CheckedFields};
 
     ghost Value = { CheckedFields };
 
-    ghost view = { λ c.
-        record { frame = frame_of_parts c.from c.to c.number c.body c.tag; key = c.key } };
-
-    ghost invariant = { λ c. IsChecked
-        (record { frame = frame_of_parts c.from c.to c.number c.body c.tag; key = c.key }) };
+    ghost view = { λ c. c.parts.value };
 }
 
 impl Checked {
+    /// One that owns its parts.
+    pub(crate) fn new(alloc: Global, parts: CheckedParts) -> Result<Checked, AllocError>
+        ensures { IfOk result (λ checked. checked ≡ parts) }
+    {
+        let parts = Arc::new(alloc, parts)?;
+        Ok(Checked { parts })
+    }
+
     /// Who sent it.
     pub fn from(&self) -> u16
         ensures { result ≡ self.now.frame.from }
     {
-        self.from
+        self.parts.from()
     }
 
     /// Whom it was sent to.
     pub fn to(&self) -> u16
         ensures { result ≡ self.now.frame.to }
     {
-        self.to
+        self.parts.to()
     }
 
     /// Its place among all that the sender sent.
     pub fn number(&self) -> u64
         ensures { result ≡ self.now.frame.number }
     {
-        self.number
+        self.parts.number()
     }
 
     pub fn body(&self) -> &Body
         ensures value { result.now ≡ self.now.frame.body }
         ensures limits { IsChecked self.now }
     {
-        &self.body
+        self.parts.body()
     }
 
     pub fn tag(&self) -> &[u8; TAG_LEN]
         ensures value { result.now ≡ self.now.frame.tag }
         ensures limits { IsChecked self.now }
     {
-        &self.tag
+        self.parts.tag()
     }
 
     /// The key that sender and receiver share.
@@ -75,31 +75,24 @@ impl Checked {
         ensures value { result.now ≡ self.now.key }
         ensures limits { IsChecked self.now }
     {
-        &self.key
+        self.parts.key()
     }
 
     /// Whether it is for the member with these keys, and was opened under the right one of them.
     pub fn is_for(&self, keys: &Keys) -> bool
         ensures { IsTrue result ↔ IsFor keys.now self.now }
     {
-        self.to == keys.own()
-            && keys.is_peer(self.from)
-            && self.body.owner() < keys.members()
-            && self.key == *keys.key(self.from)
+        self.to() == keys.own()
+            && keys.is_peer(self.from())
+            && self.body().owner() < keys.members()
+            && *self.key() == *keys.key(self.from())
     }
 
-    /// An equal frame under an equal key.
-    pub fn copy(&self, alloc: Global) -> Result<Checked, AllocError>
+    /// The same frame under the same key, shared with this one.
+    pub fn copy(&self) -> Result<Checked, AllocError>
         ensures { IfOk result (λ copy. copy ≡ self.now) }
     {
-        let body = self.body.copy(alloc)?;
-        Ok(Checked {
-            from: self.from,
-            to: self.to,
-            number: self.number,
-            body,
-            tag: self.tag,
-            key: self.key,
-        })
+        let parts = Arc::try_clone(&self.parts)?;
+        Ok(Checked { parts })
     }
 }

@@ -14,6 +14,7 @@
 #![tactic(auto)]
 
 mod checked;
+mod checked_parts;
 mod fronts;
 mod genesis;
 mod genesis_fault;

@@ -5,6 +5,7 @@ ghost use Rattle.pay_link.specs.Checked.{checked_fields};
 ghost use Rattle.pay_link.specs.Opening.{IsOpened, judgement, right_tag};
 
 use crate::checked::Checked;
+use crate::checked_parts::CheckedParts;
 use crate::keys::Keys;
 use crate::link_fault::LinkFault;
 use pay_frame::{Body, Bytes, FrameRef, Kind, TAG_LEN};
@@ -57,14 +58,15 @@ impl<'a> Opened<'a> {
         tag.copy_from_slice(frame.tag());
         let value = Bytes::from_slice(alloc, frame.value())?;
         let body = Body::new(frame.kind(), frame.owner(), frame.seq(), value);
-        Ok(Checked {
+        let parts = CheckedParts {
             from: frame.from(),
             to: frame.to(),
             number: frame.number(),
             body,
             tag,
             key: self.key,
-        })
+        };
+        Checked::new(alloc, parts)
     }
 }
 

@@ -7,6 +7,7 @@ ghost use Rattle.pay_link.specs.Opening.{judgement, opened_fields};
 ghost use Rattle.pay_link.specs.Sealing.{sealed, tagged_bytes, wanted};
 
 use crate::checked::Checked;
+use crate::checked_parts::CheckedParts;
 use crate::keys::Keys;
 use crate::limits::WANT_LEN;
 use pay_frame::{Body, HEAD_LEN, Kind, TAG_LEN, head_into, write};
@@ -116,12 +117,13 @@ fn checked_for<T: Tagger>(
 {
     let tag = tag_for(t, keys, to, number, body);
     let body = body.copy(alloc)?;
-    Ok(Checked {
+    let parts = CheckedParts {
         from: keys.own(),
         to,
         number,
         body,
         tag,
         key: *keys.key(to),
-    })
+    };
+    Checked::new(alloc, parts)
 }

@@ -30,7 +30,7 @@ impl Event {
             }
             Event::Taken(checked) => {
                 taken_is_kept(checked);
-                Ok(Event::Taken(checked.copy(alloc)?))
+                Ok(Event::Taken(checked.copy()?))
             }
             Event::Query(account) => Ok(Event::Query(*account)),
         }

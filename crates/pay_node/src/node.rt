@@ -521,7 +521,7 @@ impl<I: Instance + Drop, B: Settle + Drop, S: Beginning> Node<I, B, S> {
         ensures next { IfOk result (λ _. checked.frame.number + 1 < 2 ^ 64) }
         ensures memory { result ≡ Err TakeFault.Memory → seat.new ≡ seat.old }
     {
-        let copy = checked.copy(alloc)?;
+        let copy = checked.copy()?;
         seat.make_room()?;
         gate.pass(seat.stamp());
         let answer = self.take_locked(rt, alloc, seat, checked, copy);
