@@ -1,3 +1,4 @@
+pub mod Bodies
 pub mod Requests
 pub mod Receipts
 pub mod Seats

@@ -13,6 +13,7 @@
 
 mod beginning;
 mod begun;
+mod bodies;
 mod close_fault;
 mod closing;
 mod gate;
@@ -32,6 +33,7 @@ mod shown;
 mod stopped;
 
 pub use beginning::{Beginning, NoHistory};
+pub use bodies::Bodies;
 pub use close_fault::CloseFault;
 pub use gate::{Gate, OpenGate};
 pub use gatherer::Gatherer;
@@ -39,5 +41,5 @@ pub use node::{MOST_SEATS, Node};
 pub use question::Question;
 pub use receipt::{Call, Receipt};
 pub use seat::Seat;
-pub use shown::{Bodies, SettledCounts, Shown};
+pub use shown::{SettledCounts, Shown};
 pub use stopped::Stopped;

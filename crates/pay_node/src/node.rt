@@ -17,6 +17,7 @@ ghost use Rattle.pay_node.specs.Nodes.{IsReceived, IsShown, IsTaken, base_of, ne
 
 use crate::beginning::Beginning;
 use crate::begun::Begun;
+use crate::bodies::Bodies;
 use crate::close_fault::CloseFault;
 use crate::gate::Gate;
 use crate::gatherer::Gatherer;
@@ -264,10 +265,13 @@ impl<I: Instance + Drop, B: Settle + Drop, S: Beginning> Node<I, B, S> {
             (Question.Sent from max) (Shown.Sent bodies.items)) }
         ensures err { OnErr result (seat.new ≡ seat.old) }
     {
-        match self.read(rt, alloc, seat, Question::Sent { from, max })? {
-            Shown::Sent(bodies) => Ok(bodies.into_vec()),
-            _ => unreachable!(),
-        }
+        seat.make_room()?;
+        let begun = self.locked(rt);
+        let member = begun.member();
+        let bodies = member.fetch(alloc, from, max)?;
+        let shown = Shown::Sent(Bodies::from_slice(alloc, bodies.as_slice())?);
+        seat.note(alloc, member, Question::Sent { from, max }, &shown)?;
+        Ok(bodies)
     }
 
     /// A copy of the body that the member sent at a place of all, if it is there. However often it is fetched from a

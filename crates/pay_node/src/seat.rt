@@ -9,11 +9,12 @@ ghost use Rattle.pay_node.specs.Receipts.{reading, reading_receipt, receipts_of,
 ghost use Rattle.pay_node.specs.Seats.{KeepsReceipt, SeatFields, StaysRight, latest};
 ghost use Rattle.pay_node.specs.Seats.{with_receipts};
 
+use crate::bodies::Bodies;
 use crate::marks::Marks;
 use crate::question::Question;
 use crate::receipt::{Call, Receipt};
 use crate::request::Request;
-use crate::shown::{Bodies, Shown};
+use crate::shown::Shown;
 use pay_book::Settle;
 use pay_echo::Instance;
 use pay_frame::Body;

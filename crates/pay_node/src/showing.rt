@@ -4,8 +4,9 @@ ghost use Rattle.std.specs.Prelude.{◌≡◌, IfOk};
 ghost use Rattle.pay_node.specs.Receipts.{entries_answer, shown_of, state_shown, statement_shown};
 ghost use Rattle.pay_node.specs.Receipts.{waiting_answer};
 
+use crate::bodies::Bodies;
 use crate::question::Question;
-use crate::shown::{Bodies, SettledCounts, Shown};
+use crate::shown::{SettledCounts, Shown};
 use pay_book::{Excerpt, Settle, Statement};
 use pay_echo::Instance;
 use pay_member::{Member, PaymentState, QueryFault};

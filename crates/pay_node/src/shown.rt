@@ -1,7 +1,7 @@
-ghost use Rattle.std.specs.Prelude.{◌≡◌, [], ◌∷◌, IfOk};
+ghost use Rattle.std.specs.Prelude.{◌≡◌, IfOk};
 
+use crate::bodies::Bodies;
 use pay_book::{Excerpt, Statement};
-use pay_frame::Body;
 use pay_member::{PaymentState, QueryFault};
 use std::alloc::{AllocError, Global};
 use std::marker::Model;
@@ -35,64 +35,6 @@ impl Shown {
             Shown::Entries(Err(fault)) => Ok(Shown::Entries(Err(*fault))),
             Shown::Fronts(counts) => Ok(Shown::Fronts(counts.copy(alloc)?)),
         }
-    }
-}
-
-/// Bodies that a member sent to all. Contracts see them as a list.
-#[derive(Drop)]
-pub struct Bodies {
-    bodies: Vec<Body>,
-}
-
-impl Model for Bodies {
-    ghost use Rattle.std.specs.Prelude.{List};
-    ghost use Rattle.pay_frame.specs.Frame.{BodyFields};
-
-    ghost Value = { List BodyFields };
-
-    ghost view = { λ b. b.bodies.items };
-}
-
-impl Bodies {
-    /// Bodies in the order in which they were sent.
-    pub fn new(bodies: Vec<Body>) -> Bodies
-        ensures { result ≡ bodies.items }
-    {
-        Bodies { bodies }
-    }
-
-    /// A copy of one.
-    pub(crate) fn alone(alloc: Global, body: &Body) -> Result<Bodies, AllocError>
-        ensures { IfOk result (λ bodies. bodies ≡ body.now ∷ []) }
-    {
-        let mut bodies = Vec::new(alloc);
-        bodies.push(body.copy(alloc)?)?;
-        Ok(Bodies { bodies })
-    }
-
-    /// The bodies, in the order in which they were sent.
-    pub fn as_slice(&self) -> &[Body]
-        ensures { result.now ≡ self.now }
-    {
-        self.bodies.as_slice()
-    }
-
-    /// The same bodies, given out.
-    pub fn into_vec(self) -> Vec<Body>
-        ensures { result.items ≡ self }
-    {
-        self.bodies
-    }
-
-    /// Equal bodies, unless memory is refused.
-    pub fn copy(&self, alloc: Global) -> Result<Bodies, AllocError>
-        ensures { IfOk result (λ copy. copy ≡ self.now) }
-    {
-        let mut bodies = Vec::new(alloc);
-        for body in self.bodies.iter() {
-            bodies.push(body.copy(alloc)?)?;
-        }
-        Ok(Bodies { bodies })
     }
 }
 
