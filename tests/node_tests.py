@@ -60,10 +60,11 @@ def a_desk_that_is_polled_keeps_no_more():
         group.pay(0, 7, payee=1, amount=30, seq=0)
         group.settle([1, 0, 0, 0], [70, 30, 0, 50])
         node, kept = group.nodes[1], []
+        there = ([1, 0, 0, 0], ["entry 0 0 seq 0 to 1 30", "end 0 1"], ["end 0 short 0"])
         for _ in range(2):
             for _ in range(3_000):
                 polled = node.front(), node.lines_of("ENTRIES 0 0"), node.lines_of("WAITING 0")
-                same(polled, ([1, 0, 0, 0], ["entry 0 0 seq 0 to 1 30", "end 0 1"], ["end 0 short 0"]), "what is polled")
+                same(polled, there, "what is polled")
             kept.append(node.status("VmRSS"))
         same(kept[1] - kept[0] < 500, True, f"{kept[0]} kibibytes, and {kept[1]} behind 9,000 polls more")
         group.stop()

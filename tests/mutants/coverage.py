@@ -9,8 +9,8 @@ from kit import TOP
 from sources import read_file
 import inventory
 
-# Public functions that have no other body: they lend, share or hand out the one value of its type that they have, or an empty
-# one that nothing at hand could fill; or a trait's of which there is no impl.
+# Public functions that have no other body: they lend, share or hand out the one value of its type that they have, or an
+# empty one that nothing at hand could fill; or a trait's of which there is no impl.
 WITHOUT_OTHER_BODY = {
     "pay_audit::exported::Export::genesis",
     "pay_channel::instances::Instances::new",
