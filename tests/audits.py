@@ -7,8 +7,9 @@ shares no code with the crates.
 import json
 
 from frames import payment, payments
-from model import Ended, World, pairs_in
+from model import Ended, World
 from runs import run, same, with_files
+from values import entries, numbered_entries
 
 A = payment(payee=0, amount=5).hex()
 B = payment(payee=1, amount=5).hex()
@@ -163,14 +164,6 @@ def changed(members):
 # ---- the model
 
 
-def entries(value, owner, members):
-    """The entries of a value: payee and amount of each, or None where it moves nothing."""
-    pairs = pairs_in(value)
-    if pairs is None:
-        return [None]
-    return [None if payee >= members or payee == owner or not amount else (payee, amount) for payee, amount in pairs]
-
-
 def balance(given, front, account, accounts=None):
     accounts = accounts or entries_of(given)
     settled = [(owner, e) for owner, es in enumerate(accounts) for e in es[: front[owner]] if e]
@@ -225,12 +218,6 @@ def verdict(exports):
                     if bytes.fromhex(value) != bytes.fromhex(other):
                         return f"4 fork {x} {y} owner {owner} seq {seq}"
     return "clean"
-
-
-def numbered_entries(given, owner):
-    """An owner's entries, each with the number of its value."""
-    values = [bytes.fromhex(text) for text in given["lists"][owner]]
-    return [(seq, it) for seq, value in enumerate(values) for it in entries(value, owner, given["members"])]
 
 
 def statement(given, account):

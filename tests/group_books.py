@@ -8,6 +8,7 @@ import json
 
 import audits
 from runs import with_files
+from values import numbered_entries
 
 GENESIS = ("members", "faults", "opening")
 
@@ -70,7 +71,7 @@ def book_of(exports):
 def waiting(book, account):
     """The lines of what an account's list has that isn't settled."""
     lines, front = [], book["front"][account]
-    for number, (seq, entry) in enumerate(audits.numbered_entries(book, account)):
+    for number, (seq, entry) in enumerate(numbered_entries(book, account)):
         if number < front:
             continue
         line = f"waits account {account} entry {number} seq {seq} "

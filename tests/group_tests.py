@@ -239,7 +239,7 @@ def the_next_group_opens_with_the_balances_of_the_book():
         group = json.loads(read(folder, "group.json"))
         status, text, errors = tool(folder, "next", "group.json", *put_exports(folder, (0, 2, 3)))
         told = "not settled, by the old numbers: "
-        lines = ["waits account 3 entry 0 seq 0 to 0 amount 60 short 10", "beyond 1 account 3 seq 1"]
+        lines = ["waits account 3 entry 0 seq 0 to 0 amount 60 short 10", "beyond 1 account 3 seq 1 (export-2)"]
         same((status, errors), (0, "".join(f"{told}{line}\n" for line in lines)), "what is told")
         put(folder, "next.json", text)
         after = json.loads(text)
@@ -276,6 +276,7 @@ def no_next_group():
         for words, why in (
             (["group.json", exports[0]], "these exports have no book: 6 few 1"),
             (["group.json", exports[0], "gone"], "these exports have no book: payd: file gone"),
+            (["group.json", *exports, exports[0]], "these exports have no book: 5 twice 0 2 (export-0, export-0)"),
             (["other.json", *exports], "these exports are of another group than other.json"),
             (["--leaves", "0:4", "group.json", *exports], "there is no member 4"),
             (

@@ -10,28 +10,16 @@ import json
 import re
 
 from frames import ECHO, READY, SEND, WANT, frame, payment, payments, read_frame
+from values import MOST_PAYMENTS, pairs_in
 
 GREATEST_VALUE = 1024
 SEQS = 65536
-MOST_PAYMENTS = 32
 NUMBER = 2**64
 MOST_MEMBERS = 128
 LIMIT = 1_000_000
 LONGEST_LINE = 4096
 
 KINDS = {"send": SEND, "echo": ECHO, "ready": READY, "want": WANT}
-
-
-def pairs_in(value):
-    """Payee and amount of each payment that a value's bytes say, or None where they say none."""
-    if value[:1] == b"\x01" and len(value) == 11:
-        body = value[1:]
-    elif value[:1] == b"\x02" and len(value) > 1 and 1 <= value[1] <= MOST_PAYMENTS and len(value) == 2 + 10 * value[1]:
-        body = value[2:]
-    else:
-        return None
-    pairs = [body[at : at + 10] for at in range(0, len(body), 10)]
-    return [(int.from_bytes(pair[:2], "big"), int.from_bytes(pair[2:], "big")) for pair in pairs]
 
 
 class Member:

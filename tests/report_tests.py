@@ -14,6 +14,7 @@ import group_books
 from audits import FORKED, FRESH, PAID, PAID_ON, TWO_ENTRIES, WORKED
 from frames import payment, payments
 from runs import SECONDS, TOP, UNWRITTEN, run_to_nobody, same, test
+from values import numbered_entries
 
 REPORT = os.path.join(TOP, "tools", "report")
 MOST_BYTES = 2_000_000
@@ -58,7 +59,7 @@ class Page:
 
 
 def settled_and_left(given, account, front):
-    entries = audits.numbered_entries(given, account)
+    entries = numbered_entries(given, account)
     return entries[: front[account]], entries[front[account] :]
 
 
@@ -99,7 +100,7 @@ def heights(page, given):
     most, seen = list(balances), [0] * given["members"]
     for _, payer, seq, number, payee, amount in page.rows("entries"):
         same(number, seen[payer], "the next entry of its owner")
-        told, entry = audits.numbered_entries(given, payer)[number]
+        told, entry = numbered_entries(given, payer)[number]
         same((seq, payee, amount), (told, *(entry or ("none: void", 0))), "an entry of the page")
         seen[payer] += 1
         if entry:
@@ -145,29 +146,29 @@ def claims_of_single_exports():
     same(page.said("h1"), ["Audit: clean"], "the audit")
     same(any("may be made up all the same" in it for it in page.said("p")), True, "what clean means")
     agrees(page, PAID)
-    same(page.rows("claims"), [(2, 3, 1, "45 to account 1", "none", 1)], "what export 2 adds")
+    same(page.rows("claims"), [(2, "2.json", 3, 1, "45 to account 1", "none", 1)], "what export 2 adds")
     same(any("what at least 2 of the exports have" in it for it in page.said("p")), True, "what is shown")
     page = Page([PAID, FRESH])
     agrees(page, FRESH)
-    same(page.rows("claims"), [(0, 3, 0, "5 to account 0", "none", 0)], "what one of two has")
+    same(page.rows("claims"), [(0, "0.json", 3, 0, "5 to account 0", "none", 0)], "what one of two has")
 
 
 @test
 def both_payments_of_a_fork():
     page = Page([PAID, FORKED, {**PAID, "member": 3}])
     meaning = (
-        "Exports 0 and 1 have different payments of account 3 at seq 0: export 0 pays 5 to account 0 (2 exports),"
-        " export 1 5 to account 1 (1 export)."
+        "Exports 0 (0.json) and 1 (1.json) have different payments of account 3 at seq 0: export 0 pays 5 to account 0"
+        " (2 exports), export 1 5 to account 1 (1 export)."
     )
     same(meaning in page.said("p"), True, "both payments")
-    same(page.rows("claims"), [(1, 3, 0, "5 to account 1", "5 to account 0", 0)], "what export 1 has")
+    same(page.rows("claims"), [(1, "1.json", 3, 0, "5 to account 1", "5 to account 0", 0)], "what export 1 has")
 
 
 @test
 def pages_without_a_book():
     for exports, why in (
         ([PAID], "There is no book of the group: there are no more exports, 1, than members may lie."),
-        ([PAID, PAID], "There is no book of the group: exports 0 and 1 are of one member."),
+        ([PAID, PAID], "There is no book of the group: exports 0 (0.json) and 1 (1.json) are of one member."),
         (
             [PAID, {**PAID, "member": 1}, FORKED, {**FORKED, "member": 3}],
             "two payments of account 3 at seq 0 are each in more exports than members may lie.",

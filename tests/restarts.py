@@ -13,9 +13,9 @@ import threading
 import time
 
 from frames import payment, payments
-from model import pairs_in
 from nodes import Ended, Group, Node, audited
 from runs import TOP, same
+from values import pairs_in
 
 NEW = "payd: log: new\n"
 AGAIN = re.compile(r"payd: log: (\d+) entries of (\d+) payments, started again\n")

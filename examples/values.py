@@ -1,0 +1,29 @@
+"""The payments of values, read by hand as docs/DEFINITIONS.md has them. It shares no code with the crates."""
+
+MOST_PAYMENTS = 32
+
+
+def pairs_in(value):
+    """Payee and amount of each payment that a value's bytes say, or None where they say none."""
+    if value[:1] == b"\x01" and len(value) == 11:
+        body = value[1:]
+    elif value[:1] == b"\x02" and len(value) > 1 and 1 <= value[1] <= MOST_PAYMENTS and len(value) == 2 + 10 * value[1]:
+        body = value[2:]
+    else:
+        return None
+    pairs = [body[at : at + 10] for at in range(0, len(body), 10)]
+    return [(int.from_bytes(pair[:2], "big"), int.from_bytes(pair[2:], "big")) for pair in pairs]
+
+
+def entries(value, owner, members):
+    """The entries of a value: payee and amount of each, or None where it moves nothing."""
+    pairs = pairs_in(value)
+    if pairs is None:
+        return [None]
+    return [None if payee >= members or payee == owner or not amount else (payee, amount) for payee, amount in pairs]
+
+
+def numbered_entries(given, owner):
+    """An owner's entries in an export, each with the number of its value."""
+    values = [bytes.fromhex(text) for text in given["lists"][owner]]
+    return [(seq, it) for seq, value in enumerate(values) for it in entries(value, owner, given["members"])]
