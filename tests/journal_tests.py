@@ -141,6 +141,9 @@ def long_journals():
 
 # ---- read by the programs that the journal is for
 
+# What `hledger --strict` wants before a journal: amounts here have no commodity.
+COMMODITY = "commodity 1000."
+
 
 def hledger(path, *words):
     return ["hledger", *words, "-f", path]
@@ -159,6 +162,9 @@ def told(command):
 
 def hledger_balances(path):
     told(hledger(path, "check", "accounts", "ordereddates"))
+    with open(path, encoding="ascii") as plain, open(f"{path}-strict", "w", encoding="ascii") as strict:
+        strict.write(f"{COMMODITY}\n{plain.read()}")
+    told(hledger(f"{path}-strict", "check", "--strict", "ordereddates"))
     rows = csv.reader(told(hledger(path, "balance", "--empty", "--flat", "--no-total", "-O", "csv")).splitlines())
     return {name: int(amount) for name, amount in list(rows)[1:]}
 
