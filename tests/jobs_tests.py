@@ -126,6 +126,22 @@ def one_job_starts_no_thread(library):
 
 
 @hostile
+def as_many_threads_as_processors_unless_said(library):
+    """On so many of the machine's processors, a run without --jobs starts as many threads as one with that number."""
+    stream, processors = drawn(8, 600), sorted(os.sched_getaffinity(0))
+    try:
+        os.sched_setaffinity(0, processors[:1])
+        same(library.run(["check"], stream, no_threads=1)[1], False, "no thread on one processor")
+        for count in range(2, min(len(processors), 3) + 1):
+            os.sched_setaffinity(0, processors[:count])
+            unless_said = sum(1 for _ in library.each(["check"], stream, "thread"))
+            said = sum(1 for _ in library.each(["check", "--jobs", f"{count}"], stream, "thread"))
+            same(unless_said, said, f"threads on {count} processors")
+    finally:
+        os.sched_setaffinity(0, processors)
+
+
+@hostile
 def each_growth_of_a_further_thread_refused(library):
     """The text is whole, or a prefix of it and Memory."""
     stream = drawn(7, 300)
