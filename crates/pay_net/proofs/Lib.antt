@@ -1,4 +1,5 @@
 mod Few
+mod Places
 mod Desks
 mod Endings
 mod Seatings

@@ -1,5 +1,6 @@
 pub mod Faults
 pub mod Guests
+pub mod GuestLaws
 pub mod Ports
 pub mod Starting
 pub mod Running

@@ -19,6 +19,7 @@ mod dialing;
 mod guest;
 mod guest_list;
 mod guests;
+pub mod laws;
 mod listening;
 mod news;
 mod node_fault;
