@@ -12,7 +12,7 @@ import threading
 
 import group_model
 from frames import payment
-from nodes import Node, free_ports, until, write_json
+from nodes import UNOPENED, Node, free_ports, until, write_json
 from peers import ended
 from runs import SECONDS, TOP, same, test
 
@@ -332,9 +332,11 @@ def a_member_with_another_file_meets_nobody():
         same(nodes[0].ask("PAY 1 1 30"), "asked 1 seq 0", "a payment")
         for own in range(3):
             until(nodes[own].front, [1, 0, 0, 0], of=f"the front at {own}")
-            met = {peer: "met" for peer in range(3) if peer != own}
-            until(lambda node=nodes[own]: dict(node.news()), met, of=f"what {own} says of its peers")
-        same((nodes[3].front(), nodes[3].news()), ([0, 0, 0, 0], []), "what the other one settled, and met")
+            told = {**{peer: "met" for peer in range(3) if peer != own}, 3: UNOPENED}
+            until(lambda node=nodes[own]: dict(node.news()), told, of=f"what {own} says of its peers")
+        unopened = [(peer, UNOPENED) for peer in range(3)]
+        until(lambda: sorted(nodes[3].news()), unopened, of="what the other one says of its peers")
+        same(nodes[3].front(), [0, 0, 0, 0], "what it settled")
 
 
 class Tunnel:

@@ -53,7 +53,8 @@ IN_MEMORY = "payd: without --data the member lives in memory alone: what ends th
 IN_MEMORY += "loses its account\n"
 
 # what a node says of its peers on standard error
-NEWS = re.compile(r"payd: peer (\d+) (met|lost|given up)\n")
+UNOPENED = "sends frames that don't open: another key or another group"
+NEWS = re.compile(rf"payd: peer (\d+) (met|lost|given up|{UNOPENED})\n")
 
 
 def told_apart(errors):

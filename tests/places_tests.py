@@ -1,6 +1,7 @@
 """Black-box tests of places: which of the connections that others dialed stand at a node, and which are given up."""
 
-from nodes import Group, until
+from frames import WANT, frame
+from nodes import UNOPENED, Group, until, write_json
 from peers import GREATEST, Strangers, has_ended, received
 from runs import same, test
 
@@ -52,6 +53,36 @@ def a_third_connection_of_a_peer_ends_its_oldest():
         for stream in (second, third):
             same(answered(strangers, stream, 1), True, "those that stand")
         group.stop()
+
+
+@test
+def frames_that_do_not_open_are_told_of_once():
+    """In the name of a peer that is met as well; nothing is told of a frame that opens, or that is for another."""
+    with Group(OPENING, running=[0]) as group, Strangers(3, 0, group.ports[0]) as strangers:
+        node = paid_node(group)
+        stream = strangers.dial()
+        for text in (strangers.want(0, key=32 * b"x"), strangers.want(1, key=32 * b"y"), frame(WANT, 2, 1, 0)):
+            stream.sendall(text)
+        same(answered(strangers, stream, 0), True, "a WANT that opens")
+        same(answered(strangers, strangers.dial(), 1), True, "another connection")
+        strangers.dial().sendall(strangers.want(0, key=32 * b"x"))
+        until(lambda: [it for it in node.news() if it[0] == 3], [(3, UNOPENED), (3, "met")], of="what is said of 3")
+        group.stop()
+        same([it for it in node.news() if it[0] != 3 and it[1] == UNOPENED], [], "what is said of the others")
+        same(node.news().count((3, UNOPENED)), 1, "how often")
+
+
+@test
+def members_of_two_groups_say_so():
+    """Each of two nodes with other keys for the pair says it of the other, and neither meets it."""
+    with Group(OPENING[:2], running=[], options=["--dials", "always"]) as group:
+        write_json(group.place.name, "keys-1", {"own": 1, "keys": [64 * "a", ""]})
+        for own in range(2):
+            group.start(own)
+        for own in range(2):
+            until(lambda own=own: group.nodes[own].news(), [(1 - own, UNOPENED)], of=f"what {own} says")
+        for own in range(2):
+            same(group.nodes.pop(own).stop()[0], 0, f"the end of {own}")
 
 
 @test

@@ -77,6 +77,10 @@ where
         }
         stands
     }
+
+    fn mistrust(&self, peer: u16) {
+        self.observer.observe(peer, PeerEvent::Unopened);
+    }
 }
 
 impl<H, I, B, S, T, K, O> Host for Answering<'_, H, I, B, S, T, K, O>

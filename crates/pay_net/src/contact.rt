@@ -1,7 +1,7 @@
-ghost use Rattle.std.specs.Prelude.{◌≡◌, ◌+◌, min, None, Some, if◌then◌else◌, IfSome};
+ghost use Rattle.std.specs.Prelude.{◌≡◌, ◌+◌, min, false, true, None, Some, if◌then◌else◌, IfSome};
 ghost use Rattle.std.specs.Option.{option_or};
 ghost use Rattle.pay_net.specs.Contacts.{MayFollow, is_lost, news_when_heard};
-ghost use Rattle.pay_net.specs.declared.news.News.TheVariants.{GivenUp, Lost};
+ghost use Rattle.pay_net.specs.declared.news.News.TheVariants.{GivenUp, Lost, Unopened};
 
 use crate::news::News;
 
@@ -11,20 +11,23 @@ pub(crate) const LOST_DIALS: u64 = 2;
 /// For how many milliseconds nothing of it came: so it is lost and met again once a second at most.
 pub(crate) const LOST_MILLIS: u64 = 1_000;
 
-/// What was told of a peer last, and how many dials brought nothing since it was heard.
+/// How a peer is met by what was told last, how many dials brought nothing since it was heard, and whether it was told
+/// that a frame in its name doesn't open.
 #[derive(Drop)]
 pub(crate) struct Contact {
     last: Option<News>,
     missed: u64,
+    mistrusted: bool,
 }
 
 impl Contact {
     pub(crate) fn new() -> Contact
-        ensures { result ≡ record { last = None; missed = 0 } }
+        ensures { result ≡ record { last = None; missed = 0; mistrusted = false } }
     {
         Contact {
             last: None,
             missed: 0,
+            mistrusted: false,
         }
     }
 
@@ -38,7 +41,7 @@ impl Contact {
         self.missed = 0;
         match self.last {
             Some(News::Met) | Some(News::GivenUp) => None,
-            None | Some(News::Lost) => self.tell(News::Met),
+            None | Some(News::Lost) | Some(News::Unopened) => self.tell(News::Met),
         }
     }
 
@@ -56,7 +59,7 @@ impl Contact {
         }
         match self.last {
             Some(News::Met) => self.tell(News::Lost),
-            None | Some(News::Lost) | Some(News::GivenUp) => None,
+            None | Some(News::Lost) | Some(News::GivenUp) | Some(News::Unopened) => None,
         }
     }
 
@@ -66,6 +69,18 @@ impl Contact {
         ensures last { self.new.last ≡ result }
     {
         self.tell(News::GivenUp)
+    }
+
+    /// A frame in its name doesn't open. That is told once, and nothing else hangs on it.
+    pub(crate) fn mistrust(&mut self) -> Option<News>
+        ensures news { result ≡ (if self.old.mistrusted then None else Some Unopened) }
+        ensures same { self.new ≡ record self.old { mistrusted = true } }
+    {
+        if self.mistrusted {
+            return None;
+        }
+        self.mistrusted = true;
+        Some(News::Unopened)
     }
 
     fn tell(&mut self, news: News) -> Option<News>

@@ -70,6 +70,7 @@ impl<R: Wait + Clock, O: Observer<News>> Observer<PeerEvent> for Contacts<'_, R,
                     heard.contact.miss(silence)
                 }
                 PeerEvent::GaveUp => heard.contact.give_up(),
+                PeerEvent::Unopened => heard.contact.mistrust(),
             };
             self.tell(peer, news);
         }

@@ -7,4 +7,6 @@ pub enum News {
     Lost,
     /// It was dialed for the last time.
     GivenUp,
+    /// A frame in its name has another tag than the key of the two gives.
+    Unopened,
 }

@@ -1,10 +1,11 @@
 -- What the WANT of a peer is answered.
-use Rattle.std.specs.Prelude.{◌≡◌, ◌⊎◌, ℕ, List, [], Option, Result, Ok, ⊤}
+use Rattle.std.specs.Prelude.{◌≡◌, ◌⊎◌, ℕ, List, [], Option, Result, Ok, Err, ⊤}
 use Rattle.std.specs.List.{Any}
 use Rattle.pay_engine.specs.declared.engine_fault.EngineFault.{EngineFault}
 use Rattle.pay_frame.specs.Frame.{BodyFields, FrameFields, frame_bytes}
 use Rattle.pay_link.specs.Keys.{KeyFields}
 use Rattle.pay_link.specs.Sealing.{sealed}
+use Rattle.pay_link.specs.declared.link_fault.LinkFault.TheVariants.{BadTag}
 use Rattle.pay_member.specs.declared.incoming.Incoming.TheVariants.{Want}
 use Rattle.pay_member.specs.Bringing.{incoming_at}
 use Rattle.pay_engine.specs.Handling.{Handling, HasHandled}
@@ -29,6 +30,11 @@ pub record IsSentTo (n : NodeFields) (to number : ℕ) (bytes : List ℕ) : Type
 pub record IsWant {X : Type 0} (k : KeyFields) (seats : List (ℕ × X)) (f : FrameFields) (from number : ℕ) : Type 0 where
   pub opens : incoming_at k f ≡ Ok (Want from number)
   pub seated : Any (λ s. s.0 ≡ from) seats
+
+-- a frame in this peer's name that has another tag than the key of the two gives
+pub record IsUnopened (k : KeyFields) (f : FrameFields) (peer : ℕ) : Type 0 where
+  pub from : f.from ≡ peer
+  pub fault : incoming_at k f ≡ Err BadTag
 
 -- the frame that such a WANT asks for
 pub record IsReplyTo {X : Type 0} (n : NodeFields) (seats : List (ℕ × X)) (f : FrameFields) (bytes : List ℕ) : Type 0 where

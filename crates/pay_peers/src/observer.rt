@@ -14,6 +14,8 @@ pub trait Observer<E> {
 pub enum PeerEvent {
     /// The first frame that opened came on a connection.
     Heard,
+    /// A frame came in its name that has another tag than the key of the two gives.
+    Unopened,
     /// A dial brought no such frame.
     Missed,
     /// The peer was dialed for the last time.

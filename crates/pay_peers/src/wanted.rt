@@ -1,14 +1,14 @@
 //! What a peer's WANT asks for.
 
-ghost use Rattle.std.specs.Prelude.{◌≡◌, ◌≢◌, ℕ, IfNone, IfSome};
+ghost use Rattle.std.specs.Prelude.{◌≡◌, ◌≢◌, ℕ, IfErr, IfNone, IfOk, IfSome};
 ghost use Rattle.std.specs.List.{All, Any};
 ghost use Rattle.pay_frame.specs.Lent.{fields_of};
 ghost use Rattle.pay_link.specs.Keys.{IsPeer};
-ghost use Rattle.pay_peers.specs.Answering.{IsWant};
+ghost use Rattle.pay_peers.specs.Answering.{IsUnopened, IsWant};
 
 use pay_frame::FrameRef;
 use pay_hmac::Tagger;
-use pay_link::Keys;
+use pay_link::{Keys, LinkFault};
 use pay_member::{Incoming, open_frame};
 use pay_node::Seat;
 use std::sync::Mutex;
@@ -20,25 +20,31 @@ pub(crate) struct Wanted<'a> {
     pub(crate) number: u64,
 }
 
-/// Opens a WANT whose sender has a seat among those lent.
+/// Opens a WANT whose sender has a seat among those lent. Of a frame that is none it tells in whose name it came, if
+/// that peer's key is another than its tag was made with.
 pub(crate) fn open_want<'a, T: Tagger>(
     tagger: &T,
     keys: &Keys,
     seats: &'a [(u16, Mutex<Seat>)],
     frame: FrameRef<'_>,
-) -> Option<Wanted<'a>>
-    ensures some { IfSome result (λ w.
+) -> Result<Wanted<'a>, Option<u16>>
+    ensures some { IfOk result (λ w.
         IsWant keys.now seats.now (fields_of frame.entry) w.seated.now.0 w.number) }
-    ensures peer { IfSome result (λ w. IsPeer keys.now w.seated.now.0) }
-    ensures none { IfNone result ((from number : ℕ)
+    ensures peer { IfOk result (λ w. IsPeer keys.now w.seated.now.0) }
+    ensures none { IfErr result (λ _. (from number : ℕ)
         → ¬ (IsWant keys.now seats.now (fields_of frame.entry) from number)) }
+    ensures unopened { IfErr result (λ peer. IfSome peer
+        (IsUnopened keys.now (fields_of frame.entry))) }
 {
-    let Ok(Incoming::Want { from, number }) = open_frame(tagger, keys, frame) else {
-        return None;
-    };
-    match seat_of(seats, from) {
-        Some(seated) => Some(Wanted { seated, number }),
-        None => None,
+    let from = frame.from();
+    match open_frame(tagger, keys, frame) {
+        Ok(Incoming::Want { from, number }) => match seat_of(seats, from) {
+            Some(seated) => Ok(Wanted { seated, number }),
+            None => Err(None),
+        },
+        Ok(Incoming::Message(_)) => Err(None),
+        Err(LinkFault::BadTag) => Err(Some(from)),
+        Err(_) => Err(None),
     }
 }
 

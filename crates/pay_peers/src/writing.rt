@@ -70,8 +70,11 @@ where
     ) -> Result<bool, AllocError> {
         let context = self.context;
         let wanted = match open_want(context.tagger, context.node.keys(), self.seats, frame) {
-            Some(wanted) => wanted,
-            None => return Ok(true),
+            Ok(wanted) => wanted,
+            Err(unopened) => {
+                self.note(unopened);
+                return Ok(true);
+            }
         };
         if !self.goes_on(wanted.seated.0) {
             return Ok(false);
@@ -103,6 +106,13 @@ impl<R: Wait, I: Instance + Drop, B: Settle + Drop, S: Beginning, T, A: Admissio
     // Whether the connection goes on, which is asked at the first WANT alone.
     fn goes_on(&self, peer: u16) -> bool {
         self.is_admitted.swap(true, Ordering::SeqCst) || self.admission.admit(self.context.rt, peer)
+    }
+
+    // Tells of the peer in whose name a frame came that doesn't open.
+    fn note(&self, unopened: Option<u16>) {
+        if let Some(peer) = unopened {
+            self.admission.mistrust(peer);
+        }
     }
 }
 

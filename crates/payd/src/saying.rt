@@ -74,5 +74,6 @@ fn word_of(news: News) -> &'static str {
         News::Met => "met",
         News::Lost => "lost",
         News::GivenUp => "given up",
+        News::Unopened => "sends frames that don't open: another key or another group",
     }
 }

@@ -45,6 +45,8 @@ impl Admission for Admissions {
         self.peer.store(u64::from(peer), Ordering::SeqCst);
         self.goes_on
     }
+
+    fn mistrust(&self, _peer: u16) {}
 }
 
 /// What comes on a connection to member 1 of four, and what comes of it.

@@ -224,7 +224,7 @@ fn run<R: Threads + Wait + Clock + Sync>(
         Ahead::most(),
         pairs,
     );
-    !gate.gave_up.load(Ordering::SeqCst) && told.counts() == (2, 0, 0)
+    !gate.gave_up.load(Ordering::SeqCst) && told.counts() == (2, 0, 0, 0)
 }
 
 // The seats after two workers of which one was held, if that was let go in time.

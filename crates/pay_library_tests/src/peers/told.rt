@@ -9,6 +9,7 @@ pub(crate) struct Told {
     heard: AtomicU64,
     missed: AtomicU64,
     gave_up: AtomicU64,
+    unopened: AtomicU64,
 }
 
 impl Told {
@@ -17,15 +18,17 @@ impl Told {
             heard: AtomicU64::new(0),
             missed: AtomicU64::new(0),
             gave_up: AtomicU64::new(0),
+            unopened: AtomicU64::new(0),
         }
     }
 
-    /// How often a peer was heard, missed and given up.
-    pub(crate) fn counts(&self) -> (u64, u64, u64) {
+    /// How often a peer was heard, missed and given up, and how often a frame of it didn't open.
+    pub(crate) fn counts(&self) -> (u64, u64, u64, u64) {
         (
             self.heard.load(Ordering::SeqCst),
             self.missed.load(Ordering::SeqCst),
             self.gave_up.load(Ordering::SeqCst),
+            self.unopened.load(Ordering::SeqCst),
         )
     }
 }
@@ -36,6 +39,7 @@ impl Observer<PeerEvent> for Told {
             PeerEvent::Heard => &self.heard,
             PeerEvent::Missed => &self.missed,
             PeerEvent::GaveUp => &self.gave_up,
+            PeerEvent::Unopened => &self.unopened,
         };
         count.fetch_add(1, Ordering::SeqCst);
     }
