@@ -4,11 +4,14 @@ import os
 import re
 import subprocess
 import tempfile
+import urllib.parse
+import urllib.request
 
 from nodes import export_text, free_ports, write_json
 from runs import SECONDS, TOP, key_texts, same, test, wants
 
 INSTALL = os.path.join(TOP, "tools", "install")
+COMMANDS = "check", "sim", "desk", "node", "send", "export", "audit", "book", "statement", "journal"
 ALONE = {"members": 1, "faults": 0, "opening": [7]}
 
 
@@ -37,13 +40,35 @@ def installed_program_stands_alone():
         same(run_in(folder, words, b"FRONT\n"), (0, f"front 0\n{export}", "payd: log: new\n"), "a node")
         words = [payd, "export", "--genesis", "g", "--keys", "k", "--data", "member"]
         same(run_in(folder, words), (0, export, ""), "its export")
-        status, output, errors = run_in(folder, [os.path.join(folder, "prefix", "bin", "payd-group"), "--help"])
-        same((status, "fingerprint" in output, errors), (0, True, ""), "its tool for groups")
         unit = os.path.join(folder, "prefix", "lib", "systemd", "system", "payd-node.service")
         with open(unit, encoding="ascii") as file:
-            same(f"exec {payd} node " in file.read(), True, "the program of its service")
+            same(f"\nExecStart={payd} node " in file.read(), True, "the program of its service")
         for page in ("README.md", "docs/OPERATING.md", "docs/COMMANDS.md"):
             same(os.path.isfile(os.path.join(folder, "prefix", "share", "doc", "payd", page)), True, page)
+
+
+@test
+def installed_tools_stand_alone():
+    with tempfile.TemporaryDirectory() as folder:
+        prefix = os.path.join(folder, "prefix")
+        subprocess.run([INSTALL, prefix], check=True, capture_output=True, timeout=SECONDS)
+        group, report, page = (os.path.join(prefix, "bin", f"payd-{it}") for it in ("group", "report", "desk-page"))
+        status, output, errors = run_in(folder, [group, "--help"])
+        same((status, "fingerprint" in output, errors), (0, True, ""), "the tool for groups")
+        exports = [os.path.join(TOP, "examples", f"export-{it}.json") for it in (0, 2)]
+        status, output, errors = run_in(folder, [report, *exports])
+        same((status, "4 fork 0 1 owner 3 seq 0" in output, errors), (0, True, ""), "the report")
+        words = [page, "--keys", os.path.join(TOP, "examples", "keys-0.json"), "--data", folder]
+        with subprocess.Popen(words, stdout=subprocess.PIPE, text=True) as child:
+            try:
+                address = child.stdout.readline().strip()
+                with urllib.request.urlopen(address, timeout=SECONDS) as answer:
+                    same(answer.read().startswith(b"<!DOCTYPE html>"), True, "the page")
+                for part in ("page.js", "style.css"):
+                    with urllib.request.urlopen(urllib.parse.urljoin(address, part), timeout=SECONDS) as answer:
+                        same(answer.status, 200, part)
+            finally:
+                child.kill()
 
 
 @test
@@ -53,8 +78,12 @@ def manual_and_completions():
         subprocess.run([INSTALL, prefix], check=True, capture_output=True, timeout=SECONDS)
         with open(os.path.join(prefix, "share", "man", "man1", "payd.1"), encoding="ascii") as page:
             text = page.read()
-        for command in ("CHECK", "SIM", "DESK", "NODE", "EXPORT", "AUDIT", "BOOK", "STATEMENT", "JOURNAL"):
-            same(text.count(f".SH {command}\n"), 1, f"the manual page on {command}")
+        for command in COMMANDS:
+            same(text.count(f".SH {command.upper()}\n"), 1, f"the manual page on {command}")
+        with open(os.path.join(prefix, "share", "man", "man5", "payd.5"), encoding="utf-8") as page:
+            text = page.read()
+        for said in (".SH FOLDERS\n", ".SH A MEMBER'S LOG\n", "the mark \\fBplog\\fR\n", "\\fB3 BadGenesis\\fR"):
+            same(said in text, True, f"the manual page on files has {said!r}")
         script = os.path.join(prefix, "share", "bash-completion", "completions", "payd")
         write_json(folder, "my keys.json", {})
         for words, found in (
@@ -65,6 +94,10 @@ def manual_and_completions():
             ("audit ''", ["my keys.json", "prefix"]),
             ("journal m", ["my keys.json"]),
             ("audit -", ["--jobs"]),
+            ("send --s", ["--socket"]),
+            ("send --data m", ["my keys.json"]),
+            ("node --so", ["--socket"]),
+            ("se", ["send"]),
         ):
             ask = f"source '{script}'; COMP_WORDS=(payd {words}); COMP_CWORD=$((${{#COMP_WORDS[@]}} - 1)); _payd"
             told = run_in(folder, ["bash", "-c", f"{ask}; printf '%s\\n' \"${{COMPREPLY[@]}}\" | sort"])
@@ -86,8 +119,8 @@ def completions_for_each_shell():
         for shell, place in COMPLETIONS.items():
             with open(os.path.join(folder, place), encoding="ascii") as file:
                 words = set(re.findall(r"[a-z]+", file.read()))
-            wanted = "check sim desk node export audit book statement journal genesis keys ports dials ahead data stay"
-            same(set(wanted.split()) - words, set(), f"words that the completions for {shell} lack")
+            options = "genesis keys ports dials ahead data stay socket jobs date".split()
+            same({*COMMANDS, *options} - words, set(), f"words that the completions for {shell} lack")
 
 
 def completions_read_by(shell, place):
@@ -109,6 +142,17 @@ def completions_read_by(shell, place):
 
 for of_shell in COMPLETIONS.items():
     completions_read_by(*of_shell)
+
+
+@test
+def manual_pages_are_read():
+    wants("groff")
+    with tempfile.TemporaryDirectory() as folder:
+        subprocess.run([INSTALL, folder], check=True, capture_output=True, timeout=SECONDS)
+        for part in (1, 5):
+            page = os.path.join(folder, "share", "man", f"man{part}", f"payd.{part}")
+            status, output, errors = run_in(folder, ["groff", "-man", "-t", "-Tascii", "-ww", page])
+            same((status, f"PAYD({part})" in output, errors), (0, True, ""), f"what groff makes of payd.{part}")
 
 
 @test

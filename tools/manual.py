@@ -1,0 +1,83 @@
+"""Manual pages: of what the program's --help says, and of the parts of the documents that are about files.
+
+Of Markdown it reads what those parts have: paragraphs, lists, tables, blocks of code, and words in it.
+"""
+
+import re
+
+FILES = (("COMMANDS.md", ("Files", "Folders")), ("DEFINITIONS.md", ("A member's log",)))
+# How wide the columns of a table may be, but for the last one.
+WIDE = 40
+
+
+def escaped(text):
+    """Text as a manual page has it, each line as it stands."""
+    lines = text.replace("\\", "\\e").replace("-", "\\-").split("\n")
+    return "\n".join(f"\\&{line}" if line[:1] in ".'" else line for line in lines)
+
+
+def of_commands(version, about, helps):
+    """The page of the program, and of each of its commands."""
+    parts = [f'.TH PAYD 1 "" "payd {version}"', ".SH NAME", "payd \\- a payment ledger without consensus", ".SH USAGE"]
+    parts += [".nf", escaped(about.strip()), ".fi"]
+    for command, text in helps.items():
+        parts += [f".SH {command.upper()}", ".nf", escaped(text.strip()), ".fi"]
+    parts += [".SH SEE ALSO", ".BR payd (5)"]
+    return "\n".join(parts) + "\n"
+
+
+def of_files(version, read):
+    """The page of the formats of files, of the documents as they are read."""
+    parts = ["'\\\" t", f'.TH PAYD 5 "" "payd {version}"', ".SH NAME", "payd \\- files of payd"]
+    for page, heads in FILES:
+        text = read(page)
+        for head in heads:
+            parts += [f".SH {escaped(head).upper()}", *roff(section(text, head))]
+    parts += [".SH SEE ALSO", ".BR payd (1)"]
+    return "\n".join(parts) + "\n"
+
+
+def section(text, head):
+    """What stands below a heading of the second level."""
+    return re.split(r"^## .*$", text.partition(f"\n## {head}\n")[2], maxsplit=1, flags=re.MULTILINE)[0]
+
+
+def roff(text):
+    """The lines of a page for each block of a text."""
+    for block in re.split(r"\n\n+", text.strip()):
+        lines = block.split("\n")
+        if lines[0].startswith("|"):
+            yield from table([cells(line) for line in lines if not re.fullmatch(r"[|\- ]+", line)])
+        elif lines[0].startswith("- "):
+            for line in lines:
+                yield from (".IP \\(bu 2", words(line[2:]))
+        elif lines[0].startswith("    "):
+            yield from (".PP", ".nf", escaped("\n".join(line[4:] for line in lines)), ".fi")
+        else:
+            yield from (".PP", words(" ".join(lines)))
+
+
+def cells(line):
+    return [words(it.strip()) for it in line.strip().strip("|").split("|")]
+
+
+def table(rows):
+    """A table, whose last column takes the room that is left; or a list, where another is wide."""
+    if max(len(it) for row in rows for it in row[:-1]) > WIDE:
+        for first, *others in rows[1:]:
+            yield from (".TP", first, "; ".join(f"{head}: {it}" for head, it in zip(rows[0][1:], others)))
+        return
+    yield ".TS"
+    yield f"{' '.join(['lb'] * len(rows[0]))}"
+    yield f"{' '.join(['l'] * (len(rows[0]) - 1))} lx."
+    for row in rows:
+        yield "\t".join([*row[:-1], f"T{{\n{row[-1]}\nT}}"])
+    yield ".TE"
+
+
+def words(text):
+    """A line's words: code is bold, and a link is its text."""
+    text = re.sub(r"\[([^\]]*)\]\([^)]*\)", r"\1", text)
+    text = re.sub(r"`([^`]*)`|\*\*([^*]*)\*\*", lambda it: f"\0B{it[1] or it[2]}\0R", text)
+    text = re.sub(r"(?<![\w*])\*([^*]+)\*(?![\w*])", "\0I\\1\0R", text)
+    return escaped(text).replace("\0", "\\f")
