@@ -12,7 +12,7 @@ from nodes import PATIENCE, export_text, free_ports, until, write_json
 from runs import PAYD, SECONDS, TOP, key_texts, same, test, wants
 
 UNIT = "payd-node.service"
-COMMAND = re.compile("^(ExecStart(?:Pre)?)=(.*)$", re.MULTILINE)
+COMMAND = re.compile("^(ExecStart)=(.*)$", re.MULTILINE)
 
 
 def unit():
@@ -37,7 +37,7 @@ def service_manager_takes_the_unit():
     wants("systemd-analyze")
     harmless = shutil.which("true")
     text, count = COMMAND.subn(rf"\1={harmless}", unit())
-    same(count, 2, "commands of the unit")
+    same(count, 1, "commands of the unit")
     same(complaints(text), (0, []), "the unit")
     for right, wrong in (("=always", "=alwys"), ("Restart=", "Restat="), ("=1 2", "=one")):
         same((text.count(right), len(complaints(text.replace(right, wrong))[1])), (1, 1), f"{wrong} is complained of")
@@ -45,29 +45,28 @@ def service_manager_takes_the_unit():
 
 @test
 def commands_of_the_unit_run_a_node():
-    """In another folder, and with the program that stands here; a line goes in as the unit's own words say. Killed and
-    run again, as the service manager does, it goes on."""
+    """In another folder, and with the program that stands here; it is asked as the unit's own words say. Killed and run
+    again, as the service manager does, it goes on."""
     with tempfile.TemporaryDirectory() as folder:
         write_json(folder, "group.json", {"members": 1, "faults": 0, "opening": [7], "ports": free_ports(1)})
         write_json(folder, "keys.json", {"own": 0, "keys": key_texts(0, 1)})
-        moved = unit().replace("/usr/local/bin/payd", PAYD).replace("/run/payd/", f"{folder}/")
-        before, command = (shlex.split(words) for _, words in COMMAND.findall(moved))
-        told = re.search("echo FRONT > (.*)$", moved, re.MULTILINE)[0]
-        subprocess.run(before, check=True, timeout=SECONDS)
+        moved = unit().replace("/usr/local/bin/payd", PAYD).replace("/var/lib/payd", folder)
+        [command] = [shlex.split(words) for _, words in COMMAND.findall(moved)]
+        told = re.search("^# payd (send --data .* FRONT)$", moved, re.MULTILINE)[1]
+        asks = [PAYD, *shlex.split(told)]
         for said in ("new", "0 entries of 0 payments, started again"):
-            same(ended_behind(told, command, folder), f"payd: log: {said}\nfront 0\n", "what the node says")
+            same(ended_after(asks, command, folder), f"payd: log: {said}\n", "what the node says")
         words = [PAYD, "export", "--genesis", "group.json", "--keys", "keys.json", "--data", "member"]
         done = subprocess.run(words, cwd=folder, capture_output=True, text=True, check=True, timeout=SECONDS)
         same(done.stdout, export_text(0, [7], [[]], [0], [7]), "its export")
 
 
-def ended_behind(told, command, folder):
-    """What a node says to a line, upon which it is ended."""
+def ended_after(asks, command, folder):
+    """What a node says that is ended once it has answered the front."""
     with open(os.path.join(folder, "said"), "w+b") as said:
         child = subprocess.Popen(command, cwd=folder, stdin=subprocess.DEVNULL, stdout=said, stderr=said)
         try:
-            subprocess.run(["sh", "-c", told], check=True, timeout=SECONDS)
-            until(lambda: os.pread(said.fileno(), 65536, 0)[-8:], b"front 0\n", of="what the node says")
+            until(lambda: subprocess.run(asks, capture_output=True).stdout, b"front 0\n", of="what the node answers")
             child.terminate()
             same(child.wait(timeout=PATIENCE), -signal.SIGTERM, "its end")
         finally:
