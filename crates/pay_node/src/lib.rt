@@ -1,6 +1,6 @@
 //! A running node: one member under a lock, and the seats from which threads call it.
 //!
-//! Each call from a [`Seat`] leaves a receipt of its answer there. Once all threads have ended, the
+//! Each call from a [`Seat`] has a receipt of its answer there. Once all threads have ended, the
 //! receipts are held against the member's history: it is one that a single thread could have made,
 //! with these very calls.
 //!
