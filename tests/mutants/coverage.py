@@ -2,11 +2,6 @@
 
 from __future__ import annotations
 
-import os
-import re
-
-from kit import TOP
-from sources import read_file
 import inventory
 
 # Public functions that have no other body: they lend, share or hand out the one value of its type that they have, or an
@@ -41,19 +36,14 @@ WITHOUT_OTHER_BODY = {
 def faults_of_repository() -> list[str]:
     crates = inventory.read_crates()
     marked = {it.name: it.promises for crate in crates for it in crate.mutants}
-    text = read_file(os.path.join(TOP, "docs", "PROMISES.md"))
-    return faults_of_promises(text, inventory.read_promises(), marked) + faults_of_functions(crates)
+    return faults_of_promises(inventory.read_promises(), marked) + faults_of_functions(crates)
 
 
-def faults_of_promises(text: str, promises: list[str], marked: dict[str, list[str]]) -> list[str]:
-    """What is amiss between the page of promises and the edits, each with the promises that it is marked with."""
-    bold = {*re.findall(r"\*\*`(\w+)`\*\*", text)}
+def faults_of_promises(promises: list[str], marked: dict[str, list[str]]) -> list[str]:
+    """What is amiss between the promises and the edits, each with the promises that it is marked with."""
     named = {it for names in marked.values() for it in names}
-    mutants = {name for name, names in marked.items() if names}
     faults = [f"no mutant is marked with the promise '{it}'" for it in promises if it not in named]
-    faults += [f"a mutant is marked with '{it}', which is no promise" for it in sorted(named - {*promises})]
-    faults += [f"{it} is bold among the promises, and no edit of this name has a mark" for it in sorted(bold - mutants)]
-    return faults + [f"{it} is marked with a promise, and not bold among them" for it in sorted(mutants - bold)]
+    return faults + [f"a mutant is marked with '{it}', which is no promise" for it in sorted(named - {*promises})]
 
 
 def faults_of_functions(crates: list) -> list[str]:

@@ -149,12 +149,9 @@ returns g c = elim c.if-count [ then w ↦ grind arith | else w ↦ let a = lemm
 # Which of its tactics is an answer to its goal or a case of that.
 WHOLE = {"grind": True, "search rules": False, "search a": False}
 
-PROMISES = "Bold are **`wrong`** and **`unmarked`**."
 FAULTS = [
     "no mutant is marked with the promise 'Forgotten'",
     "a mutant is marked with 'Unheard', which is no promise",
-    "unmarked is bold among the promises, and no edit of this name has a mark",
-    "another is marked with a promise, and not bold among them",
 ]
 
 
@@ -165,7 +162,7 @@ def try_itself() -> list[str]:
     found = {it: is_whole_answer(PROOF, 2, PROOF.splitlines()[1].index(it) + 1) for it in WHOLE}
     said += [f"of answers and their steps it makes {found}"] * (found != WHOLE)
     marks = {"wrong": ["Kept"], "another": ["Unheard"], "none": []}
-    faults = faults_of_promises(PROMISES, ["Kept", "Forgotten"], marks)
+    faults = faults_of_promises(["Kept", "Forgotten"], marks)
     said += [f"it finds these faults of promises: {faults}"] * (faults != FAULTS)
     return [f"itself: {it}" for it in said]
 
