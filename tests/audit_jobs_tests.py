@@ -11,7 +11,7 @@ import threading
 import audits
 from hostile_tests import MEMORY, hostile
 from nodes import write_json
-from runs import PAYD, SECONDS, run, same, shows, test, with_files
+from runs import PAYD, SECONDS, of_file, run, same, shows, test, with_files
 
 EACH = (1, 2, 4, 8)
 
@@ -34,7 +34,7 @@ def wanted_of(contents):
         if content is None:
             return 2, "", f"payd: file {place}\n"
         if isinstance(content, str):
-            return 2, "", f"payd: export {'1 BadJson' if content == '{' else '2 BadShape'}\n"
+            return 2, "", of_file(f"export {'1 BadJson' if content == '{' else '2 BadShape'}", place)
     return ended(audits.verdict(contents))
 
 
@@ -67,12 +67,12 @@ def faults_of_files_keep_their_order():
     long = json.dumps(audits.export([7], [65536 * [""]], [65536], [7]))
     files = {"paid": audits.PAID, "forked": audits.FORKED, "text": "{", "shape": "[]", "long": long, "torn": long + "x"}
     for words, wanted in (
-        (["paid", "forked", "text"], (2, "", "payd: export 1 BadJson\n")),
-        (["paid", "text", "forked", "paid", "gone"], (2, "", "payd: export 1 BadJson\n")),
+        (["paid", "forked", "text"], (2, "", of_file("export 1 BadJson", "text"))),
+        (["paid", "text", "forked", "paid", "gone"], (2, "", of_file("export 1 BadJson", "text"))),
         (["paid", "gone", "forked", "paid", "text"], (2, "", "payd: file gone\n")),
-        (["torn", "shape", "gone"], (2, "", "payd: export 1 BadJson\n")),
+        (["torn", "shape", "gone"], (2, "", of_file("export 1 BadJson", "torn"))),
         (["long", "gone", "torn"], (2, "", "payd: file gone\n")),
-        (["paid", "paid", "paid", "paid", "shape", "text"], (2, "", "payd: export 2 BadShape\n")),
+        (["paid", "paid", "paid", "paid", "shape", "text"], (2, "", of_file("export 2 BadShape", "shape"))),
         (["paid", "paid", "paid", "forked"], (1, "4 fork 0 3 owner 3 seq 0\n", "")),
         (["paid", *(8 * ["paid"]), "forked"], (1, "4 fork 0 9 owner 3 seq 0\n", "")),
         (["paid", "long", "forked"], (1, "1 genesis 1\n", "")),

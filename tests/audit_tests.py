@@ -10,7 +10,7 @@ import threading
 import audits
 from audits import audit
 from frames import payment
-from runs import PAYD, SECONDS, run, same, shows, test, with_files
+from runs import PAYD, SECONDS, of_file, run, same, shows, test, with_files
 from scripts import RandomScripts
 
 
@@ -31,14 +31,52 @@ def random_exports_as_the_model_has_them():
 
 
 @test
+def all_that_is_wrong():
+    """Four of a group, of whom one has another payment, one a wrong front, and one nothing yet; and a stranger."""
+    stranger = audits.export([7], [[]], [0], [7])
+    behind = {**audits.PAID, "front": [0, 0, 0, 0]}
+    shows(
+        audit([audits.PAID, audits.FRESH, audits.FORKED, behind, stranger], "--all"),
+        1,
+        "1 genesis 4\n"
+        "1 genesis in 4.json\n"
+        "2 front account 3 says 0 right 1 in 3.json\n"
+        "4 fork owner 3 seq 0 to 0 amount 5 exports 2 in 0.json 3.json\n"
+        "4 fork owner 3 seq 0 to 1 amount 5 exports 1 in 2.json\n",
+    )
+    shows(audit([audits.PAID, audits.FRESH], "--all"), 0, "clean\n")
+    files = {"two": audits.TWO_ENTRIES, "two again": {**audits.TWO_ENTRIES, "balances": [1, 2, 3, 4]}}
+    shows(
+        with_files(files, ["audit", "--jobs", "2", "--all", *files]),
+        1,
+        "3 balance 1 account 0\n"
+        "3 balance account 0 says 1 right 100 in two again\n"
+        "3 balance account 1 says 2 right 5 in two again\n"
+        "3 balance account 2 says 3 right 0 in two again\n"
+        "3 balance account 3 says 4 right 45 in two again\n",
+        of="the names of files may have blanks",
+    )
+
+
+@test
+def all_that_is_wrong_with_random_exports():
+    seeded = random.Random(21)
+    for turn in range(300):
+        exports = audits.random_exports(seeded)
+        lines = audits.findings([(f"{place}.json", given) for place, given in enumerate(exports)])
+        text = "".join(f"{line}\n" for line in lines)
+        shows(audit(exports, "--all"), 0 if text == "clean\n" else 1, text, of=f"turn {turn}, {exports}")
+
+
+@test
 def each_fault_of_an_export():
     for wrong, members, fault in audits.FAULTS:
         files = {"good": audits.PAID, "bad": audits.changed(members)}
-        shows(with_files(files, ["audit", "good", "bad"]), 2, "", f"payd: export {fault}\n", of=wrong)
+        shows(with_files(files, ["audit", "good", "bad"]), 2, "", of_file(f"export {fault}", "bad"), of=wrong)
     for text in ("", "{", "nan", b"\xef\xbb\xbf{}", b'"\xff"', json.dumps(audits.PAID) + "x"):
-        shows(with_files({"bad": text}, ["audit", "bad"]), 2, "", "payd: export 1 BadJson\n", of=f"{text}")
+        shows(with_files({"bad": text}, ["audit", "bad"]), 2, "", of_file("export 1 BadJson", "bad"), of=f"{text}")
     for text in ("[]", "7", "{}"):
-        shows(with_files({"bad": text}, ["audit", "bad"]), 2, "", "payd: export 2 BadShape\n", of=text)
+        shows(with_files({"bad": text}, ["audit", "bad"]), 2, "", of_file("export 2 BadShape", "bad"), of=text)
 
 
 @test
@@ -65,11 +103,11 @@ def chains_of_debts_settle():
 def first_fault_of_exports():
     good, bad = audits.PAID, audits.changed({"front": None})
     for files, words, errors in (
-        ({"a": bad}, ["a", "gone"], "payd: export 2 BadShape\n"),
+        ({"a": bad}, ["a", "gone"], of_file("export 2 BadShape", "a")),
         ({"a": good}, ["a", "gone"], "payd: file gone\n"),
         ({"a": bad}, ["gone", "a"], "payd: file gone\n"),
         ({"a": good}, ["a", "."], "payd: file .\n"),
-        ({"a": "{", "b": bad}, ["a", "b"], "payd: export 1 BadJson\n"),
+        ({"a": "{", "b": bad}, ["a", "b"], of_file("export 1 BadJson", "a")),
     ):
         shows(with_files(files, ["audit", *words]), 2, "", errors, of=f"{words}")
 
@@ -87,8 +125,8 @@ def a_fault_of_a_file_comes_before_each_verdict():
     }
     for wrong in ("forked", "other", "front", "balance"):
         for words, errors in (
-            (["paid", wrong, "bad"], "payd: export 2 BadShape\n"),
-            ([wrong, "paid", "text", "bad"], "payd: export 1 BadJson\n"),
+            (["paid", wrong, "bad"], of_file("export 2 BadShape", "bad")),
+            ([wrong, "paid", "text", "bad"], of_file("export 1 BadJson", "text")),
             (["paid", wrong, "gone", "text"], "payd: file gone\n"),
         ):
             shows(with_files(files, ["audit", *words]), 2, "", errors, of=f"{words}")

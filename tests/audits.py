@@ -220,6 +220,37 @@ def verdict(exports):
     return "clean"
 
 
+def findings(named):
+    """All lines of an audit of exports, each with the name of its file."""
+    first = named[0][1]
+    genesis = ("members", "faults", "opening")
+    lines = [verdict([given for _, given in named])]
+    group = []
+    for name, given in named:
+        if all(given[part] == first[part] for part in genesis):
+            group.append((name, given))
+        else:
+            lines.append(f"1 genesis in {name}")
+    for name, given in group:
+        front = largest_front(given)
+        for account in range(given["members"]):
+            right = {"2 front": front[account], "3 balance": balance(given, front, account)}
+            for (kind, number), said in zip(right.items(), (given["front"][account], given["balances"][account])):
+                if number != said:
+                    lines.append(f"{kind} account {account} says {said} right {number} in {name}")
+    for owner in range(first["members"]):
+        for seq in range(max(len(given["lists"][owner]) for _, given in group)):
+            listing = {}
+            for name, given in group:
+                if seq < len(given["lists"][owner]):
+                    listing.setdefault(given["lists"][owner][seq].lower(), []).append(name)
+            for text, names in listing.items() if len(listing) > 1 else ():
+                listed = entries(bytes.fromhex(text), owner, first["members"])
+                said = " ".join(f"to {e[0]} amount {e[1]}" if e else "void" for e in listed)
+                lines.append(f"4 fork owner {owner} seq {seq} {said} exports {len(names)} in {' '.join(names)}")
+    return lines
+
+
 def statement(given, account):
     """The lines of an account's statement, by the lists and the opening balances alone."""
     front = largest_front(given)
@@ -289,10 +320,10 @@ def random_exports(random):
 # ---- runs audited
 
 
-def audit(exports):
+def audit(exports, *words):
     """The audit of these exports, each in a file of its own."""
     files = {f"{place}.json": given for place, given in enumerate(exports)}
-    return with_files(files, ["audit", *files])
+    return with_files(files, ["audit", *words, *files])
 
 
 def played(lines):

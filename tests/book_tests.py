@@ -8,7 +8,7 @@ import group_books
 from audits import export
 from frames import payment
 from group_books import book
-from runs import same, shows, test, with_files
+from runs import of_file, same, shows, test, with_files
 
 
 def pays(payee, amount):
@@ -118,7 +118,7 @@ def genesis_and_export_of_a_book():
 def faults_of_files_are_those_of_an_audit():
     for wrong, members, fault in audits.FAULTS:
         files = {"good": audits.PAID, "bad": audits.changed(members), "no": "{"}
-        shows(with_files(files, ["book", "good", "bad", "no"]), 2, "", f"payd: export {fault}\n", of=wrong)
+        shows(with_files(files, ["book", "good", "bad", "no"]), 2, "", of_file(f"export {fault}", "bad"), of=wrong)
     gone = with_files({"good": ALL[0]}, ["book", "good", "none"])
     shows(gone, 2, "", "payd: file none\n", of="a file that isn't there")
 

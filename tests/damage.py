@@ -7,7 +7,7 @@ import json
 
 import audits
 from frames import ECHO, HEAD, READY, SEND, WANT, fault_at, frame, read_frame
-from runs import GENESIS
+from runs import GENESIS, of_file, of_keys
 
 MOST_MEMBERS = 128
 GREATEST = 2**64
@@ -290,20 +290,22 @@ def export_shape(value):
 
 
 def audit(files):
-    """Status, output and errors of an audit of these files."""
+    """Status, output and errors of an audit of these files, named e0 and on."""
     exports = []
-    for given in files:
+    for place, given in enumerate(files):
         fault = fault_of(given, export_shape, lambda value: "3 BadGenesis" if limits_fault(value) else None)
         if fault:
-            return 2, "", f"payd: export {fault}\n"
+            return 2, "", of_file(f"export {fault}", f"e{place}")
         exports.append(read_json(given))
     line = audits.verdict(exports)
     return (0 if line == "clean" else 1), f"{line}\n", ""
 
 
-def file_answer(what, fault):
-    """Status, output and errors of a run on nothing, whose file has this fault or none."""
-    return (2, "", f"payd: {what} {fault}\n") if fault else (0, "", "")
+def file_answer(what, fault, given):
+    """Status, output and errors of a run on nothing, whose file, named by its first letter, has this fault or none."""
+    if not fault:
+        return 0, "", ""
+    return 2, "", of_keys(fault, "k", given) if what == "keys" else of_file(f"{what} {fault}", what[0])
 
 
 def some_genesis(seeded):

@@ -10,7 +10,7 @@ import threading
 
 import desks
 from runs import EXAMPLE_GENESIS, GENESIS, GENESIS_ROWS, KEYS_ROWS, PAYD, SECONDS, TOP
-from runs import example_keys, key_texts, run, same, shows, test, with_files
+from runs import example_keys, key_texts, of_file, of_keys, run, same, shows, test, with_files
 
 
 def desk(text, own=0, genesis=EXAMPLE_GENESIS, keys=None):
@@ -205,13 +205,15 @@ def faults_of_a_desks_files():
         ("genesis", ".", "file ."),
     ):
         for words in (["--genesis", genesis, "--keys", keys], ["--keys", keys, "--genesis", genesis]):
-            shows(with_files(files, ["desk", *words], b"FRONT\n"), 2, "", f"payd: {line}\n", of=f"{words}")
+            name = genesis if line.startswith("genesis") else keys
+            errors = f"payd: {line}\n" if line.startswith("file") else of_file(line, name)
+            shows(with_files(files, ["desk", *words], b"FRONT\n"), 2, "", errors, of=f"{words}")
     for content, fault in GENESIS_ROWS:
         was = with_files({"g": content, "k": "{"}, ["desk", "--genesis", "g", "--keys", "k"], b"FRONT\n")
-        shows(was, 2, "", f"payd: genesis {fault}\n", of=f"{content!r}")
+        shows(was, 2, "", of_file(f"genesis {fault}", "g"), of=f"{content!r}")
     for content, fault in KEYS_ROWS:
         was = with_files({"g": GENESIS, "k": content}, ["desk", "--genesis", "g", "--keys", "k"], b"FRONT\n")
-        shows(was, 2, "", f"payd: keys {fault}\n", of=f"{content!r}")
+        shows(was, 2, "", of_keys(fault, "k", content), of=f"{content!r}")
 
 
 @test
@@ -231,7 +233,7 @@ def files_come_before_lines():
             done = subprocess.run([PAYD, *words], stdin=source, capture_output=True, timeout=SECONDS)
             os.close(source)
             os.close(sink)
-            same((done.returncode, done.stdout, done.stderr.decode()), (2, b"", f"payd: {line}\n"), f"{words}")
+            same((done.returncode, done.stdout, done.stderr.decode()), (2, b"", of_file(line, bad)), f"{words}")
 
 
 @test

@@ -8,7 +8,7 @@ import tempfile
 from check_tests import BAD_TAG, NOT_FOR_ME, REPEAT_LINE, TAKEN_LINE, TWICE, UNKNOWN_OWNER, UNKNOWN_SENDER
 from frames import ECHO, READY, SEND, frame
 from runs import EXAMPLE_GENESIS, GENESIS, GENESIS_ROWS, KEYS_ROWS, PAYD, SECONDS
-from runs import example_keys, key_texts, run, same, shows, test, with_files
+from runs import example_keys, key_texts, of_file, of_keys, run, same, shows, test, with_files
 
 # The four refusals as member 1 of four with the test keys has them.
 REFUSED_LINES = "1 refused 4 BadTag\n2 refused 1 NotForMe\n3 refused 2 UnknownSender\n4 refused 3 UnknownOwner\n"
@@ -82,7 +82,7 @@ def genesis_without_keys():
 def each_fault_of_a_genesis():
     for content, fault in GENESIS_ROWS:
         was = with_files({"g": content}, ["check", "--genesis", "g"], TWICE)
-        shows(was, 2, "", f"payd: genesis {fault}\n", of=f"{content!r}")
+        shows(was, 2, "", of_file(f"genesis {fault}", "g"), of=f"{content!r}")
 
 
 @test
@@ -105,7 +105,7 @@ def each_fault_of_keys():
             ({"k": content, "g": GENESIS}, ["check", "--keys", "k", "--genesis", "g"]),
         ):
             was = with_files(files, words, TWICE)
-            shows(was, 2, "", f"payd: keys {fault}\n", of=f"{words} {content!r}")
+            shows(was, 2, "", of_keys(fault, "k", content), of=f"{words} {content!r}")
 
 
 @test
@@ -115,8 +115,8 @@ def keys_are_judged_by_the_genesis():
     words = ["check", "--genesis", "g", "--keys", "k"]
     line = "1 ok send from 0 number 0 owner 4 seq 0 value 0\n"
     shows(with_files({"g": five, "k": keys}, words, frame(SEND, 0, 4, 0, owner=4)), 0, line)
-    shows(with_files({"g": GENESIS, "k": keys}, words), 2, "", "payd: keys 3 BadOwn\n")
-    shows(with_files({"k": keys}, ["check", "--keys", "k"]), 2, "", "payd: keys 3 BadOwn\n", of="no genesis")
+    shows(with_files({"g": GENESIS, "k": keys}, words), 2, "", of_file("keys 3 BadOwn", "k"))
+    shows(with_files({"k": keys}, ["check", "--keys", "k"]), 2, "", of_file("keys 3 BadOwn", "k"), of="no genesis")
 
 
 @test
@@ -148,7 +148,8 @@ def first_fault_of_files():
         ("genesis", "none", "file none"),
     ):
         for words in (["--genesis", genesis, "--keys", keys], ["--keys", keys, "--genesis", genesis]):
-            shows(with_files(files, ["check", *words], TWICE), 2, "", f"payd: {line}\n", of=f"{words}")
+            errors = f"payd: {line}\n" if line == "file none" else of_file(line, "bad")
+            shows(with_files(files, ["check", *words], TWICE), 2, "", errors, of=f"{words}")
 
 
 @test

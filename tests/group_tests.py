@@ -1,10 +1,12 @@
 """Tests of tools/group: what it writes, what it refuses, and that a group's keys open nothing of another group."""
 
 import contextlib
+import hashlib
 import json
 import os
 import socket
 import stat
+import struct
 import subprocess
 import sys
 import tempfile
@@ -138,12 +140,14 @@ def a_file_shows_who_is_in_the_group():
         group = {**json.loads(read(folder, "group.json")), "ports": [7, 8, 9, 10], "names": ["Ann", "Bob", "Cy", "Di"]}
         put(folder, "named.json", json.dumps(group))
         lines = does(folder, "show", "named.json").splitlines()[:-1]
+        digest = hashlib.sha256(struct.pack(">HH4Q", 4, 1, 100, 0, 0, 50)).hexdigest()
         wanted = [
             "4 members, of whom 1 may lie; 150 in all",
             "member 0 Ann: opens with 100, port 7",
             "member 1 Bob: opens with 0, port 8",
             "member 2 Cy: opens with 0, port 9",
             "member 3 Di: opens with 50, port 10",
+            f"genesis {digest[:8]}, which a node says at its start",
         ]
         same(lines, wanted, "what is shown")
 

@@ -15,7 +15,7 @@ import audits
 import desks
 from frames import SEND, frame
 from memory_tests import program
-from nodes import IN_MEMORY, free_ports, write_json
+from nodes import IN_MEMORY, free_ports, started, write_json
 from runs import EXAMPLE_GENESIS, GENESIS, SECONDS, TOP, example_keys, key_texts, run, same, test
 from scripts import WORKED, script_of
 
@@ -63,7 +63,7 @@ class Hostile:
         """Status, output and errors of a run from which this is withheld, and whether it was."""
         how = {"input": stream, "capture_output": True, "timeout": SECONDS, "cwd": self.place.name}
         done = subprocess.run([program(), *words], env={**os.environ, **self.given(**wanted)}, **how)
-        errors = done.stderr.decode().removeprefix(IN_MEMORY)
+        errors = started(done.stderr.decode()).removeprefix(IN_MEMORY)
         return (done.returncode, done.stdout.decode("ascii"), errors), self.was_refused()
 
     def each(self, words, stream, name, **more):
@@ -126,10 +126,12 @@ def each_growth_of_an_audit_refused(library):
         for number, export in enumerate(exports):
             names.append(f"{place}-{number}.json")
             write_json(library.place.name, names[-1], export)
-        ample = (0 if line == "clean" else 1, f"{line}\n", "")
-        for growth, was in library.each(["audit", "--jobs", "1", *names], b"", "growth"):
-            refused = was[:2] == (3, "") and MEMORY.fullmatch(was[2]) is not None
-            same(was == ample or refused, True, f"{line}, growth {growth}: {was}")
+        status, all_lines = 0 if line == "clean" else 1, audits.findings(list(zip(names, exports)))
+        for words, lines in ((["--jobs", "1"], [line]), (["--all"], all_lines)):
+            ample = (status, "".join(f"{it}\n" for it in lines), "")
+            for growth, was in library.each(["audit", *words, *names], b"", "growth"):
+                refused = was[:2] == (3, "") and MEMORY.fullmatch(was[2]) is not None
+                same(was == ample or refused, True, f"{line}, {words}, growth {growth}: {was}")
 
 
 @hostile

@@ -7,7 +7,7 @@ import tempfile
 import urllib.parse
 import urllib.request
 
-from nodes import export_text, free_ports, write_json
+from nodes import export_text, free_ports, started, write_json
 from runs import SECONDS, TOP, key_texts, same, test, wants
 
 INSTALL = os.path.join(TOP, "tools", "install")
@@ -37,7 +37,8 @@ def installed_program_stands_alone():
         write_json(folder, "p", {"ports": free_ports(1)})
         words = [payd, "node", "--genesis", "g", "--keys", "k", "--ports", "p", "--data", "member"]
         export = export_text(0, [7], [[]], [0], [7])
-        same(run_in(folder, words, b"FRONT\n"), (0, f"front 0\n{export}", "payd: log: new\n"), "a node")
+        status, output, errors = run_in(folder, words, b"FRONT\n")
+        same((status, output, started(errors)), (0, f"front 0\n{export}", "payd: log: new\n"), "a node")
         words = [payd, "export", "--genesis", "g", "--keys", "k", "--data", "member"]
         same(run_in(folder, words), (0, export, ""), "its export")
         unit = os.path.join(folder, "prefix", "lib", "systemd", "system", "payd-node.service")
@@ -93,7 +94,7 @@ def manual_and_completions():
             ("node --keys none", [""]),
             ("audit ''", ["my keys.json", "prefix"]),
             ("journal m", ["my keys.json"]),
-            ("audit -", ["--jobs"]),
+            ("audit -", ["--all", "--jobs"]),
             ("send --s", ["--socket"]),
             ("send --data m", ["my keys.json"]),
             ("node --so", ["--socket"]),
@@ -119,7 +120,7 @@ def completions_for_each_shell():
         for shell, place in COMPLETIONS.items():
             with open(os.path.join(folder, place), encoding="ascii") as file:
                 words = set(re.findall(r"[a-z]+", file.read()))
-            options = "genesis keys ports dials ahead data stay socket jobs date".split()
+            options = "genesis keys ports dials ahead data stay socket jobs all date".split()
             same({*COMMANDS, *options} - words, set(), f"words that the completions for {shell} lack")
 
 

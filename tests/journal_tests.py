@@ -12,7 +12,7 @@ import tempfile
 import audits
 from audits import FRESH, PAID, TWO_ENTRIES, WORKED, changed, journal
 from frames import payment
-from runs import SECONDS, TOP, run, same, shows, test, wants, with_files
+from runs import SECONDS, TOP, of_file, run, same, shows, test, wants, with_files
 
 DAY = "2026-01-31"
 
@@ -116,7 +116,7 @@ def date_of_today():
 @test
 def words_and_faults_of_a_journal():
     for wrong, members, fault in audits.FAULTS:
-        shows(journal_of(changed(members)), 2, "", f"payd: export {fault}\n", of=wrong)
+        shows(journal_of(changed(members)), 2, "", of_file(f"export {fault}", "export"), of=wrong)
     shows(with_files({}, ["journal", "gone"]), 2, "", "payd: file gone\n", of="no file")
     same(with_files({}, ["journal"])[:2], (2, ""), "no word")
     same(with_files({"a": PAID, "b": FRESH}, ["journal", "a", "b"])[:2], (2, ""), "two exports of one group")

@@ -14,7 +14,7 @@ from model import Member
 from nodes import PATIENCE, Group, audited, compact, export_text, free_ports, in_memory, until, write_json
 from peers import Cuts, Hostile, Liar, Strangers, connected, received
 from runs import GENESIS, GENESIS_ROWS, KEYS_ROWS, PAYD, SECONDS, TOP, UNWRITTEN
-from runs import key_texts, run, run_to_nobody, same, shows, test, with_files
+from runs import key_texts, of_file, of_keys, run, run_to_nobody, same, shows, test, with_files
 
 OPENING = GENESIS["opening"]
 A, B = payment(payee=0, amount=5), payment(payee=1, amount=5)
@@ -265,7 +265,7 @@ KEYS = {"own": 0, "keys": key_texts(0)}
 def each_fault_of_ports():
     for content, fault in PORTS_ROWS:
         was = with_files({"g": GENESIS, "k": KEYS, "p": content}, NODE, b"FRONT\n")
-        shows(was, 2, "", f"payd: ports {fault}\n", of=f"{content!r}"[:80])
+        shows(was, 2, "", of_file(f"ports {fault}", "p"), of=f"{content!r}"[:80])
 
 
 @test
@@ -303,13 +303,14 @@ def first_fault_of_a_nodes_files():
             ["--ports", ports, "--keys", keys, "--genesis", genesis],
         ):
             was = with_files(files, ["node", *words], b"FRONT\n")
-            shows(was, 2, "", f"payd: {line}\n", of=f"{words}")
+            name = {"genesis": genesis, "keys": keys, "ports": ports}.get(line.split()[0])
+            shows(was, 2, "", of_file(line, name) if name else f"payd: {line}\n", of=f"{words}")
     for content, fault in GENESIS_ROWS:
         was = with_files({"g": content, "k": "{", "p": "{"}, NODE, b"FRONT\n")
-        shows(was, 2, "", f"payd: genesis {fault}\n", of=f"{content!r}")
+        shows(was, 2, "", of_file(f"genesis {fault}", "g"), of=f"{content!r}")
     for content, fault in KEYS_ROWS:
         was = with_files({"g": GENESIS, "k": content, "p": "{"}, NODE, b"FRONT\n")
-        shows(was, 2, "", f"payd: keys {fault}\n", of=f"{content!r}")
+        shows(was, 2, "", of_keys(fault, "k", content), of=f"{content!r}")
 
 
 @test
@@ -325,7 +326,7 @@ def port_that_is_taken():
         # files are judged first
         files = {"g": GENESIS, "k": {"own": 2, "keys": key_texts(2)}, "p": {"ports": [*ports[:3], 0]}}
         was = with_files(files, NODE, b"FRONT\n")
-        shows(was, 2, "", "payd: ports 2 BadShape\n", of="a fault beside it")
+        shows(was, 2, "", of_file("ports 2 BadShape", "p"), of="a fault beside it")
     same(node_alone(b"FRONT\n", 2, ports=ports)[0], 0, "the port, given back")
 
 

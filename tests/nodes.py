@@ -52,19 +52,32 @@ def until(ask, wanted, of):
 IN_MEMORY = "payd: without --data the member lives in memory alone: what ends the node before its input does "
 IN_MEMORY += "loses its account\n"
 
-# what a node says of its peers on standard error
+# what a node says of itself, before that
+START = re.compile(r"payd: member (\d+) of (\d+), genesis ([0-9a-f]{8}), port (\d+)\n")
+
+# what it says of its peers on standard error
 UNOPENED = "sends frames that don't open: another key or another group"
 NEWS = re.compile(rf"payd: peer (\d+) (met|lost|given up|{UNOPENED})\n")
 
 
+def started(errors):
+    """What standard error says behind the line in which a node says who it is."""
+    return START.sub("", errors, count=1)
+
+
 def told_apart(errors):
-    """What standard error says of peers, and all else that is there but that a member is in memory alone."""
-    return [(int(peer), word) for peer, word in NEWS.findall(errors)], NEWS.sub("", errors.removeprefix(IN_MEMORY))
+    """What standard error says of peers, and all else that is there but who the node is, and that a member is in memory
+    alone."""
+    said = started(errors).removeprefix(IN_MEMORY)
+    return [(int(peer), word) for peer, word in NEWS.findall(said)], NEWS.sub("", said)
 
 
 def in_memory(was):
-    """Status, output and errors of a node without a folder, without what it says of that, which has to be there."""
+    """Status, output and errors of a node without a folder, without what it says of itself and of that, which is to be
+    there."""
     status, output, errors = was
+    same(bool(START.match(errors)), True, f"what is said of the node in {errors!r}")
+    errors = started(errors)
     same(errors.startswith(IN_MEMORY), True, f"what is said of memory in {errors!r}")
     return status, output, errors.removeprefix(IN_MEMORY)
 

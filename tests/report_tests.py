@@ -234,7 +234,7 @@ def no_page():
         ([{**PAID, "front": []}], "export 2 BadShape"),
     ):
         status, text, errors = report(exports)
-        same((status, text, errors), (1, "", f"tools/report: payd: {fault}\n"), f"{exports}")
+        same((status, text, errors), (1, "", f"tools/report: payd: {fault} in {len(exports) - 1}.json\n"), f"{exports}")
     same(report([], "gone"), (1, "", "tools/report: payd: file gone\n"), "no file")
     status, text, errors = report([])
     same((status, text, "usage: tools/report" in errors), (2, "", True), "no words")

@@ -4,6 +4,7 @@ What a log has to have is written down in tests/logs.py. tests/kills kills more 
 """
 
 import contextlib
+import hashlib
 import os
 import random
 import re
@@ -17,7 +18,7 @@ from collections import Counter
 from frames import SEND, frame, payment
 from hostile_tests import hostile
 from logs import HEADER_LEN, QUERY, Fault, Log
-from nodes import IN_MEMORY, export_text, free_ports, until, write_json
+from nodes import IN_MEMORY, export_text, free_ports, started, until, write_json
 from peers import Liar, Strangers, connected, received
 from restarts import NEW, Folders, killed_and_started_again, program, told
 from runs import GENESIS, SECONDS, key_texts, same, shows, test, with_files
@@ -82,12 +83,14 @@ def a_node_says_what_its_log_has():
 
 
 @test
-def a_member_in_memory_alone_says_so():
+def a_node_says_who_it_is_and_that_it_is_in_memory_alone():
     with Folders(OPENING, running=[]) as group:
         words = ["node", "--genesis", "genesis", "--keys", "keys-0", "--ports", "ports"]
         how = {"input": b"", "cwd": group.place.name, "capture_output": True, "timeout": SECONDS}
         done = subprocess.run([program(), *words], **how)
-        same((done.returncode, done.stderr.decode()), (0, IN_MEMORY), "it")
+        digest = hashlib.sha256(struct.pack(">HH4Q", 4, 1, *OPENING)).hexdigest()
+        line = f"payd: member 0 of 4, genesis {digest[:8]}, port {group.ports[0]}\n"
+        same((done.returncode, done.stderr.decode()), (0, line + IN_MEMORY), "it")
         same(sorted(os.listdir(group.place.name)), ["genesis", *(f"keys-{own}" for own in range(4)), "ports"], "files")
 
 
@@ -128,7 +131,7 @@ def node_on(place, own, folder, text=b"", **how):
     words = ["--genesis", "genesis", "--keys", f"keys-{own}", "--ports", "ports", "--data", folder]
     how = {"input": text, "cwd": place, "capture_output": True, "timeout": SECONDS, **how}
     done = subprocess.run([program(), "node", *words], **how)
-    return done.returncode, done.stdout.decode("ascii"), done.stderr.decode()
+    return done.returncode, done.stdout.decode("ascii"), started(done.stderr.decode())
 
 
 @test

@@ -13,7 +13,7 @@ import threading
 import time
 
 from frames import payment, payments
-from nodes import Ended, Group, Node, audited
+from nodes import Ended, Group, Node, audited, started
 from runs import TOP, same
 from values import pairs_in
 
@@ -70,6 +70,7 @@ class Folders(Group):
 
 def told(errors):
     """How many entries and payments a node said that its log has, none if it was new, and all else that it said."""
+    errors = started(errors)
     if errors.startswith(NEW):
         return (0, 0), errors[len(NEW) :]
     found = AGAIN.match(errors)

@@ -2,6 +2,7 @@
 
 import json
 import os
+import re
 import shutil
 import signal
 import subprocess
@@ -124,6 +125,21 @@ def shows(was, status, output, errors="", of="run"):
 
 
 # ---- files
+
+
+def of_file(line, name, member=None):
+    """What is said of a file that has a fault: its line, and then the file, and whose key in it."""
+    place = name if member is None else f"{name}, the key for member {member}"
+    return f"payd: {line}\npayd: in {place}\n"
+
+
+def of_keys(fault, name, content):
+    """The same of a file of keys, in which the least place with a bad key is sought."""
+    if fault != "5 BadKey":
+        return of_file(f"keys {fault}", name)
+    said = content if isinstance(content, dict) else json.loads(content)
+    right = [re.fullmatch("" if at == said["own"] else "[0-9A-Fa-f]{64}", it) for at, it in enumerate(said["keys"])]
+    return of_file(f"keys {fault}", name, right.index(None))
 
 
 GENESIS = {"members": 4, "faults": 1, "opening": [100, 0, 0, 50]}

@@ -8,7 +8,7 @@ import signal
 import subprocess
 import tempfile
 
-from nodes import PATIENCE, export_text, free_ports, until, write_json
+from nodes import PATIENCE, export_text, free_ports, started, until, write_json
 from runs import PAYD, SECONDS, TOP, key_texts, same, test, wants
 
 UNIT = "payd-node.service"
@@ -55,7 +55,8 @@ def commands_of_the_unit_run_a_node():
         told = re.search("^# payd (send --data .* FRONT)$", moved, re.MULTILINE)[1]
         asks = [PAYD, *shlex.split(told)]
         for said in ("new", "0 entries of 0 payments, started again"):
-            same(ended_after(asks, command, folder), f"payd: log: {said}\n", "what the node says")
+            errors = ended_after(asks, command, folder)
+            same(started(errors), f"payd: log: {said}\n", f"what the node says in {errors!r}")
         words = [PAYD, "export", "--genesis", "group.json", "--keys", "keys.json", "--data", "member"]
         done = subprocess.run(words, cwd=folder, capture_output=True, text=True, check=True, timeout=SECONDS)
         same(done.stdout, export_text(0, [7], [[]], [0], [7]), "its export")

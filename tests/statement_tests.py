@@ -5,7 +5,7 @@ import random
 import audits
 from audits import FORKED, PAID, TWO_ENTRIES, changed, statement
 from nodes import Group
-from runs import run, same, shows, test, with_files
+from runs import of_file, run, same, shows, test, with_files
 
 
 def statement_of(given, *words):
@@ -92,8 +92,8 @@ def a_nodes_entries_and_what_waits():
 @test
 def faults_of_a_statements_export():
     for wrong, members, fault in audits.FAULTS:
-        shows(statement_of(changed(members), "0"), 2, "", f"payd: export {fault}\n", of=wrong)
-    shows(statement_of("{"), 2, "", "payd: export 1 BadJson\n", of="no JSON")
+        shows(statement_of(changed(members), "0"), 2, "", of_file(f"export {fault}", "export"), of=wrong)
+    shows(statement_of("{"), 2, "", of_file("export 1 BadJson", "export"), of="no JSON")
     shows(with_files({}, ["statement", "gone", "x"]), 2, "", "payd: file gone\n", of="no file")
 
 

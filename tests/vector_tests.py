@@ -5,7 +5,7 @@ import importlib.util
 import json
 import os
 
-from runs import TOP, key_texts, run, same, test, with_files
+from runs import TOP, key_texts, of_file, run, same, test, with_files
 
 import groups
 
@@ -52,7 +52,7 @@ def vectors_of_exports():
         files = {f"{place}.json": given for place, given in enumerate(row["exports"])}
         was = with_files(files, ["audit", *files])
         if "fault" in row:
-            same(was, (2, "", f"payd: export {row['fault']}\n"), row["for"])
+            same(was, (2, "", of_file(f"export {row['fault']}", "0.json")), row["for"])
         else:
             shown(row, was, 0 if row["line"] == "clean" else 1, [row["line"]])
 

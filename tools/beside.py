@@ -1,4 +1,4 @@
-"""What stands beside a script: in a clone, or where tools/install put it."""
+"""The program that stands beside a script, in a clone or where tools/install put it, and why it ended."""
 
 import os
 
@@ -10,3 +10,12 @@ PLACES = os.path.join(HERE, os.pardir, "payd"), os.path.join(HERE, os.pardir, os
 def program():
     """The path of the program, or None."""
     return next((os.path.normpath(it) for it in PLACES if os.path.isfile(it)), None)
+
+
+def reason_in(errors):
+    """Why the program ended, by what it says on standard error: the last line, which may name the file of the fault
+    above it."""
+    fault, _, last = errors.strip().rpartition("\n")
+    if not last.startswith("payd: in "):
+        return last
+    return fault.rpartition("\n")[2] + last[len("payd:") :]

@@ -7,6 +7,7 @@ X25519 public key of each member in hexadecimal; and, where wanted, `names`.
 import hashlib
 import json
 import re
+import struct
 
 try:
     from cryptography.hazmat.primitives import hashes, serialization
@@ -144,6 +145,11 @@ class Group:
         digest = hashlib.sha512(self.canonical()).digest()
         groups = (int.from_bytes(digest[5 * at : 5 * at + 5], "big") for at in range(FINGERPRINT_GROUPS))
         return [f"{it % 100_000:05}" for it in groups]
+
+    def genesis_digest(self):
+        """SHA-256 of members, faults and openings, in hexadecimal, as the header of a member's log has it."""
+        parts = struct.pack(f">HH{self.members}Q", self.members, self.faults, *self.opening)
+        return hashlib.sha256(parts).hexdigest()
 
     def own(self, secret):
         """The number of the member whose secret this is."""

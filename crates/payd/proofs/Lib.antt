@@ -2,3 +2,4 @@ mod AskedLemmas
 mod Exports
 mod Reading
 mod Outcomes
+mod Said

@@ -1,5 +1,6 @@
 -- What is read of the files that words name. `holds name bytes` says that a name's file may hold these bytes.
 use Rattle.std.specs.Prelude.{◌≡◌, ℕ, ◌⊎◌, nat_lt, List, [], ◌∷◌, ◌++◌, Option, Some, None, Result, Ok, Err, if◌then◌else◌}
+use Rattle.std.specs.Borrow.{Bor}
 use Rattle.std.specs.List.{AllZip}
 use Rattle.pay_audit.specs.Export.{ExportFields, export_in}
 use Rattle.pay_audit.specs.Verdict.{verdict_of}
@@ -27,10 +28,15 @@ IsUnread name (File named) = named.now ≡ name
 IsUnread name (Engine fault) = fault ≡ engine.Memory
 IsUnread name _ = ⊥
 
+-- a fault is said of the file of this name
+abbrev pub IsSaidOf : {E : Type 0} → List ℕ → (E → Bor (List ℕ) → Stop) → E → Stop → Type 0
+IsSaidOf name said fault stop = (named : Bor (List ℕ)) × (named.now ≡ name) × (stop ≡ said fault named)
+
 -- why a file isn't what it should be: its bytes can't be had, memory was refused, or they have this fault
-abbrev pub IsStop : {X E : Type 0} → (List ℕ → List ℕ → Type 0) → List ℕ → (List ℕ → Result X E) → (E → Stop) → E → Stop → Type 0
+abbrev pub IsStop : {X E : Type 0} → (List ℕ → List ℕ → Type 0) → List ℕ → (List ℕ → Result X E) → (E → Bor (List ℕ) → Stop) → E → Stop → Type 0
 IsStop {X} {E} holds name judge said memory stop =
-    IsUnread name stop ⊎ (stop ≡ said memory) ⊎ ((fault : E) × (stop ≡ said fault) × IsJudged holds name judge (Err fault))
+    IsUnread name stop ⊎ IsSaidOf name said memory stop
+    ⊎ ((fault : E) × IsSaidOf name said fault stop × IsJudged holds name judge (Err fault))
 
 -- ---- a genesis
 
@@ -43,7 +49,7 @@ IsGenesisOf holds None g = g ≡ own_genesis
 IsGenesisOf holds (Some name) g = IsJudged holds name genesis_in (Ok g)
 
 abbrev pub IsGenesisStop : (List ℕ → List ℕ → Type 0) → Option (List ℕ) → Stop → Type 0
-IsGenesisStop holds None stop = stop ≡ Genesis genesis.Memory
+IsGenesisStop holds None stop = stop ≡ Engine engine.Memory
 IsGenesisStop holds (Some name) stop = IsStop holds name genesis_in Genesis genesis.Memory stop
 
 -- ---- keys, for a genesis of so many members
@@ -68,7 +74,7 @@ ArePortsIn holds members name ports = (bytes : List ℕ) × holds name bytes × 
 abbrev pub IsPortsStop : (List ℕ → List ℕ → Type 0) → ℕ → List ℕ → Stop → Type 0
 IsPortsStop holds members name stop =
     IsUnread name stop
-    ⊎ ((fault : PortsFault) × (stop ≡ Ports fault) × (bytes : List ℕ) × holds name bytes × IsPortsFault members bytes fault)
+    ⊎ ((fault : PortsFault) × IsSaidOf name Ports fault stop × (bytes : List ℕ) × holds name bytes × IsPortsFault members bytes fault)
 
 -- ---- exports
 

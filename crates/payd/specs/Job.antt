@@ -72,9 +72,12 @@ export_app =
 abbrev pub files_rule : Rule
 files_rule = record (new_rule (codes "files")) { required = true; action = Some Append; value_names = 1 }
 
--- `audit`, which takes files and a count of threads
+-- `audit`, which takes files and a count of threads, and names all that is wrong where that is asked for
 abbrev pub audit_app : App
-audit_app = with_rule (with_rule (new_app (codes "audit")) files_rule) (option_rule (codes "jobs"))
+audit_app =
+    with_rule
+    (with_rule (with_rule (new_app (codes "audit")) files_rule) (option_rule (codes "jobs")))
+    (flag_rule (codes "all"))
 
 -- `book`, which takes files, and is written as a genesis or as an export where that is asked for
 abbrev pub book_app : App
@@ -139,15 +142,15 @@ pub record IsArgument (o : Arg) (r : Rule) : Type 0 where
   pub global : o.global ≡ false
 
 -- a command, and what it is given: the names of files, of a folder and of a socket, an account, a date, lines, and the
--- words that say the threads of a check or an audit, how a book is written, and of a node its dials, how many frames it
--- asks for ahead, and whether it stays
+-- words that say the threads of a check or an audit, whether the audit names all that is wrong, how a book is written,
+-- and of a node its dials, how many frames it asks for ahead, and whether it stays
 pub data Asked : Type 0 where
   check : Option Text → Option Text → Option Text → Asked
   desk : Text → Text → Asked
   node : Text → Text → Text → Option Text → Option Text → Option Text → Bool → Option Text → Asked
   sent : List Text → Option Text → Option Text → Asked
   exported : Text → Text → Text → Asked
-  audit : List Text → Option Text → Asked
+  audit : List Text → Option Text → Bool → Asked
   book : List Text → Bool → Bool → Asked
   statement : Text → Option Text → Asked
   journal : Text → Option Text → Asked
@@ -167,8 +170,8 @@ asked (Send words) =
     sent (map (λ line. line.now) words.lines.items) (option_map (λ name. name.now) words.folder)
     (option_map (λ name. name.now) words.socket)
 asked (Export genesis keys folder) = exported genesis.now keys.now folder.now
-asked (Audit files jobs) =
-    audit (map (λ name. name.now) files.items) (option_map (λ word. word.now) jobs)
+asked (Audit files jobs all) =
+    audit (map (λ name. name.now) files.items) (option_map (λ word. word.now) jobs) all
 asked (Book files as_genesis as_export) = book (map (λ name. name.now) files.items) as_genesis as_export
 asked (Statement export account) = statement export.now (option_map (λ word. word.now) account)
 asked (Journal export date) = journal export.now (option_map (λ word. word.now) date)
@@ -209,7 +212,7 @@ abbrev pub files_of : List Row → List Text
 files_of rows = unwrap_or (all_of (codes "files") rows) []
 
 abbrev pub audit_asked : List Row → Asked
-audit_asked rows = audit (files_of rows) (first_of (codes "jobs") rows)
+audit_asked rows = audit (files_of rows) (first_of (codes "jobs") rows) (is_set (codes "all") rows)
 
 abbrev pub book_asked : List Row → Asked
 book_asked rows = book (files_of rows) (is_set (codes "genesis") rows) (is_set (codes "export") rows)

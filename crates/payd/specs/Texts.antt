@@ -1,5 +1,5 @@
 -- The texts about an export that words ask for.
-use Rattle.std.specs.Prelude.{◌≡◌, ◌⊎◌, ℕ, Bool, true, false, List, Option, Some, None, option_map}
+use Rattle.std.specs.Prelude.{◌≡◌, ◌⊎◌, ℕ, Bool, true, false, List, map, Option, Some, None, option_map}
 use Rattle.std.specs.List.{AllZip}
 use Rattle.pay_audit.specs.Export.{ExportFields}
 use Rattle.pay_engine.specs.declared.engine_fault.EngineFault.TheVariants as engine
@@ -7,6 +7,10 @@ use Rattle.pay_journal.specs.Statements.{account_named, statement_in, statements
 use Rattle.pay_group_book.specs.Text.{IsBookText}
 use Rattle.pay_group_book.specs.declared.form.BookForm.{BookForm}
 use Rattle.pay_group_book.specs.declared.form.BookForm.TheVariants.{AsExport, Lines, NextGenesis}
+use Rattle.pay_audit.specs.Verdict.{verdict_of}
+use Rattle.pay_audit.specs.declared.verdict.Verdict.{Verdict}
+use Rattle.pay_findings.specs.Findings.{findings_words}
+use Rattle.pay_findings.specs.declared.named.Named.{Named}
 use Rattle.payd.specs.Files.{IsExportOf, IsExportsStop}
 use Rattle.payd.specs.declared.stop.Stop.{Stop}
 use Rattle.payd.specs.declared.stop.Stop.TheVariants.{Engine, Account, Forms}
@@ -35,6 +39,20 @@ pub record IsBookSaid (holds : List ℕ → List ℕ → Type 0) (names : List (
   pub read : AllZip (IsExportOf holds) names exports
   pub said : IsBookText exports form is_book text
 
+-- This is all that is wrong with these exports, each by the name at its place.
+pub record AreSaid (names : List (List ℕ)) (exports : List ExportFields) (text : List ℕ) : Type 0 where
+  pub named : List Named
+  pub by_name : map (λ n. n.name.now) named ≡ names
+  pub of : map (λ n. n.export.now) named ≡ exports
+  pub said : text ≡ findings_words named
+
+-- Each file is read as an export; this is the verdict on these, and all that is wrong with them.
+pub record AreFindings (holds : List ℕ → List ℕ → Type 0) (names : List (List ℕ)) (verdict : Verdict) (text : List ℕ) : Type 0 where
+  pub exports : List ExportFields
+  pub read : AllZip (IsExportOf holds) names exports
+  pub judged : verdict ≡ verdict_of exports
+  pub are : AreSaid names exports text
+
 -- why nothing is said: a file isn't an export, or memory was refused
-abbrev pub IsBookStop : (List ℕ → List ℕ → Type 0) → List (List ℕ) → Stop → Type 0
-IsBookStop holds names stop = IsExportsStop holds names stop ⊎ (stop ≡ Engine engine.Memory)
+abbrev pub IsTextStop : (List ℕ → List ℕ → Type 0) → List (List ℕ) → Stop → Type 0
+IsTextStop holds names stop = IsExportsStop holds names stop ⊎ (stop ≡ Engine engine.Memory)

@@ -82,9 +82,15 @@ pub(crate) fn genesis_of<'a, F: NamedFiles>(
     match name {
         Some(name) => {
             let bytes = files.bytes_of(alloc, name)?;
-            Ok(Genesis::read(alloc, bytes.as_slice())?)
+            match Genesis::read(alloc, bytes.as_slice()) {
+                Ok(genesis) => Ok(genesis),
+                Err(fault) => Err(Stop::Genesis(fault, name)),
+            }
         }
-        None => Ok(Genesis::new(alloc, MEMBERS, FAULTS, &OPENING)?),
+        None => match Genesis::new(alloc, MEMBERS, FAULTS, &OPENING) {
+            Ok(genesis) => Ok(genesis),
+            Err(_) => Err(Stop::Engine(EngineFault::Memory)),
+        },
     }
 }
 
@@ -104,7 +110,10 @@ pub(crate) fn keys_of<'a, F: NamedFiles>(
     match name {
         Some(name) => {
             let bytes = files.bytes_of(alloc, name)?;
-            Ok(Keys::read(alloc, genesis, bytes.as_slice())?)
+            match Keys::read(alloc, genesis, bytes.as_slice()) {
+                Ok(keys) => Ok(keys),
+                Err(fault) => Err(Stop::Keys(fault, name)),
+            }
         }
         None => {
             let own = if genesis.members() > 1 { 1 } else { 0 };
@@ -161,7 +170,10 @@ pub(crate) fn export_of<'a, F: NamedFiles>(
     ensures stop { IfErr result (IsExportStop (F.holds files.now) name.entry.now) }
 {
     let bytes = files.bytes_of(alloc, name)?;
-    Ok(read_export(alloc, bytes.as_slice())?)
+    match read_export(alloc, bytes.as_slice()) {
+        Ok(export) => Ok(export),
+        Err(fault) => Err(Stop::Export(fault, name)),
+    }
 }
 
 /// Says on standard error where others than the owner may do something with the file of keys of this name.

@@ -90,9 +90,11 @@ The member listens on its own port of 127.0.0.1 and dials those of all others, a
 started within a few seconds, or with --dials:
   --dials COUNT    a peer is given up after so many dials in a row that brought no frame
   --dials always   no peer is given up
-The pauses then grow from 10 milliseconds to a second, each twice the one before. Standard error has a
-line when a peer is met, is lost and is given up: payd: peer 2 met. Ports below those that
+The pauses then grow from 10 milliseconds to a second, each twice the one before. Ports below those that
 the system gives out by itself, mostly 32768 and more, are best.
+
+Standard error has a line that says which member of which group this is, and one when a peer is met, is
+lost, is given up, or when a frame in its name doesn't open: payd: peer 2 met.
 
 Of each peer as many as 64 frames are asked for before the first of them is there, or with --ahead:
   --ahead COUNT    so many, from 1 to 64; with 1 each frame takes the way to the peer and back
@@ -147,6 +149,12 @@ Output: one line, in which exports are named by their places from 0: the first o
   2 front X account A         it isn't what the lists of X allow
   3 balance X account A       it isn't that at the front of X
   4 fork X Y owner A seq S    X and Y have different values there
+
+--all adds a line for each thing that is wrong, and all exports are in memory at once:
+  1 genesis in FILE                                   it is left out of what follows
+  2 front account A says S right R in FILE            export by export
+  3 balance account A says S right R in FILE          at the right front
+  4 fork owner A seq S ENTRIES exports K in FILE..    each value there, and the K exports that have it
 
 Status: 0 where it is clean, 1 where it isn't, 2 for words or a file that can't be read, 3 where memory or
 the write fails.

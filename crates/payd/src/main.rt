@@ -41,6 +41,7 @@ use pay_link::{Genesis, Keys};
 use pay_member::Member;
 use pay_pending::WaitingBook;
 use pay_sim::{SimEnd, run_sim};
+use saying::say_place;
 use sending::call;
 use std::alloc::{AllocError, AllocGlobal, Global};
 use std::process::ExitCode;
@@ -49,7 +50,7 @@ use std::thread::Threads;
 use std::time::Clock;
 use std::{env, io, thread};
 use stop::Stop;
-use texts::{book_over, form_of, statement_said};
+use texts::{Findings, book_over, findings_over, form_of, statement_said};
 use words::{Job, job_of};
 
 /// A member, in the forms of its parts that the program runs.
@@ -85,8 +86,8 @@ fn main(rt: HostRuntime) -> ExitCode {
                 folder,
             },
         ) => status_of(&rt, export(alloc, &rt, genesis, keys, folder)),
-        Ok(Job::Audit { files, jobs }) => {
-            status_of_audit(&rt, audit(alloc, &rt, &rt, files.as_slice(), jobs))
+        Ok(Job::Audit { files, jobs, all }) => {
+            status_of_audit(&rt, audit(alloc, &rt, &rt, files.as_slice(), jobs, all))
         }
         Ok(
             Job::Book {
@@ -184,17 +185,34 @@ fn answer_lines<T: Teller + Drop>(
     run_desk(alloc, &mut desk, &mut reader, &mut writer)
 }
 
-/// Says what is wrong with the exports in the files of these names, if anything is.
+/// Says what is wrong with the exports in the files of these names, if anything is; or all that is.
 fn audit<'a>(
     alloc: Global,
     rt: &(impl Print + Threads + Sync),
     files: &(impl NamedFiles + Sync),
     names: &[&'a str],
     jobs: Option<&'a str>,
+    all: bool,
 ) -> Result<Verdict, Stop<'a>> {
     let jobs = jobs_of(rt, jobs)?;
+    if all {
+        return audit_all(alloc, rt, files, names);
+    }
     let verdict = verdict_over(rt, jobs, alloc, files, names)?;
     println!(rt; "{verdict}").map_err(|_| EngineFault::Write)?;
+    Ok(verdict)
+}
+
+/// Says the verdict on the exports in the files of these names, and then all that is wrong with them.
+fn audit_all<'a>(
+    alloc: Global,
+    rt: &impl Print,
+    files: &impl NamedFiles,
+    names: &[&'a str],
+) -> Result<Verdict, Stop<'a>> {
+    let Findings { verdict, text } = findings_over(alloc, files, names)?;
+    println!(rt; "{verdict}").map_err(|_| EngineFault::Write)?;
+    print_text(rt, text)?;
     Ok(verdict)
 }
 
@@ -289,6 +307,7 @@ fn status_of(rt: &impl Eprint, ended: Result<(), Stop>) -> ExitCode {
         Err(stop) => {
             if !matches!(stop, Stop::Engine(EngineFault::Frame(_))) {
                 let _ = eprintln!(rt; "payd: {stop}");
+                say_place(rt, stop.place());
             }
             ExitCode::from(stop.status())
         }

@@ -9,7 +9,7 @@ use crate::files::{genesis_of, keys_of, warn_of_keys};
 use crate::folders::{Opened, open_kept_member, open_member};
 use crate::keeping::SayingKept;
 use crate::ports::ports_of;
-use crate::saying::{Found, Saying, say_in_memory, say_start};
+use crate::saying::{Found, Saying, say_in_memory, say_node, say_start};
 use crate::sockets::{NamedSocket, listen, socket_path};
 use crate::staying::{Lines, judge_stay};
 use crate::stop::Stop;
@@ -136,6 +136,7 @@ where
     requires ports { length meeting.now.ports ≡ genesis.members }
 {
     let tagger = tagger_of(alloc, &keys)?;
+    say_node(alloc, rt, &genesis, &keys, &meeting.ports)?;
     let member: OwnMember = Member::new(alloc, genesis, keys)?;
     say_in_memory(rt);
     let start = NodeStart::fresh(alloc, member);
@@ -181,6 +182,7 @@ where
     } = kept;
     let tagger = tagger_of(alloc, member.keys())?;
     let found = Found::of(&member, is_new);
+    say_node(alloc, rt, member.genesis(), member.keys(), &meeting.ports)?;
     let start = start_again(alloc, member, ids.as_slice())?;
     say_start(rt, found);
     let has_failed = AtomicBool::new(false);

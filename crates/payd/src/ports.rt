@@ -23,5 +23,8 @@ pub(crate) fn ports_of<'a, F: NamedFiles>(
     ensures count { IfOk result (λ ports. length ports ≡ genesis.now.members) }
 {
     let bytes = files.bytes_of(alloc, name)?;
-    Ok(Ports::read(alloc, genesis, bytes.as_slice())?)
+    match Ports::read(alloc, genesis, bytes.as_slice()) {
+        Ok(ports) => Ok(ports),
+        Err(fault) => Err(Stop::Ports(fault, name)),
+    }
 }

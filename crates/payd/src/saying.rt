@@ -1,8 +1,13 @@
 //! What is said of a node: of its member, and of its peers.
 
+ghost use Rattle.std.specs.Prelude.{◌≡◌, length};
+
 use crate::OwnMember;
-use pay_net::News;
+use pay_link::{Genesis, Keys};
+use pay_net::{News, Ports};
 use pay_peers::Observer;
+use pay_record::log_header;
+use std::alloc::{AllocError, Global};
 
 /// What is said of a member that no folder keeps.
 const IN_MEMORY: &str =
@@ -23,9 +28,37 @@ impl<R: Eprint> Observer<News> for Saying<'_, R> {
     }
 }
 
+/// Says which member of which group a node is, and on which port it listens. The group is told by the beginning of the
+/// genesis's digest, as the member's log has it.
+pub(crate) fn say_node(
+    alloc: Global,
+    rt: &impl Eprint,
+    genesis: &Genesis,
+    keys: &Keys,
+    ports: &Ports,
+) -> Result<(), AllocError>
+    requires { length ports.now ≡ length keys.now.keys }
+{
+    let [a, b, c, d, ..] = log_header(alloc, genesis, keys)?.genesis;
+    let digest = u32::from_be_bytes([a, b, c, d]);
+    let own = keys.own();
+    let (members, port) = (keys.members(), ports.port(own));
+    let _ = eprintln!(rt; "payd: member {own} of {members}, genesis {digest:08x}, port {port}");
+    Ok(())
+}
+
 /// Says that a member is lost with its node.
 pub(crate) fn say_in_memory(rt: &impl Eprint) {
     let _ = eprintln!(rt; "payd: {IN_MEMORY}");
+}
+
+/// Says which file has a fault, and whose key in it.
+pub(crate) fn say_place(rt: &impl Eprint, place: Option<(&str, Option<u16>)>) {
+    let _ = match place {
+        None => Ok(()),
+        Some((file, None)) => eprintln!(rt; "payd: in {file}"),
+        Some((file, Some(member))) => eprintln!(rt; "payd: in {file}, the key for member {member}"),
+    };
 }
 
 /// What a member's log has at the start.

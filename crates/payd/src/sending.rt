@@ -11,11 +11,11 @@ use pay_engine::EngineFault;
 use pay_io::{Reader, StreamFault, Writer, write_all};
 use pay_text::{Answer, Answerer, Text, run_lines};
 use std::alloc::{AllocError, Global};
+use std::io;
 use std::net::{Net, Shutdown};
 use std::os::unix::net::UnixStream;
 use std::sync::Arc;
 use std::sync::atomic::{AtomicU64, Ordering};
-use std::io;
 
 /// How long a line of an answer may be: that of `FRONT` has fewer than a thousand bytes in the largest group.
 const MOST_ANSWER: usize = 4096;

@@ -1,7 +1,7 @@
 ghost use Rattle.std.specs.Prelude.{◌≡◌};
 ghost use Rattle.pay_engine.specs.declared.engine_fault.EngineFault.TheVariants.{Memory};
 ghost use Rattle.pay_engine.specs.EngineFault.{engine_of};
-ghost use Rattle.payd.specs.declared.stop.Stop.TheVariants.{Engine, Export, Genesis, Keys, Log, Ports};
+ghost use Rattle.payd.specs.declared.stop.Stop.TheVariants.{Engine, Log};
 ghost use Rattle.payd.specs.Stops.{node_stop};
 
 use pay_audit::ExportFault;
@@ -20,14 +20,15 @@ use thiserror::Error;
 pub(crate) enum Stop<'a> {
     #[error("engine {0}")]
     Engine(EngineFault),
+    /// Beside their fault, these have the name of the file that has it.
     #[error("genesis {0}")]
-    Genesis(GenesisFault),
+    Genesis(GenesisFault, &'a str),
     #[error("keys {0}")]
-    Keys(KeysFault),
+    Keys(KeysFault, &'a str),
     #[error("ports {0}")]
-    Ports(PortsFault),
+    Ports(PortsFault, &'a str),
     #[error("export {0}")]
-    Export(ExportFault),
+    Export(ExportFault, &'a str),
     #[error("close {0}")]
     Close(CloseFault),
     /// The log in the folder isn't read, or the folder isn't to be had.
@@ -100,38 +101,6 @@ impl<'a> From<StreamFault> for Stop<'a> {
     }
 }
 
-impl<'a> From<GenesisFault> for Stop<'a> {
-    ghost from_gives = { λ fault stop. stop ≡ Genesis fault };
-
-    fn from(fault: GenesisFault) -> Stop<'a> {
-        Stop::Genesis(fault)
-    }
-}
-
-impl<'a> From<KeysFault> for Stop<'a> {
-    ghost from_gives = { λ fault stop. stop ≡ Keys fault };
-
-    fn from(fault: KeysFault) -> Stop<'a> {
-        Stop::Keys(fault)
-    }
-}
-
-impl<'a> From<ExportFault> for Stop<'a> {
-    ghost from_gives = { λ fault stop. stop ≡ Export fault };
-
-    fn from(fault: ExportFault) -> Stop<'a> {
-        Stop::Export(fault)
-    }
-}
-
-impl<'a> From<PortsFault> for Stop<'a> {
-    ghost from_gives = { λ fault stop. stop ≡ Ports fault };
-
-    fn from(fault: PortsFault) -> Stop<'a> {
-        Stop::Ports(fault)
-    }
-}
-
 impl<'a> From<LogFault> for Stop<'a> {
     ghost from_gives = { λ fault stop. stop ≡ Log fault };
 
@@ -168,16 +137,32 @@ impl<'a, T: Drop> From<AllocFailed<T>> for Stop<'a> {
     }
 }
 
-impl Stop<'_> {
+impl<'a> Stop<'a> {
+    /// The file that has the fault, and whose key in it, where a file has one.
+    pub(crate) fn place(&self) -> Option<(&'a str, Option<u16>)> {
+        match self {
+            Stop::Genesis(GenesisFault::Memory, _)
+            | Stop::Keys(KeysFault::Memory, _)
+            | Stop::Ports(PortsFault::Memory, _)
+            | Stop::Export(ExportFault::Memory, _) => None,
+            Stop::Genesis(_, file) | Stop::Ports(_, file) | Stop::Export(_, file) => {
+                Some((*file, None))
+            }
+            Stop::Keys(KeysFault::BadKey(member), file) => Some((*file, Some(*member))),
+            Stop::Keys(_, file) => Some((*file, None)),
+            _ => None,
+        }
+    }
+
     /// The status with which the program ends.
     pub(crate) fn status(&self) -> u8 {
         match self {
             Stop::Engine(EngineFault::Frame(_)) | Stop::Close(CloseFault::Mismatch(_)) => 1,
             Stop::Engine(_)
-            | Stop::Genesis(GenesisFault::Memory)
-            | Stop::Keys(KeysFault::Memory)
-            | Stop::Ports(PortsFault::Memory)
-            | Stop::Export(ExportFault::Memory)
+            | Stop::Genesis(GenesisFault::Memory, _)
+            | Stop::Keys(KeysFault::Memory, _)
+            | Stop::Ports(PortsFault::Memory, _)
+            | Stop::Export(ExportFault::Memory, _)
             | Stop::Close(CloseFault::Memory)
             | Stop::Log(LogFault::Memory | LogFault::Disk | LogFault::Held)
             | Stop::Port(_)
@@ -185,10 +170,10 @@ impl Stop<'_> {
             | Stop::Nobody(_)
             | Stop::Unanswered
             | Stop::Clock => 3,
-            Stop::Genesis(_)
-            | Stop::Keys(_)
-            | Stop::Ports(_)
-            | Stop::Export(_)
+            Stop::Genesis(..)
+            | Stop::Keys(..)
+            | Stop::Ports(..)
+            | Stop::Export(..)
             | Stop::Log(_)
             | Stop::Stay
             | Stop::NoNode

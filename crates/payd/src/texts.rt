@@ -1,16 +1,18 @@
 //! The texts about an export that words ask for.
 
-ghost use Rattle.std.specs.Prelude.{◌≡◌, IfErr, IfOk, None, Some, map};
+ghost use Rattle.std.specs.Prelude.{◌≡◌, IfErr, IfOk, None, Some, length, map};
 ghost use Rattle.std.specs.Option.{option_map};
-ghost use Rattle.payd.specs.Texts.{IsBookSaid, IsBookStop, IsStatementStop, form_by};
-ghost use Rattle.payd.specs.Texts.{statement_said};
+ghost use Rattle.pay_audit.specs.Verdict.{verdict_of};
+ghost use Rattle.payd.specs.Texts.{AreFindings, AreSaid, IsBookSaid, IsStatementStop, IsTextStop};
+ghost use Rattle.payd.specs.Texts.{form_by, statement_said};
 
 use crate::files::{NamedFiles, exports_of};
 use crate::stop::Stop;
-use pay_audit::Export;
+use pay_audit::{Export, Verdict, audit};
+use pay_findings::{Named, findings_text};
 use pay_group_book::{BookForm, Said, book_text};
 use pay_journal::{account_named, statement_text, statements_text};
-use std::alloc::Global;
+use std::alloc::{AllocError, Global};
 
 /// The statement of the account that a word names, or without a word those of all.
 pub(crate) fn statement_said<'a>(
@@ -61,9 +63,65 @@ pub(crate) fn book_over<'a, F: NamedFiles>(
 ) -> Result<Said, Stop<'a>>
     ensures said { IfOk result (λ said. IsBookSaid (F.holds files.now)
         (map (λ name. name.now) names.now) form said.is_book said.text.items) }
-    ensures stop { IfErr result (IsBookStop (F.holds files.now)
+    ensures stop { IfErr result (IsTextStop (F.holds files.now)
         (map (λ name. name.now) names.now)) }
 {
     let exports = exports_of(alloc, files, names)?;
     Ok(book_text(alloc, exports.as_slice(), form)?)
+}
+
+/// The verdict on exports, and all that is wrong with them.
+#[derive(Drop)]
+pub(crate) struct Findings {
+    pub(crate) verdict: Verdict,
+    pub(crate) text: Vec<u8>,
+}
+
+/// All that is wrong with the exports in the files of these names.
+pub(crate) fn findings_over<'a, F: NamedFiles>(
+    alloc: Global,
+    files: &F,
+    names: &[&'a str],
+) -> Result<Findings, Stop<'a>>
+    ensures said { IfOk result (λ found. AreFindings (F.holds files.now)
+        (map (λ name. name.now) names.now) found.verdict found.text.items) }
+    ensures stop { IfErr result (IsTextStop (F.holds files.now)
+        (map (λ name. name.now) names.now)) }
+{
+    let exports = exports_of(alloc, files, names)?;
+    Ok(findings_of(alloc, names, exports.as_slice())?)
+}
+
+fn findings_of(alloc: Global, names: &[&str], exports: &[Export]) -> Result<Findings, AllocError>
+    requires { length names.now ≡ length exports.now }
+    ensures judged { IfOk result (λ found. found.verdict ≡ verdict_of exports.now) }
+    ensures said { IfOk result (λ found. AreSaid
+        (map (λ name. name.now) names.now) exports.now found.text.items) }
+{
+    let named = named(alloc, names, exports)?;
+    Ok(Findings {
+        verdict: audit(alloc, exports)?,
+        text: findings_text(alloc, named.as_slice())?,
+    })
+}
+
+// The exports, each with the name of its file.
+fn named<'a>(
+    alloc: Global,
+    names: &[&'a str],
+    exports: &'a [Export],
+) -> Result<Vec<Named<'a>>, AllocError>
+    requires { length names.now ≡ length exports.now }
+    ensures names { IfOk result (λ named.
+        map (λ n. n.name.now) named.items ≡ map (λ name. name.now) names.now) }
+    ensures exports { IfOk result (λ named. map (λ n. n.export.now) named.items ≡ exports.now) }
+{
+    let mut named = Vec::new(alloc);
+    for (place, export) in exports.iter().enumerate() {
+        named.push(Named {
+            name: names[place],
+            export,
+        })?;
+    }
+    Ok(named)
 }

@@ -47,10 +47,11 @@ pub(crate) enum Job<'a> {
         folder: &'a str,
     },
     /// Say what is wrong with the exports in the files of these names, if anything is, read by as many
-    /// threads as this word says.
+    /// threads as this word says; or all that is wrong with them.
     Audit {
         files: Vec<&'a str>,
         jobs: Option<&'a str>,
+        all: bool,
     },
     /// Write the book of the group by the exports in the files of these names: in lines, or as one of
     /// these.
@@ -231,6 +232,7 @@ fn audit_job<'a>(alloc: Global, audit: &ArgMatches<'a>) -> Result<Job<'a>, Alloc
     Ok(Job::Audit {
         files: files_in(alloc, audit)?,
         jobs: given(audit, "jobs"),
+        all: is_set(audit, "all"),
     })
 }
 
@@ -436,7 +438,8 @@ fn audit<'a>(alloc: Global) -> Result<Command<'a>, AllocError>
 {
     titled(alloc, "audit", AUDIT_ABOUT, AUDIT_HELP)
         .arg(files(alloc))?
-        .arg(option(alloc, "jobs", "COUNT", "How many threads read exports"))
+        .arg(option(alloc, "jobs", "COUNT", "How many threads read exports"))?
+        .arg(flag(alloc, "all", "Names all that is wrong, by the files"))
 }
 
 /// The command `book`, its files and its flags.

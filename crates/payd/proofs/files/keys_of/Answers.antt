@@ -1,6 +1,0 @@
-use Rattle.std.proofs.Common.{arith}
-use Rattle.std.proofs.lemmas.Grind.{common_steps}
-use Rattle.payd.proofs.files.keys_of.Goals as goal
-
-pub returns-in_err-read-in-Some-clause-stop : goal.returns-in_err-read-in-Some-clause-stop
-returns-in_err-read-in-Some-clause-stop g c = grind (arith, common_steps)
