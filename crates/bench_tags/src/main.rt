@@ -24,9 +24,9 @@ fn keys_of(alloc: Global, count: u64) -> Result<Vec<[u8; 32]>, AllocError> {
     Ok(keys)
 }
 
-/// The first bytes of so many tags, each of another head, joined by exclusive or: the same for the
-/// same words, so that no tag can be left out.
-fn joined<T: Tagger>(tagger: &T, key: &[u8; 32], value: &[u8], count: u64) -> u8 {
+/// The exclusive or of the first bytes of `count` tags, each of another head: the same for the same
+/// words, so that no tag can be left out.
+fn xor_of_tags<T: Tagger>(tagger: &T, key: &[u8; 32], value: &[u8], count: u64) -> u8 {
     let mut head = HEAD;
     let mut all = 0u8;
     for number in 0..count {
@@ -44,10 +44,10 @@ fn joined_by(alloc: Global, count: u64, length: u64, prepared: u64) -> Result<u8
     let keys = keys_of(alloc, prepared)?;
     let key = keys.last().unwrap_or(&NO_KEY);
     if prepared == 0 {
-        return Ok(joined(&HmacSha256, key, value.as_slice(), count));
+        return Ok(xor_of_tags(&HmacSha256, key, value.as_slice(), count));
     }
     let tagger = PreparedHmac::new(alloc, keys.as_slice())?;
-    Ok(joined(&tagger, key, value.as_slice(), count))
+    Ok(xor_of_tags(&tagger, key, value.as_slice(), count))
 }
 
 /// The number that a word spells, 0 if it spells none, or another one where there is no word.

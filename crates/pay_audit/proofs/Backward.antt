@@ -10,7 +10,7 @@ use Rattle.pay_link.specs.Json.{number_at, numbers_at, numbers_in}
 use Rattle.pay_link.specs.Genesis.{GenesisFields, IsGenesis, genesis_fault}
 use Rattle.pay_link.specs.Files.{genesis_said}
 use Rattle.pay_member.specs.Legal.{IsValue}
-use Rattle.pay_audit.specs.Export.{AreShort, ExportFields, IsExport, decoded, if_short, is_sized, list_in, list_said, lists_in, lists_said, parts_in, value_of, values_said}
+use Rattle.pay_audit.specs.Export.{AreShort, ExportFields, IsExport, decoded_bytes, if_short, is_sized, list_in, list_said, lists_in_data, lists_said, parts_in, value_of_text, values_said}
 use Rattle.pay_audit.specs.Exporting.{export_data, list_data, number_data, value_data}
 use Rattle.pay_audit.specs.ReadBack.{ExportReadsBack, HasValues}
 
@@ -23,10 +23,10 @@ numbers_back (n ∷ ns) = ap (option_map (λ ms. n ∷ ms)) (numbers_back ns)
 short_back : {A : Type 0} (most : ℕ) (xs : List A) → length xs ≤ most → if_short most xs ≡ Some xs
 short_back most xs short = ap (λ b. if b then Some xs else None) (le-leb (length xs) most short)
 
-value_back : (v : List ℕ) → IsValue v → value_of (encode_lower v) ≡ Some v
-unfolding value_of
+value_back : (v : List ℕ) → IsValue v → value_of_text (encode_lower v) ≡ Some v
+unfolding value_of_text
 value_back v is =
-    ap (λ r. option_and_then (if_short GREATEST_VALUE) (decoded r)) (decode_of-encode_lower v is.bytes.fits)
+    ap (λ r. option_and_then (if_short GREATEST_VALUE) (decoded_bytes r)) (decode_of-encode_lower v is.bytes.fits)
     ∙ short_back GREATEST_VALUE v is.size
 
 values_back : (vs : List (List ℕ)) → ((s : ℕ) (v : List ℕ) → slice_get vs s ≡ Some v → IsValue v)
@@ -75,8 +75,8 @@ balances_at : (e : ExportFields) → numbers_at (codes "balances") (export_data 
 unfolding export_data
 balances_at e = numbers_back e.balances
 
-lists_at : (e : ExportFields) → AreShort e.lists → HasValues e → lists_in (export_data e) ≡ Some e.lists
-unfolding export_data lists_in
+lists_at : (e : ExportFields) → AreShort e.lists → HasValues e → lists_in_data (export_data e) ≡ Some e.lists
+unfolding export_data lists_in_data
 lists_at e short are = lists_back e.lists short are
 
 genesis_at : (e : ExportFields) → genesis_said (export_data e) ≡ Some e.genesis

@@ -7,7 +7,7 @@ use Rattle.std.proofs.lemmas.Bool.{ltb-true, lt-ltb}
 use Rattle.std.proofs.lemmas.List.{drop_all, length-map}
 use Rattle.std.proofs.lemmas.Option.{same_Some, slice_get-map}
 use Rattle.pay_channel.specs.Prefix.{IsPrefix}
-use Rattle.pay_audit.specs.Compared.{FirstDiffers, HasCompared, IsLongest, differences_of, fork_among, fork_by, fork_if, fork_with, lengths_of, within}
+use Rattle.pay_audit.specs.Compared.{FirstDiffers, HasCompared, IsLongest, differences_of, fork_among, fork_by, fork_if, fork_with, lengths_of, place_if_within}
 use Rattle.pay_audit.specs.Export.{ExportFields, list_in, lists_of}
 use Rattle.pay_audit.specs.Laws.{AgreeWith, Agreeing}
 use Rattle.pay_audit.specs.Said.{Each, EachTwo}
@@ -43,7 +43,7 @@ if_below : (b : Bool) (n s : ℕ) → nat_lt s n ≡ b → n ≤ s → None ≡ 
 if_below true n s h order = absurd (omega (arith, ltb-true s n h, order))
 if_below false n s h order = refl
 
-none_within : (n : ℕ) (o : Option ℕ) → ((s : ℕ) → o ≡ Some s → n ≤ s) → None ≡ within n o
+none_within : (n : ℕ) (o : Option ℕ) → ((s : ℕ) → o ≡ Some s → n ≤ s) → None ≡ place_if_within n o
 none_within n None from = refl
 none_within n (Some s) from = if_below (nat_lt s n) n s refl (from s refl)
 
@@ -62,7 +62,7 @@ answered_from k (v ∷ l) (w ∷ m) s h = go (bytes_eq v w) h (answered_from (k 
   go false e rest = omega (arith, same_Some k s e)
 
 -- a list differs from a prefix where it differs from the whole, if the prefix has that place
-differs_within : (k : ℕ) (l r m : List (List ℕ)) → first_from if_differ k (zip l m) ≡ within (k + length l) (first_from if_differ k (zip (l ++ r) m))
+differs_within : (k : ℕ) (l r m : List (List ℕ)) → first_from if_differ k (zip l m) ≡ place_if_within (k + length l) (first_from if_differ k (zip (l ++ r) m))
 differs_within k [] r m =
     none_within (k + 0) (first_from if_differ k (zip r m)) (λ s h. (let from = answered_from k r m s h in omega (arith, from)))
 differs_within k (v ∷ l) r [] = refl
@@ -70,17 +70,17 @@ differs_within k (v ∷ l) r (w ∷ m) = go (bytes_eq v w) (differs_within (k + 
   more : k + 1 + length l ≡ k + suc (length l)
   more = omega arith
 
-  go : (b : Bool) → first_from if_differ (k + 1) (zip l m) ≡ within (k + 1 + length l) (first_from if_differ (k + 1) (zip (l ++ r) m))
+  go : (b : Bool) → first_from if_differ (k + 1) (zip l m) ≡ place_if_within (k + 1 + length l) (first_from if_differ (k + 1) (zip (l ++ r) m))
       → option_or (if b then None else Some k) (first_from if_differ (k + 1) (zip l m))
-      ≡ within (k + suc (length l)) (option_or (if b then None else Some k) (first_from if_differ (k + 1) (zip (l ++ r) m)))
-  go true rest = rest ∙ ap (λ n. within n (first_from if_differ (k + 1) (zip (l ++ r) m))) more
+      ≡ place_if_within (k + suc (length l)) (option_or (if b then None else Some k) (first_from if_differ (k + 1) (zip (l ++ r) m)))
+  go true rest = rest ∙ ap (λ n. place_if_within n (first_from if_differ (k + 1) (zip (l ++ r) m))) more
   go false rest = if_past (nat_lt k (k + suc (length l))) (k + suc (length l)) k refl (omega arith)
 
-place_within : (l whole m : List (List ℕ)) → IsPrefix l whole → fork_place l m ≡ within (length l) (fork_place whole m)
+place_within : (l whole m : List (List ℕ)) → IsPrefix l whole → fork_place l m ≡ place_if_within (length l) (fork_place whole m)
 unfolding fork_place
 place_within l whole m p =
     differs_within 0 l p.rest m
-    ∙ ap₂ (λ n (xs : List (List ℕ)). within n (first_from if_differ 0 (zip xs m))) (let e : 0 + length l ≡ length l = omega arith in e) (sym p.is)
+    ∙ ap₂ (λ n (xs : List (List ℕ)). place_if_within n (first_from if_differ 0 (zip xs m))) (let e : 0 + length l ≡ length l = omega arith in e) (sym p.is)
 
 -- ---- two exports
 

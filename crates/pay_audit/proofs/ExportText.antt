@@ -6,10 +6,10 @@ use Rattle.std.specs.Io.KnownBytes.{Appends}
 use Rattle.std.proofs.KnownBytes.{Appends-trans}
 use Rattle.json.specs.Print.{escape_byte}
 use Rattle.serde_json.specs.Written.{compact_text}
-use Rattle.pay_io.specs.Device.{WroteBeginning, counted}
+use Rattle.pay_io.specs.Device.{WroteBeginning, next_count}
 use Rattle.pay_audit.specs.Export.{ExportFields}
 use Rattle.pay_audit.specs.Exporting.{export_data, lists_data, numbers_data}
-use Rattle.pay_audit.specs.Gathering.{AddsAt, State}
+use Rattle.pay_audit.specs.Gathering.{AddsAt, OutputState}
 use Rattle.pay_audit.proofs.Gathering.{begins}
 
 -- its members in order, with the numbers that stand alone
@@ -33,20 +33,20 @@ both_err (Ok x) f p q = tt
 both_err (Err e) f p q = f p q
 
 -- all of it went out
-pub ended : (f g : Bool) (a b : State) (w : Option (List ℕ)) (t : List ℕ) → f ≡ false → a.held ≡ [] → AddsAt f g a b t → g ≡ false → Appends b.written w b.held → Appends a.written w t
+pub ended : (f g : Bool) (a b : OutputState) (w : Option (List ℕ)) (t : List ℕ) → f ≡ false → a.held ≡ [] → AddsAt f g a b t → g ≡ false → Appends b.written w b.held → Appends a.written w t
 ended true g a b w t fresh none adds fine rest = absurd cc
 ended false true a b w t fresh none adds fine rest = absurd cc
 ended false false a b w t fresh none adds fine rest =
     subst (Appends a.written w) (sym adds.0.parts ∙ ap (λ xs. xs ++ t) none)
     (Appends-trans a.written b.written w adds.0.sent b.held adds.0.written rest)
 
-pub ended_count : (f g : Bool) (a b : State) (count : ℕ) (t : List ℕ) → f ≡ false → AddsAt f g a b t → g ≡ false → count ≡ b.failures → count ≡ a.failures
+pub ended_count : (f g : Bool) (a b : OutputState) (count : ℕ) (t : List ℕ) → f ≡ false → AddsAt f g a b t → g ≡ false → count ≡ b.failures → count ≡ a.failures
 ended_count true g a b count t fresh adds fine rest = absurd cc
 ended_count false true a b count t fresh adds fine rest = absurd cc
 ended_count false false a b count t fresh adds fine rest = rest ∙ adds.1
 
 -- a beginning of it went out
-pub broke : (f g : Bool) (a b : State) (w : Option (List ℕ)) (t : List ℕ) → f ≡ false → a.held ≡ [] → AddsAt f g a b t
+pub broke : (f g : Bool) (a b : OutputState) (w : Option (List ℕ)) (t : List ℕ) → f ≡ false → a.held ≡ [] → AddsAt f g a b t
     → OnFalse g (WroteBeginning b.written w b.held) → OnTrue g (w ≡ b.written) → WroteBeginning a.written w t
 broke true g a b w t fresh none adds rest same = absurd cc
 broke false true a b w t fresh none adds rest same =
@@ -55,11 +55,11 @@ broke false false a b w t fresh none adds rest same =
     subst (WroteBeginning a.written w) (sym adds.0.parts ∙ ap (λ xs. xs ++ t) none)
     (begins a.written b.written w adds.0.sent b.held adds.0.written rest)
 
-pub broke_count : (f g : Bool) (a b : State) (count : ℕ) (t : List ℕ) → f ≡ false → AddsAt f g a b t
-    → OnFalse g (count ≡ counted b.failures) → OnTrue g (count ≡ b.failures) → count ≡ counted a.failures
+pub broke_count : (f g : Bool) (a b : OutputState) (count : ℕ) (t : List ℕ) → f ≡ false → AddsAt f g a b t
+    → OnFalse g (count ≡ next_count b.failures) → OnTrue g (count ≡ b.failures) → count ≡ next_count a.failures
 broke_count true g a b count t fresh adds rest same = absurd cc
 broke_count false true a b count t fresh adds rest same = same ∙ adds.1
-broke_count false false a b count t fresh adds rest same = rest ∙ ap counted adds.1
+broke_count false false a b count t fresh adds rest same = rest ∙ ap next_count adds.1
 
 pub on_true : {P Q : Type 0} (b : Bool) → (P → Q) → OnTrue b P → OnTrue b Q
 on_true true f p = f p

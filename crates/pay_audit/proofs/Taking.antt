@@ -2,7 +2,7 @@
 use Rattle.std.proofs.Common.{◌≡◌, ℕ, ◌+◌, List, [], ◌∷◌, ◌++◌, length, Option, Some, None, unwrap_or, if◌then◌else◌, refl, ap, ap₂, sym, ◌∙◌, arith}
 use Rattle.std.specs.Option.{option_or}
 use Rattle.pay_link.specs.Genesis.{GenesisFields}
-use Rattle.pay_audit.specs.Auditor.{HasFound, HasTaken, IsNothing, VerdictOfTakenIsOne, first_genesis, other_genesis_than}
+use Rattle.pay_audit.specs.Auditor.{HasFound, HasTakenExports, IsNothing, VerdictOfTakenIsOne, first_genesis, other_genesis_than}
 use Rattle.pay_audit.specs.Compared.{fork_among}
 use Rattle.pay_audit.specs.Export.{ExportFields}
 use Rattle.pay_audit.specs.Verdict.{first_from, fork_from, other_genesis, other_genesis_at, verdict_of, wrong_balance_at, wrong_front_at}
@@ -83,7 +83,7 @@ module _ (exports : List ExportFields) where
 
 -- ---- the verdict of an auditor
 
-module _ (exports : List ExportFields) (a : Auditor) (h : HasTaken exports a) where
+module _ (exports : List ExportFields) (a : Auditor) (h : HasTakenExports exports a) where
   verdict_by : (g f b : Option Verdict) → a.wrong.genesis ≡ g → a.wrong.front ≡ f → a.wrong.balance ≡ b
       → unwrap_or (option_or g (option_or (option_or f b) (fork_among a.comparison.lengths.items a.comparison.differences.items))) Clean ≡ verdict_of exports
   verdict_by (Some v) f b eg ef eb = of_genesis exports v (sym h.wrong.genesis ∙ eg)

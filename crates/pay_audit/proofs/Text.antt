@@ -21,7 +21,7 @@ use Rattle.pay_member.specs.Laws.{BookIsSettled, DeliveredAreValues}
 use Rattle.pay_member.specs.Legal.{IsValue, Legal}
 use Rattle.pay_member.specs.Member.{MemberFields}
 use Rattle.pay_audit.specs.Export.{AreShort, ExportFields, IsExport, export_in, list_in}
-use Rattle.pay_audit.specs.Exporting.{export_data, exported, genesis_members, list_data, lists_by, number_data, value_data}
+use Rattle.pay_audit.specs.Exporting.{export_data, export_of, genesis_members, list_data, lists_of_member, number_data, value_data}
 use Rattle.pay_audit.specs.ReadBack.{ExportReadsBack, HasValues}
 use Rattle.pay_audit.proofs.Pushing.{balances, fronts}
 
@@ -93,14 +93,14 @@ all_short : (f : ℕ → List (List ℕ)) → ((a : ℕ) → length (f a) ≤ se
 all_short f short [] = All-nil (λ (l : List (List ℕ)). length l ≤ seqs)
 all_short f short (n ∷ ns) = All-cons (λ (l : List (List ℕ)). length l ≤ seqs) (f n) (map f ns) (short n) (all_short f short ns)
 
-pub exported_sound : BookIsSettled → ListIsShort → (m : MemberFields) → IsGenesis m.genesis → m.keys.own < m.genesis.members → IsExport (exported m)
+pub exported_sound : BookIsSettled → ListIsShort → (m : MemberFields) → IsGenesis m.genesis → m.keys.own < m.genesis.members → IsExport (export_of m)
 exported_sound book short m genesis known = record {
   genesis = genesis;
   member = known;
-  lists = length-map (range_with_len 0 m.genesis.members) (lists_by m) ∙ length-range_with_len 0 m.genesis.members;
+  lists = length-map (range_with_len 0 m.genesis.members) (lists_of_member m) ∙ length-range_with_len 0 m.genesis.members;
   front = fronts book m.genesis m.keys.own (events m.history) genesis;
   balances = balances book m.genesis m.keys.own (events m.history) genesis;
-  short = all_short (lists_by m) (short (group_in m.genesis m.keys.own) (events m.history)) (range_with_len 0 m.genesis.members);
+  short = all_short (lists_of_member m) (short (group_in m.genesis m.keys.own) (events m.history)) (range_with_len 0 m.genesis.members);
 }
 
 -- what holds of the values of each owner holds of those of a list for each
@@ -112,9 +112,9 @@ listed_values f are (n ∷ ns) zero s v at = are n s v at
 listed_values f are (n ∷ ns) (suc a) s v at = listed_values f are ns a s v at
 
 pub exported_values :
-    ListedIsDelivered → DeliveredAreValues → (m : MemberFields) → Legal m.genesis m.keys m.history → HasValues (exported m)
+    ListedIsDelivered → DeliveredAreValues → (m : MemberFields) → Legal m.genesis m.keys m.history → HasValues (export_of m)
 exported_values listed values m legal a s v at =
-    listed_values (lists_by m)
+    listed_values (lists_of_member m)
     (λ b t w there. values m.genesis m.keys m.history b t w legal (listed (group_in m.genesis m.keys.own) (events m.history) b t w there))
     (range_with_len 0 m.genesis.members) a s v at
 

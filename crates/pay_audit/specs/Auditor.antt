@@ -32,7 +32,8 @@ other_genesis_than (Some g) x e = other_genesis_at g x e
 pub record HasFound (exports : List ExportFields) (w : Wrong) : Type 0 where
   pub genesis : w.genesis ≡ other_genesis exports
   pub front : w.genesis ≡ None → w.front ≡ first_from wrong_front_at 0 exports
-  pub balance : w.genesis ≡ None → w.front ≡ None → w.balance ≡ first_from wrong_balance_at 0 exports
+  pub balance :
+      w.genesis ≡ None → w.front ≡ None → w.balance ≡ first_from wrong_balance_at 0 exports
 
 -- nothing is found
 pub record IsNothing (w : Wrong) : Type 0 where
@@ -46,7 +47,7 @@ abbrev pub HasComparedBy : List ExportFields → Comparison → Type 0
 HasComparedBy exports c = HasCompared exports c.longest.items c.lengths.items c.differences.items
 
 -- these are all exports that it has taken, in their order
-pub record HasTaken (exports : List ExportFields) (a : Auditor) : Type 0 where
+pub record HasTakenExports (exports : List ExportFields) (a : Auditor) : Type 0 where
   pub taken : a.taken ≡ length exports
   pub genesis : a.genesis ≡ first_genesis exports
   pub wrong : HasFound exports a.wrong
@@ -63,6 +64,6 @@ pub record IsWrongWith (a : Auditor) (e : ExportFields) (w : Wrong) : Type 0 whe
 -- no two lists of exports that it can have taken have different verdicts
 abbrev pub VerdictOfTakenIsOne : Type 0
 VerdictOfTakenIsOne =
-    (auditor : Auditor) (one other : List ExportFields) → HasTaken one auditor
-    → HasTaken other auditor
+    (auditor : Auditor) (one other : List ExportFields) → HasTakenExports one auditor
+    → HasTakenExports other auditor
     → verdict_of one ≡ verdict_of other

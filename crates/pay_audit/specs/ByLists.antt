@@ -1,4 +1,5 @@
--- An export made of lists alone, and what a group can begin anew with: the balances of an export as opening amounts.
+-- An export made of lists alone, and what a group can begin anew with: the balances of an export as
+-- opening amounts.
 use Rattle.std.specs.Prelude.{◌≡◌}
 use Rattle.pay_link.specs.Genesis.{GenesisFields}
 use Rattle.pay_audit.specs.Export.{ExportFields}
@@ -11,4 +12,5 @@ pub record HasOwnBook (e : ExportFields) : Type 0 where
 
 -- as many members and faults, and each account opens with its balance
 abbrev pub next_genesis : ExportFields → GenesisFields
-next_genesis e = record { members = e.genesis.members; faults = e.genesis.faults; opening = e.balances }
+next_genesis e =
+    record { members = e.genesis.members; faults = e.genesis.faults; opening = e.balances }

@@ -21,7 +21,9 @@ longer one other = if nat_lt (length one) (length other) then other else one
 pub record IsLongest (exports : List ExportFields) (account : ℕ) (list : List (List ℕ))
     : Type 0 where
   pub begins : Each (λ e. IsPrefix (lists_of e account) list) exports
-  pub agrees : (other : List (List ℕ)) → Each (λ e. Agreeing (lists_of e account) other) exports → Agreeing list other
+  pub agrees :
+      (other : List (List ℕ)) → Each (λ e. Agreeing (lists_of e account) other) exports
+      → Agreeing list other
 
 -- how long each account's list is
 abbrev pub lengths_of : List (List (List ℕ)) → List ℕ
@@ -51,11 +53,11 @@ pub record HasCompared (exports : List ExportFields) (longest : List (List (List
 -- ---- the first fork, by these numbers alone
 
 -- this place, where a list of so many values has it
-abbrev pub within : ℕ → Option ℕ → Option ℕ
-within count place = option_and_then (λ s. if nat_lt s count then Some s else None) place
+abbrev pub place_if_within : ℕ → Option ℕ → Option ℕ
+place_if_within count place = option_and_then (λ s. if nat_lt s count then Some s else None) place
 
 abbrev pub fork_if : ℕ → ℕ → ℕ → ℕ × Option ℕ → Option Verdict
-fork_if x y owner p = option_map (Fork x y owner) (within p.0 p.1)
+fork_if x y owner p = option_map (Fork x y owner) (place_if_within p.0 p.1)
 
 -- export x, whose lists are so long, against export y
 unfoldable pub fork_by : ℕ → List ℕ → ℕ → List (Option ℕ) → Option Verdict

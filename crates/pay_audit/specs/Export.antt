@@ -48,20 +48,20 @@ pub record IsExport (e : ExportFields) : Type 0 where
 
 -- ---- files
 
-abbrev pub decoded : Result (List ℕ) FromHexError → Option (List ℕ)
-decoded (Ok bytes) = Some bytes
-decoded (Err fault) = None
+abbrev pub decoded_bytes : Result (List ℕ) FromHexError → Option (List ℕ)
+decoded_bytes (Ok bytes) = Some bytes
+decoded_bytes (Err fault) = None
 
 abbrev pub if_short : {A : Type 0} → ℕ → List A → Option (List A)
 if_short most xs = if nat_le (length xs) most then Some xs else None
 
 -- the value that a text spells: two hexadecimal digits of either case a byte, as many as a frame's
 -- value has
-unfoldable pub value_of : List ℕ → Option (List ℕ)
-value_of text = option_and_then (if_short GREATEST_VALUE) (decoded (decode_of text))
+unfoldable pub value_of_text : List ℕ → Option (List ℕ)
+value_of_text text = option_and_then (if_short GREATEST_VALUE) (decoded_bytes (decode_of text))
 
 abbrev pub value_said : Data → Option (List ℕ)
-value_said d = option_and_then value_of (as_str d)
+value_said d = option_and_then value_of_text (as_str d)
 
 -- the values of a list, if all that is in it are texts that spell one
 abbrev pub values_said : Items → Option (List (List ℕ))
@@ -79,15 +79,23 @@ lists_said (item d ds) =
     option_and_then (λ l. option_map (λ ls. l ∷ ls) (lists_said ds)) (list_said d)
 
 -- the lists that an object has at `lists`
-unfoldable pub lists_in : Data → Option (List (List (List ℕ)))
-lists_in d = option_and_then lists_said (list_at (codes "lists") d)
+unfoldable pub lists_in_data : Data → Option (List (List (List ℕ)))
+lists_in_data d = option_and_then lists_said (list_at (codes "lists") d)
 
 -- an object's parts, whatever their sizes
 unfoldable pub parts_in : Data → Option ExportFields
 parts_in d =
-    option_and_then (λ genesis. option_and_then (λ member. option_and_then (λ lists. option_and_then (λ front.
-    option_map (λ balances. record { genesis = genesis; member = member; lists = lists; front = front; balances = balances })
-    (numbers_at (codes "balances") d)) (numbers_at (codes "front") d)) (lists_in d)) (number_at (codes "member") d))
+    option_and_then
+    (λ genesis. option_and_then (λ member. option_and_then (λ lists. option_and_then (λ front.
+    option_map (λ balances. record {
+      genesis = genesis;
+      member = member;
+      lists = lists;
+      front = front;
+      balances = balances;
+    })
+    (numbers_at (codes "balances") d)) (numbers_at (codes "front") d)) (lists_in_data d))
+    (number_at (codes "member") d))
     (genesis_said d)
 
 -- one of so many members, as the object itself says how many there are, and for each a list, a
@@ -101,12 +109,12 @@ abbrev pub if_sized : ExportFields → Option ExportFields
 if_sized e = if is_sized e then Some e else None
 
 -- what a file says, if its genesis is one
-abbrev pub judged : ExportFields → Result ExportFields ExportFault
-judged e = option_map_or (λ _. Err BadGenesis) (genesis_fault e.genesis) (Ok e)
+abbrev pub export_judgement : ExportFields → Result ExportFields ExportFault
+export_judgement e = option_map_or (λ _. Err BadGenesis) (genesis_fault e.genesis) (Ok e)
 
 -- the export of a file, or the first of its faults
 abbrev pub export_in : List ℕ → Result ExportFields ExportFault
 export_in bytes = do
   d ← ok_or (value_in bytes) BadJson
   e ← ok_or (option_and_then if_sized (parts_in d)) BadShape
-  judged e
+  export_judgement e

@@ -14,15 +14,15 @@ use Rattle.pay_member.specs.Member.{MemberFields}
 use Rattle.pay_audit.specs.Export.{ExportFields}
 
 -- the lists of a member, as far as its history has come
-abbrev pub lists_by : MemberFields → ℕ → List (List ℕ)
-lists_by m = list_of (group_in m.genesis m.keys.own) (events m.history)
+abbrev pub lists_of_member : MemberFields → ℕ → List (List ℕ)
+lists_of_member m = list_of (group_in m.genesis m.keys.own) (events m.history)
 
 -- what a member shows of its own without its keys
-abbrev pub exported : MemberFields → ExportFields
-exported m = record {
+abbrev pub export_of : MemberFields → ExportFields
+export_of m = record {
   genesis = m.genesis;
   member = m.keys.own;
-  lists = map (lists_by m) (range_with_len 0 m.genesis.members);
+  lists = map (lists_of_member m) (range_with_len 0 m.genesis.members);
   front = (book_after m.genesis m.keys.own (events m.history)).front;
   balances = (book_after m.genesis m.keys.own (events m.history)).balances;
 }

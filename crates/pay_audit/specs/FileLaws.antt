@@ -22,11 +22,13 @@ BadJsonCause = (bytes : List ℕ) → (export_in bytes ≡ Err BadJson) ↔ (val
 abbrev pub BadShapeCause : Type 0
 BadShapeCause =
     (bytes : List ℕ) → (export_in bytes ≡ Err BadShape)
-    ↔ ((d : Data) × (value_in bytes ≡ Some d) × ((e : ExportFields) → parts_in d ≡ Some e → ¬ (HasSizes e)))
+    ↔ ((d : Data) × (value_in bytes ≡ Some d)
+    × ((e : ExportFields) → parts_in d ≡ Some e → ¬ (HasSizes e)))
 
 -- it has them, and its genesis is none
 abbrev pub BadGenesisCause : Type 0
 BadGenesisCause =
     (bytes : List ℕ) → (export_in bytes ≡ Err BadGenesis)
-    ↔ ((d : Data) × (e : ExportFields) × (value_in bytes ≡ Some d) × (parts_in d ≡ Some e) × HasSizes e
+    ↔ ((d : Data) × (e : ExportFields) × (value_in bytes ≡ Some d) × (parts_in d ≡ Some e)
+    × HasSizes e
     × (¬ (IsGenesis e.genesis)))

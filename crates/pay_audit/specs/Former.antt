@@ -31,15 +31,20 @@ former_wrong_balance_at x e =
     option_map (WrongBalance x) (first_from (if_other (former_balances_of e)) 0 e.balances)
 
 abbrev pub former_wrong_book : List ExportFields → Option Verdict
-former_wrong_book exports = option_or (first_from former_wrong_front_at 0 exports) (first_from former_wrong_balance_at 0 exports)
+former_wrong_book exports =
+    option_or (first_from former_wrong_front_at 0 exports)
+    (first_from former_wrong_balance_at 0 exports)
 
 abbrev pub former_verdict_of : List ExportFields → Verdict
 former_verdict_of exports =
-    unwrap_or (option_or (other_genesis exports) (option_or (former_wrong_book exports) (fork_from 0 exports))) Clean
+    unwrap_or (option_or (other_genesis exports)
+    (option_or (former_wrong_book exports) (fork_from 0 exports))) Clean
 
 -- no value that an export lists has the shape of several payments
 abbrev pub HasSingles : ExportFields → Type 0
 HasSingles e = AllSingle (length e.genesis.opening) (lists_of e)
 
 abbrev pub VerdictIsAsFormer : Type 0
-VerdictIsAsFormer = (exports : List ExportFields) → All HasSingles exports → verdict_of exports ≡ former_verdict_of exports
+VerdictIsAsFormer =
+    (exports : List ExportFields) → All HasSingles exports
+    → verdict_of exports ≡ former_verdict_of exports

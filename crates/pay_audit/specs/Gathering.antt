@@ -1,36 +1,38 @@
 -- A text that is written piece by piece: what went out of it, and what is held for the next write.
 use Rattle.std.specs.Prelude.{◌≡◌, ℕ, List, ◌++◌, Bool, true, false, Option}
 use Rattle.std.specs.Io.KnownBytes.{Appends}
-use Rattle.pay_io.specs.Device.{WroteBeginning, counted}
+use Rattle.pay_io.specs.Device.{WroteBeginning, next_count}
 use Rattle.pay_audit.specs.declared.gathered.Gathered.{Gathered}
 
 -- what was written where it is known, what is held after it, whether the device failed, and how
 -- often it did
-pub record State : Type 0 where
+pub record OutputState : Type 0 where
   pub written : Option (List ℕ)
   pub held : List ℕ
   pub failed : Bool
   pub failures : ℕ
 
-abbrev pub state : {W : Type 0} → (W → Option (List ℕ)) → (W → ℕ) → Gathered → W → State
+abbrev pub state : {W : Type 0} → (W → Option (List ℕ)) → (W → ℕ) → Gathered → W → OutputState
 state contents failures g w =
     record { written = contents w; held = g.held.items; failed = g.failed; failures = failures w }
 
 -- A text came after what was held, and a front of both went out.
-pub record Moves (before after : Option (List ℕ)) (held left text : List ℕ) : Type 0 where
+pub record PassesOn (before after : Option (List ℕ)) (held left text : List ℕ) : Type 0 where
   pub sent : List ℕ
   pub written : Appends before after sent
   pub parts : held ++ text ≡ sent ++ left
 
 -- A failure that was stays, and nothing more is written. One that came has left a beginning of what
 -- was held and added.
-abbrev pub AddsAt : Bool → Bool → State → State → List ℕ → Type 0
+abbrev pub AddsAt : Bool → Bool → OutputState → OutputState → List ℕ → Type 0
 AddsAt false false old new text =
-    Moves old.written new.written old.held new.held text × (new.failures ≡ old.failures)
-AddsAt false true old new text = WroteBeginning old.written new.written (old.held ++ text) × (new.failures ≡ counted old.failures)
+    PassesOn old.written new.written old.held new.held text × (new.failures ≡ old.failures)
+AddsAt false true old new text =
+    WroteBeginning old.written new.written (old.held ++ text)
+    × (new.failures ≡ next_count old.failures)
 AddsAt true false old new text = ⊥
 AddsAt true true old new text = (new.written ≡ old.written) × (new.failures ≡ old.failures)
 
 -- a text was added
-abbrev pub Adds : State → State → List ℕ → Type 0
+abbrev pub Adds : OutputState → OutputState → List ℕ → Type 0
 Adds old new text = AddsAt old.failed new.failed old new text

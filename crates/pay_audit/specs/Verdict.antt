@@ -84,4 +84,5 @@ fork_from x (e ∷ es) = option_or (first_from (fork_between x e) (x + 1) es) (f
 
 unfoldable pub verdict_of : List ExportFields → Verdict
 verdict_of exports =
-    unwrap_or (option_or (other_genesis exports) (option_or (wrong_book exports) (fork_from 0 exports))) Clean
+    unwrap_or (option_or (other_genesis exports)
+    (option_or (wrong_book exports) (fork_from 0 exports))) Clean

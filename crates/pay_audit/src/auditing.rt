@@ -7,7 +7,7 @@ ghost use Rattle.pay_audit.specs.Verdict.{verdict_of, wrong_balance_of, wrong_bo
 use crate::auditor::Auditor;
 use crate::exported::Export;
 use crate::owner_list::OwnerList;
-use crate::settling::settled;
+use crate::settling::settle_export;
 use crate::verdict::Verdict;
 use pay_book::Settle;
 use pay_link::Genesis;
@@ -60,7 +60,7 @@ pub(crate) fn wrong_book(alloc: Global, exports: &[Export]) -> Result<Option<Ver
 {
     let mut wrong_balance = None;
     for (place, export) in exports.iter().enumerate() {
-        let book: WaitingBook = settled(alloc, export)?;
+        let book: WaitingBook = settle_export(alloc, export)?;
         if let Some(account) = wrong_front_of(export, &book) {
             return Ok(Some(Verdict::WrongFront {
                 export: place,
@@ -151,7 +151,8 @@ fn fork_between(one: usize, export: &Export, other: usize, against: &Export) -> 
     None
 }
 
-/// The first place that the lists of an account in two exports both have and where their values differ.
+/// The first place that the lists of an account in two exports both have and where their values
+/// differ.
 pub fn difference_at(one: &Export, other: &Export, account: u16) -> Option<u32>
     requires one { account < one.now.genesis.members }
     requires other { account < other.now.genesis.members }

@@ -1,7 +1,7 @@
 //! Exports audited one by one: each is let go as soon as it is taken.
 
 ghost use Rattle.std.specs.Prelude.{◌≡◌, ◌+◌, ◌<◌, ◌∷◌, ◌++◌, List, [], IfOk, unwrap_or};
-ghost use Rattle.pay_audit.specs.Auditor.{HasTaken, IsWrongWith, taken_by};
+ghost use Rattle.pay_audit.specs.Auditor.{HasTakenExports, IsWrongWith, taken_by};
 ghost use Rattle.pay_audit.specs.Export.{ExportFields};
 ghost use Rattle.pay_audit.specs.Verdict.{verdict_of};
 
@@ -26,7 +26,7 @@ pub struct Auditor {
 impl Auditor {
     /// One that has taken no exports.
     pub fn new(alloc: Global) -> Auditor
-        ensures taken { HasTaken [] result }
+        ensures taken { HasTakenExports [] result }
         ensures count { taken_by result ≡ 0 }
     {
         Auditor {
@@ -39,7 +39,7 @@ impl Auditor {
 
     /// One that has taken these exports.
     pub fn of(alloc: Global, exports: &[Export]) -> Result<Auditor, AllocError>
-        ensures { IfOk result (HasTaken exports.now) }
+        ensures { IfOk result (HasTakenExports exports.now) }
     {
         let mut auditor = Auditor::new(alloc);
         for export in exports {
@@ -52,7 +52,7 @@ impl Auditor {
     pub fn take(self, alloc: Global, export: Export) -> Result<Auditor, AllocError>
         requires { taken_by self < usize.MAX }
         ensures taken { IfOk result (λ auditor. (exports : List ExportFields)
-            → HasTaken exports self → HasTaken (exports ++ export ∷ []) auditor) }
+            → HasTakenExports exports self → HasTakenExports (exports ++ export ∷ []) auditor) }
         ensures count { IfOk result (λ auditor. taken_by auditor ≡ taken_by self + 1) }
     {
         self.add(alloc, &export)
@@ -62,7 +62,7 @@ impl Auditor {
     pub fn take_judged(self, alloc: Global, judged: JudgedExport) -> Result<Auditor, AllocError>
         requires { taken_by self < usize.MAX }
         ensures taken { IfOk result (λ auditor. (exports : List ExportFields)
-            → HasTaken exports self → HasTaken (exports ++ judged ∷ []) auditor) }
+            → HasTakenExports exports self → HasTakenExports (exports ++ judged ∷ []) auditor) }
         ensures count { IfOk result (λ auditor. taken_by auditor ≡ taken_by self + 1) }
     {
         let wrong = self.wrong.with_judged(&self.genesis, self.taken, &judged);
@@ -73,7 +73,7 @@ impl Auditor {
     fn add(self, alloc: Global, export: &Export) -> Result<Auditor, AllocError>
         requires { taken_by self < usize.MAX }
         ensures taken { IfOk result (λ auditor. (exports : List ExportFields)
-            → HasTaken exports self → HasTaken (exports ++ export.now ∷ []) auditor) }
+            → HasTakenExports exports self → HasTakenExports (exports ++ export.now ∷ []) auditor) }
         ensures count { IfOk result (λ auditor. taken_by auditor ≡ taken_by self + 1) }
     {
         let wrong = self.wrong.with(alloc, &self.genesis, self.taken, export)?;
@@ -86,7 +86,7 @@ impl Auditor {
         requires count { taken_by self < usize.MAX }
         requires wrong { IsWrongWith self export.now wrong }
         ensures taken { IfOk result (λ auditor. (exports : List ExportFields)
-            → HasTaken exports self → HasTaken (exports ++ export.now ∷ []) auditor) }
+            → HasTakenExports exports self → HasTakenExports (exports ++ export.now ∷ []) auditor) }
         ensures count { IfOk result (λ auditor. taken_by auditor ≡ taken_by self + 1) }
     {
         let Auditor {
@@ -111,7 +111,7 @@ impl Auditor {
     #[tactic(auto, unfolding(crate::specs::Verdict::verdict_of))]
     pub fn verdict(&self) -> Verdict
         ensures { (exports : List ExportFields)
-            → HasTaken exports self.now → result ≡ verdict_of exports }
+            → HasTakenExports exports self.now → result ≡ verdict_of exports }
     {
         if let Some(verdict) = self.wrong.genesis {
             return verdict;

@@ -8,7 +8,7 @@ ghost use Rattle.pay_audit.specs.Export.{AreShort, IsExport};
 
 use crate::exported::Export;
 use crate::owner_list::OwnerList;
-use crate::settling::settled;
+use crate::settling::settle_export;
 use pay_book::Settle;
 use pay_book::laws::settled_book_exists;
 use pay_channel::Source;
@@ -52,7 +52,7 @@ fn with_own_book(alloc: Global, export: Export) -> Result<Export, AllocError>
     ensures limits { IfOk result IsExport }
 {
     settled_book_exists();
-    let book: WaitingBook = settled(alloc, &export)?;
+    let book: WaitingBook = settle_export(alloc, &export)?;
     let members = export.genesis.members();
     let front = front_in(alloc, &book, members)?;
     let balances = balances_in(alloc, &book, members)?;
@@ -71,7 +71,7 @@ fn with_own_book(alloc: Global, export: Export) -> Result<Export, AllocError>
     })
 }
 
-/// The lists of so many accounts.
+/// The lists of the first `accounts` accounts.
 fn lists_from<S: Source>(
     alloc: Global,
     source: &S,

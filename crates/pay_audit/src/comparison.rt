@@ -4,7 +4,7 @@ ghost use Rattle.std.specs.Prelude.{◌≡◌, ◌+◌, ◌^◌, ◌<◌, ◌≤
 ghost use Rattle.pay_frame.specs.declared.limits.TheConstants.{MOST_MEMBERS};
 ghost use Rattle.pay_audit.specs.Auditor.{HasComparedBy};
 ghost use Rattle.pay_audit.specs.Compared.{fork_among, fork_by, fork_with, lengths_of, longer};
-ghost use Rattle.pay_audit.specs.Compared.{within};
+ghost use Rattle.pay_audit.specs.Compared.{place_if_within};
 ghost use Rattle.pay_audit.specs.Export.{ExportFields, list_in};
 ghost use Rattle.pay_audit.specs.Verdict.{fork_from};
 
@@ -84,7 +84,7 @@ impl Comparison {
     }
 }
 
-// Lists for so many accounts: those that are there, and none of the others.
+// Appends empty lists until there is one for each account.
 fn pad(alloc: Global, lists: &mut Vec<OwnerList>, accounts: usize) -> Result<(), AllocError>
     ensures same { (account : ℕ)
         → list_in lists.new.items account ≡ list_in lists.old.items account }
@@ -170,9 +170,9 @@ fn fork_by(
     None
 }
 
-// This place, where a list of so many values has it.
+// The place, if it is below `count`.
 fn within(count: u32, place: Option<u32>) -> Option<u32>
-    ensures { result ≡ within count place }
+    ensures { result ≡ place_if_within count place }
 {
     place.filter(|place| *place < count)
 }

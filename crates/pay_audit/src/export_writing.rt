@@ -5,8 +5,8 @@ ghost use Rattle.std.specs.Prelude.{◌≡◌, ◌<◌, ◌∷◌, [], OnErr, On
 ghost use Rattle.std.specs.Io.KnownBytes.{Appends};
 ghost use Rattle.serde_json.specs.Written.{compact_text};
 ghost use Rattle.hex.specs.Hex.{encode_lower};
-ghost use Rattle.pay_io.specs.Device.{WroteBeginning, counted};
-ghost use Rattle.pay_audit.specs.Exporting.{export_data, exported, list_data};
+ghost use Rattle.pay_io.specs.Device.{WroteBeginning, next_count};
+ghost use Rattle.pay_audit.specs.Exporting.{export_data, export_of, list_data};
 ghost use Rattle.pay_audit.specs.Exporting.{lists_data, numbers_data, value_data};
 ghost use Rattle.pay_audit.specs.Gathering.{Adds, state};
 ghost use Rattle.pay_audit.specs.Columns.{column_of};
@@ -36,12 +36,12 @@ pub fn write_export<I: Instance + Drop, B: Settle + Drop, W: Output>(
     writer: &mut W,
 ) -> Result<(), DeviceFailed>
     ensures text { OnOk result (Appends (W.contents writer.old) (W.contents writer.new)
-        (compact_text (export_data (exported member.now)))) }
+        (compact_text (export_data (export_of member.now)))) }
     ensures none_failed { OnOk result (W.failure_count writer.new ≡ W.failure_count writer.old) }
     ensures beginning { OnErr result (WroteBeginning (W.contents writer.old)
-        (W.contents writer.new) (compact_text (export_data (exported member.now)))) }
+        (W.contents writer.new) (compact_text (export_data (export_of member.now)))) }
     ensures failed { OnErr result
-        (W.failure_count writer.new ≡ counted (W.failure_count writer.old)) }
+        (W.failure_count writer.new ≡ next_count (W.failure_count writer.old)) }
 {
     let mut text = Gathered::new();
     add_export(&mut text, writer, member);
@@ -55,7 +55,7 @@ fn add_export<I: Instance + Drop, B: Settle + Drop, W: Output>(
 )
     ensures { Adds (state W.contents W.failure_count text.old writer.old)
         (state W.contents W.failure_count text.new writer.new)
-        (compact_text (export_data (exported member.now))) }
+        (compact_text (export_data (export_of member.now))) }
 {
     let genesis = member.genesis();
     text.add(writer, b"{\"balances\":");
@@ -83,7 +83,7 @@ fn add_column<I: Instance + Drop, B: Settle + Drop, W: Output>(
 )
     ensures { Adds (state W.contents W.failure_count text.old writer.old)
         (state W.contents W.failure_count text.new writer.new)
-        (compact_text (numbers_data (column_of (exported member.now) column))) }
+        (compact_text (numbers_data (column_of (export_of member.now) column))) }
 {
     book_of_events();
     text.add(writer, b"[");
@@ -101,7 +101,7 @@ fn number_at<I: Instance + Drop, B: Settle + Drop>(
     account: u16,
 ) -> u64
     requires { account < member.now.genesis.members }
-    ensures { result ≡ slice_index (column_of (exported member.now) column) account }
+    ensures { result ≡ slice_index (column_of (export_of member.now) column) account }
 {
     match column {
         Column::Balances => member.balance(account),
@@ -117,7 +117,7 @@ fn add_lists<I: Instance + Drop, B: Settle + Drop, W: Output>(
 )
     ensures { Adds (state W.contents W.failure_count text.old writer.old)
         (state W.contents W.failure_count text.new writer.new)
-        (compact_text (lists_data (exported member.now).lists)) }
+        (compact_text (lists_data (export_of member.now).lists)) }
 {
     text.add(writer, b"[");
     for owner in 0..member.genesis().members() {

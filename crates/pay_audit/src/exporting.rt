@@ -6,7 +6,7 @@ ghost use Rattle.serde_json.specs.Data.{object};
 ghost use Rattle.serde_json.specs.View.{members_view, view};
 ghost use Rattle.serde_json.specs.Written.{compact_text};
 ghost use Rattle.pay_audit.specs.Export.{export_in};
-ghost use Rattle.pay_audit.specs.Exporting.{export_data, exported, genesis_members, list_data};
+ghost use Rattle.pay_audit.specs.Exporting.{export_data, export_of, genesis_members, list_data};
 ghost use Rattle.pay_audit.specs.Exporting.{lists_data, numbers_data, value_data};
 
 use crate::laws::export_reads_back;
@@ -27,7 +27,7 @@ pub fn export<I: Instance + Drop, B: Settle + Drop>(
     alloc: Global,
     member: &Member<I, B>,
 ) -> Result<Value, AllocError>
-    ensures { IfOk result (λ value. view value ≡ export_data (exported member.now)) }
+    ensures { IfOk result (λ value. view value ≡ export_data (export_of member.now)) }
 {
     let mut parts = Map::new(alloc);
     put_genesis(alloc, &mut parts, member.genesis())?;
@@ -41,9 +41,9 @@ pub fn export_text<I: Instance + Drop, B: Settle + Drop>(
     member: &Member<I, B>,
 ) -> Result<String, AllocError>
     ensures text { IfOk result
-        (λ text. string_bytes text ≡ compact_text (export_data (exported member.now))) }
+        (λ text. string_bytes text ≡ compact_text (export_data (export_of member.now))) }
     ensures reads_back { IfOk result (λ text.
-        export_in (string_bytes text) ≡ Ok (exported member.now)) }
+        export_in (string_bytes text) ≡ Ok (export_of member.now)) }
 {
     book_of_events();
     lists_are_delivered();
@@ -82,7 +82,7 @@ fn put_book<I: Instance + Drop, B: Settle + Drop>(
 ) -> Result<(), AllocError>
     requires { members_view parts.old.entries ≡ genesis_members member.now.genesis }
     ensures { OnOk result
-        (object (members_view parts.new.entries) ≡ export_data (exported member.now)) }
+        (object (members_view parts.new.entries) ≡ export_data (export_of member.now)) }
 {
     put(parts, alloc, "balances", balances_of(alloc, member)?)?;
     put(parts, alloc, "front", front_of(alloc, member)?)?;
@@ -105,7 +105,7 @@ fn front_of<I: Instance + Drop, B: Settle + Drop>(
     alloc: Global,
     member: &Member<I, B>,
 ) -> Result<Value, AllocError>
-    ensures { IfOk result (λ value. view value ≡ numbers_data (exported member.now).front) }
+    ensures { IfOk result (λ value. view value ≡ numbers_data (export_of member.now).front) }
 {
     book_of_events();
     let mut front = Vec::new(alloc);
@@ -119,7 +119,7 @@ fn balances_of<I: Instance + Drop, B: Settle + Drop>(
     alloc: Global,
     member: &Member<I, B>,
 ) -> Result<Value, AllocError>
-    ensures { IfOk result (λ value. view value ≡ numbers_data (exported member.now).balances) }
+    ensures { IfOk result (λ value. view value ≡ numbers_data (export_of member.now).balances) }
 {
     book_of_events();
     let mut balances = Vec::new(alloc);
@@ -133,7 +133,7 @@ fn lists_of<I: Instance + Drop, B: Settle + Drop>(
     alloc: Global,
     member: &Member<I, B>,
 ) -> Result<Value, AllocError>
-    ensures { IfOk result (λ value. view value ≡ lists_data (exported member.now).lists) }
+    ensures { IfOk result (λ value. view value ≡ lists_data (export_of member.now).lists) }
 {
     let mut lists = Vec::new(alloc);
     for owner in 0..member.genesis().members() {

@@ -4,8 +4,8 @@ ghost use Rattle.std.specs.Prelude.{◌≡◌, ◌++◌, [], OnErr, OnOk, decima
 ghost use Rattle.std.specs.Bool.{OnFalse, OnTrue};
 ghost use Rattle.std.specs.Io.KnownBytes.{Appends};
 ghost use Rattle.serde_json.specs.Written.{comma_if};
-ghost use Rattle.pay_io.specs.Device.{WroteBeginning, counted};
-ghost use Rattle.pay_audit.specs.Gathering.{Adds, Moves, state};
+ghost use Rattle.pay_io.specs.Device.{WroteBeginning, next_count};
+ghost use Rattle.pay_audit.specs.Gathering.{Adds, PassesOn, state};
 
 use arrayvec::ArrayVec;
 use itoa::Buffer;
@@ -68,11 +68,12 @@ impl Gathered {
         ensures ok { OnOk result (self.failed ≡ false) }
         ensures written { OnOk result
             (Appends (W.contents writer.old) (W.contents writer.new) self.held.items) }
-        ensures none_failed { OnOk result (W.failure_count writer.new ≡ W.failure_count writer.old) }
+        ensures none_failed { OnOk result
+            (W.failure_count writer.new ≡ W.failure_count writer.old) }
         ensures beginning { OnErr result (OnFalse self.failed
             (WroteBeginning (W.contents writer.old) (W.contents writer.new) self.held.items)) }
         ensures failed { OnErr result (OnFalse self.failed
-            (W.failure_count writer.new ≡ counted (W.failure_count writer.old))) }
+            (W.failure_count writer.new ≡ next_count (W.failure_count writer.old))) }
         ensures before { OnErr result (OnTrue self.failed (writer.new ≡ writer.old)) }
     {
         if self.failed {
@@ -84,13 +85,14 @@ impl Gathered {
     /// Holds bytes. What is held is written where they have no room after it, and so are they where
     /// they have none.
     fn hold<W: Output>(&mut self, writer: &mut W, bytes: &[u8]) -> Result<(), DeviceFailed>
-        ensures moves { OnOk result (Moves (W.contents writer.old) (W.contents writer.new)
+        ensures moves { OnOk result (PassesOn (W.contents writer.old) (W.contents writer.new)
             self.old.held.items self.new.held.items bytes.now) }
-        ensures none_failed { OnOk result (W.failure_count writer.new ≡ W.failure_count writer.old) }
+        ensures none_failed { OnOk result
+            (W.failure_count writer.new ≡ W.failure_count writer.old) }
         ensures beginning { OnErr result (WroteBeginning (W.contents writer.old)
             (W.contents writer.new) (self.old.held.items ++ bytes.now)) }
         ensures failed { OnErr result
-            (W.failure_count writer.new ≡ counted (W.failure_count writer.old)) }
+            (W.failure_count writer.new ≡ next_count (W.failure_count writer.old)) }
         ensures flag { self.new.failed ≡ self.old.failed }
     {
         if self.held.try_extend_from_slice(bytes).is_ok() {

@@ -4,7 +4,7 @@ ghost use Rattle.std.specs.Prelude.{◌≡◌, IfOk};
 
 use crate::auditing::{wrong_balance_of, wrong_front_of};
 use crate::exported::Export;
-use crate::settling::settled;
+use crate::settling::settle_export;
 use pay_pending::WaitingBook;
 use std::alloc::{AllocError, Global};
 use std::marker::Model;
@@ -36,7 +36,7 @@ impl JudgedExport {
     pub fn of(alloc: Global, export: Export) -> Result<JudgedExport, AllocError>
         ensures { IfOk result (λ judged. judged ≡ export) }
     {
-        let book: WaitingBook = settled(alloc, &export)?;
+        let book: WaitingBook = settle_export(alloc, &export)?;
         let front = wrong_front_of(&export, &book);
         let balance = wrong_balance_of(&export, &book);
         Ok(JudgedExport {

@@ -49,6 +49,6 @@ pub use pairs::audit_by_pairs;
 pub use reading::read_export;
 pub use replay_fault::ReplayFault;
 pub use replaying::replay;
-pub use settling::settled;
+pub use settling::settle_export;
 pub use shown::{genesis_text, next_genesis, shown_text};
 pub use verdict::Verdict;

@@ -106,10 +106,10 @@ fn genesis_said(alloc: Global, value: &Value) -> Result<Option<GenesisParts>, Al
     }))
 }
 
-#[tactic(auto, unfolding(crate::specs::Export::lists_in))]
+#[tactic(auto, unfolding(crate::specs::Export::lists_in_data))]
 fn lists_in(alloc: Global, value: &Value) -> Result<Option<Vec<OwnerList>>, AllocError>
     ensures value { IfOk result (λ lists.
-        option_map (λ l. l.items) lists ≡ export.lists_in (view value.now)) }
+        option_map (λ l. l.items) lists ≡ export.lists_in_data (view value.now)) }
     ensures short { IfOk result (λ lists. IfSome lists (λ l. export.AreShort l.items)) }
 {
     let Some(items) = value.get("lists").and_then(Value::as_array) else {
@@ -184,9 +184,9 @@ fn value_said(alloc: Global, value: &Value) -> Result<Option<Bytes>, AllocError>
     value_of(alloc, text)
 }
 
-#[tactic(auto, unfolding(crate::specs::Export::value_of))]
+#[tactic(auto, unfolding(crate::specs::Export::value_of_text))]
 fn value_of(alloc: Global, text: &str) -> Result<Option<Bytes>, AllocError>
-    ensures { IfOk result (λ bytes. bytes ≡ export.value_of text.now) }
+    ensures { IfOk result (λ bytes. bytes ≡ export.value_of_text text.now) }
 {
     match decode(alloc, text.as_bytes()) {
         Ok(bytes) => {

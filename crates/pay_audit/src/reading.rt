@@ -1,5 +1,5 @@
 ghost use Rattle.std.specs.Prelude.{◌≡◌, ◌⊎◌, true};
-ghost use Rattle.pay_audit.specs.Export.{export_in, is_sized, judged};
+ghost use Rattle.pay_audit.specs.Export.{export_in, is_sized, export_judgement};
 
 use crate::export_fault::ExportFault;
 use crate::exported::Export;
@@ -38,7 +38,7 @@ fn is_sized(parts: &Parts) -> bool
 // The export of parts of the right sizes, if their genesis is one.
 fn judge(alloc: Global, parts: Parts) -> Result<Export, ExportFault>
     requires { is_sized parts ≡ true }
-    ensures { (result ≡ judged parts) ⊎ (result ≡ Err ExportFault.Memory) }
+    ensures { (result ≡ export_judgement parts) ⊎ (result ≡ Err ExportFault.Memory) }
 {
     let begun = parts.genesis;
     match Genesis::new(alloc, begun.members, begun.faults, begun.opening.as_slice()) {

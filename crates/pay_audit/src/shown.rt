@@ -50,8 +50,8 @@ fn genesis_value(alloc: Global, genesis: &Genesis) -> Result<Value, AllocError>
     Ok(Value::Object(parts))
 }
 
-/// The genesis in which each account opens with its balance in an export, if its balances have a total that one can
-/// have.
+/// The genesis in which each account opens with its balance in an export, if its balances have a
+/// total that one can have.
 pub fn next_genesis(alloc: Global, export: &Export) -> Result<Genesis, GenesisFault>
     ensures { IfOk result (λ genesis. genesis ≡ next_genesis export.now) }
 {

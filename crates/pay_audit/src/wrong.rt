@@ -6,7 +6,7 @@ ghost use Rattle.pay_audit.specs.Verdict.{wrong_balance_at, wrong_front_at};
 use crate::auditing::{other_genesis_at, wrong_balance_of, wrong_front_of};
 use crate::exported::Export;
 use crate::judged_export::JudgedExport;
-use crate::settling::settled;
+use crate::settling::settle_export;
 use crate::verdict::Verdict;
 use pay_link::Genesis;
 use pay_pending::WaitingBook;
@@ -105,7 +105,7 @@ impl Wrong {
         ensures balance { IfOk result (λ wrong.
             wrong.balance ≡ option_or self.balance (wrong_balance_at place export.now)) }
     {
-        let book: WaitingBook = settled(alloc, export)?;
+        let book: WaitingBook = settle_export(alloc, export)?;
         let front = wrong_front_of(export, &book).map(|account| Verdict::WrongFront {
             export: place,
             account,

@@ -7,14 +7,14 @@ use Rattle.pay_echo.specs.Broadcast.{size}
 use Rattle.pay_link.specs.Genesis.{GenesisFields}
 use Rattle.pay_book.specs.Laws.{SettledEntriesGrow}
 use Rattle.pay_member.specs.Group.{group_in}
-use Rattle.pay_world.specs.Deeds.{Deed, history_by}
+use Rattle.pay_world.specs.Actions.{Action, history_by}
 use Rattle.pay_world.specs.Headline.{lists_by}
 use Rattle.pay_world.specs.HeadlineLaws.{ListStays, ListsAreEqual}
 use Rattle.pay_world.specs.Setting.{HasFewFaulty, setting_by}
 use Rattle.pay_audit.specs.Export.{ExportFields, lists_of}
-use Rattle.pay_audit.specs.Exporting.{exported}
+use Rattle.pay_audit.specs.Exporting.{export_of}
 use Rattle.pay_group_book.specs.Laws.{BookIsVouchedFor}
-use Rattle.pay_audit_laws.specs.Books.{BookIsOfCorrectMembers, BookIsSettledByAll, HasBook, IsBeginning}
+use Rattle.pay_audit_laws.specs.Books.{BookIsOfCorrectMembers, BookIsSettledByAll, HasBook, IsListOfCorrect}
 use Rattle.pay_audit_laws.proofs.Exports.{exported_by, shown}
 
 few_by_count : (g : GenesisFields) (faulty : ℕ → Bool) → HasFewFaulty (setting_by g faulty) → count_by faulty (range_with_len 0 g.members) ≤ g.faults
@@ -28,7 +28,7 @@ begins_longer one mid whole p q = record {
 }
 
 pub of_correct_members : BookIsVouchedFor → BookIsOfCorrectMembers
-of_correct_members law g faulty deeds exports b has account known =
+of_correct_members law g faulty actions exports b has account known =
     let few = subst (λ (h : GenesisFields). count_by faulty (range_with_len 0 h.members) ≤ h.faults) (sym has.of_group) (few_by_count g faulty has.few) in
     let within = subst (λ (h : GenesisFields). account < h.members) (sym has.of_group) known in
     let v = law exports b faulty has.are_exports has.book few account within in
@@ -36,18 +36,18 @@ of_correct_members law g faulty deeds exports b has account known =
     record { member = m.0; is = m.1; begins = subst (λ (e : ExportFields). IsPrefix (lists_of b account) (lists_of e account)) m.2 v.begins }
 
 pub settled_by_all : BookIsVouchedFor → SettledEntriesGrow → ListStays → ListsAreEqual → BookIsSettledByAll
-settled_by_all law grow stays equal g faulty deeds exports b j has genuine taken correct account known =
-    grow g.opening (lists_of b) (lists_by (setting_by g faulty) deeds j) grown account (omega (arith, known, has.genesis.opening)) where
-      grown : (a : ℕ) → a < length g.opening → IsPrefix (lists_of b a) (lists_by (setting_by g faulty) deeds j a)
+settled_by_all law grow stays equal g faulty actions exports b j has genuine taken correct account known =
+    grow g.opening (lists_of b) (lists_by (setting_by g faulty) actions j) grown account (omega (arith, known, has.genesis.opening)) where
+      grown : (a : ℕ) → a < length g.opening → IsPrefix (lists_of b a) (lists_by (setting_by g faulty) actions j a)
       grown a below =
           let w = setting_by g faulty in
           let here : a < g.members = omega (arith, below, has.genesis.opening) in
-          let r = of_correct_members law g faulty deeds exports b has a here in
+          let r = of_correct_members law g faulty actions exports b has a here in
           let own = r.member.keys.own in
           let lists = list_of (group_in g own) (history_by w r.is.until own) in
-          let same : lists_of (exported r.member) a ≡ lists a =
+          let same : lists_of (export_of r.member) a ≡ lists a =
           ap (λ (e : ExportFields). lists_of e a) (exported_by r.member g (history_by w r.is.until own) r.is.genesis r.is.took) ∙ shown lists g.members a here in
-          let later = stays w r.is.until deeds own a r.is.moment in
-          let all = ap (λ f. f a) (equal w deeds own j has.few genuine taken r.is.correct correct) in
+          let later = stays w r.is.until actions own a r.is.moment in
+          let all = ap (λ f. f a) (equal w actions own j has.few genuine taken r.is.correct correct) in
           subst (λ l. IsPrefix (lists_of b a) l) all
-          (begins_longer (lists_of b a) (lists a) (lists_by w deeds own a) (subst (λ l. IsPrefix (lists_of b a) l) same r.begins) later)
+          (begins_longer (lists_of b a) (lists a) (lists_by w actions own a) (subst (λ l. IsPrefix (lists_of b a) l) same r.begins) later)

@@ -1,4 +1,4 @@
--- What correct members export, by the deeds that they took.
+-- What correct members export, by the actions that they took.
 use Rattle.std.proofs.Common.{◌≡◌, ◌⊎◌, inl, inr, ℕ, zero, suc, ◌+◌, ◌<◌, ◌≤◌, Bool, true, false, ltb, unwrap_or, List, [], ◌∷◌, ◌++◌, map, length, slice_get, slice_index, Option, Some, None, option_map, refl, ap, sym, subst, ◌∙◌, arith}
 use Rattle.std.specs.List.{range_with_len}
 use Rattle.std.proofs.lemmas.List.{length-map}
@@ -20,12 +20,12 @@ use Rattle.pay_member.specs.Events.{events}
 use Rattle.pay_member.specs.Group.{group_in}
 use Rattle.pay_member.specs.Member.{MemberFields}
 use Rattle.pay_world.specs.Setting.{HasFewFaulty, IsCorrect, setting_by}
-use Rattle.pay_world.specs.Deeds.{Deed, history_by}
+use Rattle.pay_world.specs.Actions.{Action, history_by}
 use Rattle.pay_world.specs.Genuine.{AreGenuine}
 use Rattle.pay_world.specs.Headline.{lists_by}
 use Rattle.pay_world.specs.HeadlineLaws.{NoListForks}
 use Rattle.pay_audit.specs.Export.{AreShort, ExportFields, IsExport, list_in, lists_of}
-use Rattle.pay_audit.specs.Exporting.{exported}
+use Rattle.pay_audit.specs.Exporting.{export_of}
 use Rattle.pay_audit.specs.Laws.{AgreeWith, Agreeing, HasRightBalances, HasRightFront, logs_of}
 use Rattle.pay_audit.specs.Said.{CleanIsJudged, Each, EachTwo, IsClean}
 use Rattle.pay_audit.specs.Verdict.{verdict_of}
@@ -85,7 +85,7 @@ export_with g own lists = record {
   balances = (settled_book g.opening lists).balances;
 }
 
-exported_is : (m : MemberFields) → exported m ≡ export_with m.genesis m.keys.own (list_of (group_in m.genesis m.keys.own) (events m.history))
+exported_is : (m : MemberFields) → export_of m ≡ export_with m.genesis m.keys.own (list_of (group_in m.genesis m.keys.own) (events m.history))
 unfolding book_after
 exported_is m = refl
 
@@ -93,7 +93,7 @@ export_by : GenesisFields → ℕ → List Event → ExportFields
 export_by g own history = export_with g own (list_of (group_in g own) history)
 
 pub exported_by : (m : MemberFields) (g : GenesisFields) (history : List Event) → m.genesis ≡ g → events m.history ≡ history
-    → exported m ≡ export_with g m.keys.own (list_of (group_in g m.keys.own) history)
+    → export_of m ≡ export_with g m.keys.own (list_of (group_in g m.keys.own) history)
 unfolding export_by
 exported_by m g history same took =
     exported_is m ∙ ap (λ h. export_by h m.keys.own (events m.history)) same ∙ ap (λ h. export_by g m.keys.own h) took
@@ -144,26 +144,26 @@ module _ (computed : LargestIsComputed) (exists : SettledBookExists) (equal : Eq
 -- ---- what all of them export
 
 -- an export is that of a correct member at a moment
-record IsOf (g : GenesisFields) (faulty : ℕ → Bool) (deeds : List Deed) (e : ExportFields) : Type 0 where
+record IsOf (g : GenesisFields) (faulty : ℕ → Bool) (actions : List Action) (e : ExportFields) : Type 0 where
   own : ℕ
-  until : List Deed
+  until : List Action
   correct : IsCorrect (setting_by g faulty) own
-  moment : IsPrefix until deeds
+  moment : IsPrefix until actions
   is : e ≡ export_with g own (lists_by (setting_by g faulty) until own)
 
-exported_at : (members : List MemberFields) (x : ℕ) (e : ExportFields) → slice_get (map exported members) x ≡ Some e
-    → (m : MemberFields) × (slice_get members x ≡ Some m) × (exported m ≡ e)
-exported_at members x e got = go (slice_get members x) refl (sym (slice_get-map exported members x) ∙ got) where
-  go : (o : Option MemberFields) → slice_get members x ≡ o → option_map exported o ≡ Some e
-      → (m : MemberFields) × (slice_get members x ≡ Some m) × (exported m ≡ e)
+exported_at : (members : List MemberFields) (x : ℕ) (e : ExportFields) → slice_get (map export_of members) x ≡ Some e
+    → (m : MemberFields) × (slice_get members x ≡ Some m) × (export_of m ≡ e)
+exported_at members x e got = go (slice_get members x) refl (sym (slice_get-map export_of members x) ∙ got) where
+  go : (o : Option MemberFields) → slice_get members x ≡ o → option_map export_of o ≡ Some e
+      → (m : MemberFields) × (slice_get members x ≡ Some m) × (export_of m ≡ e)
   go None here h = absurd cc
-  go (Some m) here h = (m, here, same_Some (exported m) e h)
+  go (Some m) here h = (m, here, same_Some (export_of m) e h)
 
 each_is_of :
-    (g : GenesisFields) (faulty : ℕ → Bool) (deeds : List Deed) (members : List MemberFields)
-    → ((k : ℕ) (m : MemberFields) → slice_get members k ≡ Some m → IsCorrectMember g faulty deeds m)
-    → Each (IsOf g faulty deeds) (map exported members)
-each_is_of g faulty deeds members are x e got =
+    (g : GenesisFields) (faulty : ℕ → Bool) (actions : List Action) (members : List MemberFields)
+    → ((k : ℕ) (m : MemberFields) → slice_get members k ≡ Some m → IsCorrectMember g faulty actions m)
+    → Each (IsOf g faulty actions) (map export_of members)
+each_is_of g faulty actions members are x e got =
     let found = exported_at members x e got in
     let m = found.0 in
     let c = are x m found.1 in
@@ -178,22 +178,22 @@ each_is_of g faulty deeds members are x e got =
 -- the law, premise by premise
 pub clean_exports :
     CleanIsJudged → EqualListsEqualBooks → LargestIsComputed → SettledBookExists → ListIsShort → NoListForks
-    → (g : GenesisFields) (faulty : ℕ → Bool) (deeds : List Deed) (members : List MemberFields)
-    → IsGenesis g → HasFewFaulty (setting_by g faulty) → AreGenuine (setting_by g faulty) deeds
-    → ((k : ℕ) (m : MemberFields) → slice_get members k ≡ Some m → IsCorrectMember g faulty deeds m)
-    → verdict_of (map exported members) ≡ Clean
-clean_exports judged equal computed exists short no_fork g faulty deeds members genesis few genuine are =
-    (judged (map exported members) sound).1 clean where
-      of : Each (IsOf g faulty deeds) (map exported members)
-      of = each_is_of g faulty deeds members are
+    → (g : GenesisFields) (faulty : ℕ → Bool) (actions : List Action) (members : List MemberFields)
+    → IsGenesis g → HasFewFaulty (setting_by g faulty) → AreGenuine (setting_by g faulty) actions
+    → ((k : ℕ) (m : MemberFields) → slice_get members k ≡ Some m → IsCorrectMember g faulty actions m)
+    → verdict_of (map export_of members) ≡ Clean
+clean_exports judged equal computed exists short no_fork g faulty actions members genesis few genuine are =
+    (judged (map export_of members) sound).1 clean where
+      of : Each (IsOf g faulty actions) (map export_of members)
+      of = each_is_of g faulty actions members are
 
-      sound : Each IsExport (map exported members)
+      sound : Each IsExport (map export_of members)
       sound x e got =
           let m = of x e got in
           subst IsExport (sym m.is) (sound_with computed exists equal g m.own (lists_by (setting_by g faulty) m.until m.own) genesis m.correct.member
           (short (group_in g m.own) (history_by (setting_by g faulty) m.until m.own)))
 
-      agree : EachTwo AgreeWith (map exported members)
+      agree : EachTwo AgreeWith (map export_of members)
       agree x y one other got_one got_other =
           let m = of x one got_one in
           let n = of y other got_other in
@@ -203,9 +203,9 @@ clean_exports judged equal computed exists short no_fork g faulty deeds members 
           (subst (λ e. AgreeWith (export_with g m.own mine) e) (sym n.is)
           (agree_of_lists g m.own n.own mine theirs (λ a.
           either_agree (mine a) (theirs a)
-          (no_fork (setting_by g faulty) deeds m.until n.until m.own n.own a few genuine m.moment n.moment m.correct n.correct))))
+          (no_fork (setting_by g faulty) actions m.until n.until m.own n.own a few genuine m.moment n.moment m.correct n.correct))))
 
-      clean : IsClean (map exported members)
+      clean : IsClean (map export_of members)
       clean = record {
         geneses = λ x y one other got_one got_other.
             ap (λ e. e.genesis) (of x one got_one).is ∙ sym (ap (λ e. e.genesis) (of y other got_other).is);

@@ -1,4 +1,4 @@
--- Members of worlds are correct members by the deeds that the events of these worlds are.
+-- Members of worlds are correct members by the actions that the events of these worlds are.
 use Rattle.std.proofs.Common.{◌≡◌, ℕ, true, List, [], Option, is_some, sym, ap, ap₂, subst, ◌∙◌, arith}
 use Rattle.std.specs.Option.{option_map_or}
 use Rattle.std.proofs.lemmas.List.Elements.{filter_map-append}
@@ -10,21 +10,21 @@ use Rattle.pay_member.specs.Events.{events}
 use Rattle.pay_member.specs.Member.{MemberFields}
 use Rattle.pay_world.specs.declared.event.WorldEvent.{WorldEvent}
 use Rattle.pay_world.specs.Setting.{HasFewFaulty, IsCorrect, Setting, setting_by, is_correct}
-use Rattle.pay_world.specs.Deeds.{history_by}
-use Rattle.pay_world.specs.DeedLaws.{CorrectIsTold}
+use Rattle.pay_world.specs.Actions.{history_by}
+use Rattle.pay_world.specs.ActionLaws.{CorrectIsTold}
 use Rattle.pay_world.specs.Genuine.{AreGenuine}
-use Rattle.pay_world.specs.Answer.{deed_of}
+use Rattle.pay_world.specs.Answer.{action_of}
 use Rattle.pay_world.specs.Liars.{AreLiars, AreLiarsOf, LiarFields, is_listed, setting_of}
 use Rattle.pay_world.specs.World.{IsMemberAt, WorldFields, setting_in}
-use Rattle.pay_world.specs.Run.{correct_keys, deeds_by}
+use Rattle.pay_world.specs.Run.{correct_keys, actions_by}
 use Rattle.pay_audit_laws.specs.Moments.{ExportsAreClean, IsCorrectMember}
 use Rattle.pay_audit_laws.specs.Worlds.{IsOfWorld, WorldExportsAreClean}
 
-grown_deeds : (keys : List KeyFields) (l : LiarFields) (one all : List WorldEvent) → IsPrefix one all
-    → IsPrefix (deeds_by keys l one) (deeds_by keys l all)
-grown_deeds keys l one all p = record {
-  rest = deeds_by keys l p.rest;
-  is = ap (deeds_by keys l) p.is ∙ filter_map-append (deed_of (correct_keys keys l)) one p.rest;
+grown_actions : (keys : List KeyFields) (l : LiarFields) (one all : List WorldEvent) → IsPrefix one all
+    → IsPrefix (actions_by keys l one) (actions_by keys l all)
+grown_actions keys l one all p = record {
+  rest = actions_by keys l p.rest;
+  is = ap (actions_by keys l) p.is ∙ filter_map-append (action_of (correct_keys keys l)) one p.rest;
 }
 
 few_lie : SizeOfListed → (g : GenesisFields) (l : LiarFields) → IsGenesis g → AreLiars l → AreLiarsOf g l → HasFewFaulty (setting_of l)
@@ -46,7 +46,7 @@ group_of g l w genesis liars of = subst (λ x. AreLiarsOf x l) genesis (subst (A
 
 correct_member :
     CorrectIsTold → (g : GenesisFields) (keys : List KeyFields) (l : LiarFields) (all : List WorldEvent) (m : MemberFields)
-    → IsOfWorld g keys l all m → IsCorrectMember g (is_listed l.liars) (deeds_by keys l all) m
+    → IsOfWorld g keys l all m → IsCorrectMember g (is_listed l.liars) (actions_by keys l all) m
 correct_member told g keys l all m o =
     let w = o.world in
     let same = same_setting g l (group_of g l w o.behind.genesis o.behind.liars o.is_world.group) in
@@ -57,12 +57,12 @@ correct_member told g keys l all m o =
     record {
       genesis = at.genesis ∙ o.behind.genesis;
       correct = subst (IsCorrect (setting_by g (is_listed l.liars))) (sym at.own) correct;
-      until = deeds_by keys l o.until;
-      moment = grown_deeds keys l o.until all o.moment;
+      until = actions_by keys l o.until;
+      moment = grown_actions keys l o.until all o.moment;
       took = sym (ap (λ (x : Option MemberFields). option_map_or (λ (y : MemberFields). events y.history) x []) o.member)
           ∙ o.behind.histories o.number
-          ∙ ap (λ (s : Setting). history_by s (deeds_by keys l o.until) o.number) same
-          ∙ ap (history_by (setting_by g (is_listed l.liars)) (deeds_by keys l o.until)) (sym at.own);
+          ∙ ap (λ (s : Setting). history_by s (actions_by keys l o.until) o.number) same
+          ∙ ap (history_by (setting_by g (is_listed l.liars)) (actions_by keys l o.until)) (sym at.own);
     }
 
 pub clean_worlds : CorrectIsTold → SizeOfListed → ExportsAreClean → WorldExportsAreClean
@@ -70,7 +70,7 @@ clean_worlds told listed clean g keys l all last members is_world behind are =
     let genesis = subst IsGenesis behind.genesis is_world.genesis in
     let of = group_of g l last behind.genesis behind.liars is_world.group in
     let same = same_setting g l of in
-    clean g (is_listed l.liars) (deeds_by keys l all) members genesis
+    clean g (is_listed l.liars) (actions_by keys l all) members genesis
     (subst HasFewFaulty same (few_lie listed g l genesis (subst AreLiars behind.liars is_world.liars) of))
-    (subst (λ (s : Setting). AreGenuine s (deeds_by keys l all)) same behind.genuine)
+    (subst (λ (s : Setting). AreGenuine s (actions_by keys l all)) same behind.genuine)
     (λ k m at. correct_member told g keys l all m (are k m at))

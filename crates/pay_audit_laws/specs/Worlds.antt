@@ -9,12 +9,13 @@ use Rattle.pay_world.specs.declared.event.WorldEvent.{WorldEvent}
 use Rattle.pay_world.specs.Liars.{LiarFields}
 use Rattle.pay_world.specs.World.{IsWorld, WorldFields, member_in}
 use Rattle.pay_world.specs.Run.{IsWorldAfter}
-use Rattle.pay_audit.specs.Exporting.{exported}
+use Rattle.pay_audit.specs.Exporting.{export_of}
 use Rattle.pay_audit.specs.Verdict.{verdict_of}
 use Rattle.pay_audit.specs.declared.verdict.Verdict.TheVariants.{Clean}
 
 -- a member of the world after the first of these events
-pub record IsOfWorld (g : GenesisFields) (keys : List KeyFields) (l : LiarFields) (events : List WorldEvent)
+pub record IsOfWorld (g : GenesisFields) (keys : List KeyFields) (l : LiarFields)
+    (events : List WorldEvent)
     (m : MemberFields) : Type 0 where
   pub until : List WorldEvent
   pub moment : IsPrefix until events
@@ -29,7 +30,8 @@ pub record IsOfWorld (g : GenesisFields) (keys : List KeyFields) (l : LiarFields
 -- is wrong.
 abbrev pub WorldExportsAreClean : Type 0
 WorldExportsAreClean =
-    (g : GenesisFields) (keys : List KeyFields) (l : LiarFields) (events : List WorldEvent) (last : WorldFields)
+    (g : GenesisFields) (keys : List KeyFields) (l : LiarFields) (events : List WorldEvent)
+    (last : WorldFields)
     (members : List MemberFields) → IsWorld last → IsWorldAfter g keys l events last
     → ((k : ℕ) (m : MemberFields) → slice_get members k ≡ Some m → IsOfWorld g keys l events m)
-    → verdict_of (map exported members) ≡ Clean
+    → verdict_of (map export_of members) ≡ Clean

@@ -12,9 +12,9 @@ use pay_book::laws::{
 use pay_channel::laws::lists_are_delivered;
 use pay_echo::laws::sizes_of_sets;
 use pay_group_book::laws::book_is_vouched_for;
-use pay_world::laws::{forged_is_told, lists_by_deeds};
+use pay_world::laws::{forged_is_told, lists_by_actions};
 
-/// Take any deeds of which none is a forged frame, in a group with few faulty members. Then the
+/// Take any actions of which none is a forged frame, in a group with few faulty members. Then the
 /// exports of correct members, each at any moment, have the verdict Clean.
 pub fn exports_are_clean()
     ensures { ExportsAreClean }
@@ -24,7 +24,7 @@ pub fn exports_are_clean()
     largest_is_computed();
     settled_book_exists();
     lists_are_delivered();
-    lists_by_deeds();
+    lists_by_actions();
 }
 
 /// Take any events that `run_world` answers with a world. Then the exports of members of the world
@@ -37,15 +37,15 @@ pub fn exports_of_worlds_are_clean()
     exports_are_clean();
 }
 
-/// Take any deeds in a group with few faulty members, and exports that have a book, of which those
-/// of correct members are their own, each at any moment. Then each list of the book is how the list
-/// of a correct member begins. What the book has settled, every correct member has settled once it
-/// has taken all, if none of the deeds is a forged frame.
+/// Take any actions in a group with few faulty members, and exports that have a book, of which
+/// those of correct members are their own, each at any moment. Then each list of the book is how
+/// the list of a correct member begins. What the book has settled, every correct member has settled
+/// once it has taken all, if none of the actions is a forged frame.
 pub fn book_is_of_correct_members()
     ensures lists { BookIsOfCorrectMembers }
     ensures settled { BookIsSettledByAll }
 {
     book_is_vouched_for();
     settled_entries_grow();
-    lists_by_deeds();
+    lists_by_actions();
 }

@@ -6,7 +6,7 @@ use Rattle.std.proofs.lemmas.Bool.{cases_eq, cond-true, cond-false, eq-eqb, ne_e
 use Rattle.std.proofs.lemmas.List.{length-set}
 use Rattle.pay_book.specs.declared.payment.Entry.{Entry}
 use Rattle.pay_book.specs.declared.payment.Entry.TheVariants.{Pay, Void}
-use Rattle.pay_book.specs.Balance.{amount_of, amount_to, paid_in, paid_out, balance_at, Moves}
+use Rattle.pay_book.specs.Balance.{amount_of, amount_to, paid_in, paid_out, balance_at, MovesAmount}
 use Rattle.pay_book.specs.Front.{Covers, MayStep, IsOneFurther, Step}
 use Rattle.pay_book.specs.Payment.{count_in}
 use Rattle.pay_book.specs.Places.{Place, place_in}
@@ -46,7 +46,7 @@ module _ (opening : List ℕ) (logs : ℕ → List Entry) (front next : ℕ → 
       ]
 
 -- the same at a book's lists
-book_after : (lists : ℕ → List (List ℕ)) (old : Standing) (account : ℕ) (entry : Entry) (balances : List ℕ) → IsBook lists old → account < length old.opening → slice_get (entries_for old lists account) (slice_index old.front account) ≡ Some entry → amount_of entry ≤ slice_index old.balances account → length balances ≡ length old.opening → Moves entry account old.balances balances → IsBook lists (record { opening = old.opening; front = slice_set old.front account (slice_index old.front account + 1); balances = balances; places = slice_set old.places account (place_in count_in (lists account) (slice_index old.front account + 1)) })
+book_after : (lists : ℕ → List (List ℕ)) (old : Standing) (account : ℕ) (entry : Entry) (balances : List ℕ) → IsBook lists old → account < length old.opening → slice_get (entries_for old lists account) (slice_index old.front account) ≡ Some entry → amount_of entry ≤ slice_index old.balances account → length balances ≡ length old.opening → MovesAmount entry account old.balances balances → IsBook lists (record { opening = old.opening; front = slice_set old.front account (slice_index old.front account + 1); balances = balances; places = slice_set old.places account (place_in count_in (lists account) (slice_index old.front account + 1)) })
 book_after lists old account entry balances is h there covered one_for_each moves =
     let logs = entries_for old lists in
     let n = length old.opening in
@@ -72,7 +72,7 @@ book_after lists old account entry balances is h there covered one_for_each move
       placed = ArePlaces-stepped n lists front next old.places account h further is.placed;
     }
 
-pub IsBook-stepped : (lists : ℕ → List (List ℕ)) (old new : Standing) (account : ℕ) (entry : Entry) (place : Place) → IsBook lists old → account < length old.opening → slice_get (entries_for old lists account) (slice_index old.front account) ≡ Some entry → amount_of entry ≤ slice_index old.balances account → place ≡ place_in count_in (lists account) (slice_index old.front account + 1) → new.opening ≡ old.opening → new.front ≡ slice_set old.front account (slice_index old.front account + 1) → length new.balances ≡ length old.opening → Moves entry account old.balances new.balances → new.places ≡ slice_set old.places account place → IsBook lists new
+pub IsBook-stepped : (lists : ℕ → List (List ℕ)) (old new : Standing) (account : ℕ) (entry : Entry) (place : Place) → IsBook lists old → account < length old.opening → slice_get (entries_for old lists account) (slice_index old.front account) ≡ Some entry → amount_of entry ≤ slice_index old.balances account → place ≡ place_in count_in (lists account) (slice_index old.front account + 1) → new.opening ≡ old.opening → new.front ≡ slice_set old.front account (slice_index old.front account + 1) → length new.balances ≡ length old.opening → MovesAmount entry account old.balances new.balances → new.places ≡ slice_set old.places account place → IsBook lists new
 IsBook-stepped lists old new account entry place is h there covered reached same_opening front one_for_each moves places =
     let P : List ℕ → Type 0 = λ o. IsBook lists (record { opening = o; front = new.front; balances = new.balances; places = new.places }) in
     let Q : List ℕ → Type 0 = λ f. IsBook lists (record { opening = old.opening; front = f; balances = new.balances; places = new.places }) in

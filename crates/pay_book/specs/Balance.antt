@@ -1,6 +1,7 @@
 -- Balances at a front. A front gives each account a place in its list of entries: those before it
 -- are settled.
-use Rattle.std.specs.Prelude.{◌≡◌, ℕ, zero, suc, ◌+◌, ◌<◌, ℤ, pos, ◌-ℤ◌, List, length, take, slice_index, sum_by, All, ◌==◌, if◌then◌else◌}
+use Rattle.std.specs.Prelude.{◌≡◌, ℕ, zero, suc, ◌+◌, ◌<◌, ℤ, pos, ◌-ℤ◌, List, length, take}
+use Rattle.std.specs.Prelude.{slice_index, sum_by, All, ◌==◌, if◌then◌else◌}
 use Rattle.pay_book.specs.declared.payment.Entry.{Entry}
 use Rattle.pay_book.specs.declared.payment.Entry.TheVariants.{Pay, Void}
 
@@ -52,8 +53,8 @@ AllPayWithin accounts logs = (owner : ℕ) → owner < accounts → All (PayWith
 
 -- Each account has what it had, less what this entry takes from its owner's account, and with what
 -- it brings.
-abbrev pub Moves : Entry → ℕ → List ℕ → List ℕ → Type 0
-Moves entry owner old new =
+abbrev pub MovesAmount : Entry → ℕ → List ℕ → List ℕ → Type 0
+MovesAmount entry owner old new =
     (a : ℕ)
     → slice_index new a + (if a == owner then amount_of entry else 0)
     ≡ slice_index old a + amount_to a entry

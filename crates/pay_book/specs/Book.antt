@@ -1,5 +1,6 @@
 -- What a book shows, and when that is right.
-use Rattle.std.specs.Prelude.{◌≡◌, ◌≢◌, ℕ, ◌+◌, ◌<◌, ◌^◌, List, length, replicate, slice_index, slice_get, slice_set, sum, Some}
+use Rattle.std.specs.Prelude.{◌≡◌, ◌≢◌, ℕ, ◌+◌, ◌<◌, ◌^◌, List, length, replicate, slice_index}
+use Rattle.std.specs.Prelude.{slice_get, slice_set, sum, Some}
 use Rattle.pay_book.specs.declared.payment.Entry.{Entry}
 use Rattle.pay_book.specs.Payment.{entries_of}
 use Rattle.pay_book.specs.Places.{Place, ArePlaces}
@@ -20,7 +21,7 @@ standing_of_parts opening front balances places =
 
 -- Each account has its places, and no count of accounts or sum of balances is more than the book's
 -- numbers hold.
-pub record IsSound (book : Standing) : Type 0 where
+pub record IsSoundBook (book : Standing) : Type 0 where
   pub front_for_each : length book.front ≡ length book.opening
   pub balance_for_each : length book.balances ≡ length book.opening
   pub place_for_each : length book.places ≡ length book.opening

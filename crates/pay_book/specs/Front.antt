@@ -1,5 +1,7 @@
 -- Which fronts settling reaches: one account's next entry at a time, when its balance covers it.
-use Rattle.std.specs.Prelude.{◌≡◌, ◌≢◌, ℕ, zero, suc, ◌+◌, ◌<◌, ◌≤◌, ℤ, pos, ◌≤ℤ◌, Bool, true, false, nat_le, List, length, replicate, slice_index, slice_get, slice_set, Option, Some, None}
+use Rattle.std.specs.Prelude.{◌≡◌, ◌≢◌, ℕ, zero, suc, ◌+◌, ◌<◌, ◌≤◌, ℤ, pos, ◌≤ℤ◌, Bool, true}
+use Rattle.std.specs.Prelude.{false, nat_le, List, length, replicate, slice_index, slice_get}
+use Rattle.std.specs.Prelude.{slice_set, Option, Some, None}
 use Rattle.std.specs.List.{find, range_with_len}
 use Rattle.pay_channel.specs.Prefix.{IsPrefix}
 use Rattle.pay_book.specs.declared.payment.Entry.{Entry}
@@ -28,7 +30,7 @@ pub data Reach (opening : List ℕ) (logs : ℕ → List Entry) : (ℕ → ℕ) 
   Step : {front next : ℕ → ℕ} → (a : ℕ) → Reach opening logs front → MayStep opening logs front a
       → IsOneFurther front a next → Reach opening logs next
 
--- The reached front that is nowhere behind another reached front.
+-- The reached front that no reached front exceeds anywhere.
 pub record IsLargest (opening : List ℕ) (logs : ℕ → List Entry) (front : ℕ → ℕ) : Type 0 where
   pub reached : Reach opening logs front
   pub greatest : (other : ℕ → ℕ) → Reach opening logs other → (a : ℕ) → other a ≤ front a

@@ -1,5 +1,7 @@
 -- The laws of settling, over any entries; src/laws.rt says each in words.
-use Rattle.std.specs.Prelude.{◌≡◌, ◌⊎◌, ◌↔◌, ℕ, ◌+◌, ◌*◌, ◌^◌, ◌<◌, ◌≤◌, max, pos, ◌≤ℤ◌, false, List, [], ◌∷◌, ◌++◌, length, map, take, slice_index, slice_get, sum, Some, All}
+use Rattle.std.specs.Prelude.{◌≡◌, ◌⊎◌, ◌↔◌, ℕ, ◌+◌, ◌*◌, ◌^◌, ◌<◌, ◌≤◌, max, pos, ◌≤ℤ◌, false}
+use Rattle.std.specs.Prelude.{List, [], ◌∷◌, ◌++◌, length, map, take, slice_index, slice_get, sum}
+use Rattle.std.specs.Prelude.{Some, All}
 use Rattle.std.specs.List.{flat_map, filter_map, enumerate_from, range_with_len}
 use Rattle.pay_frame.specs.declared.limits.TheConstants.{SEQS, MOST_MEMBERS}
 use Rattle.pay_channel.specs.Prefix.{IsPrefix}
@@ -8,13 +10,16 @@ use Rattle.pay_book.specs.declared.payment.Entry.{Entry}
 use Rattle.pay_book.specs.declared.line.Line.{Line}
 use Rattle.pay_book.specs.declared.payment.Payment.{Payment}
 use Rattle.pay_book.specs.declared.payment.TheConstants.{MOST_PAYMENTS}
-use Rattle.pay_book.specs.Payment.{most_entries, payment, entry_of, payment_value, payments_value, is_several, count_in, entries_in, entries_of}
+use Rattle.pay_book.specs.Payment.{most_entries, payment, entry_of, payment_value, payments_value}
+use Rattle.pay_book.specs.Payment.{is_several, count_in, entries_in, entries_of}
 use Rattle.pay_book.specs.Places.{place_in, place_of}
 use Rattle.pay_book.specs.Statement.{own_line, incoming_line, statement_of}
 use Rattle.pay_book.specs.Balance.{balance_at, AreBalances}
 use Rattle.pay_book.specs.Front.{MayStep, Reach, IsLargest, largest_front, AllGrow}
-use Rattle.pay_book.specs.Book.{Standing, fresh, entries_for, IsBook, IsSettled, AreCountable, CanSettle}
-use Rattle.pay_book.specs.Settled.{settled_front, settled_book, settled_entries, settled_place, settled_values}
+use Rattle.pay_book.specs.Book.{Standing, fresh, entries_for, IsBook, IsSettled, AreCountable}
+use Rattle.pay_book.specs.Book.{CanSettle}
+use Rattle.pay_book.specs.Settled.{settled_front, settled_book, settled_entries, settled_place}
+use Rattle.pay_book.specs.Settled.{settled_values}
 
 abbrev pub ReachedFrontsJoin : Type 0
 ReachedFrontsJoin =
@@ -160,8 +165,8 @@ NobodyOwesOnceSettled =
 
 -- ---- lists that grow, and what is settled of them
 
-abbrev pub OneListGrows : Type 0
-OneListGrows =
+abbrev pub AllGrowWithOneList : Type 0
+AllGrowWithOneList =
     (old new : ℕ → List (List ℕ)) (owner accounts : ℕ) → GrowsOnly old new owner
     → AllGrow accounts old new
 
@@ -201,7 +206,8 @@ SettledEntriesWereAsked =
 -- A value's entries are as many as `count_in` says.
 abbrev pub ValuesCountTheirEntries : Type 0
 ValuesCountTheirEntries =
-    (accounts owner : ℕ) (value : List ℕ) → length (entries_in accounts owner value) ≡ count_in value
+    (accounts owner : ℕ) (value : List ℕ)
+    → length (entries_in accounts owner value) ≡ count_in value
 
 -- None of these accounts' values has the shape of several payments.
 abbrev pub AllSingle : ℕ → (ℕ → List (List ℕ)) → Type 0

@@ -1,10 +1,14 @@
 -- What broadcast values mean to the book: this project's own format, stated in docs/DEFINITIONS.md.
-use Rattle.std.specs.Prelude.{ℕ, ◌+◌, ◌*◌, ◌^◌, Option, Some, None, Bool, List, [], ◌∷◌, ◌++◌, length, map, slice_index, slice_range, nat_lt, nat_le, ◌==◌, ◌&&◌, not, if◌then◌else◌}
+use Rattle.std.specs.Prelude.{ℕ, ◌+◌, ◌*◌, ◌^◌, Option, Some, None, Bool, List, [], ◌∷◌, ◌++◌}
+use Rattle.std.specs.Prelude.{length, map, slice_index, slice_range, nat_lt, nat_le, ◌==◌, ◌&&◌}
+use Rattle.std.specs.Prelude.{not, if◌then◌else◌}
 use Rattle.std.specs.List.{flat_map, list_all, range_with_len}
 use Rattle.std.specs.Int.{from_be_bytes, to_be_bytes, w16, w64}
 use Rattle.pay_book.specs.declared.payment.Entry.{Entry}
 use Rattle.pay_book.specs.declared.payment.Payment.{Payment}
-use Rattle.pay_book.specs.declared.payment.TheConstants.{PAYMENT_LENGTH, PAYMENT_VERSION, SEVERAL_VERSION, MOST_PAYMENTS, PAIR_LENGTH}
+use Rattle.pay_book.specs.declared.payment.TheConstants.{PAYMENT_LENGTH, PAYMENT_VERSION}
+use Rattle.pay_book.specs.declared.payment.TheConstants.{SEVERAL_VERSION, MOST_PAYMENTS}
+use Rattle.pay_book.specs.declared.payment.TheConstants.{PAIR_LENGTH}
 use Rattle.pay_book.specs.declared.payment.Entry.TheVariants.{Pay, Void}
 
 -- A payment to an account that is there, that isn't the owner's own, of more than nothing; else
@@ -15,8 +19,8 @@ payment accounts owner payee amount =
     then Pay payee amount
     else Void
 
--- What a pair of payee and amount means: the payee in two bytes and the amount in eight, the greatest
--- byte first.
+-- What a pair of payee and amount means: the payee in two bytes and the amount in eight, the
+-- greatest byte first.
 unfoldable pub pair_entry : ℕ → ℕ → List ℕ → Entry
 pair_entry accounts owner pair =
     payment accounts owner (from_be_bytes w16 (slice_range pair 0 2))
@@ -66,7 +70,8 @@ count_in value = if is_several value then slice_index value 1 else 1
 unfoldable pub entries_in : ℕ → ℕ → List ℕ → List Entry
 entries_in accounts owner value =
     if is_several value
-    then map (λ place. pair_entry accounts owner (pair_at value place)) (range_with_len 0 (slice_index value 1))
+    then map (λ place. pair_entry accounts owner (pair_at value place))
+    (range_with_len 0 (slice_index value 1))
     else entry_of accounts owner value ∷ []
 
 -- The entries of an owner's list: those of its values, joined in order.

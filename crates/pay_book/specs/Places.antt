@@ -1,5 +1,6 @@
 -- Where a front falls in an owner's list of values.
-use Rattle.std.specs.Prelude.{◌≡◌, ℕ, suc, ◌+◌, ◌-◌, ◌<◌, List, [], ◌∷◌, length, map, slice_index_or, nat_lt, nat_le, if◌then◌else◌}
+use Rattle.std.specs.Prelude.{◌≡◌, ℕ, suc, ◌+◌, ◌-◌, ◌<◌, List, [], ◌∷◌, length, map}
+use Rattle.std.specs.Prelude.{slice_index_or, nat_lt, nat_le, if◌then◌else◌}
 use Rattle.std.specs.List.{range_with_len}
 use Rattle.pay_book.specs.Payment.{count_in}
 
@@ -10,7 +11,7 @@ Place = ℕ × ℕ
 abbrev pub one_value_further : Place → Place
 one_value_further place = (suc place.0, place.1)
 
--- The place behind this many entries, where `count` says how many entries a value has.
+-- The place after this many entries, where `count` says how many entries a value has.
 unfoldable pub place_in : {X : Type 0} → (X → ℕ) → List X → ℕ → Place
 place_in count [] number = (0, number)
 place_in count (x ∷ xs) number =

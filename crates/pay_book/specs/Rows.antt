@@ -1,5 +1,6 @@
 -- Worked examples of four accounts, computed from the definitions.
-use Rattle.std.specs.Prelude.{◌≡◌, ℕ, pos, List, [], ◌∷◌, ◌++◌, length, map, take, slice_index, slice_index_or}
+use Rattle.std.specs.Prelude.{◌≡◌, ℕ, pos, List, [], ◌∷◌, ◌++◌, length, map, take, slice_index}
+use Rattle.std.specs.Prelude.{slice_index_or}
 use Rattle.std.specs.List.{flat_map, range_with_len}
 use Rattle.pay_book.specs.Payment.{entries_of}
 use Rattle.pay_book.specs.Balance.{balance_at}
@@ -61,16 +62,16 @@ one_to_1 = 1 ∷ 0 ∷ 1 ∷ 0 ∷ 0 ∷ 0 ∷ 0 ∷ 0 ∷ 0 ∷ 0 ∷ 1 ∷ []
 abbrev pub greatest_total_to_1 : List ℕ
 greatest_total_to_1 = 1 ∷ 0 ∷ 1 ∷ 127 ∷ 255 ∷ 255 ∷ 255 ∷ 255 ∷ 255 ∷ 255 ∷ 255 ∷ []
 
--- and some of several payments: to 1 thirty, to 2 fifty, to 1 forty, to 2 twenty; to 1 five and to 3
--- one; of no payments; the first with a byte more and a byte less; and so many times one to 1
-abbrev pub pair_of : ℕ → ℕ → List ℕ
-pair_of payee amount = 0 ∷ payee ∷ 0 ∷ 0 ∷ 0 ∷ 0 ∷ 0 ∷ 0 ∷ 0 ∷ amount ∷ []
+-- and some of several payments: to 1 thirty, to 2 fifty, to 1 forty, to 2 twenty; to 1 five and to
+-- 3 one; of no payments; the first with a byte more and a byte less; and so many times one to 1
+abbrev pub pair_bytes : ℕ → ℕ → List ℕ
+pair_bytes payee amount = 0 ∷ payee ∷ 0 ∷ 0 ∷ 0 ∷ 0 ∷ 0 ∷ 0 ∷ 0 ∷ amount ∷ []
 
 abbrev pub four_payments : List ℕ
-four_payments = 2 ∷ 4 ∷ pair_of 1 30 ++ pair_of 2 50 ++ pair_of 1 40 ++ pair_of 2 20
+four_payments = 2 ∷ 4 ∷ pair_bytes 1 30 ++ pair_bytes 2 50 ++ pair_bytes 1 40 ++ pair_bytes 2 20
 
 abbrev pub five_to_1_one_to_3 : List ℕ
-five_to_1_one_to_3 = 2 ∷ 2 ∷ pair_of 1 5 ++ pair_of 3 1
+five_to_1_one_to_3 = 2 ∷ 2 ∷ pair_bytes 1 5 ++ pair_bytes 3 1
 
 abbrev pub no_payments : List ℕ
 no_payments = 2 ∷ 0 ∷ []
@@ -82,16 +83,16 @@ abbrev pub four_payments_and_less : List ℕ
 four_payments_and_less = take 41 four_payments
 
 abbrev pub times_one_to_1 : ℕ → List ℕ
-times_one_to_1 n = 2 ∷ n ∷ flat_map (λ _. pair_of 1 1) (range_with_len 0 n)
+times_one_to_1 n = 2 ∷ n ∷ flat_map (λ _. pair_bytes 1 1) (range_with_len 0 n)
 
 -- one number for each of the four accounts
-abbrev pub four : ℕ → ℕ → ℕ → ℕ → List ℕ
-four a b c d = a ∷ b ∷ c ∷ d ∷ []
+abbrev pub four_numbers : ℕ → ℕ → ℕ → ℕ → List ℕ
+four_numbers a b c d = a ∷ b ∷ c ∷ d ∷ []
 
 -- the four owners' lists
-abbrev pub lists_of :
+abbrev pub four_lists :
     List (List ℕ) → List (List ℕ) → List (List ℕ) → List (List ℕ) → ℕ → List (List ℕ)
-lists_of a b c d owner = slice_index_or (a ∷ b ∷ c ∷ d ∷ []) owner []
+four_lists a b c d owner = slice_index_or (a ∷ b ∷ c ∷ d ∷ []) owner []
 
 -- A book of these opening balances that has settled all it can shows this front and these balances.
 pub record EndsAt (opening : List ℕ) (lists : ℕ → List (List ℕ)) (front balances : List ℕ)
@@ -105,13 +106,13 @@ pub record EndsAt (opening : List ℕ) (lists : ℕ → List (List ℕ)) (front 
 -- Account 0 lists four payments in one value and one payment in another, account 1 lists one to
 -- account 0; the first three of account 0 and that of account 1 are settled.
 abbrev pub five_listed : ℕ → List (List ℕ)
-five_listed = lists_of (four_payments ∷ thirty_to_1 ∷ []) (thirty_to_0 ∷ []) [] []
+five_listed = four_lists (four_payments ∷ thirty_to_1 ∷ []) (thirty_to_0 ∷ []) [] []
 
 abbrev pub three_of_five : Standing
 three_of_five =
     record {
-      opening = four 100 0 0 50;
-      front = four 3 1 0 0;
-      balances = four 10 40 50 50;
-      places = places_of 4 five_listed (slice_index (four 3 1 0 0));
+      opening = four_numbers 100 0 0 50;
+      front = four_numbers 3 1 0 0;
+      balances = four_numbers 10 40 50 50;
+      places = places_of 4 five_listed (slice_index (four_numbers 3 1 0 0));
     }

@@ -11,7 +11,8 @@ use Rattle.pay_book.specs.Book.{Standing}
 -- The balances at a front, each account's at its place, where none is below zero.
 unfoldable pub balances_of : List ℕ → (ℕ → List Entry) → (ℕ → ℕ) → List ℕ
 balances_of opening logs front =
-    map (λ a. (slice_index opening a + paid_in (length opening) logs front a) - paid_out logs front a)
+    map (λ a. (slice_index opening a + paid_in (length opening) logs front a)
+    - paid_out logs front a)
     (range_with_len 0 (length opening))
 
 -- The largest front of the accounts' lists.

@@ -1,10 +1,11 @@
--- What one step of a book does, and when there is none left, as statements. Each is proved as a public
--- law; src/step_laws.rt says it in words.
+-- What one step of a book does, and when there is none left, as statements. Each is proved as a
+-- public law; src/step_laws.rt says it in words.
 use Rattle.std.specs.Prelude.{◌≡◌, ◌≢◌, ℕ, ◌+◌, ◌≤◌, List, length, sum}
 use Rattle.pay_book.specs.declared.payment.Entry.{Entry}
 use Rattle.pay_book.specs.Balance.{amount_to, PayWithin}
 use Rattle.pay_book.specs.Front.{entry_count}
-use Rattle.pay_book.specs.Book.{Standing, entries_for, MaySettle, IsStuck, IsBook, IsSettled, IsStep}
+use Rattle.pay_book.specs.Book.{Standing, entries_for, MaySettle, IsStuck, IsBook, IsSettled}
+use Rattle.pay_book.specs.Book.{IsStep}
 
 abbrev pub StepSettlesOne : Type 0
 StepSettlesOne =

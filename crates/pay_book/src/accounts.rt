@@ -3,7 +3,7 @@
 ghost use Rattle.std.specs.Prelude.{◌≡◌, ◌+◌, ◌<◌, ◌≤◌, ◌^◌, ◌↔◌, length, sum, slice_get};
 ghost use Rattle.std.specs.Prelude.{slice_index, slice_set, IsTrue, IfOk, IfNone, IfSome};
 ghost use Rattle.std.specs.Bool.{OnTrue, OnFalse};
-ghost use Rattle.pay_book.specs.Balance.{amount_of, PayWithin, Moves};
+ghost use Rattle.pay_book.specs.Balance.{amount_of, PayWithin, MovesAmount};
 ghost use Rattle.pay_book.specs.Payment.{count_in};
 ghost use Rattle.pay_book.specs.Places.{place_in, place_of};
 ghost use Rattle.pay_book.specs.Book.{fresh, entries_for, AreCountable, MaySettle, IsBook, IsStep};
@@ -27,14 +27,14 @@ pub struct Accounts {
 }
 
 impl Model for Accounts {
-    ghost use Rattle.pay_book.specs.Book.{Standing, IsSound, standing_of_parts};
+    ghost use Rattle.pay_book.specs.Book.{Standing, IsSoundBook, standing_of_parts};
 
     ghost Value = { Standing };
 
     ghost view = { λ a.
         standing_of_parts a.opening.items a.front.items a.balances.items a.places.items };
 
-    ghost invariant = { λ a. IsSound
+    ghost invariant = { λ a. IsSoundBook
         (standing_of_parts a.opening.items a.front.items a.balances.items a.places.items) };
 }
 
@@ -47,11 +47,11 @@ impl Accounts {
         for account in 0..genesis.members() {
             opening.push(genesis.opening(account))?;
         }
-        Accounts::unsettled(alloc, opening)
+        Accounts::new_unsettled(alloc, opening)
     }
 
     /// Accounts with these opening balances, in which nothing is settled.
-    fn unsettled(alloc: Global, opening: Vec<u64>) -> Result<Self, AllocError>
+    fn new_unsettled(alloc: Global, opening: Vec<u64>) -> Result<Self, AllocError>
         requires accounts { length opening.items < 2 ^ 16 }
         requires total { sum opening.items < 2 ^ 64 }
         ensures { IfOk result (λ book. book ≡ fresh opening.items) }
@@ -126,7 +126,8 @@ impl Accounts {
         place_after(source.at(account, place.0), place)
     }
 
-    /// Whether an account may settle its next entry: whether there is one and its balance covers it.
+    /// Whether an account may settle its next entry: whether there is one and its balance covers
+    /// it.
     pub fn may_step<S: Source>(&self, source: &S, account: u16) -> bool
         requires book { IsBook (S.lists source.now) self.now }
         requires account { account < length self.now.opening }
@@ -171,7 +172,7 @@ impl Accounts {
         ensures front { self.new.front
             ≡ slice_set self.old.front account (slice_index self.old.front account + 1) }
         ensures one_for_each { length self.new.balances ≡ length self.old.opening }
-        ensures balances { Moves entry account self.old.balances self.new.balances }
+        ensures balances { MovesAmount entry account self.old.balances self.new.balances }
         ensures places { self.new.places ≡ slice_set self.old.places account place }
     {
         self.front[account as usize] += 1;
@@ -196,7 +197,7 @@ fn transfer(balances: &mut [u64], account: u16, entry: Entry)
     requires payee { PayWithin (length balances.old) entry }
     requires covered { amount_of entry ≤ slice_index balances.old account }
     requires total { sum balances.old < 2 ^ 64 }
-    ensures { Moves entry account balances.old balances.new }
+    ensures { MovesAmount entry account balances.old balances.new }
 {
     if let Entry::Pay { payee, amount } = entry {
         balances[account as usize] -= amount;

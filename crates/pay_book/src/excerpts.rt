@@ -131,7 +131,7 @@ pub fn waiting_excerpt<S: Source, B: Settle>(
     })
 }
 
-/// The entries of an owner's list from a place on, which falls before this number: at most so many.
+/// At most `most` entries of an owner's list from a place on, which is before entry `number`.
 fn entries_from<S: Source>(
     alloc: Global,
     source: &S,

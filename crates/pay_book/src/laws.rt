@@ -10,7 +10,7 @@ ghost use Rattle.pay_book.specs.Laws.{FreshBookIsSettled, GrownListCanSettle, Sa
 ghost use Rattle.pay_book.specs.Laws.{FewEntriesAreCountable, ShortListsAreCountable};
 ghost use Rattle.pay_book.specs.Laws.{GroupListsAreCountable, ValuesHaveFewEntries};
 ghost use Rattle.pay_book.specs.Laws.{SettledBookExists, SettledBookIsOne, SettledIsLargest};
-ghost use Rattle.pay_book.specs.Laws.{BookKeepsTotal, NobodyOwesOnceSettled, OneListGrows};
+ghost use Rattle.pay_book.specs.Laws.{BookKeepsTotal, NobodyOwesOnceSettled, AllGrowWithOneList};
 ghost use Rattle.pay_book.specs.Laws.{BookStays, SettledCountGrows, SettledEntriesGrow};
 ghost use Rattle.pay_book.specs.Laws.{SettledEntriesCompare, SettledEntriesWereAsked};
 ghost use Rattle.pay_book.specs.Laws.{ValuesCountTheirEntries, SingleEntries, WhollySettled};
@@ -149,7 +149,7 @@ pub fn nobody_owes_once_settled()
 /// Where one owner's list grew at its end and no other changed, all accounts' lists grew at their
 /// ends.
 pub fn one_list_grows()
-    ensures { OneListGrows }
+    ensures { AllGrowWithOneList }
 {}
 
 /// As lists grow at their ends, a book still stands at a reached front, with the balances there.
@@ -162,7 +162,7 @@ pub fn settled_count_grows()
     ensures { SettledCountGrows }
 {}
 
-/// As lists grow at their ends, an account's settled entries stay, and others come behind them.
+/// As lists grow at their ends, an account's settled entries stay, and others follow them.
 pub fn settled_entries_grow()
     ensures { SettledEntriesGrow }
 {}
@@ -195,8 +195,8 @@ pub fn wholly_settled()
     ensures { WhollySettled }
 {}
 
-/// The values that are settled wholly: the book that has settled all it can tells how many they are,
-/// as lists grow they are no fewer, and their entries are settled.
+/// The values that are settled wholly: the book that has settled all it can tells how many they
+/// are, as lists grow they are no fewer, and their entries are settled.
 pub fn settled_values()
     ensures told { SettledBookTellsPlaces }
     ensures grow { SettledPlacesGrow }

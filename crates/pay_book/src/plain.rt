@@ -1,4 +1,5 @@
-//! The plain book: once the owner may settle an entry, it looks at all accounts again after each step.
+//! The plain book: once the owner may settle an entry, it looks at all accounts again after each
+//! step.
 
 ghost use Rattle.std.specs.Prelude.{◌≡◌, ◌+◌, sum};
 ghost use Rattle.pay_book.specs.Book.{AreCountable, IsStuck, IsBook};

@@ -13,7 +13,8 @@ ghost use Rattle.pay_book.specs.Rows.{ten_to_0, ten_to_1, one_fifty_to_1, fifty_
 ghost use Rattle.pay_book.specs.Rows.{greatest_u64_to_1, one_to_1, greatest_total_to_1};
 ghost use Rattle.pay_book.specs.Rows.{four_payments, five_to_1_one_to_3, no_payments};
 ghost use Rattle.pay_book.specs.Rows.{four_payments_and_more, four_payments_and_less};
-ghost use Rattle.pay_book.specs.Rows.{times_one_to_1, thirty_to_0, four, lists_of, EndsAt};
+ghost use Rattle.pay_book.specs.Rows.{times_one_to_1, thirty_to_0, four_numbers, four_lists};
+ghost use Rattle.pay_book.specs.Rows.{EndsAt};
 ghost use Rattle.pay_book.specs.Rows.{three_of_five, five_listed};
 ghost use Rattle.pay_book.specs.Excerpt.{settled_from, waiting_of};
 
@@ -38,51 +39,51 @@ pub fn values_encode()
 /// Two empty accounts that pay each other settle nothing, though both payments together would leave
 /// nobody below zero. Once money comes to one of them, all three payments settle.
 pub fn circular_debts()
-    ensures waiting { EndsAt (four 0 0 0 50)
-        (lists_of (ten_to_1 ∷ []) (ten_to_0 ∷ []) [] [])
-        (four 0 0 0 0) (four 0 0 0 50) }
-    ensures settled { EndsAt (four 0 0 0 50)
-        (lists_of (ten_to_1 ∷ []) (ten_to_0 ∷ []) [] (ten_to_0 ∷ []))
-        (four 1 1 0 1) (four 10 0 0 40) }
+    ensures waiting { EndsAt (four_numbers 0 0 0 50)
+        (four_lists (ten_to_1 ∷ []) (ten_to_0 ∷ []) [] [])
+        (four_numbers 0 0 0 0) (four_numbers 0 0 0 50) }
+    ensures settled { EndsAt (four_numbers 0 0 0 50)
+        (four_lists (ten_to_1 ∷ []) (ten_to_0 ∷ []) [] (ten_to_0 ∷ []))
+        (four_numbers 1 1 0 1) (four_numbers 10 0 0 40) }
 {}
 
 /// A payment that its owner's balance doesn't cover holds the owner's next payment back, which the
 /// balance would cover.
 pub fn uncovered_payment_waits()
-    ensures waiting { EndsAt (four 100 0 0 50)
-        (lists_of (one_fifty_to_1 ∷ ten_to_1 ∷ []) [] [] [])
-        (four 0 0 0 0) (four 100 0 0 50) }
-    ensures first_settled { EndsAt (four 100 0 0 50)
-        (lists_of (one_fifty_to_1 ∷ ten_to_1 ∷ []) [] [] (fifty_to_0 ∷ []))
-        (four 1 0 0 1) (four 0 150 0 0) }
+    ensures waiting { EndsAt (four_numbers 100 0 0 50)
+        (four_lists (one_fifty_to_1 ∷ ten_to_1 ∷ []) [] [] [])
+        (four_numbers 0 0 0 0) (four_numbers 100 0 0 50) }
+    ensures first_settled { EndsAt (four_numbers 100 0 0 50)
+        (four_lists (one_fifty_to_1 ∷ ten_to_1 ∷ []) [] [] (fifty_to_0 ∷ []))
+        (four_numbers 1 0 0 1) (four_numbers 0 150 0 0) }
 {}
 
 /// A value that is no payment holds nothing back, however long it is.
 pub fn void_entry_passes()
-    ensures short { EndsAt (four 100 0 0 50)
-        (lists_of [] [] [] (unknown_version ∷ five_to_1 ∷ []))
-        (four 0 0 0 2) (four 100 5 0 45) }
-    ensures long { EndsAt (four 100 0 0 50)
-        (lists_of [] [] [] (replicate 1024 255 ∷ five_to_1 ∷ []))
-        (four 0 0 0 2) (four 100 5 0 45) }
+    ensures short { EndsAt (four_numbers 100 0 0 50)
+        (four_lists [] [] [] (unknown_version ∷ five_to_1 ∷ []))
+        (four_numbers 0 0 0 2) (four_numbers 100 5 0 45) }
+    ensures long { EndsAt (four_numbers 100 0 0 50)
+        (four_lists [] [] [] (replicate 1024 255 ∷ five_to_1 ∷ []))
+        (four_numbers 0 0 0 2) (four_numbers 100 5 0 45) }
 {}
 
 /// The greatest amount that a value can name stays uncovered, and the greatest opening total can be
 /// paid whole.
 pub fn greatest_amounts()
-    ensures uncovered { EndsAt (four 100 0 0 50)
-        (lists_of (greatest_u64_to_1 ∷ one_to_1 ∷ []) [] [] [])
-        (four 0 0 0 0) (four 100 0 0 50) }
-    ensures paid_whole { EndsAt (four (2 ^ 63 - 1) 0 0 0)
-        (lists_of (greatest_total_to_1 ∷ []) [] [] [])
-        (four 1 0 0 0) (four 0 (2 ^ 63 - 1) 0 0) }
+    ensures uncovered { EndsAt (four_numbers 100 0 0 50)
+        (four_lists (greatest_u64_to_1 ∷ one_to_1 ∷ []) [] [] [])
+        (four_numbers 0 0 0 0) (four_numbers 100 0 0 50) }
+    ensures paid_whole { EndsAt (four_numbers (2 ^ 63 - 1) 0 0 0)
+        (four_lists (greatest_total_to_1 ∷ []) [] [] [])
+        (four_numbers 1 0 0 0) (four_numbers 0 (2 ^ 63 - 1) 0 0) }
 {}
 
 /// Once the circular debts are settled, account 0's statement has its own payment first, then those
 /// to it by owner.
 pub fn statement_after_circular_debts()
-    ensures { statement_of 4 (lists_of (ten_to_1 ∷ []) (ten_to_0 ∷ []) [] (ten_to_0 ∷ []))
-        (slice_index (four 1 1 0 1)) 0
+    ensures { statement_of 4 (four_lists (ten_to_1 ∷ []) (ten_to_0 ∷ []) [] (ten_to_0 ∷ []))
+        (slice_index (four_numbers 1 1 0 1)) 0
         ≡ Line.Out 0 1 10 ∷ Line.In 1 0 10 ∷ Line.In 3 0 10 ∷ [] }
 {}
 
@@ -101,33 +102,33 @@ pub fn several_decode()
 
 /// Of four payments in one value the first two are covered; once more money comes, the third is.
 pub fn four_payments_in_one()
-    ensures half { EndsAt (four 100 0 0 50)
-        (lists_of (four_payments ∷ []) [] [] [])
-        (four 2 0 0 0) (four 20 30 50 50) }
-    ensures more { EndsAt (four 100 0 0 50)
-        (lists_of (four_payments ∷ []) (thirty_to_0 ∷ []) [] [])
-        (four 3 1 0 0) (four 10 40 50 50) }
-    ensures places { places_of 4 (lists_of (four_payments ∷ []) (thirty_to_0 ∷ []) [] [])
-        (slice_index (four 3 1 0 0)) ≡ (0, 3) ∷ (1, 0) ∷ (0, 0) ∷ (0, 0) ∷ [] }
+    ensures half { EndsAt (four_numbers 100 0 0 50)
+        (four_lists (four_payments ∷ []) [] [] [])
+        (four_numbers 2 0 0 0) (four_numbers 20 30 50 50) }
+    ensures more { EndsAt (four_numbers 100 0 0 50)
+        (four_lists (four_payments ∷ []) (thirty_to_0 ∷ []) [] [])
+        (four_numbers 3 1 0 0) (four_numbers 10 40 50 50) }
+    ensures places { places_of 4 (four_lists (four_payments ∷ []) (thirty_to_0 ∷ []) [] [])
+        (slice_index (four_numbers 3 1 0 0)) ≡ (0, 3) ∷ (1, 0) ∷ (0, 0) ∷ (0, 0) ∷ [] }
 {}
 
 /// A void payment among several holds nothing back, and no more does a value without any.
 pub fn void_pair_passes()
-    ensures pair { EndsAt (four 100 0 0 50)
-        (lists_of [] [] [] (five_to_1_one_to_3 ∷ []))
-        (four 0 0 0 2) (four 100 5 0 45) }
-    ensures none { EndsAt (four 100 0 0 50)
-        (lists_of [] [] [] (no_payments ∷ []))
-        (four 0 0 0 1) (four 100 0 0 50) }
+    ensures pair { EndsAt (four_numbers 100 0 0 50)
+        (four_lists [] [] [] (five_to_1_one_to_3 ∷ []))
+        (four_numbers 0 0 0 2) (four_numbers 100 5 0 45) }
+    ensures none { EndsAt (four_numbers 100 0 0 50)
+        (four_lists [] [] [] (no_payments ∷ []))
+        (four_numbers 0 0 0 1) (four_numbers 100 0 0 50) }
 {}
 
 /// An account's statement has a line for each settled entry, under its value's number.
 pub fn statement_of_several()
-    ensures payer { statement_of 4 (lists_of (four_payments ∷ []) (thirty_to_0 ∷ []) [] [])
-        (slice_index (four 3 1 0 0)) 0
+    ensures payer { statement_of 4 (four_lists (four_payments ∷ []) (thirty_to_0 ∷ []) [] [])
+        (slice_index (four_numbers 3 1 0 0)) 0
         ≡ Line.Out 0 1 30 ∷ Line.Out 0 2 50 ∷ Line.Out 0 1 40 ∷ Line.In 1 0 30 ∷ [] }
-    ensures payee { statement_of 4 (lists_of (four_payments ∷ []) (thirty_to_0 ∷ []) [] [])
-        (slice_index (four 3 1 0 0)) 1
+    ensures payee { statement_of 4 (four_lists (four_payments ∷ []) (thirty_to_0 ∷ []) [] [])
+        (slice_index (four_numbers 3 1 0 0)) 1
         ≡ Line.Out 0 0 30 ∷ Line.In 0 0 30 ∷ Line.In 0 0 40 ∷ [] }
 {}
 

@@ -1,5 +1,5 @@
-//! The laws of one step of a book, for whoever looks for steps in an order of its own. Each function
-//! does nothing: what it ensures is the law, which specs/StepLaws.antt spells out.
+//! The laws of one step of a book, for books that look for steps in another order. Each
+//! function does nothing: what it ensures is the law, which specs/StepLaws.antt spells out.
 
 ghost use Rattle.pay_book.specs.StepLaws.{StepSettlesOne, StepPaysWithin, OthersMayNoMore};
 ghost use Rattle.pay_book.specs.StepLaws.{StuckBookIsSettled, SettledAreListed};

@@ -10,10 +10,10 @@ use Rattle.pay_frame.specs.declared.kind.Kind.{Kind}
 use Rattle.pay_frame.specs.declared.kind.Kind.TheVariants.{Send, Echo, Ready, Want}
 use Rattle.pay_frame.specs.Frame.{BodyFields}
 use Rattle.pay_echo.specs.Broadcast as one
-use Rattle.pay_echo.specs.Broadcast.{Group, Vote, sent, echoed, readied}
+use Rattle.pay_echo.specs.Broadcast.{Group, Vote, value_if_send, echoed, readied}
 use Rattle.pay_echo.specs.Laws.{EchoedByOneMore}
 use Rattle.pay_channel.specs.History.{Event, IsEvent, Ask, From, asks, owner_of, seq_of, vote_of, is_about, votes_in, votes, body_of, newly, send_of, says, out}
-use Rattle.pay_channel.specs.Asked.{ask_of, asked, is_send, sends_in, sends_of}
+use Rattle.pay_channel.specs.Asked.{ask_of, asked_values, is_send_kind, sends_in, sends_of}
 use Rattle.pay_channel.specs.SentLaws.{NothingAskedAtFirst, AskedByOneMore, AskedGrows, AsksAreCounted, SendsAreAsks, SendInOut, SentIsAsked, OwnEchoIsAsk}
 use Rattle.pay_channel.proofs.Lists.{either, by_push, option_or-None, Contains-filter, filter-Contains, filter-both}
 use Rattle.pay_channel.proofs.Project.{votes-push, asks-push, out-push, votes_in-other, votes_in-here}
@@ -22,35 +22,35 @@ use Rattle.pay_channel.proofs.InOut.{newly-apart}
 -- ---- values asked for
 
 pub nothing_asked_at_first : NothingAskedAtFirst
-unfolding asked
+unfolding asked_values
 nothing_asked_at_first = refl
 
 pub asked_grows : AskedGrows
-unfolding asked
+unfolding asked_values
 asked_grows history more = filter_map-append ask_of history more
 
-pub asked-ask : (history : List Event) (v : List ℕ) → asked (history ++ Ask v ∷ []) ≡ asked history ++ v ∷ []
-unfolding asked
-asked-ask history v = filter_map-append ask_of history (Ask v ∷ [])
+pub asked_values-ask : (history : List Event) (v : List ℕ) → asked_values (history ++ Ask v ∷ []) ≡ asked_values history ++ v ∷ []
+unfolding asked_values
+asked_values-ask history v = filter_map-append ask_of history (Ask v ∷ [])
 
-pub asked-from : (history : List Event) (p : ℕ) (body : BodyFields) → asked (history ++ From p body ∷ []) ≡ asked history
-unfolding asked
-asked-from history p body = filter_map-append ask_of history (From p body ∷ []) ∙ append-nil (filter_map ask_of history)
+pub asked_values-from : (history : List Event) (p : ℕ) (body : BodyFields) → asked_values (history ++ From p body ∷ []) ≡ asked_values history
+unfolding asked_values
+asked_values-from history p body = filter_map-append ask_of history (From p body ∷ []) ∙ append-nil (filter_map ask_of history)
 
 pub asked_by_one_more : AskedByOneMore
-asked_by_one_more history (Ask v) = asked-ask history v
-asked_by_one_more history (From p body) = asked-from history p body ∙ sym (append-nil (asked history))
+asked_by_one_more history (Ask v) = asked_values-ask history v
+asked_by_one_more history (From p body) = asked_values-from history p body ∙ sym (append-nil (asked_values history))
 
 abbrev IsCounted : List Event → Type 0
-IsCounted history = asks history ≡ length (asked history)
+IsCounted history = asks history ≡ length (asked_values history)
 
 IsCounted-push : (history : List Event) (e : Event) → IsCounted history → IsCounted (history ++ e ∷ [])
 IsCounted-push history (Ask v) before =
-    omega (arith, asks-push history (Ask v), before, ap length (asked-ask history v), length-append (asked history) (v ∷ []))
-IsCounted-push history (From p body) before = asks-push history (From p body) ∙ before ∙ ap length (sym (asked-from history p body))
+    omega (arith, asks-push history (Ask v), before, ap length (asked_values-ask history v), length-append (asked_values history) (v ∷ []))
+IsCounted-push history (From p body) before = asks-push history (From p body) ∙ before ∙ ap length (sym (asked_values-from history p body))
 
 pub asks_are_counted : AsksAreCounted
-unfolding asks asked
+unfolding asks asked_values
 asks_are_counted history = by_push IsCounted refl IsCounted-push history
 
 -- ---- numbered values
@@ -103,7 +103,7 @@ sends-of_says g history e =
     let send = send_of g.own (asks history) e in
     let echo = newly Echo a s (echoed before) (echoed after) in
     let ready = newly Ready a s (readied g before) (readied g after) in
-    let is : BodyFields → Bool = λ body. is_send body.kind in
+    let is : BodyFields → Bool = λ body. is_send_kind body.kind in
     filter-append is (send ++ echo) ready
     ∙ ap₂ (λ (xs ys : List BodyFields). xs ++ ys)
     (filter-append is send echo ∙ ap (λ (xs : List BodyFields). filter is send ++ xs) (newly-apart is Echo a s (echoed before) (echoed after) (λ v. refl)) ∙ append-nil (filter is send))
@@ -116,46 +116,46 @@ sends-of_says g history e =
 
 module _ (g : Group) where
   HasSends : List Event → Type 0
-  HasSends history = sends_in (out g history) ≡ sends_of g.own (asked history)
+  HasSends history = sends_in (out g history) ≡ sends_of g.own (asked_values history)
 
-  numbered : (history : List Event) (e : Event) → sends_of g.own (asked history) ++ send_of g.own (asks history) e ≡ sends_of g.own (asked (history ++ e ∷ []))
+  numbered : (history : List Event) (e : Event) → sends_of g.own (asked_values history) ++ send_of g.own (asks history) e ≡ sends_of g.own (asked_values (history ++ e ∷ []))
   numbered history (Ask v) =
-      let place : asks history ≡ 0 + length (asked history) = asks_are_counted history ∙ sym (zero-add (length (asked history))) in
-      ap (λ k. sends_of g.own (asked history) ++ body_of Send g.own k v ∷ []) place
-      ∙ sym (sends_from-push g.own 0 (asked history) v)
-      ∙ ap (sends_of g.own) (sym (asked-ask history v))
-  numbered history (From p body) = append-nil (sends_of g.own (asked history)) ∙ ap (sends_of g.own) (sym (asked-from history p body))
+      let place : asks history ≡ 0 + length (asked_values history) = asks_are_counted history ∙ sym (zero-add (length (asked_values history))) in
+      ap (λ k. sends_of g.own (asked_values history) ++ body_of Send g.own k v ∷ []) place
+      ∙ sym (sends_from-push g.own 0 (asked_values history) v)
+      ∙ ap (sends_of g.own) (sym (asked_values-ask history v))
+  numbered history (From p body) = append-nil (sends_of g.own (asked_values history)) ∙ ap (sends_of g.own) (sym (asked_values-from history p body))
 
   HasSends-push : (history : List Event) (e : Event) → HasSends history → HasSends (history ++ e ∷ [])
   unfolding HasSends
   HasSends-push history e before =
       ap sends_in (out-push g history e)
-      ∙ filter-append (λ (body : BodyFields). is_send body.kind) (out g history) (says g history e)
+      ∙ filter-append (λ (body : BodyFields). is_send_kind body.kind) (out g history) (says g history e)
       ∙ ap₂ (λ (xs ys : List BodyFields). xs ++ ys) before (sends-of_says g history e)
       ∙ numbered history e
 
 pub sends_are_asks : SendsAreAsks
-unfolding HasSends out asked
+unfolding HasSends out asked_values
 sends_are_asks g history = by_push (HasSends g) refl (HasSends-push g) history
 
 pub sent_is_asked : SentIsAsked
 sent_is_asked g history a s v = (there, back) where
-  there : Contains (out g history) (body_of Send a s v) → (a ≡ g.own) × (slice_get (asked history) s ≡ Some v)
+  there : Contains (out g history) (body_of Send a s v) → (a ≡ g.own) × (slice_get (asked_values history) s ≡ Some v)
   there at =
       let P : List BodyFields → Type 0 = λ xs. Contains xs (body_of Send a s v) in
-      let kept = Contains-filter (λ (body : BodyFields). is_send body.kind) (out g history) (body_of Send a s v) refl at in
-      let found = Contains-sends g.own a 0 s (asked history) v (subst P (sends_are_asks g history) kept) in
+      let kept = Contains-filter (λ (body : BodyFields). is_send_kind body.kind) (out g history) (body_of Send a s v) refl at in
+      let found = Contains-sends g.own a 0 s (asked_values history) v (subst P (sends_are_asks g history) kept) in
       let place = found.1 in
-      (found.0, ap (slice_get (asked history)) (place.1 ∙ zero-add place.0) ∙ place.2)
+      (found.0, ap (slice_get (asked_values history)) (place.1 ∙ zero-add place.0) ∙ place.2)
 
-  back : (a ≡ g.own) × (slice_get (asked history) s ≡ Some v) → Contains (out g history) (body_of Send a s v)
+  back : (a ≡ g.own) × (slice_get (asked_values history) s ≡ Some v) → Contains (out g history) (body_of Send a s v)
   back is =
       let P : List BodyFields → Type 0 = λ xs. Contains xs (body_of Send g.own s v) in
-      let Q : ℕ → Type 0 = λ k. Contains (sends_of g.own (asked history)) (body_of Send g.own k v) in
+      let Q : ℕ → Type 0 = λ k. Contains (sends_of g.own (asked_values history)) (body_of Send g.own k v) in
       let R : ℕ → Type 0 = λ b. Contains (out g history) (body_of Send b s v) in
-      let among : Contains (sends_of g.own (asked history)) (body_of Send g.own s v) = subst Q (zero-add s) (sends-Contains g.own 0 s (asked history) v is.1) in
+      let among : Contains (sends_of g.own (asked_values history)) (body_of Send g.own s v) = subst Q (zero-add s) (sends-Contains g.own 0 s (asked_values history) v is.1) in
       let kept = subst P (sym (sends_are_asks g history)) among in
-      subst R (sym is.0) (filter-Contains (λ (body : BodyFields). is_send body.kind) (out g history) (body_of Send g.own s v) kept)
+      subst R (sym is.0) (filter-Contains (λ (body : BodyFields). is_send_kind body.kind) (out g history) (body_of Send g.own s v) kept)
 
 -- ---- one number's SENDs
 
@@ -188,9 +188,9 @@ module _ (a s : ℕ) where
 pub send_in_out : SendInOut
 unfolding is_at
 send_in_out g history s =
-    filter-both (λ (body : BodyFields). is_send body.kind) (is_at g.own s) (out g history)
+    filter-both (λ (body : BodyFields). is_send_kind body.kind) (is_at g.own s) (out g history)
     ∙ ap (filter (is_at g.own s)) (sends_are_asks g history)
-    ∙ numbered-at g.own s 0 s (asked history) (sym (zero-add s))
+    ∙ numbered-at g.own s 0 s (asked_values history) (sym (zero-add s))
 
 -- ---- what is echoed of one's own
 
@@ -205,7 +205,7 @@ slice_get-push (y ∷ xs) x (suc s) = slice_get-push xs x s ∙ ap (λ b. option
 -- a vote that is no SEND
 IsNoSend : Option Vote → Type 0
 IsNoSend None = Unit {0}
-IsNoSend (Some x) = sent x ≡ None
+IsNoSend (Some x) = value_if_send x ≡ None
 
 module _ (echoed-push : EchoedByOneMore) where
   echoed-no_send : (vs : List Vote) (o : Option Vote) → IsNoSend o → echoed (vs ++ option_to_list o) ≡ echoed vs
@@ -215,7 +215,7 @@ module _ (echoed-push : EchoedByOneMore) where
 
   -- no other member's body is a SEND in one's own broadcasts
   no_send_of : (own p s : ℕ) (kind : Kind) (v : List ℕ) → p ≢ own → IsNoSend (vote_of (From p (body_of kind own s v)))
-  unfolding IsNoSend sent
+  unfolding IsNoSend value_if_send
   no_send_of own p s Send v ne = subst IsNoSend (sym (cond-false (eqb p own) (Some (one.Send v)) None (ne_eqb p own ne))) tt
   no_send_of own p s Echo v ne = refl
   no_send_of own p s Ready v ne = refl
@@ -233,7 +233,7 @@ module _ (echoed-push : EchoedByOneMore) where
 
   -- an ask is a SEND in the broadcast of its number
   echoed-ask : (vs : List Vote) (own k s : ℕ) (v : List ℕ) → echoed (vs ++ votes_in own own s k (Ask v)) ≡ option_or (echoed vs) (cond (eqb k s) (Some v) None)
-  unfolding votes_in sent
+  unfolding votes_in value_if_send
   echoed-ask vs own k s v =
       ap (λ b. echoed (vs ++ cond (b && eqb k s) (one.Send v ∷ []) [])) (eq-eqb own own refl) ∙ go (eqb k s) where
         go : (b : Bool) → echoed (vs ++ cond b (one.Send v ∷ []) []) ≡ option_or (echoed vs) (cond b (Some v) None)
@@ -242,18 +242,18 @@ module _ (echoed-push : EchoedByOneMore) where
 
   module _ (g : Group) (s : ℕ) where
     EchoesAsk : List Event → Type 0
-    EchoesAsk history = All (IsEvent g) history → echoed (votes g.own g.own s history) ≡ slice_get (asked history) s
+    EchoesAsk history = All (IsEvent g) history → echoed (votes g.own g.own s history) ≡ slice_get (asked_values history) s
 
-    EchoesAsk-more : (history : List Event) (e : Event) → IsEvent g e → echoed (votes g.own g.own s history) ≡ slice_get (asked history) s → echoed (votes g.own g.own s history ++ votes_in g.own g.own s (asks history) e) ≡ slice_get (asked (history ++ e ∷ [])) s
+    EchoesAsk-more : (history : List Event) (e : Event) → IsEvent g e → echoed (votes g.own g.own s history) ≡ slice_get (asked_values history) s → echoed (votes g.own g.own s history ++ votes_in g.own g.own s (asks history) e) ≡ slice_get (asked_values (history ++ e ∷ [])) s
     EchoesAsk-more history (Ask v) event before =
         echoed-ask (votes g.own g.own s history) g.own (asks history) s v
         ∙ ap₂ (λ (o : Option (List ℕ)) k. option_or o (cond (eqb k s) (Some v) None)) before (asks_are_counted history)
-        ∙ sym (slice_get-push (asked history) v s)
-        ∙ ap (λ (xs : List (List ℕ)). slice_get xs s) (sym (asked-ask history v))
+        ∙ sym (slice_get-push (asked_values history) v s)
+        ∙ ap (λ (xs : List (List ℕ)). slice_get xs s) (sym (asked_values-ask history v))
     EchoesAsk-more history (From p body) event before =
         echoed-from (votes g.own g.own s history) g.own (asks history) s p body event.1
         ∙ before
-        ∙ ap (λ (xs : List (List ℕ)). slice_get xs s) (sym (asked-from history p body))
+        ∙ ap (λ (xs : List (List ℕ)). slice_get xs s) (sym (asked_values-from history p body))
 
     EchoesAsk-push : (history : List Event) (e : Event) → EchoesAsk history → EchoesAsk (history ++ e ∷ [])
     unfolding EchoesAsk
@@ -264,5 +264,5 @@ module _ (echoed-push : EchoedByOneMore) where
         ∙ EchoesAsk-more history e (All-contains (IsEvent g) (history ++ e ∷ []) e events (Contains-push history e)) (before shorter)
 
 pub own_echo_is_ask : EchoedByOneMore → OwnEchoIsAsk
-unfolding EchoesAsk votes echoed asked
+unfolding EchoesAsk votes echoed asked_values
 own_echo_is_ask echoed-push g history s = by_push (EchoesAsk echoed-push g s) (λ _. refl) (EchoesAsk-push echoed-push g s) history

@@ -8,8 +8,8 @@ use Rattle.pay_frame.specs.declared.kind.Kind.TheVariants.{Send, Echo, Ready, Wa
 use Rattle.pay_echo.specs.Broadcast as one
 use Rattle.pay_echo.specs.Broadcast.{Group, Vote, value_of, may_deliver, delivered}
 use Rattle.pay_echo.specs.Laws.{DeliveredByOneMore, NotDeliveredAtFirst, value_if}
-use Rattle.pay_channel.specs.History.{Event, Ask, From, asks, vote_by, counts, vote_of, is_about, votes, delivered_at}
-use Rattle.pay_channel.specs.ListLaws.{value_in, DeliveredCame}
+use Rattle.pay_channel.specs.History.{Event, Ask, From, asks, vote_by, counts_from, vote_of, is_about, votes, delivered_at}
+use Rattle.pay_channel.specs.ListLaws.{value_of_event, DeliveredCame}
 use Rattle.pay_channel.proofs.Lists.{either, by_push, none_some, some_same}
 use Rattle.pay_channel.proofs.Project.{votes-push, votes_in-other, votes_in-here}
 use Rattle.pay_channel.proofs.VotesTaken.{no_votes_at_first}
@@ -24,15 +24,15 @@ body_value true Echo p v x is = ap value_of (sym (some_same (one.Echo p v) x is)
 body_value true Ready p v x is = ap value_of (sym (some_same (one.Ready p v) x is))
 body_value true Want p v x is = absurd (none_some x is)
 
-vote_value : (e : Event) (x : Vote) → vote_of e ≡ Some x → value_of x ≡ value_in e
+vote_value : (e : Event) (x : Vote) → vote_of e ≡ Some x → value_of x ≡ value_of_event e
 unfolding value_of
 vote_value (Ask v) x is = ap value_of (sym (some_same (one.Send v) x is))
-vote_value (From p body) x is = body_value (counts p body) body.kind p body.value x is
+vote_value (From p body) x is = body_value (counts_from p body) body.kind p body.value x is
 
 -- ---- by one event more
 
 abbrev HasCome : List Event → List ℕ → Type 0
-HasCome history v = (e : Event) × Contains history e × (value_in e ≡ v)
+HasCome history v = (e : Event) × Contains history e × (value_of_event e ≡ v)
 
 still_come : (history : List Event) (e : Event) (v : List ℕ) → HasCome history v → HasCome (history ++ e ∷ []) v
 still_come history e v come = (come.0, Contains-append_left history (e ∷ []) come.0 come.1, come.2)

@@ -6,12 +6,12 @@ use Rattle.pay_frame.specs.Frame.{BodyFields}
 use Rattle.pay_echo.specs.Broadcast.{Group, Vote, echoed, readied}
 use Rattle.pay_echo.specs.Meaning.{meaning_of}
 use Rattle.pay_channel.proofs.Lists.{either}
-use Rattle.pay_channel.specs.History.{Event, is_ask, owner_of, seq_of, vote_of, is_about, votes_in, votes, send_of, newly, says, out, listed, delivered_at, list_of}
-use Rattle.pay_channel.specs.State.{State, Follows, meaning_at, value_at, lists_of}
-use Rattle.pay_channel.specs.Applied.{SeesIfVote, said, Takes, IsAsBefore}
+use Rattle.pay_channel.specs.History.{Event, is_ask, owner_of, seq_of, vote_of, is_about, votes_in, votes, send_of, newly, says, out, listed_values, delivered_at, list_of}
+use Rattle.pay_channel.specs.State.{State, IsStateBy, meaning_at, delivered_value_at, channel_lists}
+use Rattle.pay_channel.specs.Applied.{SeesIfVote, bodies_said, Takes, IsAsBefore}
 use Rattle.pay_channel.proofs.Project.{votes-push, asks-push, out-push, votes_in-other, votes_in-here}
 
-module _ (old new : State) (history : List Event) (e : Event) (takes : Takes old new e) (follows : Follows old history) where
+module _ (old new : State) (history : List Event) (e : Event) (takes : Takes old new e) (follows : IsStateBy old history) where
   -- the votes of a broadcast after the event, in the old state's words
   votes_now : (a s : ℕ) → votes old.group.own a s (history ++ e ∷ []) ≡ votes old.group.own a s history ++ votes_in old.group.own a s old.asks e
   votes_now a s = votes-push old.group.own a s history e ∙ ap (λ k. votes old.group.own a s history ++ votes_in old.group.own a s k e) (sym follows.asks)
@@ -44,21 +44,21 @@ module _ (old new : State) (history : List Event) (e : Event) (takes : Takes old
       meaning_here a s about (vote_of e) refl (here_at a s (eqb-true (owner_of old.group.own e) a same.0) (eqb-true (seq_of old.asks e) s same.1)))
       (λ about. meaning_other a s about)
 
-  says_now : send_of old.group.own old.asks e ++ said (owner_of old.group.own e) (seq_of old.asks e) (meaning_at old (owner_of old.group.own e) (seq_of old.asks e)) (meaning_at new (owner_of old.group.own e) (seq_of old.asks e)) ≡ says old.group history e
+  says_now : send_of old.group.own old.asks e ++ bodies_said (owner_of old.group.own e) (seq_of old.asks e) (meaning_at old (owner_of old.group.own e) (seq_of old.asks e)) (meaning_at new (owner_of old.group.own e) (seq_of old.asks e)) ≡ says old.group history e
   unfolding says meaning_of
   says_now =
       let a = owner_of old.group.own e in
       let s = seq_of old.asks e in
       let before = votes old.group.own a s history in
       let after = votes old.group.own a s (history ++ e ∷ []) in
-      ap₂ (λ m n. send_of old.group.own old.asks e ++ said a s m n) (follows.meanings a s) (meaning_now a s)
+      ap₂ (λ m n. send_of old.group.own old.asks e ++ bodies_said a s m n) (follows.meanings a s) (meaning_now a s)
       ∙ sym (append_assoc (send_of old.group.own old.asks e) (newly Echo a s (echoed before) (echoed after)) (newly Ready a s (readied old.group before) (readied old.group after)))
       ∙ ap (λ k. send_of old.group.own k e
       ++ newly Echo a (seq_of k e) (echoed (votes old.group.own a (seq_of k e) history)) (echoed (votes old.group.own a (seq_of k e) (history ++ e ∷ [])))
       ++ newly Ready a (seq_of k e) (readied old.group (votes old.group.own a (seq_of k e) history)) (readied old.group (votes old.group.own a (seq_of k e) (history ++ e ∷ [])))) follows.asks
 
-  pub Follows-push : Follows new (history ++ e ∷ [])
-  Follows-push =
+  pub IsStateBy-push : IsStateBy new (history ++ e ∷ [])
+  IsStateBy-push =
       record {
         meanings = λ a s. meaning_now a s ∙ ap (λ (g : Group). meaning_of g (votes g.own a s (history ++ e ∷ []))) (sym takes.group);
         asks = takes.asks ∙ ap (λ k. cond (is_ask e) (k + 1) k) follows.asks ∙ sym (asks-push history e);
@@ -66,8 +66,8 @@ module _ (old new : State) (history : List Event) (e : Event) (takes : Takes old
       }
 
 -- what cannot be told apart follows the same
-pub Follows-before : (old new : State) (history : List Event) → IsAsBefore old new → Follows old history → Follows new history
-Follows-before old new history same follows =
+pub IsStateBy-before : (old new : State) (history : List Event) → IsAsBefore old new → IsStateBy old history → IsStateBy new history
+IsStateBy-before old new history same follows =
     record {
       meanings = λ a s. same.meanings a s ∙ follows.meanings a s ∙ ap (λ (g : Group). meaning_of g (votes g.own a s history)) (sym same.group);
       asks = same.asks ∙ follows.asks;
@@ -75,8 +75,8 @@ Follows-before old new history same follows =
     }
 
 -- the lists are those of the history
-pub lists-Follows : (c : State) (history : List Event) → Follows c history → (a : ℕ) → lists_of c a ≡ list_of c.group history a
-unfolding lists_of list_of value_at delivered_at meaning_of
-lists-Follows c history follows a =
-    let same : value_at c ≡ delivered_at c.group history = λ i b s. (follows.meanings b s i).delivered in
-    ap (λ at. listed c.group at a) same
+pub lists-IsStateBy : (c : State) (history : List Event) → IsStateBy c history → (a : ℕ) → channel_lists c a ≡ list_of c.group history a
+unfolding channel_lists list_of delivered_value_at delivered_at meaning_of
+lists-IsStateBy c history follows a =
+    let same : delivered_value_at c ≡ delivered_at c.group history = λ i b s. (follows.meanings b s i).delivered in
+    ap (λ at. listed_values c.group at a) same

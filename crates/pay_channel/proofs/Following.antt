@@ -3,39 +3,39 @@ use Rattle.std.proofs.Common.{◌≡◌, ℕ, ◌+◌, List, [], ◌∷◌, ◌+
 use Rattle.pay_echo.specs.Broadcast.{Group}
 use Rattle.pay_echo.specs.Meaning.{Meaning, meaning_of, became}
 use Rattle.pay_channel.specs.History.{Event, owner_of, seq_of, votes, out, delivered_at, list_of}
-use Rattle.pay_channel.specs.State.{State, Follows, meaning_at, value_at, lists_of}
+use Rattle.pay_channel.specs.State.{State, IsStateBy, meaning_at, delivered_value_at, channel_lists}
 use Rattle.pay_channel.specs.Applied.{IsToldOf}
 use Rattle.pay_channel.specs.Answer.{IsAnswerAt}
 use Rattle.pay_channel.specs.FollowLaws.{ChannelFollows, UnchangedFollows, ValuesFollow, ListsFollow, AnswersFollow, FollowersAreAlike}
 use Rattle.pay_channel.specs.declared.applied.Applied.{Applied}
-use Rattle.pay_channel.proofs.Follow.{Follows-push, Follows-before, lists-Follows}
+use Rattle.pay_channel.proofs.Follow.{IsStateBy-push, IsStateBy-before, lists-IsStateBy}
 
 pub channel_follows : ChannelFollows
-channel_follows old new history e takes follows = Follows-push old new history e takes follows
+channel_follows old new history e takes follows = IsStateBy-push old new history e takes follows
 
 pub unchanged_follows : UnchangedFollows
-unchanged_follows old new history same follows = Follows-before old new history same follows
+unchanged_follows old new history same follows = IsStateBy-before old new history same follows
 
 pub values_follow : ValuesFollow
-unfolding value_at delivered_at meaning_of
+unfolding delivered_value_at delivered_at meaning_of
 values_follow c history follows a s = ap (λ (m : Meaning). m.delivered) (follows.meanings a s)
 
 pub lists_follow : ListsFollow
-lists_follow c history follows a = lists-Follows c history follows a
+lists_follow c history follows a = lists-IsStateBy c history follows a
 
-module _ (old new : State) (history more : List Event) (follows : Follows old history) (later : Follows new more) (group : new.group ≡ old.group) (a s : ℕ) where
+module _ (old new : State) (history more : List Event) (follows : IsStateBy old history) (later : IsStateBy new more) (group : new.group ≡ old.group) (a s : ℕ) where
   -- in the old state's group
   meaning_later : meaning_at new a s ≡ meaning_of old.group (votes old.group.own a s more)
   meaning_later = later.meanings a s ∙ ap (λ (g : Group). meaning_of g (votes g.own a s more)) group
 
-  value_later : value_at new a s ≡ delivered_at old.group more a s
+  value_later : delivered_value_at new a s ≡ delivered_at old.group more a s
   value_later = values_follow new more later a s ∙ ap (λ (g : Group). delivered_at g more a s) group
 
-  list_later : lists_of new a ≡ list_of old.group more a
+  list_later : channel_lists new a ≡ list_of old.group more a
   list_later = lists_follow new more later a ∙ ap (λ (g : Group). list_of g more a) group
 
   pub told-answer : (e : Event) (applied : Applied) → more ≡ history ++ e ∷ [] → IsToldOf old new a s applied → IsAnswerAt old.group history e a s applied
-  unfolding meaning_of value_at
+  unfolding meaning_of delivered_value_at
   told-answer e applied is told =
       let was = follows.meanings a s in
       let now = meaning_later ∙ ap (λ (h : List Event). meaning_of old.group (votes old.group.own a s h)) is in
@@ -51,7 +51,7 @@ module _ (old new : State) (history more : List Event) (follows : Follows old hi
 
 pub answers_follow : AnswersFollow
 answers_follow old new history e applied follows takes told =
-    let later = Follows-push old new history e takes follows in
+    let later = IsStateBy-push old new history e takes follows in
     let a = owner_of old.group.own e in
     let P : ℕ → Type 0 = λ k. IsAnswerAt old.group history e a (seq_of k e) applied in
     subst P follows.asks (told-answer old new history (history ++ e ∷ []) follows later takes.group a (seq_of old.asks e) e applied refl told)

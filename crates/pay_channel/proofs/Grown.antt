@@ -6,8 +6,8 @@ use Rattle.pay_echo.specs.Broadcast.{Group, Vote}
 use Rattle.pay_echo.specs.Meaning.{Meaning, meaning_of}
 use Rattle.pay_echo.specs.Laws.{DeliveredStays}
 use Rattle.pay_channel.specs.Source.{GrowsOnly}
-use Rattle.pay_channel.specs.History.{seqs, known_from, listed}
-use Rattle.pay_channel.specs.State.{State, IsSound, meaning_at, value_at, lists_of}
+use Rattle.pay_channel.specs.History.{seqs, known_from, listed_values}
+use Rattle.pay_channel.specs.State.{State, IsSound, meaning_at, delivered_value_at, channel_lists}
 use Rattle.pay_channel.specs.Applied.{SeesIfVote, IsAsBefore}
 use Rattle.pay_channel.proofs.Lists.{either}
 
@@ -55,11 +55,11 @@ known_from-grows old new s (suc n) keeps = go (old s) refl (known_from-grows old
 
 -- ---- states that nothing tells apart
 
-pub lists-same : (old new : State) → new.group ≡ old.group → ((a s : ℕ) → meaning_at new a s ≡ meaning_at old a s) → (a : ℕ) → lists_of new a ≡ lists_of old a
-unfolding lists_of value_at
+pub lists-same : (old new : State) → new.group ≡ old.group → ((a s : ℕ) → meaning_at new a s ≡ meaning_at old a s) → (a : ℕ) → channel_lists new a ≡ channel_lists old a
+unfolding channel_lists delivered_value_at
 lists-same old new group same a =
-    let values : value_at new ≡ value_at old = λ i b s. (same b s i).delivered in
-    ap₂ (λ (g : Group) (at : ℕ → ℕ → Option (List ℕ)). listed g at a) group values
+    let values : delivered_value_at new ≡ delivered_value_at old = λ i b s. (same b s i).delivered in
+    ap₂ (λ (g : Group) (at : ℕ → ℕ → Option (List ℕ)). listed_values g at a) group values
 
 pub IsSound-same : (old new : State) (lengths : List ℕ) → IsAsBefore old new → IsSound old lengths → IsSound new lengths
 IsSound-same old new lengths same sound =
@@ -95,40 +95,40 @@ module _ (delivered_stays : DeliveredStays) (old new : State) (lengths : List �
       (λ e. let was = sound.reached b t in
       (was.0, [], was.1, others b t e ∙ was.1 ∙ ap (meaning_of old.group) (sym (append-nil was.0))))
 
-  delivered_keeps : (b : ℕ) → Keeps (value_at old b) (value_at new b)
-  unfolding value_at meaning_of
+  delivered_keeps : (b : ℕ) → Keeps (delivered_value_at old b) (delivered_value_at new b)
+  unfolding delivered_value_at meaning_of
   delivered_keeps b t v e =
       let l = longer b t in
       ap (λ (m : Meaning). m.delivered) l.3
       ∙ delivered_stays old.group l.0 l.1 v (sym (ap (λ (m : Meaning). m.delivered) l.2) ∙ e)
 
-  lists-others : (b : ℕ) → b ≢ a → lists_of new b ≡ lists_of old b
-  unfolding lists_of listed value_at
+  lists-others : (b : ℕ) → b ≢ a → channel_lists new b ≡ channel_lists old b
+  unfolding channel_lists listed_values delivered_value_at
   lists-others b ne =
-      let values : value_at new b ≡ value_at old b = λ i t. (others b t (and_left (eqb a b) (eqb s t) (ne_eqb a b (λ e. ne (sym e)))) i).delivered in
+      let values : delivered_value_at new b ≡ delivered_value_at old b = λ i t. (others b t (and_left (eqb a b) (eqb s t) (ne_eqb a b (λ e. ne (sym e)))) i).delivered in
       ap₂ (λ (g : Group) (at : ℕ → Option (List ℕ)). cond (ltb b g.members) (known_from at 0 seqs) []) group values
 
   module _ (member : a < old.group.members) where
     -- the values that follow the old list
     abbrev pub following : List (List ℕ)
-    following = known_from (value_at new a) (length (lists_of old a)) (seqs - length (lists_of old a))
+    following = known_from (delivered_value_at new a) (length (channel_lists old a)) (seqs - length (channel_lists old a))
 
-    lists-old : lists_of old a ≡ known_from (value_at old a) 0 seqs
-    unfolding lists_of listed
-    lists-old = cond-true (ltb a old.group.members) (known_from (value_at old a) 0 seqs) [] (lt-ltb a old.group.members member)
+    lists-old : channel_lists old a ≡ known_from (delivered_value_at old a) 0 seqs
+    unfolding channel_lists listed_values
+    lists-old = cond-true (ltb a old.group.members) (known_from (delivered_value_at old a) 0 seqs) [] (lt-ltb a old.group.members member)
 
-    lists-new : lists_of new a ≡ known_from (value_at new a) 0 seqs
-    unfolding lists_of listed
+    lists-new : channel_lists new a ≡ known_from (delivered_value_at new a) 0 seqs
+    unfolding channel_lists listed_values
     lists-new =
         let below : ltb a new.group.members ≡ true = ap (λ (g : Group). ltb a g.members) group ∙ lt-ltb a old.group.members member in
-        cond-true (ltb a new.group.members) (known_from (value_at new a) 0 seqs) [] below
+        cond-true (ltb a new.group.members) (known_from (delivered_value_at new a) 0 seqs) [] below
 
-    pub lists-grown : lists_of new a ≡ lists_of old a ++ following
+    pub lists-grown : channel_lists new a ≡ channel_lists old a ++ following
     lists-grown =
-        lists-new ∙ known_from-grows (value_at old a) (value_at new a) 0 seqs (delivered_keeps a)
-        ∙ ap₂ (λ (xs : List (List ℕ)) (n : ℕ). xs ++ known_from (value_at new a) n (seqs - length xs)) (sym lists-old) (zero-add (length (known_from (value_at old a) 0 seqs)) ∙ ap length (sym lists-old))
+        lists-new ∙ known_from-grows (delivered_value_at old a) (delivered_value_at new a) 0 seqs (delivered_keeps a)
+        ∙ ap₂ (λ (xs : List (List ℕ)) (n : ℕ). xs ++ known_from (delivered_value_at new a) n (seqs - length xs)) (sym lists-old) (zero-add (length (known_from (delivered_value_at old a) 0 seqs)) ∙ ap length (sym lists-old))
 
-    pub lists-grow : GrowsOnly (lists_of old) (lists_of new) a
+    pub lists-grow : GrowsOnly (channel_lists old) (channel_lists new) a
     lists-grow = record { grown = (following, lists-grown); others = lists-others }
 
     -- the lengths with that many more at a
@@ -137,7 +137,7 @@ module _ (delivered_stays : DeliveredStays) (old new : State) (lengths : List �
         let Few : Group → Type 0 = λ g. g.members ≤ MOST_MEMBERS in
         let Own : Group → Type 0 = λ g. g.own < g.members in
         let inside : a < length lengths = rw sound.places member in
-        let total : get_or lengths a 0 + more ≡ length (lists_of new a) = omega (arith, sound.counted a member, e, ap length lists-grown, length-append (lists_of old a) following) in
+        let total : get_or lengths a 0 + more ≡ length (channel_lists new a) = omega (arith, sound.counted a member, e, ap length lists-grown, length-append (channel_lists old a) following) in
         record {
           few = subst Few (sym group) sound.few;
           own = subst Own (sym group) sound.own;

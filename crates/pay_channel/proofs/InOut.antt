@@ -9,7 +9,7 @@ use Rattle.pay_frame.specs.Frame.{BodyFields}
 use Rattle.pay_echo.specs.Broadcast.{Group, echoed, readied}
 use Rattle.pay_echo.specs.Laws.{EchoedStays, ReadiedStays, NotReadyAtFirst}
 use Rattle.pay_channel.specs.History.{Event, Ask, From, asks, owner_of, seq_of, is_about, votes_in, votes, body_of, newly, send_of, says, out}
-use Rattle.pay_channel.specs.SentLaws.{is_echo, is_ready, is_said, EchoInOut, ReadyInOut, EchoIsSaid, ReadyIsSaid}
+use Rattle.pay_channel.specs.SentLaws.{is_echo, is_ready_kind, is_said, EchoInOut, ReadyInOut, EchoIsSaid, ReadyIsSaid}
 use Rattle.pay_channel.proofs.Lists.{either, by_push, Contains-filter, filter-Contains, option-Contains, Contains-option}
 use Rattle.pay_channel.proofs.Project.{votes-push, out-push, votes_in-other}
 
@@ -81,14 +81,14 @@ echo_in_out stays g history a s = by_push (HasEcho stays g a s) refl (HasEcho-pu
 
 module _ (stays : ReadiedStays) (g : Group) (a s : ℕ) where
   HasReady : List Event → Type 0
-  HasReady history = filter (is_said is_ready a s) (out g history) ≡ map (body_of Ready a s) (option_to_list (readied g (votes g.own a s history)))
+  HasReady history = filter (is_said is_ready_kind a s) (out g history) ≡ map (body_of Ready a s) (option_to_list (readied g (votes g.own a s history)))
 
-  ready_said : (history : List Event) (e : Event) (b t : ℕ) (o n r q : Option (List ℕ)) → filter (is_said is_ready a s) (send_of g.own (asks history) e ++ newly Echo b t o n ++ newly Ready b t r q) ≡ filter (is_said is_ready a s) (newly Ready b t r q)
+  ready_said : (history : List Event) (e : Event) (b t : ℕ) (o n r q : Option (List ℕ)) → filter (is_said is_ready_kind a s) (send_of g.own (asks history) e ++ newly Echo b t o n ++ newly Ready b t r q) ≡ filter (is_said is_ready_kind a s) (newly Ready b t r q)
   ready_said history e b t o n r q =
-      filter-append (is_said is_ready a s) (send_of g.own (asks history) e ++ newly Echo b t o n) (newly Ready b t r q)
-      ∙ ap (λ (xs : List BodyFields). xs ++ filter (is_said is_ready a s) (newly Ready b t r q))
-      (filter-append (is_said is_ready a s) (send_of g.own (asks history) e) (newly Echo b t o n)
-      ∙ ap₂ (λ (xs ys : List BodyFields). xs ++ ys) (send-apart (is_said is_ready a s) g.own (asks history) e (λ v. refl)) (newly-apart (is_said is_ready a s) Echo b t o n (λ v. refl)))
+      filter-append (is_said is_ready_kind a s) (send_of g.own (asks history) e ++ newly Echo b t o n) (newly Ready b t r q)
+      ∙ ap (λ (xs : List BodyFields). xs ++ filter (is_said is_ready_kind a s) (newly Ready b t r q))
+      (filter-append (is_said is_ready_kind a s) (send_of g.own (asks history) e) (newly Echo b t o n)
+      ∙ ap₂ (λ (xs ys : List BodyFields). xs ++ ys) (send-apart (is_said is_ready_kind a s) g.own (asks history) e (λ v. refl)) (newly-apart (is_said is_ready_kind a s) Echo b t o n (λ v. refl)))
 
   HasReady-push : (history : List Event) (e : Event) → HasReady history → HasReady (history ++ e ∷ [])
   unfolding HasReady says
@@ -100,20 +100,20 @@ module _ (stays : ReadiedStays) (g : Group) (a s : ℕ) where
       let r = readied g (votes g.own b t history) in
       let q = readied g (votes g.own b t (history ++ e ∷ [])) in
       let said = ready_said history e b t (echoed (votes g.own b t history)) (echoed (votes g.own b t (history ++ e ∷ []))) r q in
-      ap (filter (is_said is_ready a s)) (out-push g history e)
-      ∙ filter-append (is_said is_ready a s) (out g history) (says g history e)
+      ap (filter (is_said is_ready_kind a s)) (out-push g history e)
+      ∙ filter-append (is_said is_ready_kind a s) (out g history) (says g history e)
       ∙ ap₂ (λ (xs ys : List BodyFields). xs ++ ys) before said
       ∙ either (cases_Bool (is_about g.own a s (asks history) e))
       (λ about.
       let same = same_place b a t s about in
       let grows : (w : List ℕ) → readied g old ≡ Some w → readied g new ≡ Some w = λ w is. ap (readied g) (votes-push g.own a s history e) ∙ stays g old (votes_in g.own a s (asks history) e) w is in
       ap (λ (xs : List BodyFields). map (body_of Ready a s) (option_to_list (readied g old)) ++ xs)
-      (newly-kept (is_said is_ready a s) Ready b t r q (λ v. about)
+      (newly-kept (is_said is_ready_kind a s) Ready b t r q (λ v. about)
       ∙ ap₂ (λ x y. newly Ready x y (readied g (votes g.own x y history)) (readied g (votes g.own x y (history ++ e ∷ [])))) same.0 same.1)
       ∙ joined Ready a s (readied g old) (readied g new) grows)
       (λ about.
       let still : new ≡ old = votes-push g.own a s history e ∙ ap (λ vs. old ++ vs) (votes_in-other g.own a s (asks history) e about) ∙ append-nil old in
-      ap (λ (xs : List BodyFields). map (body_of Ready a s) (option_to_list (readied g old)) ++ xs) (newly-apart (is_said is_ready a s) Ready b t r q (λ v. about))
+      ap (λ (xs : List BodyFields). map (body_of Ready a s) (option_to_list (readied g old)) ++ xs) (newly-apart (is_said is_ready_kind a s) Ready b t r q (λ v. about))
       ∙ append-nil (map (body_of Ready a s) (option_to_list (readied g old)))
       ∙ ap (λ vs. map (body_of Ready a s) (option_to_list (readied g vs))) (sym still))
 
@@ -124,8 +124,8 @@ ready_in_out stays none g history a s =
 
 -- ---- the same as membership
 
-said-self : (a s : ℕ) → (eqb a a && eqb s s) ≡ true
-said-self a s = and_from (eqb a a) (eqb s s) (eq-eqb a a refl) (eq-eqb s s refl)
+bodies_said-self : (a s : ℕ) → (eqb a a && eqb s s) ≡ true
+bodies_said-self a s = and_from (eqb a a) (eqb s s) (eq-eqb a a refl) (eq-eqb s s refl)
 
 same-value : (kind : Kind) (a s : ℕ) (v w : List ℕ) → body_of kind a s w ≡ body_of kind a s v → w ≡ v
 same-value kind a s v w e = ap (λ (b : BodyFields). b.value) e
@@ -148,14 +148,14 @@ pub echo_is_said : EchoedStays → EchoIsSaid
 echo_is_said stays g history a s v =
     let kept = echo_in_out stays g history a s in
     let o = echoed (votes g.own a s history) in (
-      known-said Echo a s v (out g history) (is_said is_echo a s) o (said-self a s) kept,
-      said-known Echo a s v (out g history) (is_said is_echo a s) o (said-self a s) kept,
+      known-said Echo a s v (out g history) (is_said is_echo a s) o (bodies_said-self a s) kept,
+      said-known Echo a s v (out g history) (is_said is_echo a s) o (bodies_said-self a s) kept,
     )
 
 pub ready_is_said : ReadiedStays → NotReadyAtFirst → ReadyIsSaid
 ready_is_said stays none g history a s v =
     let kept = ready_in_out stays none g history a s in
     let o = readied g (votes g.own a s history) in (
-      known-said Ready a s v (out g history) (is_said is_ready a s) o (said-self a s) kept,
-      said-known Ready a s v (out g history) (is_said is_ready a s) o (said-self a s) kept,
+      known-said Ready a s v (out g history) (is_said is_ready_kind a s) o (bodies_said-self a s) kept,
+      said-known Ready a s v (out g history) (is_said is_ready_kind a s) o (bodies_said-self a s) kept,
     )

@@ -7,8 +7,8 @@ use Rattle.pay_frame.specs.declared.limits.TheConstants.{MOST_MEMBERS}
 use Rattle.pay_echo.specs.Broadcast.{Group}
 use Rattle.pay_echo.specs.Meaning.{meaning_of}
 use Rattle.pay_echo.specs.Laws.{NotDeliveredAtFirst}
-use Rattle.pay_channel.specs.History.{seqs, known_from, listed, votes, asks, out}
-use Rattle.pay_channel.specs.State.{State, IsSound, Follows, meaning_at, value_at, lists_of}
+use Rattle.pay_channel.specs.History.{seqs, known_from, listed_values, votes, asks, out}
+use Rattle.pay_channel.specs.State.{State, IsSound, IsStateBy, meaning_at, delivered_value_at, channel_lists}
 use Rattle.pay_channel.proofs.Grown.{known_from-some, known_from-none}
 
 -- the k-th value of a list is the k-th number's
@@ -35,41 +35,41 @@ cond-nil : (b : Bool) (xs : List (List ℕ)) (k : ℕ) → k < length (cond b xs
 cond-nil true xs k h = refl
 cond-nil false xs k h = absurd (omega arith)
 
-pub lists-at : (c : State) (a k : ℕ) → k < length (lists_of c a) → slice_get (lists_of c a) k ≡ value_at c a k
-unfolding lists_of listed
+pub lists-at : (c : State) (a k : ℕ) → k < length (channel_lists c a) → slice_get (channel_lists c a) k ≡ delivered_value_at c a k
+unfolding channel_lists listed_values
 lists-at c a k below =
-    let member = cond-nil (ltb a c.group.members) (known_from (value_at c a) 0 seqs) k below in
-    let whole = cond-true (ltb a c.group.members) (known_from (value_at c a) 0 seqs) [] member in
+    let member = cond-nil (ltb a c.group.members) (known_from (delivered_value_at c a) 0 seqs) k below in
+    let whole = cond-true (ltb a c.group.members) (known_from (delivered_value_at c a) 0 seqs) [] member in
     ap (λ (xs : List (List ℕ)). slice_get xs k) whole
-    ∙ known_at (value_at c a) 0 seqs k (omega (arith, below, ap length whole))
-    ∙ ap (value_at c a) (zero-add k)
+    ∙ known_at (delivered_value_at c a) 0 seqs k (omega (arith, below, ap length whole))
+    ∙ ap (delivered_value_at c a) (zero-add k)
 
-listed_is_known : (c : State) (a k : ℕ) → k < length (lists_of c a) → value_at c a k ≡ None → ⊥
-listed_is_known c a k below e = slice_get-none (lists_of c a) k below (lists-at c a k below ∙ e)
+listed_is_known : (c : State) (a k : ℕ) → k < length (channel_lists c a) → delivered_value_at c a k ≡ None → ⊥
+listed_is_known c a k below e = slice_get-none (channel_lists c a) k below (lists-at c a k below ∙ e)
 
-pub listed_is_there : (c : State) (a k : ℕ) (found : Option (Bor (List ℕ))) → k < length (lists_of c a) → option_copied found ≡ value_at c a k → IsSome found
+pub listed_is_there : (c : State) (a k : ℕ) (found : Option (Bor (List ℕ))) → k < length (channel_lists c a) → option_copied found ≡ delivered_value_at c a k → IsSome found
 listed_is_there c a k (Some value) below e = refl
 listed_is_there c a k None below e = absurd (listed_is_known c a k below (sym e))
 
-pub lists_nobody : (c : State) (a : ℕ) → c.group.members ≤ a → lists_of c a ≡ []
-unfolding lists_of listed
-lists_nobody c a past = cond-false (ltb a c.group.members) (known_from (value_at c a) 0 seqs) [] (le-ltb a c.group.members past)
+pub lists_nobody : (c : State) (a : ℕ) → c.group.members ≤ a → channel_lists c a ≡ []
+unfolding channel_lists listed_values
+lists_nobody c a past = cond-false (ltb a c.group.members) (known_from (delivered_value_at c a) 0 seqs) [] (le-ltb a c.group.members past)
 
 -- a channel that took nothing
 abbrev pub blank : Group → State
 blank g = record { group = g; asks = 0; slots = []; sent = [] }
 
-value_at-blank : NotDeliveredAtFirst → (g : Group) (a s : ℕ) → value_at (blank g) a s ≡ None
-unfolding value_at meaning_at meaning_of
-value_at-blank delivered-none g a s = delivered-none g
+delivered_value_at-blank : NotDeliveredAtFirst → (g : Group) (a s : ℕ) → delivered_value_at (blank g) a s ≡ None
+unfolding delivered_value_at meaning_at meaning_of
+delivered_value_at-blank delivered-none g a s = delivered-none g
 
-lists-blank : NotDeliveredAtFirst → (g : Group) (a : ℕ) → lists_of (blank g) a ≡ []
-unfolding lists_of listed
+lists-blank : NotDeliveredAtFirst → (g : Group) (a : ℕ) → channel_lists (blank g) a ≡ []
+unfolding channel_lists listed_values
 lists-blank delivered-none g a = go (ltb a g.members) where
-  none : known_from (value_at (blank g) a) 0 (suc 65535) ≡ []
-  none = known_from-none (value_at (blank g) a) 0 65535 (value_at-blank delivered-none g a 0)
+  none : known_from (delivered_value_at (blank g) a) 0 (suc 65535) ≡ []
+  none = known_from-none (delivered_value_at (blank g) a) 0 65535 (delivered_value_at-blank delivered-none g a 0)
 
-  go : (b : Bool) → cond b (known_from (value_at (blank g) a) 0 seqs) [] ≡ []
+  go : (b : Bool) → cond b (known_from (delivered_value_at (blank g) a) 0 seqs) [] ≡ []
   go true = none
   go false = refl
 
@@ -84,6 +84,6 @@ IsSound-blank delivered-none g few own =
       counted = λ a below. get_or-replicate g.members a 0 0 below ∙ sym (ap length (lists-blank delivered-none g a));
     }
 
-pub Follows-blank : (g : Group) → Follows (blank g) []
+pub IsStateBy-blank : (g : Group) → IsStateBy (blank g) []
 unfolding meaning_at votes asks out
-Follows-blank g = record { meanings = λ a s. refl; asks = refl; sent = refl }
+IsStateBy-blank g = record { meanings = λ a s. refl; asks = refl; sent = refl }

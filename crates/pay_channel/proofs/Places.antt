@@ -1,7 +1,7 @@
 -- Accounts' lists place by place, and what follows from that alone.
 use Rattle.std.proofs.Common.{◌≡◌, ◌≢◌, ℕ, zero, suc, ◌+◌, ◌<◌, ◌≤◌, Bool, true, false, cond, ltb, List, [], length, slice_get, Option, None, Some, refl, sym, ap, ap₂, ◌∙◌, arith, zero-add, lt-ltb, ltb-true, le-ltb}
 use Rattle.std.proofs.lemmas.Bool.{cond-true, cond-false}
-use Rattle.pay_channel.specs.History.{seqs, known_from, listed, delivered_at, list_of}
+use Rattle.pay_channel.specs.History.{seqs, known_from, listed_values, delivered_at, list_of}
 use Rattle.pay_channel.specs.ListLaws.{AreKnown, PlaceIsValue, PlaceIsDelivered, ListedIsDelivered, ListIsShort, ListReaches, ListEnds, EmptyOfNobody, ListIsValues, ListBeginsValues, ListsAlike, ListsCompare}
 use Rattle.pay_channel.proofs.Lists.{none_some, slice_get-inside, slice_get-some, prefix_by_place, same_by_place, compare_by_place}
 use Rattle.pay_channel.proofs.Grown.{known_from-some, known_from-none}
@@ -59,7 +59,7 @@ known-there at s (suc n) (suc k) v below before is = go (at s) refl (known-there
 -- ---- of an account, if there is one
 
 pub place_is_value : PlaceIsValue
-unfolding listed
+unfolding listed_values
 place_is_value g at a k v = (there (ltb a g.members) (ltb-true a g.members), back) where
   there : (b : Bool) → (b ≡ true → a < g.members) → slice_get (cond b (known_from (at a) 0 seqs) []) k ≡ Some v → (a < g.members) × (k < seqs) × AreKnown (at a) k × (at a k ≡ Some v)
   there true member found =
@@ -119,7 +119,7 @@ list_ends g history a member short = go (delivered_at g history a (length (list_
       absurd (omega arith)
 
 pub empty_of_nobody : EmptyOfNobody
-unfolding list_of listed
+unfolding list_of listed_values
 empty_of_nobody g history a past = cond-false (ltb a g.members) (known_from (delivered_at g history a) 0 seqs) [] (le-ltb a g.members past)
 
 -- ---- a list and given values
@@ -143,7 +143,7 @@ list_is_values g history a values member few same =
 -- ---- two lists
 
 pub lists_alike : ListsAlike
-unfolding list_of listed
+unfolding list_of listed_values
 lists_alike g h one other a members same =
     let values : delivered_at g one a ≡ delivered_at h other a = λ i s. same s i in
     ap₂ (λ (n : ℕ) (at : ℕ → Option (List ℕ)). cond (ltb a n) (known_from at 0 seqs) []) members values

@@ -6,27 +6,27 @@ use Rattle.std.proofs.lemmas.List.Sums.{sum_by-cons}
 use Rattle.std.proofs.lemmas.List.Elements.{filter_map-append}
 use Rattle.pay_frame.specs.Frame.{BodyFields}
 use Rattle.pay_channel.specs.History.{Event, Ask, From}
-use Rattle.pay_channel.specs.Taken.{is_from, body_from, taken}
+use Rattle.pay_channel.specs.Taken.{is_from, body_from, taken_bodies}
 use Rattle.pay_channel.specs.TakenLaws.{NothingTakenAtFirst, TakenByOneMore, TakenFromHere, TakenFromElsewhere, TakenGrows, TakenIsFrom, NextIsCount, NextByOneMore}
 use Rattle.pay_channel.proofs.Lists.{none_some, some_same, came_by_push, there_by_push}
 
 pub nothing_taken_at_first : NothingTakenAtFirst
-unfolding taken
+unfolding taken_bodies
 nothing_taken_at_first p = refl
 
 pub taken_grows : TakenGrows
-unfolding taken
+unfolding taken_bodies
 taken_grows p history more = filter_map-append (body_from p) history more
 
-taken-one : (p : ℕ) (e : Event) → taken p (e ∷ []) ≡ option_to_list (body_from p e)
-unfolding taken
-taken-one p e = go (body_from p e) where
+taken_bodies-one : (p : ℕ) (e : Event) → taken_bodies p (e ∷ []) ≡ option_to_list (body_from p e)
+unfolding taken_bodies
+taken_bodies-one p e = go (body_from p e) where
   go : (o : Option BodyFields) → cons_option o [] ≡ option_to_list o
   go None = refl
   go (Some body) = refl
 
 pub taken_by_one_more : TakenByOneMore
-taken_by_one_more p history e = taken_grows p history (e ∷ []) ∙ ap (λ bodies. taken p history ++ bodies) (taken-one p e)
+taken_by_one_more p history e = taken_grows p history (e ∷ []) ∙ ap (λ bodies. taken_bodies p history ++ bodies) (taken_bodies-one p e)
 
 body_from-here : (p : ℕ) (body : BodyFields) → body_from p (From p body) ≡ Some body
 body_from-here p body = cond-true (eqb p p) (Some body) None (eq-eqb p p refl)
@@ -37,13 +37,13 @@ body_from-elsewhere p (From q body) other = cond-false (eqb q p) (Some body) Non
 
 pub taken_from_here : TakenFromHere
 taken_from_here p history body =
-    taken_by_one_more p history (From p body) ∙ ap (λ (o : Option BodyFields). taken p history ++ option_to_list o) (body_from-here p body)
+    taken_by_one_more p history (From p body) ∙ ap (λ (o : Option BodyFields). taken_bodies p history ++ option_to_list o) (body_from-here p body)
 
 pub taken_from_elsewhere : TakenFromElsewhere
 taken_from_elsewhere p history e other =
     taken_by_one_more p history e
-    ∙ ap (λ (o : Option BodyFields). taken p history ++ option_to_list o) (body_from-elsewhere p e other)
-    ∙ append-nil (taken p history)
+    ∙ ap (λ (o : Option BodyFields). taken_bodies p history ++ option_to_list o) (body_from-elsewhere p e other)
+    ∙ append-nil (taken_bodies p history)
 
 -- ---- whose bodies they are
 
@@ -71,8 +71,8 @@ given-there p body history =
 
 pub taken_is_from : TakenIsFrom
 taken_is_from p history body = (
-  came_by_push (taken p) (Given p) (taken_by_one_more p) (From p body) body (nothing_taken_at_first p) (given-is p body) history,
-  there_by_push (taken p) (Given p) (taken_by_one_more p) (From p body) body (given-there p body) history,
+  came_by_push (taken_bodies p) (Given p) (taken_by_one_more p) (From p body) body (nothing_taken_at_first p) (given-is p body) history,
+  there_by_push (taken_bodies p) (Given p) (taken_by_one_more p) (From p body) body (given-there p body) history,
 )
 
 -- ---- how many they are
@@ -88,14 +88,14 @@ count_from p (From q body ∷ history) =
       go false rest = omega arith
 
 pub next_is_count : NextIsCount
-unfolding taken
+unfolding taken_bodies
 next_is_count p history = count_from p history
 
 pub next_by_one_more : NextByOneMore
 next_by_one_more p history e = ap length (taken_by_one_more p history e) ∙ go e where
-  go : (d : Event) → length (taken p history ++ option_to_list (body_from p d)) ≡ cond (is_from p d) (length (taken p history) + 1) (length (taken p history))
-  go (Ask v) = ap length (append-nil (taken p history))
+  go : (d : Event) → length (taken_bodies p history ++ option_to_list (body_from p d)) ≡ cond (is_from p d) (length (taken_bodies p history) + 1) (length (taken_bodies p history))
+  go (Ask v) = ap length (append-nil (taken_bodies p history))
   go (From q body) = here (eqb q p) where
-    here : (t : Bool) → length (taken p history ++ option_to_list (cond t (Some body) None)) ≡ cond t (length (taken p history) + 1) (length (taken p history))
-    here true = length-append (taken p history) (body ∷ [])
-    here false = ap length (append-nil (taken p history))
+    here : (t : Bool) → length (taken_bodies p history ++ option_to_list (cond t (Some body) None)) ≡ cond t (length (taken_bodies p history) + 1) (length (taken_bodies p history))
+    here true = length-append (taken_bodies p history) (body ∷ [])
+    here false = ap length (append-nil (taken_bodies p history))

@@ -2,8 +2,8 @@
 use Rattle.std.proofs.Common.{◌≡◌, ℕ, zero, suc, ◌+◌, ◌<◌, false, List, length, Option, None, Some, refl, sym, ap, ◌∙◌, lt-ltb, ltb, [], zero-add, arith}
 use Rattle.std.proofs.lemmas.Bool.{cond-true}
 use Rattle.pay_echo.specs.Meaning.{became}
-use Rattle.pay_channel.specs.History.{seqs, known_from, listed}
-use Rattle.pay_channel.specs.State.{State, value_at, lists_of}
+use Rattle.pay_channel.specs.History.{seqs, known_from, listed_values}
+use Rattle.pay_channel.specs.State.{State, delivered_value_at, channel_lists}
 use Rattle.pay_channel.proofs.Grown.{known_from-some, known_from-none}
 
 known_from-ends : (at : ℕ → Option (List ℕ)) (s n : ℕ) → length (known_from at s n) < n → at (s + length (known_from at s n)) ≡ None
@@ -19,13 +19,13 @@ known_from-ends at s (suc n) less = go (at s) refl (known_from-ends at (s + 1) n
       let there : s + length (known_from at s (suc n)) ≡ (s + 1) + length (known_from at (s + 1) n) = omega (arith, one) in
       ap at there ∙ rest (omega (arith, one, less))
 
-pub next_is_unknown : (c : State) (a : ℕ) → a < c.group.members → length (lists_of c a) < seqs → value_at c a (length (lists_of c a)) ≡ None
-unfolding lists_of listed
+pub next_is_unknown : (c : State) (a : ℕ) → a < c.group.members → length (channel_lists c a) < seqs → delivered_value_at c a (length (channel_lists c a)) ≡ None
+unfolding channel_lists listed_values
 next_is_unknown c a member less =
-    let all = known_from (value_at c a) 0 seqs in
-    let list : lists_of c a ≡ all = cond-true (ltb a c.group.members) all [] (lt-ltb a c.group.members member) in
+    let all = known_from (delivered_value_at c a) 0 seqs in
+    let list : channel_lists c a ≡ all = cond-true (ltb a c.group.members) all [] (lt-ltb a c.group.members member) in
     let short : length all < seqs = omega (arith, ap length list, less) in
-    ap (λ xs. value_at c a (length xs)) list ∙ ap (value_at c a) (sym (zero-add (length all))) ∙ known_from-ends (value_at c a) 0 seqs short
+    ap (λ xs. delivered_value_at c a (length xs)) list ∙ ap (delivered_value_at c a) (sym (zero-add (length all))) ∙ known_from-ends (delivered_value_at c a) 0 seqs short
 
 pub still_unknown : (old new : Option (List ℕ)) → old ≡ None → became old new ≡ false → new ≡ None
 still_unknown None None unknown quiet = refl

@@ -14,13 +14,13 @@ use Rattle.pay_echo.specs.Meaning.{Meaning, meaning_of}
 use Rattle.pay_echo.specs.Moves.{IsMoves}
 use Rattle.pay_echo.specs.declared.moves.Moves.{Moves}
 use Rattle.pay_channel.specs.Source.{GrowsOnly}
-use Rattle.pay_channel.specs.History.{body_of, seqs, known_from, listed}
-use Rattle.pay_channel.specs.State.{State, Slot, IsSound, meaning_in, meaning_at, value_at, lists_of}
+use Rattle.pay_channel.specs.History.{body_of, seqs, known_from, listed_values}
+use Rattle.pay_channel.specs.State.{State, Slot, IsSound, meaning_in, meaning_at, delivered_value_at, channel_lists}
 use Rattle.pay_channel.specs.Hearing.{HearsVote, IsOutgoing}
 use Rattle.pay_channel.specs.declared.outgoing.Outgoing.{Outgoing}
-use Rattle.pay_channel.specs.Applied.{said, TakesVote, IsToldOf, IsAsBefore}
+use Rattle.pay_channel.specs.Applied.{bodies_said, TakesVote, IsToldOf, IsAsBefore}
 use Rattle.pay_channel.proofs.Grown.{known_from-short, IsSound-same, lists-grow, lists-grown, IsSound-voted}
-use Rattle.pay_channel.proofs.Said.{told, said-of_vote}
+use Rattle.pay_channel.proofs.Said.{told, bodies_said-of_vote}
 use Rattle.pay_channel.proofs.Lists.{either}
 use Rattle.pay_channel.proofs.Unlisted.{next_is_unknown, still_unknown}
 
@@ -33,10 +33,10 @@ unfolding meaning_at
 reached_at c lengths sound a s = sound.reached a s
 
 -- a list has at most as many values as there are numbers
-pub lists-short : (c : State) (a : ℕ) → length (lists_of c a) ≤ seqs
-unfolding lists_of listed
-lists-short c a = go (ltb a c.group.members) (known_from-short (value_at c a) 0 seqs) where
-  go : (b : Bool) → length (known_from (value_at c a) 0 seqs) ≤ seqs → length (cond b (known_from (value_at c a) 0 seqs) []) ≤ seqs
+pub lists-short : (c : State) (a : ℕ) → length (channel_lists c a) ≤ seqs
+unfolding channel_lists listed_values
+lists-short c a = go (ltb a c.group.members) (known_from-short (delivered_value_at c a) 0 seqs) where
+  go : (b : Bool) → length (known_from (delivered_value_at c a) 0 seqs) ≤ seqs → length (cond b (known_from (delivered_value_at c a) 0 seqs) []) ≤ seqs
   go true short = short
   go false short = omega arith
 
@@ -72,7 +72,7 @@ module _ (g : Group) (asks : ℕ) (slots after : List Slot) (sent said_now : Lis
   kept_sound same unsaid sound = IsSound-same before_it after_it lengths (kept same unsaid) sound
 
   module _ (delivered_stays : DeliveredStays) (a s : ℕ) (x : Vote) (sound : IsSound before_it lengths) (hears : HearsVote g slots after a s x) where
-    pub voted_grow : a < g.members → GrowsOnly (lists_of before_it) (lists_of after_it) a
+    pub voted_grow : a < g.members → GrowsOnly (channel_lists before_it) (channel_lists after_it) a
     unfolding meaning_at
     voted_grow member = lists-grow delivered_stays before_it after_it lengths a s (Some x) sound refl hears.here hears.others member
 
@@ -81,8 +81,8 @@ module _ (g : Group) (asks : ℕ) (slots after : List Slot) (sent said_now : Lis
     voted echoed_more readied_more sent_is send out is pushed =
         let was = sound.reached a s in
         let v = value_of x in
-        let bodies : said a s (meaning_in g slots a s) (meaning_in g after a s) ≡ option_to_list out.echo ++ option_to_list out.ready =
-        said-of_vote echoed_more readied_more sent_is a s g was.0 x (meaning_in g slots a s) (meaning_in g after a s) was.1 hears.here
+        let bodies : bodies_said a s (meaning_in g slots a s) (meaning_in g after a s) ≡ option_to_list out.echo ++ option_to_list out.ready =
+        bodies_said-of_vote echoed_more readied_more sent_is a s g was.0 x (meaning_in g slots a s) (meaning_in g after a s) was.1 hears.here
         ∙ ap₂ (λ (b c : Bool). told Echo a s v b ++ told Ready a s v c) (sym is.moves.echo) (sym is.moves.ready)
         ∙ ap₂ (λ (xs ys : List BodyFields). xs ++ ys) (sym (told-is Echo a s v out.moves.echo out.echo is.echo)) (sym (told-is Ready a s v out.moves.ready out.ready is.ready)) in
         record {
@@ -96,11 +96,11 @@ module _ (g : Group) (asks : ℕ) (slots after : List Slot) (sent said_now : Lis
         }
 
     module _ (member : a < g.members) (from more : ℕ) (from_is : from ≡ get_or lengths a 0) (counted : more ≡ length (known_from (λ t. (meaning_in g after a t).delivered) from (seqs - from))) where
-      from_is_length : from ≡ length (lists_of before_it a)
+      from_is_length : from ≡ length (channel_lists before_it a)
       from_is_length = from_is ∙ sound.counted a member
 
-      more_is : more ≡ length (known_from (value_at after_it a) (length (lists_of before_it a)) (seqs - length (lists_of before_it a)))
-      unfolding value_at meaning_at
+      more_is : more ≡ length (known_from (delivered_value_at after_it a) (length (channel_lists before_it a)) (seqs - length (channel_lists before_it a)))
+      unfolding delivered_value_at meaning_at
       more_is = counted ∙ ap (λ n. length (known_from (λ t. (meaning_in g after a t).delivered) n (seqs - n))) from_is_length
 
       pub voted_sound : IsSound after_it (set lengths a (from + more))
@@ -116,17 +116,17 @@ module _ (g : Group) (asks : ℕ) (slots after : List Slot) (sent said_now : Lis
             echo = are.echo;
             ready = are.ready;
             deliver = are.deliver;
-            grown = ap (λ n. length (lists_of before_it a) + n) more_is
-                ∙ sym (length-append (lists_of before_it a) (known_from (value_at after_it a) (length (lists_of before_it a)) (seqs - length (lists_of before_it a))))
+            grown = ap (λ n. length (channel_lists before_it a) + n) more_is
+                ∙ sym (length-append (channel_lists before_it a) (known_from (delivered_value_at after_it a) (length (channel_lists before_it a)) (seqs - length (channel_lists before_it a))))
                 ∙ ap length (sym (lists-grown delivered_stays before_it after_it lengths a s (Some x) sound refl hears.here hears.others member));
           }
 
     module _ (member : a < g.members) (from : ℕ) (from_is : from ≡ get_or lengths a 0) where
       -- the number after the list, which this vote doesn't deliver
       pub none_behind : (moves : Moves) → IsMoves (meaning_in g slots a s) (meaning_in g after a s) moves → from < seqs → (s ≡ from → moves.deliver ≡ false) → (meaning_in g after a from).delivered ≡ None
-      unfolding value_at meaning_at
+      unfolding delivered_value_at meaning_at
       none_behind moves are more quiet =
-          let length_is : from ≡ length (lists_of before_it a) = from_is ∙ sound.counted a member in
+          let length_is : from ≡ length (channel_lists before_it a) = from_is ∙ sound.counted a member in
           let Was : ℕ → Type 0 = λ n. (meaning_in g slots a n).delivered ≡ None in
           let was : Was from = subst Was (sym length_is) (next_is_unknown before_it a member (omega (arith, length_is, more))) in
           let Is : ℕ → Type 0 = λ n. (meaning_in g after a n).delivered ≡ None in

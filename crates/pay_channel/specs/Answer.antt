@@ -25,6 +25,6 @@ pub record IsAnswerAt (g : Group) (history : List Event) (e : Event) (a s : ℕ)
   pub grown :
       length (list_of g history a) + applied.grown ≡ length (list_of g (history ++ e ∷ []) a)
 
-abbrev pub IsAnswer : Group → List Event → Event → Applied → Type 0
-IsAnswer g history e applied =
+abbrev pub IsChannelAnswer : Group → List Event → Event → Applied → Type 0
+IsChannelAnswer g history e applied =
     IsAnswerAt g history e (owner_of g.own e) (seq_of (asks history) e) applied

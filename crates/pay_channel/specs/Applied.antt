@@ -7,15 +7,15 @@ use Rattle.pay_echo.specs.Broadcast.{Vote}
 use Rattle.pay_echo.specs.Meaning.{Meaning, Sees, became}
 use Rattle.pay_channel.specs.History.{Event, Ask, From, is_ask, owner_of, seq_of, vote_of, is_about}
 use Rattle.pay_channel.specs.History.{send_of, newly}
-use Rattle.pay_channel.specs.State.{State, meaning_at, lists_of}
+use Rattle.pay_channel.specs.State.{State, meaning_at, channel_lists}
 use Rattle.pay_channel.specs.declared.applied.Applied.{Applied}
 use Rattle.pay_channel.specs.declared.event.EventRef.{EventRef}
 use Rattle.pay_channel.specs.declared.event.EventRef.TheVariants as given
 
 -- what an `EventRef` holds
-abbrev pub event_of : EventRef → Event
-event_of (given.Ask value) = Ask value.now
-event_of (given.From process body) = From process body.now
+abbrev pub event_of_ref : EventRef → Event
+event_of_ref (given.Ask value) = Ask value.now
+event_of_ref (given.From process body) = From process body.now
 
 -- one vote more, or none
 abbrev pub SeesIfVote : Meaning → Meaning → Option Vote → Type 0
@@ -23,8 +23,9 @@ SeesIfVote old new None = new ≡ old
 SeesIfVote old new (Some x) = Sees old new x
 
 -- what is said where a broadcast's meaning goes from old to new
-abbrev pub said : ℕ → ℕ → Meaning → Meaning → List BodyFields
-said a s old new = newly Echo a s old.echoed new.echoed ++ newly Ready a s old.readied new.readied
+abbrev pub bodies_said : ℕ → ℕ → Meaning → Meaning → List BodyFields
+bodies_said a s old new =
+    newly Echo a s old.echoed new.echoed ++ newly Ready a s old.readied new.readied
 
 -- one vote more in the broadcast s of account a: the others are as they were, and a SEND, where
 -- there is one, and what became known are at the end of the sent list
@@ -34,7 +35,8 @@ pub record TakesVote (old new : State) (a s : ℕ) (vote : Option Vote) (send : 
   pub asks : new.asks ≡ old.asks
   pub here : SeesIfVote (meaning_at old a s) (meaning_at new a s) vote
   pub others : (b t : ℕ) → (a == b && s == t) ≡ false → meaning_at new b t ≡ meaning_at old b t
-  pub sent : new.sent ≡ old.sent ++ (send ++ said a s (meaning_at old a s) (meaning_at new a s))
+  pub sent :
+      new.sent ≡ old.sent ++ (send ++ bodies_said a s (meaning_at old a s) (meaning_at new a s))
 
 -- what became known of the broadcast s of account a, and by how much the account's list grew
 pub record IsToldOf (old new : State) (a s : ℕ) (applied : Applied) : Type 0 where
@@ -42,7 +44,7 @@ pub record IsToldOf (old new : State) (a s : ℕ) (applied : Applied) : Type 0 w
   pub ready : applied.ready ≡ became (meaning_at old a s).readied (meaning_at new a s).readied
   pub deliver :
       applied.deliver ≡ became (meaning_at old a s).delivered (meaning_at new a s).delivered
-  pub grown : length (lists_of old a) + applied.grown ≡ length (lists_of new a)
+  pub grown : length (channel_lists old a) + applied.grown ≡ length (channel_lists new a)
 
 -- The state after an event: its broadcast has one vote more, the others are as they were, and what
 -- became known is at the end of the sent list.
@@ -60,7 +62,7 @@ pub record Takes (old new : State) (e : Event) : Type 0 where
       new.sent
       ≡ old.sent
       ++ (send_of old.group.own old.asks e
-      ++ said (owner_of old.group.own e) (seq_of old.asks e)
+      ++ bodies_said (owner_of old.group.own e) (seq_of old.asks e)
       (meaning_at old (owner_of old.group.own e) (seq_of old.asks e))
       (meaning_at new (owner_of old.group.own e) (seq_of old.asks e)))
 

@@ -13,18 +13,18 @@ ask_of (Ask v) = Some v
 ask_of (From p body) = None
 
 -- The values that the member broadcast, in order. A value's number is its place, counted from 0.
-unfoldable pub asked : List Event → List (List ℕ)
-asked history = filter_map ask_of history
+unfoldable pub asked_values : List Event → List (List ℕ)
+asked_values history = filter_map ask_of history
 
-abbrev pub is_send : Kind → Bool
-is_send Send = true
-is_send Echo = false
-is_send Ready = false
-is_send Want = false
+abbrev pub is_send_kind : Kind → Bool
+is_send_kind Send = true
+is_send_kind Echo = false
+is_send_kind Ready = false
+is_send_kind Want = false
 
 -- the SENDs of a sent list, in order
 abbrev pub sends_in : List BodyFields → List BodyFields
-sends_in bodies = filter (λ body. is_send body.kind) bodies
+sends_in bodies = filter (λ body. is_send_kind body.kind) bodies
 
 -- the SENDs of account a for its values, each with its place as its number
 abbrev pub sends_of : ℕ → List (List ℕ) → List BodyFields

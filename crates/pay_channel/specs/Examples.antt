@@ -26,5 +26,5 @@ late_first_number =
 
 -- then another member's SEND for number 1 of this member's account, and an ask that gets that
 -- number
-abbrev pub forestalled : List Event
-forestalled = late_first_number ++ From 1 (body_of Send 0 1 Y) ∷ Ask X ∷ []
+abbrev pub forestalled_ask : List Event
+forestalled_ask = late_first_number ++ From 1 (body_of Send 0 1 Y) ∷ Ask X ∷ []

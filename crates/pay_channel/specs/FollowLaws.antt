@@ -1,52 +1,53 @@
 -- What holds of a channel that follows a history, as statements. Each is proved as a public law.
 use Rattle.std.specs.Prelude.{◌≡◌, ℕ, ◌≤◌, List, [], ◌∷◌, ◌++◌, length}
 use Rattle.pay_channel.specs.History.{Event, seqs, delivered_at, list_of}
-use Rattle.pay_channel.specs.State.{State, Follows, value_at, lists_of}
+use Rattle.pay_channel.specs.State.{State, IsStateBy, delivered_value_at, channel_lists}
 use Rattle.pay_channel.specs.Applied.{Takes, IsApplied, IsAsBefore}
-use Rattle.pay_channel.specs.Answer.{IsAnswer}
+use Rattle.pay_channel.specs.Answer.{IsChannelAnswer}
 use Rattle.pay_channel.specs.declared.applied.Applied.{Applied}
 
 -- a channel that takes an event follows the longer history
 abbrev pub ChannelFollows : Type 0
 ChannelFollows =
     (old new : State) (history : List Event) (e : Event)
-    → Takes old new e → Follows old history → Follows new (history ++ e ∷ [])
+    → Takes old new e → IsStateBy old history → IsStateBy new (history ++ e ∷ [])
 
 abbrev pub UnchangedFollows : Type 0
 UnchangedFollows =
     (old new : State) (history : List Event)
-    → IsAsBefore old new → Follows old history → Follows new history
+    → IsAsBefore old new → IsStateBy old history → IsStateBy new history
 
 -- what it delivers and lists is what the history says
 abbrev pub ValuesFollow : Type 0
 ValuesFollow =
-    (c : State) (history : List Event) → Follows c history
-    → (a s : ℕ) → value_at c a s ≡ delivered_at c.group history a s
+    (c : State) (history : List Event) → IsStateBy c history
+    → (a s : ℕ) → delivered_value_at c a s ≡ delivered_at c.group history a s
 
 abbrev pub ListsFollow : Type 0
 ListsFollow =
-    (c : State) (history : List Event) → Follows c history
-    → (a : ℕ) → lists_of c a ≡ list_of c.group history a
+    (c : State) (history : List Event) → IsStateBy c history
+    → (a : ℕ) → channel_lists c a ≡ list_of c.group history a
 
 -- so is its answer to an event
 abbrev pub AnswersFollow : Type 0
 AnswersFollow =
     (old new : State) (history : List Event) (e : Event) (applied : Applied)
-    → Follows old history → Takes old new e → IsApplied old new e applied
-    → IsAnswer old.group history e applied
+    → IsStateBy old history → Takes old new e → IsApplied old new e applied
+    → IsChannelAnswer old.group history e applied
 
 -- nothing tells two channels apart that follow one history
 abbrev pub FollowersAreAlike : Type 0
 FollowersAreAlike =
     (one other : State) (history : List Event) → one.group ≡ other.group
-    → Follows one history → Follows other history → IsAsBefore one other
+    → IsStateBy one history → IsStateBy other history → IsAsBefore one other
 
 -- ---- of any state
 
 -- a list has at most one value for each number
 abbrev pub ListsOfAreShort : Type 0
-ListsOfAreShort = (c : State) (a : ℕ) → length (lists_of c a) ≤ seqs
+ListsOfAreShort = (c : State) (a : ℕ) → length (channel_lists c a) ≤ seqs
 
 -- where nothing that can be seen changed, the lists are the same
 abbrev pub UnchangedLists : Type 0
-UnchangedLists = (old new : State) → IsAsBefore old new → (a : ℕ) → lists_of new a ≡ lists_of old a
+UnchangedLists =
+    (old new : State) → IsAsBefore old new → (a : ℕ) → channel_lists new a ≡ channel_lists old a

@@ -49,8 +49,8 @@ vote_by Ready p v = Some (one.Ready p v)
 vote_by Want p v = None
 
 -- a SEND counts from its owner alone
-abbrev pub counts : ℕ → BodyFields → Bool
-counts p body = counts_as body.kind where
+abbrev pub counts_from : ℕ → BodyFields → Bool
+counts_from p body = counts_as body.kind where
   counts_as : Kind → Bool
   counts_as Send = p == body.owner
   counts_as Echo = true
@@ -60,7 +60,7 @@ counts p body = counts_as body.kind where
 -- the vote that an event is in its broadcast
 abbrev pub vote_of : Event → Option Vote
 vote_of (Ask v) = Some (one.Send v)
-vote_of (From p body) = if counts p body then vote_by body.kind p body.value else None
+vote_of (From p body) = if counts_from p body then vote_by body.kind p body.value else None
 
 abbrev pub is_about : ℕ → ℕ → ℕ → ℕ → Event → Bool
 is_about own a s k e = owner_of own e == a && seq_of k e == s
@@ -123,11 +123,11 @@ known_from value_at s (suc n) =
 
 -- an account's list: its values up to the first that is missing; nothing, where there is no such
 -- account
-unfoldable pub listed : Group → (ℕ → ℕ → Option (List ℕ)) → ℕ → List (List ℕ)
-listed g value_at a = if nat_lt a g.members then known_from (value_at a) 0 seqs else []
+unfoldable pub listed_values : Group → (ℕ → ℕ → Option (List ℕ)) → ℕ → List (List ℕ)
+listed_values g value_at a = if nat_lt a g.members then known_from (value_at a) 0 seqs else []
 
 unfoldable pub delivered_at : Group → List Event → ℕ → ℕ → Option (List ℕ)
 delivered_at g history a s = delivered g (votes g.own a s history)
 
 unfoldable pub list_of : Group → List Event → ℕ → List (List ℕ)
-list_of g history a = listed g (delivered_at g history) a
+list_of g history a = listed_values g (delivered_at g history) a

@@ -5,7 +5,8 @@ use Rattle.std.specs.Prelude.{slice_get, Contains, Option, Some, None}
 use Rattle.pay_echo.specs.Broadcast.{Group, delivered}
 use Rattle.pay_channel.specs.Prefix.{IsPrefix}
 use Rattle.pay_channel.specs.Source.{GrowsOnly}
-use Rattle.pay_channel.specs.History.{Event, Ask, From, owner_of, votes, seqs, listed, delivered_at}
+use Rattle.pay_channel.specs.History.{Event, Ask, From, owner_of, votes, seqs, listed_values}
+use Rattle.pay_channel.specs.History.{delivered_at}
 use Rattle.pay_channel.specs.History.{list_of}
 
 -- ---- what is delivered
@@ -24,15 +25,15 @@ DeliveryStays =
     → delivered_at g history a s ≡ Some v → delivered_at g (history ++ more) a s ≡ Some v
 
 -- the value that an event brings
-abbrev pub value_in : Event → List ℕ
-value_in (Ask v) = v
-value_in (From p body) = body.value
+abbrev pub value_of_event : Event → List ℕ
+value_of_event (Ask v) = v
+value_of_event (From p body) = body.value
 
 -- what is delivered came by an event: it was asked for, or a body had it
 abbrev pub DeliveredCame : Type 0
 DeliveredCame =
     (g : Group) (history : List Event) (a s : ℕ) (v : List ℕ) → delivered_at g history a s ≡ Some v
-    → (e : Event) × Contains history e × (value_in e ≡ v)
+    → (e : Event) × Contains history e × (value_of_event e ≡ v)
 
 -- ---- an account's list, place by place
 
@@ -45,7 +46,7 @@ AreKnown value_at n = (s : ℕ) → s < n → value_at s ≢ None
 abbrev pub PlaceIsValue : Type 0
 PlaceIsValue =
     (g : Group) (value_at : ℕ → ℕ → Option (List ℕ)) (a k : ℕ) (v : List ℕ)
-    → (slice_get (listed g value_at a) k ≡ Some v)
+    → (slice_get (listed_values g value_at a) k ≡ Some v)
     ↔ ((a < g.members) × (k < seqs) × AreKnown (value_at a) k × (value_at a k ≡ Some v))
 
 abbrev pub PlaceIsDelivered : Type 0

@@ -9,7 +9,7 @@ use Rattle.pay_frame.specs.Frame.{BodyFields}
 use Rattle.pay_echo.specs.Broadcast.{Group, echoed, readied}
 use Rattle.pay_channel.specs.Prefix.{IsPrefix}
 use Rattle.pay_channel.specs.History.{Event, From, IsEvent, asks, votes, body_of, says, out}
-use Rattle.pay_channel.specs.Asked.{ask_of, asked, is_send, sends_in, sends_of}
+use Rattle.pay_channel.specs.Asked.{ask_of, asked_values, is_send_kind, sends_in, sends_of}
 
 abbrev pub NothingSentAtFirst : Type 0
 NothingSentAtFirst = (g : Group) → out g [] ≡ []
@@ -33,11 +33,11 @@ is_echo Echo = true
 is_echo Ready = false
 is_echo Want = false
 
-abbrev pub is_ready : Kind → Bool
-is_ready Send = false
-is_ready Echo = false
-is_ready Ready = true
-is_ready Want = false
+abbrev pub is_ready_kind : Kind → Bool
+is_ready_kind Send = false
+is_ready_kind Echo = false
+is_ready_kind Ready = true
+is_ready_kind Want = false
 
 -- a body of this kind about the broadcast s of account a
 abbrev pub is_said : (Kind → Bool) → ℕ → ℕ → BodyFields → Bool
@@ -54,7 +54,7 @@ EchoInOut =
 abbrev pub ReadyInOut : Type 0
 ReadyInOut =
     (g : Group) (history : List Event) (a s : ℕ)
-    → filter (is_said is_ready a s) (out g history)
+    → filter (is_said is_ready_kind a s) (out g history)
     ≡ map (body_of Ready a s) (option_to_list (readied g (votes g.own a s history)))
 
 -- the same as membership: what stands there is what was echoed and readied
@@ -78,30 +78,33 @@ SentMayCome =
 -- ---- the SENDs of the sent list are the values asked for
 
 abbrev pub NothingAskedAtFirst : Type 0
-NothingAskedAtFirst = asked [] ≡ []
+NothingAskedAtFirst = asked_values [] ≡ []
 
 abbrev pub AskedByOneMore : Type 0
 AskedByOneMore =
     (history : List Event) (e : Event)
-    → asked (history ++ e ∷ []) ≡ asked history ++ option_to_list (ask_of e)
+    → asked_values (history ++ e ∷ []) ≡ asked_values history ++ option_to_list (ask_of e)
 
 abbrev pub AskedGrows : Type 0
-AskedGrows = (history more : List Event) → asked (history ++ more) ≡ asked history ++ asked more
+AskedGrows =
+    (history more : List Event)
+    → asked_values (history ++ more) ≡ asked_values history ++ asked_values more
 
 abbrev pub AsksAreCounted : Type 0
-AsksAreCounted = (history : List Event) → asks history ≡ length (asked history)
+AsksAreCounted = (history : List Event) → asks history ≡ length (asked_values history)
 
 abbrev pub SendsAreAsks : Type 0
 SendsAreAsks =
-    (g : Group) (history : List Event) → sends_in (out g history) ≡ sends_of g.own (asked history)
+    (g : Group) (history : List Event)
+    → sends_in (out g history) ≡ sends_of g.own (asked_values history)
 
 -- one SEND about a number of one's own exactly where a value was asked for under it, with that
 -- value
 abbrev pub SendInOut : Type 0
 SendInOut =
     (g : Group) (history : List Event) (s : ℕ)
-    → filter (is_said is_send g.own s) (out g history)
-    ≡ map (body_of Send g.own s) (option_to_list (slice_get (asked history) s))
+    → filter (is_said is_send_kind g.own s) (out g history)
+    ≡ map (body_of Send g.own s) (option_to_list (slice_get (asked_values history) s))
 
 -- a SEND stands there exactly if it is about one's own account, with the value asked for under its
 -- number
@@ -109,10 +112,10 @@ abbrev pub SentIsAsked : Type 0
 SentIsAsked =
     (g : Group) (history : List Event) (a s : ℕ) (v : List ℕ)
     → Contains (out g history) (body_of Send a s v)
-    ↔ ((a ≡ g.own) × (slice_get (asked history) s ≡ Some v))
+    ↔ ((a ≡ g.own) × (slice_get (asked_values history) s ≡ Some v))
 
 -- in one's own broadcasts the values asked for are echoed, whatever the others send
 abbrev pub OwnEchoIsAsk : Type 0
 OwnEchoIsAsk =
     (g : Group) (history : List Event) (s : ℕ) → All (IsEvent g) history
-    → echoed (votes g.own g.own s history) ≡ slice_get (asked history) s
+    → echoed (votes g.own g.own s history) ≡ slice_get (asked_values history) s

@@ -5,7 +5,7 @@ use Rattle.pay_frame.specs.Frame.{BodyFields}
 use Rattle.pay_echo.specs.Broadcast.{Group, Vote}
 use Rattle.pay_frame.specs.declared.limits.TheConstants.{MOST_MEMBERS}
 use Rattle.pay_echo.specs.Meaning.{Meaning, meaning_of}
-use Rattle.pay_channel.specs.History.{Event, asks, votes, out, listed}
+use Rattle.pay_channel.specs.History.{Event, asks, votes, out, listed_values}
 
 -- one broadcast of which something is known
 pub record Slot : Type 0 where
@@ -27,15 +27,15 @@ meaning_in g (x ∷ xs) a s = if x.owner == a && x.seq == s then x.meaning else 
 unfoldable pub meaning_at : State → ℕ → ℕ → Meaning
 meaning_at c a s = meaning_in c.group c.slots a s
 
-unfoldable pub value_at : State → ℕ → ℕ → Option (List ℕ)
-value_at c a s = (meaning_at c a s).delivered
+unfoldable pub delivered_value_at : State → ℕ → ℕ → Option (List ℕ)
+delivered_value_at c a s = (meaning_at c a s).delivered
 
 -- each account's list of values
-unfoldable pub lists_of : State → ℕ → List (List ℕ)
-lists_of c a = listed c.group (value_at c) a
+unfoldable pub channel_lists : State → ℕ → List (List ℕ)
+channel_lists c a = listed_values c.group (delivered_value_at c) a
 
 -- The channel is what this history makes it.
-pub record Follows (c : State) (history : List Event) : Type 0 where
+pub record IsStateBy (c : State) (history : List Event) : Type 0 where
   pub meanings : (a s : ℕ) → meaning_at c a s ≡ meaning_of c.group (votes c.group.own a s history)
   pub asks : c.asks ≡ asks history
   pub sent : c.sent ≡ out c.group history
@@ -47,4 +47,4 @@ pub record IsSound (c : State) (lengths : List ℕ) : Type 0 where
   pub own : c.group.own < c.group.members
   pub reached : (a s : ℕ) → (votes : List Vote) × (meaning_at c a s ≡ meaning_of c.group votes)
   pub places : length lengths ≡ c.group.members
-  pub counted : (a : ℕ) → a < c.group.members → slice_index lengths a ≡ length (lists_of c a)
+  pub counted : (a : ℕ) → a < c.group.members → slice_index lengths a ≡ length (channel_lists c a)

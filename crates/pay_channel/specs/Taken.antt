@@ -14,9 +14,9 @@ body_from p (Ask v) = None
 body_from p (From q body) = if q == p then Some body else None
 
 -- The bodies taken from p, in order. A body's number on the link is its place, counted from 0.
-unfoldable pub taken : ℕ → List Event → List BodyFields
-taken p history = filter_map (body_from p) history
+unfoldable pub taken_bodies : ℕ → List Event → List BodyFields
+taken_bodies p history = filter_map (body_from p) history
 
 -- the number that the next body from p has
 abbrev pub next : ℕ → List Event → ℕ
-next p history = length (taken p history)
+next p history = length (taken_bodies p history)

@@ -5,37 +5,37 @@ use Rattle.std.specs.List.{count_by}
 use Rattle.std.specs.Option.{option_to_list}
 use Rattle.pay_frame.specs.Frame.{BodyFields}
 use Rattle.pay_channel.specs.History.{Event, From}
-use Rattle.pay_channel.specs.Taken.{is_from, body_from, taken, next}
+use Rattle.pay_channel.specs.Taken.{is_from, body_from, taken_bodies, next}
 
 abbrev pub NothingTakenAtFirst : Type 0
-NothingTakenAtFirst = (p : ℕ) → taken p [] ≡ []
+NothingTakenAtFirst = (p : ℕ) → taken_bodies p [] ≡ []
 
 -- one event more: its body, exactly where it came from p
 abbrev pub TakenByOneMore : Type 0
 TakenByOneMore =
     (p : ℕ) (history : List Event) (e : Event)
-    → taken p (history ++ e ∷ []) ≡ taken p history ++ option_to_list (body_from p e)
+    → taken_bodies p (history ++ e ∷ []) ≡ taken_bodies p history ++ option_to_list (body_from p e)
 
 abbrev pub TakenFromHere : Type 0
 TakenFromHere =
     (p : ℕ) (history : List Event) (body : BodyFields)
-    → taken p (history ++ From p body ∷ []) ≡ taken p history ++ body ∷ []
+    → taken_bodies p (history ++ From p body ∷ []) ≡ taken_bodies p history ++ body ∷ []
 
 abbrev pub TakenFromElsewhere : Type 0
 TakenFromElsewhere =
     (p : ℕ) (history : List Event) (e : Event) → is_from p e ≡ false
-    → taken p (history ++ e ∷ []) ≡ taken p history
+    → taken_bodies p (history ++ e ∷ []) ≡ taken_bodies p history
 
 -- a longer history
 abbrev pub TakenGrows : Type 0
 TakenGrows =
     (p : ℕ) (history more : List Event)
-    → taken p (history ++ more) ≡ taken p history ++ taken p more
+    → taken_bodies p (history ++ more) ≡ taken_bodies p history ++ taken_bodies p more
 
 abbrev pub TakenIsFrom : Type 0
 TakenIsFrom =
     (p : ℕ) (history : List Event) (body : BodyFields)
-    → Contains (taken p history) body ↔ Contains history (From p body)
+    → Contains (taken_bodies p history) body ↔ Contains history (From p body)
 
 -- the next number counts the events from p
 abbrev pub NextIsCount : Type 0

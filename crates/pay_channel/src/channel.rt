@@ -3,13 +3,14 @@ ghost use Rattle.std.specs.Prelude.{length, slice_get, replicate, vec_len, vec_c
 ghost use Rattle.std.specs.Prelude.{IfSome, OnOk, OnErr};
 ghost use Rattle.std.specs.Option.{option_copied, option_map, option_to_list};
 ghost use Rattle.pay_echo.specs.Broadcast.{IsForeign, value_of};
-ghost use Rattle.pay_echo.specs.Votes.{vote_of};
+ghost use Rattle.pay_echo.specs.Votes.{vote_of_ref};
 ghost use Rattle.pay_channel.specs.Source.{GrowsOnly};
 ghost use Rattle.pay_channel.specs.History.{Event, Ask, From, IsEvent, is_ask, owner_of};
 ghost use Rattle.pay_channel.specs.History.{vote_of as event_vote, seqs};
-ghost use Rattle.pay_channel.specs.State.{State, Follows, meaning_at, value_at, lists_of};
+ghost use Rattle.pay_channel.specs.State.{State, IsStateBy, meaning_at, delivered_value_at};
+ghost use Rattle.pay_channel.specs.State.{channel_lists};
 ghost use Rattle.pay_channel.specs.Applied.{TakesVote, IsToldOf, Takes, IsApplied, IsAsBefore};
-ghost use Rattle.pay_channel.specs.Applied.{event_of};
+ghost use Rattle.pay_channel.specs.Applied.{event_of_ref};
 
 use crate::applied::Applied;
 use crate::event::EventRef;
@@ -51,7 +52,7 @@ impl<I: Instance + Drop> Channel<I> {
     pub fn new(alloc: Global, members: u16, faults: u16, own: u16) -> Result<Channel<I>, AllocError>
         requires few { members ≤ MOST_MEMBERS }
         requires own { own < members }
-        ensures follows { IfOk result (λ made. Follows made []) }
+        ensures follows { IfOk result (λ made. IsStateBy made []) }
         ensures group { IfOk result
             (λ made. made.group ≡ record { members = members; faults = faults; own = own }) }
     {
@@ -77,14 +78,14 @@ impl<I: Instance + Drop> Channel<I> {
     /// body comes from another member, about a member, and is no WANT. Fails only where memory is
     /// refused; the channel is then as it was, since all room is made before the first change.
     pub fn apply(&mut self, alloc: Global, event: EventRef) -> Result<Applied, AllocError>
-        requires event { IsEvent self.old.group (event_of event) }
-        requires number { is_ask (event_of event) ≡ true → self.old.asks < seqs }
-        ensures takes { OnOk result (Takes self.old self.new (event_of event.entry)) }
-        ensures applied { IfOk result (IsApplied self.old self.new (event_of event.entry)) }
-        ensures grows { OnOk result (GrowsOnly (lists_of self.old) (lists_of self.new)
-            (owner_of self.old.group.own (event_of event.entry))) }
-        ensures follows { OnOk result ((history : List Event) → Follows self.old history
-            → Follows self.new (history ++ event_of event.entry ∷ [])) }
+        requires event { IsEvent self.old.group (event_of_ref event) }
+        requires number { is_ask (event_of_ref event) ≡ true → self.old.asks < seqs }
+        ensures takes { OnOk result (Takes self.old self.new (event_of_ref event.entry)) }
+        ensures applied { IfOk result (IsApplied self.old self.new (event_of_ref event.entry)) }
+        ensures grows { OnOk result (GrowsOnly (channel_lists self.old) (channel_lists self.new)
+            (owner_of self.old.group.own (event_of_ref event.entry))) }
+        ensures follows { OnOk result ((history : List Event) → IsStateBy self.old history
+            → IsStateBy self.new (history ++ event_of_ref event.entry ∷ [])) }
         ensures err { OnErr result (IsAsBefore self.old self.new) }
     {
         match event {
@@ -100,7 +101,7 @@ impl<I: Instance + Drop> Channel<I> {
         ensures takes { OnOk result (Takes self.old self.new (Ask value.now)) }
         ensures applied { IfOk result (IsApplied self.old self.new (Ask value.now)) }
         ensures grows { OnOk result
-            (GrowsOnly (lists_of self.old) (lists_of self.new) self.old.group.own) }
+            (GrowsOnly (channel_lists self.old) (channel_lists self.new) self.old.group.own) }
         ensures err { OnErr result (IsAsBefore self.old self.new) }
     {
         let own = self.group.own;
@@ -117,7 +118,7 @@ impl<I: Instance + Drop> Channel<I> {
         ensures takes { OnOk result (Takes self.old self.new (From process body.now)) }
         ensures applied { IfOk result (IsApplied self.old self.new (From process body.now)) }
         ensures grows { OnOk result
-            (GrowsOnly (lists_of self.old) (lists_of self.new) body.now.owner) }
+            (GrowsOnly (channel_lists self.old) (channel_lists self.new) body.now.owner) }
         ensures err { OnErr result (IsAsBefore self.old self.new) }
     {
         match vote_in(process, body) {
@@ -137,12 +138,13 @@ impl<I: Instance + Drop> Channel<I> {
     ) -> Result<Applied, AllocError>
         requires owner { owner < self.old.group.members }
         requires seq { seq < seqs }
-        requires foreign { IsForeign self.old.group (vote_of vote) }
-        requires value { length (value_of (vote_of vote)) ≤ GREATEST_VALUE }
+        requires foreign { IsForeign self.old.group (vote_of_ref vote) }
+        requires value { length (value_of (vote_of_ref vote)) ≤ GREATEST_VALUE }
         ensures takes { OnOk result (TakesVote self.old self.new owner seq
-            (Some (vote_of vote.entry)) (option_to_list send)) }
+            (Some (vote_of_ref vote.entry)) (option_to_list send)) }
         ensures applied { IfOk result (IsToldOf self.old self.new owner seq) }
-        ensures grows { OnOk result (GrowsOnly (lists_of self.old) (lists_of self.new) owner) }
+        ensures grows { OnOk result
+            (GrowsOnly (channel_lists self.old) (channel_lists self.new) owner) }
         ensures err { OnErr result (IsAsBefore self.old self.new) }
     {
         // what was delivered stays, and what is sent has the vote's value
@@ -189,9 +191,9 @@ impl<I: Instance + Drop> Channel<I> {
     }
 
     /// The value delivered in a broadcast, whether those before it were delivered or not.
-    #[tactic(auto, unfolding(crate::specs::State::value_at, crate::specs::State::meaning_at))]
+    #[tactic(auto, unfolding(crate::specs::State::delivered_value_at, crate::specs::State::meaning_at))]
     pub fn delivered(&self, owner: u16, seq: u32) -> Option<&[u8]>
-        ensures { option_copied result ≡ value_at self.now owner seq }
+        ensures { option_copied result ≡ delivered_value_at self.now owner seq }
     {
         self.instances.delivered(owner, seq)
     }
@@ -206,7 +208,7 @@ impl<I: Instance + Drop> Channel<I> {
 
     /// The number of values in an owner's list.
     pub fn in_order(&self, owner: u16) -> u32
-        ensures { result ≡ length (lists_of self.now owner) }
+        ensures { result ≡ length (channel_lists self.now owner) }
     {
         if owner < self.group.members {
             self.listed[usize::from(owner)]
@@ -217,7 +219,7 @@ impl<I: Instance + Drop> Channel<I> {
 }
 
 impl<I: Instance + Drop> Source for Channel<I> {
-    ghost lists = { lists_of };
+    ghost lists = { channel_lists };
 
     fn length(&self, owner: u16) -> u32 {
         self.in_order(owner)
@@ -242,8 +244,8 @@ fn zeros(alloc: Global, members: u16) -> Result<Vec<u32>, AllocError>
 // The vote that a body is where it came from this process: a SEND is one from its owner alone.
 #[tactic(auto, unfolding(pay_echo::specs::Broadcast::value_of))]
 fn vote_in<'a>(process: u16, body: &'a Body) -> Option<VoteRef<'a>>
-    ensures vote { option_map vote_of result ≡ event_vote (From process body.now) }
-    ensures value { IfSome result (λ vote. length (value_of (vote_of vote)) ≤ GREATEST_VALUE) }
+    ensures vote { option_map vote_of_ref result ≡ event_vote (From process body.now) }
+    ensures value { IfSome result (λ vote. length (value_of (vote_of_ref vote)) ≤ GREATEST_VALUE) }
 {
     match body.kind() {
         Kind::Send => {

@@ -5,8 +5,8 @@ ghost use Rattle.pay_frame.specs.declared.kind.Kind.TheVariants.{Send, Echo, Rea
 ghost use Rattle.pay_echo.specs.Broadcast.{echoed};
 ghost use Rattle.pay_channel.specs.History.{IsEvent, Ask, From, body_of, votes, out, delivered_at};
 ghost use Rattle.pay_channel.specs.History.{list_of};
-ghost use Rattle.pay_channel.specs.Asked.{asked, sends_in, sends_of};
-ghost use Rattle.pay_channel.specs.Examples.{four, forestalled, late_first_number, A, X, Y};
+ghost use Rattle.pay_channel.specs.Asked.{asked_values, sends_in, sends_of};
+ghost use Rattle.pay_channel.specs.Examples.{four, forestalled_ask, late_first_number, A, X, Y};
 
 /// What is sent to all: READY for each number, and SEND and ECHO of the ask; the SEND of account 3
 /// by another member does nothing.
@@ -26,10 +26,10 @@ pub fn late_first_number_list()
 /// SEND with which another member forestalls it does nothing.
 pub fn late_first_number_asked()
     ensures events { All (IsEvent four) late_first_number }
-    ensures asked { asked late_first_number ≡ A ∷ [] }
+    ensures asked { asked_values late_first_number ≡ A ∷ [] }
     ensures sends { sends_in (out four late_first_number) ≡ body_of Send 0 0 A ∷ [] }
     ensures echo { echoed (votes 0 0 0 late_first_number) ≡ Some A }
-    ensures again { asked forestalled ≡ A ∷ X ∷ [] }
+    ensures again { asked_values forestalled_ask ≡ A ∷ X ∷ [] }
     ensures numbered { sends_of 0 (A ∷ X ∷ []) ≡ body_of Send 0 0 A ∷ body_of Send 0 1 X ∷ [] }
-    ensures forged { echoed (votes 0 0 1 forestalled) ≡ Some X }
+    ensures forged { echoed (votes 0 0 1 forestalled_ask) ≡ Some X }
 {}

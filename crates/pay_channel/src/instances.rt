@@ -4,7 +4,7 @@ ghost use Rattle.std.specs.Bool.{then_some};
 ghost use Rattle.std.specs.Option.{option_copied};
 ghost use Rattle.pay_echo.specs.Broadcast.{Group, Vote, IsForeign, value_of};
 ghost use Rattle.pay_echo.specs.Meaning.{meaning_of, Sees};
-ghost use Rattle.pay_echo.specs.Votes.{vote_of};
+ghost use Rattle.pay_echo.specs.Votes.{vote_of_ref};
 ghost use Rattle.pay_channel.specs.History.{seqs, known_from, body_of};
 ghost use Rattle.pay_channel.specs.State.{meaning_in};
 ghost use Rattle.pay_channel.specs.Hearing.{HearsVote, IsOutgoing};
@@ -112,14 +112,14 @@ impl<I: Instance + Drop> Instances<I> {
     ) -> Result<Outgoing, AllocError>
         requires few { group.members ≤ MOST_MEMBERS }
         requires own { group.own < group.members }
-        requires foreign { IsForeign group (vote_of vote) }
+        requires foreign { IsForeign group (vote_of_ref vote) }
         requires reached { (votes : List Vote)
             × (meaning_in group self.old owner seq ≡ meaning_of group votes) }
         requires seq { seq < seqs }
-        requires value { length (value_of (vote_of vote)) ≤ GREATEST_VALUE }
+        requires value { length (value_of (vote_of_ref vote)) ≤ GREATEST_VALUE }
         ensures hears { OnOk result
-            (HearsVote group self.old self.new owner seq (vote_of vote.entry)) }
-        ensures out { IfOk result (IsOutgoing owner seq (vote_of vote.entry)
+            (HearsVote group self.old self.new owner seq (vote_of_ref vote.entry)) }
+        ensures out { IfOk result (IsOutgoing owner seq (vote_of_ref vote.entry)
             (meaning_in group self.old owner seq) (meaning_in group self.new owner seq)) }
         ensures err { OnErr result
             ((a s : ℕ) → meaning_in group self.new a s ≡ meaning_in group self.old a s) }
@@ -143,14 +143,14 @@ fn tell<I: Instance>(
     seq: u32,
     vote: VoteRef,
 ) -> Result<Outgoing, AllocError>
-    requires foreign { IsForeign (I.meaning instance.old).group (vote_of vote) }
+    requires foreign { IsForeign (I.meaning instance.old).group (vote_of_ref vote) }
     requires reached { (g : Group) × (votes : List Vote)
         × (I.meaning instance.old ≡ meaning_of g votes) }
     requires seq { seq < seqs }
-    requires value { length (value_of (vote_of vote)) ≤ GREATEST_VALUE }
+    requires value { length (value_of (vote_of_ref vote)) ≤ GREATEST_VALUE }
     ensures seen { OnOk result
-        (Sees (I.meaning instance.old) (I.meaning instance.new) (vote_of vote.entry)) }
-    ensures out { IfOk result (IsOutgoing owner seq (vote_of vote.entry)
+        (Sees (I.meaning instance.old) (I.meaning instance.new) (vote_of_ref vote.entry)) }
+    ensures out { IfOk result (IsOutgoing owner seq (vote_of_ref vote.entry)
         (I.meaning instance.old) (I.meaning instance.new)) }
     ensures err { OnErr result (I.meaning instance.new ≡ I.meaning instance.old) }
 {

@@ -8,7 +8,7 @@ use Rattle.std.proofs.lemmas.List.{length-replicate, get_or-replicate, get_or-se
 use Rattle.pay_frame.specs.Frame.{FrameFields}
 use Rattle.pay_link.specs.Keys.{KeyFields}
 use Rattle.pay_cli.specs.declared.progress.Progress.{Progress}
-use Rattle.pay_cli.specs.Lines.{Outcome, Taken, Wanted, Refused, moved, outcome_of, fronts_after}
+use Rattle.pay_cli.specs.Lines.{Outcome, Taken, Wanted, Refused, progress_after, check_outcome, fronts_after}
 use Rattle.pay_cli.specs.CheckText.{at_start, known_after, outcomes, is_ok_from}
 use Rattle.pay_cli.proofs.Room.{length-fronts_after}
 
@@ -35,22 +35,22 @@ one_front fronts f Taken member lt =
           rw test (omega arith)
     ]
 
-moved-front : (k : KeyFields) (p : Progress) (f : FrameFields) (member : ℕ) → member < length p.fronts → get_or (moved k p f).fronts member 0 ≡ get_or p.fronts member 0 + one_more member f (outcome_of k p.fronts f)
-unfolding moved
-moved-front k p f member lt = one_front p.fronts f (outcome_of k p.fronts f) member lt
+progress_after-front : (k : KeyFields) (p : Progress) (f : FrameFields) (member : ℕ) → member < length p.fronts → get_or (progress_after k p f).fronts member 0 ≡ get_or p.fronts member 0 + one_more member f (check_outcome k p.fronts f)
+unfolding progress_after
+progress_after-front k p f member lt = one_front p.fronts f (check_outcome k p.fronts f) member lt
 
-moved-length : (k : KeyFields) (p : Progress) (f : FrameFields) → length (moved k p f).fronts ≡ length p.fronts
-unfolding moved
-moved-length k p f = length-fronts_after p.fronts f (outcome_of k p.fronts f)
+progress_after-length : (k : KeyFields) (p : Progress) (f : FrameFields) → length (progress_after k p f).fronts ≡ length p.fronts
+unfolding progress_after
+progress_after-length k p f = length-fronts_after p.fronts f (check_outcome k p.fronts f)
 
 counts_from : (k : KeyFields) (p : Progress) (fs : List FrameFields) (member : ℕ) → member < length p.fronts → get_or (known_after k p fs).fronts member 0 ≡ get_or p.fronts member 0 + count_by (is_ok_from member) (outcomes k p fs)
 counts_from k p [] member lt = omega arith
 counts_from k p (f ∷ fs) member lt =
-    let rest : ℕ = count_by (is_ok_from member) (outcomes k (moved k p f) fs) in
-    let front = moved-front k p f member lt in
-    let step : get_or (moved k p f).fronts member 0 + rest ≡ get_or p.fronts member 0 + (one_more member f (outcome_of k p.fronts f) + rest) = omega arith in
-    counts_from k (moved k p f) fs member (omega (arith, moved-length k p f)) ∙ step
-    ∙ ap (λ n. get_or p.fronts member 0 + n) (sym (sum_by-cons (one_of member) (f, outcome_of k p.fronts f) (outcomes k (moved k p f) fs)))
+    let rest : ℕ = count_by (is_ok_from member) (outcomes k (progress_after k p f) fs) in
+    let front = progress_after-front k p f member lt in
+    let step : get_or (progress_after k p f).fronts member 0 + rest ≡ get_or p.fronts member 0 + (one_more member f (check_outcome k p.fronts f) + rest) = omega arith in
+    counts_from k (progress_after k p f) fs member (omega (arith, progress_after-length k p f)) ∙ step
+    ∙ ap (λ n. get_or p.fronts member 0 + n) (sym (sum_by-cons (one_of member) (f, check_outcome k p.fronts f) (outcomes k (progress_after k p f) fs)))
 
 pub counts : (k : KeyFields) (fs : List FrameFields) (member : ℕ) → member < length k.keys → get_or (known_after k (at_start k) fs).fronts member 0 ≡ count_by (is_ok_from member) (outcomes k (at_start k) fs)
 counts k fs member lt =

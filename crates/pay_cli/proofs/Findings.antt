@@ -18,26 +18,26 @@ use Rattle.pay_cli.specs.declared.progress.Progress.{Progress}
 use Rattle.pay_cli.specs.declared.finding.Finding.{Finding}
 use Rattle.pay_cli.specs.CheckText.{checking}
 use Rattle.pay_cli.specs.Engine.{HasRoom}
-use Rattle.pay_cli.specs.Lines.{fronts_after, judged_outcome, line_of, moved, ok_words, opened_outcome, outcome_words, turned}
-use Rattle.pay_cli.specs.Findings.{Pushes, fronts_in_turn, judged_turn, judged_words, judging, line_in_turn, moved_in_turn, opened_turn, opened_words, turned_fronts, turned_words, turn_of, finding_of, words_in_turn, words_of}
+use Rattle.pay_cli.specs.Lines.{fronts_after, judged_outcome, line_of, progress_after, ok_words, opened_outcome, check_words, turn_outcome}
+use Rattle.pay_cli.specs.Findings.{Pushes, fronts_in_turn, judged_turn, judged_words, judging, line_in_turn, moved_in_turn, opened_turn, opened_words, turned_fronts, turned_words, turn_of, finding_of, words_in_turn, frame_words}
 
 -- ---- one line
 
-turned_is : (f : FrameFields) (r : Result ⊤ LinkFault) → turned_words (ok_words f) r ≡ outcome_words f (turned r)
+turned_is : (f : FrameFields) (r : Result ⊤ LinkFault) → turned_words (ok_words f) r ≡ check_words f (turn_outcome r)
 turned_is f (Ok _) = refl
 turned_is f (Err fault) = refl
 
-opened_is : (fronts : List ℕ) (f : FrameFields) (kind : Kind) (next : ℕ) → next ≡ slice_index fronts f.from → words_in_turn fronts (opened_turn f kind) (opened_words f kind) ≡ outcome_words f (opened_outcome next f kind)
+opened_is : (fronts : List ℕ) (f : FrameFields) (kind : Kind) (next : ℕ) → next ≡ slice_index fronts f.from → words_in_turn fronts (opened_turn f kind) (opened_words f kind) ≡ check_words f (opened_outcome next f kind)
 opened_is fronts f Want next is = refl
 opened_is fronts f Send next is = rw is (turned_is f (turn (slice_index fronts f.from) f.number))
 opened_is fronts f Echo next is = rw is (turned_is f (turn (slice_index fronts f.from) f.number))
 opened_is fronts f Ready next is = rw is (turned_is f (turn (slice_index fronts f.from) f.number))
 
-judged_is : (fronts : List ℕ) (f : FrameFields) (j : Result OpenedFields LinkFault) → words_in_turn fronts (judged_turn f j) (judged_words f j) ≡ outcome_words f (judged_outcome (slice_index fronts f.from) f j)
+judged_is : (fronts : List ℕ) (f : FrameFields) (j : Result OpenedFields LinkFault) → words_in_turn fronts (judged_turn f j) (judged_words f j) ≡ check_words f (judged_outcome (slice_index fronts f.from) f j)
 judged_is fronts f (Ok opened) = opened_is fronts f f.body.kind _ refl
 judged_is fronts f (Err fault) = refl
 
-turned_moves : (fronts : List ℕ) (f : FrameFields) (r : Result ⊤ LinkFault) → turned_fronts fronts f.from r ≡ fronts_after fronts f (turned r)
+turned_moves : (fronts : List ℕ) (f : FrameFields) (r : Result ⊤ LinkFault) → turned_fronts fronts f.from r ≡ fronts_after fronts f (turn_outcome r)
 turned_moves fronts f (Ok _) = refl
 turned_moves fronts f (Err fault) = refl
 
@@ -51,18 +51,18 @@ judged_moves : (fronts : List ℕ) (f : FrameFields) (j : Result OpenedFields Li
 judged_moves fronts f (Ok opened) = opened_moves fronts f f.body.kind _ refl
 judged_moves fronts f (Err fault) = refl
 
-pub line_is : (k : KeyFields) (p : Progress) (f : FrameFields) → line_in_turn p (turn_of k f) (words_of k f) ≡ line_of k p f
+pub line_is : (k : KeyFields) (p : Progress) (f : FrameFields) → line_in_turn p (turn_of k f) (frame_words k f) ≡ line_of k p f
 unfolding line_of
 line_is k p f = ap (λ words. decimal p.line ++ words ++ codes "\n") (judged_is p.fronts f (judgement k f))
 
-pub moved_is : (k : KeyFields) (p : Progress) (f : FrameFields) → moved_in_turn p (turn_of k f) ≡ moved k p f
-unfolding moved
+pub moved_is : (k : KeyFields) (p : Progress) (f : FrameFields) → moved_in_turn p (turn_of k f) ≡ progress_after k p f
+unfolding progress_after
 moved_is k p f = ap (λ (fronts : List ℕ). let q : Progress = record { fronts = fronts; line = p.line + 1 } in q) (judged_moves p.fronts f (judgement k f))
 
 -- ---- findings
 
 -- all findings and words of some frames
-pub judged_all : (k : KeyFields) (s t : List Finding) (fs : List FrameFields) (text : List ℕ) → Steps (exactly (judging k)) s t fs text → (t ≡ s ++ map (finding_of k) fs) × (text ≡ flat_map (words_of k) fs)
+pub judged_all : (k : KeyFields) (s t : List Finding) (fs : List FrameFields) (text : List ℕ) → Steps (exactly (judging k)) s t fs text → (t ≡ s ++ map (finding_of k) fs) × (text ≡ flat_map (frame_words k) fs)
 judged_all k s t [] text are = (are.0 ∙ sym (append-nil s), are.1)
 judged_all k s t (f ∷ fs) text are =
     let rest = judged_all k are.0 t fs are.2 are.4 in (
@@ -70,7 +70,7 @@ judged_all k s t (f ∷ fs) text are =
       are.5 ∙ ap₂ (λ xs ys. xs ++ ys) are.3.1 rest.1,
     )
 
-pub judged_of : (k : KeyFields) (fs : List FrameFields) (t : List Finding) (words : List ℕ) (on : Bool) → HandlesBatch (exactly (judging k)) [] t fs [] words (Ok on) → (t ≡ map (finding_of k) fs) × (words ≡ flat_map (words_of k) fs)
+pub judged_of : (k : KeyFields) (fs : List FrameFields) (t : List Finding) (words : List ℕ) (on : Bool) → HandlesBatch (exactly (judging k)) [] t fs [] words (Ok on) → (t ≡ map (finding_of k) fs) × (words ≡ flat_map (frame_words k) fs)
 judged_of k fs t words true all =
     let are = judged_all k [] t fs all.0 all.1 in
     (are.0, all.2 ∙ are.1)
@@ -83,9 +83,9 @@ pub record NextJudged (k : KeyFields) (fs : List FrameFields) (v : Finding) (vs 
   pub is : fs ≡ frame ∷ more
   pub turn : v.turn ≡ turn_of k frame
   pub fits : v.size ≤ length words
-  pub own : take v.size words ≡ words_of k frame
+  pub own : take v.size words ≡ frame_words k frame
   pub findings : vs ≡ map (finding_of k) more
-  pub rest : drop v.size words ≡ flat_map (words_of k) more
+  pub rest : drop v.size words ≡ flat_map (frame_words k) more
 
 first_finding : Finding → List Finding → Finding
 first_finding d [] = d
@@ -95,23 +95,23 @@ other_findings : List Finding → List Finding
 other_findings [] = []
 other_findings (v ∷ vs) = vs
 
-pub next_judged : (k : KeyFields) (fs : List FrameFields) (all : List Finding) (v : Finding) (vs : List Finding) (words : List ℕ) → all ≡ v ∷ vs → all ≡ map (finding_of k) fs → words ≡ flat_map (words_of k) fs → NextJudged k fs v vs words
+pub next_judged : (k : KeyFields) (fs : List FrameFields) (all : List Finding) (v : Finding) (vs : List Finding) (words : List ℕ) → all ≡ v ∷ vs → all ≡ map (finding_of k) fs → words ≡ flat_map (frame_words k) fs → NextJudged k fs v vs words
 unfolding first_finding other_findings
 next_judged k [] all v vs words are is same = let none : v ∷ vs ≡ [] = sym are ∙ is in absurd (omega (arith, ap length none))
 next_judged k (f ∷ fs) all v vs words are is same =
     let both : v ∷ vs ≡ finding_of k f ∷ map (finding_of k) fs = sym are ∙ is in
     let head : v ≡ finding_of k f = ap (first_finding v) both in
-    let size : v.size ≡ length (words_of k f) = ap (λ (w : Finding). w.size) head in
-    let behind : List ℕ = flat_map (words_of k) fs in
+    let size : v.size ≡ length (frame_words k f) = ap (λ (w : Finding). w.size) head in
+    let behind : List ℕ = flat_map (frame_words k) fs in
     record {
       frame = f;
       more = fs;
       is = refl;
       turn = ap (λ (w : Finding). w.turn) head;
-      fits = omega (arith, size, ap length same, length-append (words_of k f) behind);
-      own = ap (λ n. take n words) size ∙ ap (take (length (words_of k f))) same ∙ take-append-le (length (words_of k f)) (words_of k f) behind (omega arith) ∙ take_all (length (words_of k f)) (words_of k f) (omega arith);
+      fits = omega (arith, size, ap length same, length-append (frame_words k f) behind);
+      own = ap (λ n. take n words) size ∙ ap (take (length (frame_words k f))) same ∙ take-append-le (length (frame_words k f)) (frame_words k f) behind (omega arith) ∙ take_all (length (frame_words k f)) (frame_words k f) (omega arith);
       findings = ap other_findings both;
-      rest = ap (λ n. drop n words) size ∙ ap (drop (length (words_of k f))) same ∙ drop-append_seam (words_of k f) behind;
+      rest = ap (λ n. drop n words) size ∙ ap (drop (length (frame_words k f))) same ∙ drop-append_seam (frame_words k f) behind;
     }
 
 -- a frame that needs a turn is from a member
@@ -132,13 +132,13 @@ turn_known law k f fronts each = by (judgement k f) refl where
 
 -- ---- lines one after the other
 
-pub state_more : (k : KeyFields) (p : Progress) (fs : List FrameFields) (f : FrameFields) → state_after (checking k) p (fs ++ f ∷ []) ≡ moved k (state_after (checking k) p fs) f
+pub state_more : (k : KeyFields) (p : Progress) (fs : List FrameFields) (f : FrameFields) → state_after (checking k) p (fs ++ f ∷ []) ≡ progress_after k (state_after (checking k) p fs) f
 state_more k p [] f = refl
-state_more k p (g ∷ gs) f = state_more k (moved k p g) gs f
+state_more k p (g ∷ gs) f = state_more k (progress_after k p g) gs f
 
 pub texts_more : (k : KeyFields) (p : Progress) (fs : List FrameFields) (f : FrameFields) → texts_from (checking k) p (fs ++ f ∷ []) ≡ texts_from (checking k) p fs ++ line_of k (state_after (checking k) p fs) f
 texts_more k p [] f = append-nil (line_of k p f)
-texts_more k p (g ∷ gs) f = ap (λ xs. line_of k p g ++ xs) (texts_more k (moved k p g) gs f) ∙ sym (append_assoc (line_of k p g) (texts_from (checking k) (moved k p g) gs) (line_of k (state_after (checking k) (moved k p g) gs) f))
+texts_more k p (g ∷ gs) f = ap (λ xs. line_of k p g ++ xs) (texts_more k (progress_after k p g) gs f) ∙ sym (append_assoc (line_of k p g) (texts_from (checking k) (progress_after k p g) gs) (line_of k (state_after (checking k) (progress_after k p g) gs) f))
 
 -- the first lines are written, and of these frames they aren't yet
 pub record AmongLines (k : KeyFields) (fs : List FrameFields) (before now : Progress) (old new : List ℕ) (vs : List Finding) (ws : List ℕ) : Type 0 where
@@ -146,7 +146,7 @@ pub record AmongLines (k : KeyFields) (fs : List FrameFields) (before now : Prog
   pub others : List FrameFields
   pub parts : fs ≡ first ++ others
   pub findings : vs ≡ map (finding_of k) others
-  pub words : ws ≡ flat_map (words_of k) others
+  pub words : ws ≡ flat_map (frame_words k) others
   pub state : now ≡ state_after (checking k) before first
   pub text : new ≡ old ++ texts_from (checking k) before first
 
@@ -164,7 +164,7 @@ one_line_more k fs before now later old new newer all v vs words own rest a are 
       parts = a.parts ∙ ap (λ gs. a.first ++ gs) next.is ∙ sym (append_assoc a.first (f ∷ []) next.more);
       findings = next.findings;
       words = rest_is ∙ next.rest;
-      state = moves ∙ ap (λ t. moved_in_turn now t) next.turn ∙ moved_is k now f ∙ ap (λ q. moved k q f) a.state ∙ sym (state_more k before a.first f);
+      state = moves ∙ ap (λ t. moved_in_turn now t) next.turn ∙ moved_is k now f ∙ ap (λ q. progress_after k q f) a.state ∙ sym (state_more k before a.first f);
       text = writes ∙ ap₂ (λ xs ys. xs ++ ys) a.text line ∙ append_assoc old (texts_from (checking k) before a.first) (line_of k (state_after (checking k) before a.first) f)
           ∙ ap (λ xs. old ++ xs) (sym (texts_more k before a.first f));
     }
@@ -190,7 +190,7 @@ pub record RoomLeft (now : Progress) (vs : List Finding) (ws : List ℕ) : Type 
   pub keys : KeyFields
   pub frames : List FrameFields
   pub findings : vs ≡ map (finding_of keys) frames
-  pub words : ws ≡ flat_map (words_of keys) frames
+  pub words : ws ≡ flat_map (frame_words keys) frames
   pub room : HasRoom keys now (length frames)
 
 -- what the line in front needs
@@ -232,7 +232,7 @@ room_more now later all v vs words rest r are rest_is moves =
 
 steps_all : (k : KeyFields) (p : Progress) (fs : List FrameFields) → Steps (exactly (checking k)) p (state_after (checking k) p fs) fs (texts_from (checking k) p fs)
 steps_all k p [] = (refl, refl)
-steps_all k p (f ∷ fs) = (moved k p f, line_of k p f, texts_from (checking k) (moved k p f) fs, (refl, refl), steps_all k (moved k p f) fs, refl)
+steps_all k p (f ∷ fs) = (progress_after k p f, line_of k p f, texts_from (checking k) (progress_after k p f) fs, (refl, refl), steps_all k (progress_after k p f) fs, refl)
 
 pub batch_pushed : (k : KeyFields) (before after : Progress) (fs : List FrameFields) (old new : List ℕ) → Pushes k before after fs old new (Ok tt) → HandlesBatch (exactly (checking k)) before after fs old new (Ok true)
 batch_pushed k before after fs old new all = (texts_from (checking k) before fs, subst (λ q. Steps (exactly (checking k)) before q fs (texts_from (checking k) before fs)) (sym all.0) (steps_all k before fs), all.1)

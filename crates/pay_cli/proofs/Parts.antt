@@ -9,26 +9,26 @@ use Rattle.pay_cli.specs.declared.judging.Judged.{Judged}
 use Rattle.pay_cli.specs.declared.progress.Progress.{Progress}
 use Rattle.pay_cli.specs.CheckText.{checking}
 use Rattle.pay_cli.specs.Engine.{HasRoom}
-use Rattle.pay_cli.specs.Lines.{line_of, moved}
+use Rattle.pay_cli.specs.Lines.{line_of, progress_after}
 use Rattle.pay_cli.specs.Findings.{AreJudged, IsJudged, Pushes}
 
 state_both : (k : KeyFields) (p : Progress) (fs gs : List FrameFields) → state_after (checking k) p (fs ++ gs) ≡ state_after (checking k) (state_after (checking k) p fs) gs
 state_both k p [] gs = refl
-state_both k p (f ∷ fs) gs = state_both k (moved k p f) fs gs
+state_both k p (f ∷ fs) gs = state_both k (progress_after k p f) fs gs
 
 texts_both : (k : KeyFields) (p : Progress) (fs gs : List FrameFields) → texts_from (checking k) p (fs ++ gs) ≡ texts_from (checking k) p fs ++ texts_from (checking k) (state_after (checking k) p fs) gs
 texts_both k p [] gs = refl
-texts_both k p (f ∷ fs) gs = ap (λ xs. line_of k p f ++ xs) (texts_both k (moved k p f) fs gs) ∙ sym (append_assoc (line_of k p f) (texts_from (checking k) (moved k p f) fs) (texts_from (checking k) (state_after (checking k) (moved k p f) fs) gs))
+texts_both k p (f ∷ fs) gs = ap (λ xs. line_of k p f ++ xs) (texts_both k (progress_after k p f) fs gs) ∙ sym (append_assoc (line_of k p f) (texts_from (checking k) (progress_after k p f) fs) (texts_from (checking k) (state_after (checking k) (progress_after k p f) fs) gs))
 
 -- ---- room
 
 room_in_front : (k : KeyFields) (p : Progress) (fs gs : List FrameFields) → HasRoom k p (length (fs ++ gs)) → HasRoom k p (length fs)
 room_in_front k p [] gs room = tt
-room_in_front k p (f ∷ fs) gs room = (room.0, λ g. room_in_front k (moved k p g) fs gs (room.1 g))
+room_in_front k p (f ∷ fs) gs room = (room.0, λ g. room_in_front k (progress_after k p g) fs gs (room.1 g))
 
 room_behind : (k : KeyFields) (p : Progress) (fs gs : List FrameFields) → HasRoom k p (length (fs ++ gs)) → HasRoom k (state_after (checking k) p fs) (length gs)
 room_behind k p [] gs room = room
-room_behind k p (f ∷ fs) gs room = room_behind k (moved k p f) fs gs (room.1 f)
+room_behind k p (f ∷ fs) gs room = room_behind k (progress_after k p f) fs gs (room.1 f)
 
 -- there is room for the lines of the parts that are left
 pub record RoomForParts (now : Progress) (parts : List Judged) : Type 0 where

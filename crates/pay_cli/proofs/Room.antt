@@ -6,7 +6,7 @@ use Rattle.std.proofs.lemmas.List.{length-set, length-replicate, get_or-replicat
 use Rattle.pay_frame.specs.Frame.{FrameFields}
 use Rattle.pay_link.specs.Keys.{KeyFields}
 use Rattle.pay_cli.specs.declared.progress.Progress.{Progress}
-use Rattle.pay_cli.specs.Lines.{Outcome, Taken, Wanted, Refused, moved, outcome_of, fronts_after}
+use Rattle.pay_cli.specs.Lines.{Outcome, Taken, Wanted, Refused, progress_after, check_outcome, fronts_after}
 use Rattle.pay_cli.specs.CheckText.{at_start}
 use Rattle.pay_cli.specs.Engine.{HasRoom}
 
@@ -32,13 +32,13 @@ length-fronts_after fronts f Wanted = refl
 length-fronts_after fronts f (Refused fault) = refl
 
 room_for : (k : KeyFields) (p : Progress) (n : ℕ) → length p.fronts ≡ length k.keys → ((m : ℕ) → get_or p.fronts m 0 < p.line) → p.line + n < 2 ^ 64 → HasRoom k p n
-unfolding moved
+unfolding progress_after
 room_for k p zero each below room = tt
 room_for k p (suc n) each below room = (
   record { each = each; below = below; more = omega arith },
   λ f.
-      let o : Outcome = outcome_of k p.fronts f in
-      room_for k (moved k p f) n (length-fronts_after p.fronts f o ∙ each) (fronts_in_line p.fronts f o p.line below) (omega arith),
+      let o : Outcome = check_outcome k p.fronts f in
+      room_for k (progress_after k p f) n (length-fronts_after p.fronts f o ∙ each) (fronts_in_line p.fronts f o p.line below) (omega arith),
 )
 
 zeros_in_line : (members m : ℕ) → get_or (replicate members 0) m 0 < 1

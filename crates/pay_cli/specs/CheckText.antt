@@ -6,13 +6,14 @@ use Rattle.pay_frame.specs.Frame.{FrameFields}
 use Rattle.pay_engine.specs.Exact.{Function, IsText, state_after}
 use Rattle.pay_link.specs.Keys.{KeyFields}
 use Rattle.pay_cli.specs.declared.progress.Progress.{Progress}
-use Rattle.pay_cli.specs.Lines.{Outcome, Taken, Wanted, Refused, outcome_of, line_of, moved}
+use Rattle.pay_cli.specs.Lines.{Outcome, Taken, Wanted, Refused, check_outcome, line_of}
+use Rattle.pay_cli.specs.Lines.{progress_after}
 use Rattle.pay_cli.specs.Lines.{fault_line}
 
 -- a line for each frame, and the one of a fault
 abbrev pub checking : KeyFields → Function Progress
 checking k = record {
-  after = moved k;
+  after = progress_after k;
   text = line_of k;
   fault_text = λ p fault. fault_line p.line fault;
 }
@@ -42,7 +43,7 @@ pub record HasCheckText (k : KeyFields) (bytes : List ℕ) : Type 0 where
 -- some frames, each with what becomes of it
 abbrev pub outcomes : KeyFields → Progress → List FrameFields → List (FrameFields × Outcome)
 outcomes k p [] = []
-outcomes k p (f ∷ fs) = (f, outcome_of k p.fronts f) ∷ outcomes k (moved k p f) fs
+outcomes k p (f ∷ fs) = (f, check_outcome k p.fronts f) ∷ outcomes k (progress_after k p f) fs
 
 -- an `ok` line of this member
 abbrev pub is_ok_from : ℕ → FrameFields × Outcome → Bool

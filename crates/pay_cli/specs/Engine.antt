@@ -7,7 +7,7 @@ use Rattle.pay_engine.specs.Handling.{Start}
 use Rattle.pay_engine.specs.Exact.{Writes as EngineWrites}
 use Rattle.pay_link.specs.Keys.{KeyFields}
 use Rattle.pay_cli.specs.declared.progress.Progress.{Progress}
-use Rattle.pay_cli.specs.Lines.{moved}
+use Rattle.pay_cli.specs.Lines.{progress_after}
 use Rattle.pay_cli.specs.CheckText.{checking, at_start}
 
 -- nothing is written before the first line
@@ -17,10 +17,10 @@ check_start k input before =
 
 -- What is written, by how the engine ended: the whole text at the input's end, or up to the fault
 -- in what was read; else a prefix of it.
-abbrev pub Writes :
+abbrev pub WritesCheckText :
     KeyFields → Option (List ℕ) → Option (List ℕ) → Option (List ℕ) → Option (List ℕ)
     → Result ⊤ EngineFault → Type 0
-Writes k input left before after result =
+WritesCheckText k input left before after result =
     (known : Progress)
     × EngineWrites (checking k) (check_start k input before) known left after result
 
@@ -34,4 +34,4 @@ pub record IsInLine (k : KeyFields) (p : Progress) : Type 0 where
 -- so before each of so many frames more, whatever they are
 abbrev pub HasRoom : KeyFields → Progress → ℕ → Type 0
 HasRoom k p zero = ⊤
-HasRoom k p (suc n) = IsInLine k p × ((f : FrameFields) → HasRoom k (moved k p f) n)
+HasRoom k p (suc n) = IsInLine k p × ((f : FrameFields) → HasRoom k (progress_after k p f) n)

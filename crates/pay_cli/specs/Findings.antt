@@ -18,7 +18,7 @@ use Rattle.pay_cli.specs.declared.progress.Progress.{Progress}
 use Rattle.pay_cli.specs.declared.finding.Turn.{Turn}
 use Rattle.pay_cli.specs.declared.finding.Finding.{Finding}
 use Rattle.pay_cli.specs.CheckText.{checking}
-use Rattle.pay_cli.specs.Lines.{ok_words, want_words, refused_words}
+use Rattle.pay_cli.specs.Lines.{ok_words, want_words, link_refused_words}
 
 -- the words of a frame that opened, where it is its sender's turn
 abbrev pub opened_words : FrameFields → Kind → List ℕ
@@ -36,34 +36,34 @@ opened_turn f Ready = Some (record { from = f.from; number = f.number })
 
 abbrev pub judged_words : FrameFields → Result OpenedFields LinkFault → List ℕ
 judged_words f (Ok opened) = opened_words f f.body.kind
-judged_words f (Err fault) = refused_words fault
+judged_words f (Err fault) = link_refused_words fault
 
 abbrev pub judged_turn : FrameFields → Result OpenedFields LinkFault → Option Turn
 judged_turn f (Ok opened) = opened_turn f f.body.kind
 judged_turn f (Err fault) = None
 
 -- the words of a frame, and the turn that it has to be for them
-abbrev pub words_of : KeyFields → FrameFields → List ℕ
-words_of k f = judged_words f (judgement k f)
+abbrev pub frame_words : KeyFields → FrameFields → List ℕ
+frame_words k f = judged_words f (judgement k f)
 
 abbrev pub turn_of : KeyFields → FrameFields → Option Turn
 turn_of k f = judged_turn f (judgement k f)
 
 abbrev pub finding_of : KeyFields → FrameFields → Finding
-finding_of k f = record { size = length (words_of k f); turn = turn_of k f }
+finding_of k f = record { size = length (frame_words k f); turn = turn_of k f }
 
 -- a finding for each frame, and its words
 abbrev pub judging : KeyFields → Function (List Finding)
 judging k = record {
   after = λ findings f. findings ++ finding_of k f ∷ [];
-  text = λ findings f. words_of k f;
+  text = λ findings f. frame_words k f;
   fault_text = λ findings fault. [];
 }
 
 -- all findings and all words of some frames
 pub record IsJudged (k : KeyFields) (fs : List FrameFields) (judged : Judged) : Type 0 where
   pub findings : judged.findings ≡ map (finding_of k) fs
-  pub words : judged.words.items ≡ flat_map (words_of k) fs
+  pub words : judged.words.items ≡ flat_map (frame_words k) fs
 
 -- so in parts, one after the other
 abbrev pub AreJudged : KeyFields → List FrameFields → List Judged → Type 0
@@ -98,7 +98,7 @@ pub record AreHalves (fs : List FrameFields) (front back : List ℕ) : Type 0 wh
 
 abbrev pub turned_words : List ℕ → Result ⊤ LinkFault → List ℕ
 turned_words words (Ok _) = words
-turned_words words (Err fault) = refused_words fault
+turned_words words (Err fault) = link_refused_words fault
 
 -- these words, where it is the turn
 abbrev pub words_in_turn : List ℕ → Option Turn → List ℕ → List ℕ

@@ -4,7 +4,7 @@ use Rattle.std.specs.Prelude.{Result, Ok, Err, ⊤}
 use Rattle.pay_frame.specs.declared.fault.FrameFault.{FrameFault}
 use Rattle.pay_frame.specs.declared.kind.Kind.{Kind}
 use Rattle.pay_frame.specs.declared.kind.Kind.TheVariants.{Send, Echo, Ready, Want}
-use Rattle.pay_frame.specs.Fault.{number_of, name_of}
+use Rattle.pay_frame.specs.Fault.{fault_number, name_of}
 use Rattle.pay_frame.specs.Frame.{FrameFields}
 use Rattle.pay_link.specs.declared.link_fault.LinkFault.{LinkFault}
 use Rattle.pay_link.specs.Fronts.{turn}
@@ -31,8 +31,8 @@ abbrev pub want_words : FrameFields → List ℕ
 want_words f = codes " want from " ++ decimal f.from ++ codes " number " ++ decimal f.number
 
 -- ` refused C NAME`, and which number is next
-abbrev pub refused_words : LinkFault → List ℕ
-refused_words fault = codes " refused " ++ link_words fault
+abbrev pub link_refused_words : LinkFault → List ℕ
+link_refused_words fault = codes " refused " ++ link_words fault
 
 -- What becomes of a frame: it opened and is the next of its sender, it opened and is a WANT, or it
 -- is refused.
@@ -41,34 +41,34 @@ pub data Outcome : Type 0 where
   Wanted : Outcome
   Refused : LinkFault → Outcome
 
-abbrev pub turned : Result ⊤ LinkFault → Outcome
-turned (Ok _) = Taken
-turned (Err fault) = Refused fault
+abbrev pub turn_outcome : Result ⊤ LinkFault → Outcome
+turn_outcome (Ok _) = Taken
+turn_outcome (Err fault) = Refused fault
 
 -- a frame that opened, where this is the next number of its sender
 abbrev pub opened_outcome : ℕ → FrameFields → Kind → Outcome
 opened_outcome next f Want = Wanted
-opened_outcome next f Send = turned (turn next f.number)
-opened_outcome next f Echo = turned (turn next f.number)
-opened_outcome next f Ready = turned (turn next f.number)
+opened_outcome next f Send = turn_outcome (turn next f.number)
+opened_outcome next f Echo = turn_outcome (turn next f.number)
+opened_outcome next f Ready = turn_outcome (turn next f.number)
 
 abbrev pub judged_outcome : ℕ → FrameFields → Result OpenedFields LinkFault → Outcome
 judged_outcome next f (Ok opened) = opened_outcome next f f.body.kind
 judged_outcome next f (Err fault) = Refused fault
 
 -- what becomes of a frame, where these are the next numbers of all members
-abbrev pub outcome_of : KeyFields → List ℕ → FrameFields → Outcome
-outcome_of k fronts f = judged_outcome (slice_index fronts f.from) f (judgement k f)
+abbrev pub check_outcome : KeyFields → List ℕ → FrameFields → Outcome
+check_outcome k fronts f = judged_outcome (slice_index fronts f.from) f (judgement k f)
 
 -- what `check` says of it, after the number of its line
-abbrev pub outcome_words : FrameFields → Outcome → List ℕ
-outcome_words f Taken = ok_words f
-outcome_words f Wanted = want_words f
-outcome_words f (Refused fault) = refused_words fault
+abbrev pub check_words : FrameFields → Outcome → List ℕ
+check_words f Taken = ok_words f
+check_words f Wanted = want_words f
+check_words f (Refused fault) = link_refused_words fault
 
 -- the line of a frame
 unfoldable pub line_of : KeyFields → Progress → FrameFields → List ℕ
-line_of k p f = decimal p.line ++ outcome_words f (outcome_of k p.fronts f) ++ codes "\n"
+line_of k p f = decimal p.line ++ check_words f (check_outcome k p.fronts f) ++ codes "\n"
 
 -- an `ok` frame moves its sender's next number by one, nothing else does
 abbrev pub fronts_after : List ℕ → FrameFields → Outcome → List ℕ
@@ -77,12 +77,12 @@ fronts_after fronts f Wanted = fronts
 fronts_after fronts f (Refused fault) = fronts
 
 -- what is known after a frame's line
-unfoldable pub moved : KeyFields → Progress → FrameFields → Progress
-moved k p f =
-    record { fronts = fronts_after p.fronts f (outcome_of k p.fronts f); line = p.line + 1 }
+unfoldable pub progress_after : KeyFields → Progress → FrameFields → Progress
+progress_after k p f =
+    record { fronts = fronts_after p.fronts f (check_outcome k p.fronts f); line = p.line + 1 }
 
 -- `k fault C NAME`
 abbrev pub fault_line : ℕ → FrameFault → List ℕ
 fault_line line fault =
-    decimal line ++ codes " fault " ++ decimal (number_of fault) ++ codes " " ++ name_of fault
+    decimal line ++ codes " fault " ++ decimal (fault_number fault) ++ codes " " ++ name_of fault
     ++ codes "\n"

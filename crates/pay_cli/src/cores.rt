@@ -19,8 +19,17 @@ use std::alloc::{AllocError, Global};
 use std::marker::Model;
 use std::mem;
 
-/// How many bytes a thread judges at least. Fewer take no longer than to start it.
-pub(crate) const LEAST_PART: usize = 1 << 14;
+/// How many bytes are judged as one part at least.
+const LEAST_PART: usize = 1 << 14;
+
+/// How many parts there are for each thread at most, so that one that has to wait for a processor
+/// has fewer.
+const PARTS_OF_ONE: usize = 4;
+
+/// In how many parts so many bytes are judged by so many threads.
+pub(crate) fn parts_of(jobs: usize, bytes: usize) -> usize {
+    jobs.saturating_mul(PARTS_OF_ONE).min(bytes / LEAST_PART)
+}
 
 /// What `check` knows between two lines, and the memory that threads write to.
 #[derive(Drop)]

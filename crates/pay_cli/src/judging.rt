@@ -6,7 +6,7 @@ ghost use Rattle.pay_frame.specs.Lent.{fields_of};
 ghost use Rattle.pay_frame.specs.Stream.{IsFramesThen};
 ghost use Rattle.pay_engine.specs.Exact.{exactly};
 ghost use Rattle.pay_cli.specs.Findings.{IsJudged, judging, opened_turn, opened_words, turn_of};
-ghost use Rattle.pay_cli.specs.Findings.{words_of};
+ghost use Rattle.pay_cli.specs.Findings.{frame_words};
 
 use crate::finding::{Finding, Findings, Turn};
 use crate::lines::{push_ok, push_refused, push_want};
@@ -109,11 +109,11 @@ fn push_words<T: Tagger>(
     frame: FrameRef,
 ) -> Result<Option<Turn>, AllocError>
     ensures words { OnOk result (words.new.items
-        ≡ words.old.items ++ words_of keys.now (fields_of frame.entry)) }
+        ≡ words.old.items ++ frame_words keys.now (fields_of frame.entry)) }
     ensures turn { IfOk result (λ turn. turn ≡ turn_of keys.now (fields_of frame.entry)) }
 {
     // a law that the proof stands on: the call does nothing
-    laws::opened();
+    laws::judgement_opens();
     match open(t, keys, frame) {
         Ok(opened) => push_opened_words(words, opened.frame()),
         Err(fault) => {

@@ -5,6 +5,7 @@
 //! ```
 #![tactic(auto)]
 
+mod board;
 mod check;
 mod checking;
 mod cores;
@@ -15,6 +16,7 @@ mod lines;
 mod progress;
 mod sharing;
 mod turns;
+mod workers;
 
 pub use check::run_check;
 pub use laws::{every_text, next_is_ok_lines_before, one_text};

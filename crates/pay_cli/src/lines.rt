@@ -2,7 +2,8 @@
 
 ghost use Rattle.std.specs.Prelude.{◌≡◌, ◌++◌, OnOk, codes};
 ghost use Rattle.pay_frame.specs.Lent.{fields_of};
-ghost use Rattle.pay_cli.specs.Lines.{fault_line, kind_word, ok_words, refused_words, want_words};
+ghost use Rattle.pay_cli.specs.Lines.{fault_line, kind_word, ok_words, link_refused_words};
+ghost use Rattle.pay_cli.specs.Lines.{want_words};
 
 use pay_frame::{FrameFault, FrameRef, Kind};
 use pay_link::LinkFault;
@@ -39,7 +40,7 @@ pub fn push_want(out: &mut Vec<u8>, frame: &FrameRef) -> Result<(), AllocError>
 /// The words of a frame that isn't taken: the fault's number and name, and for a repeat or a gap
 /// the next number from its sender.
 pub fn push_refused(out: &mut Vec<u8>, fault: LinkFault) -> Result<(), AllocError>
-    ensures { OnOk result (out.new.items ≡ out.old.items ++ refused_words fault) }
+    ensures { OnOk result (out.new.items ≡ out.old.items ++ link_refused_words fault) }
 {
     push_word(out, " refused ")?;
     fault.push_words(out)

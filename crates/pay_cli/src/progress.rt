@@ -1,7 +1,8 @@
 ghost use Rattle.std.specs.Prelude.{◌≡◌, ◌⊎◌, ℕ, ◌+◌, ◌++◌, ◌<◌, ◌^◌, IfOk, OnErr, OnOk, length};
 ghost use Rattle.std.specs.Prelude.{replicate, slice_index};
 ghost use Rattle.pay_frame.specs.Lent.{fields_of};
-ghost use Rattle.pay_cli.specs.Lines.{line_of, moved, outcome_of, outcome_words, opened_outcome};
+ghost use Rattle.pay_cli.specs.Lines.{line_of, progress_after, check_outcome, check_words};
+ghost use Rattle.pay_cli.specs.Lines.{opened_outcome};
 ghost use Rattle.pay_cli.specs.Lines.{fronts_after};
 ghost use Rattle.pay_cli.specs.Engine.{HasRoom};
 
@@ -32,7 +33,7 @@ impl Progress {
 }
 
 /// Writes the line of a frame. Where memory is refused the frame was counted, or nothing changed.
-#[tactic(auto, unfolding(crate::specs::Lines::line_of, crate::specs::Lines::moved))]
+#[tactic(auto, unfolding(crate::specs::Lines::line_of, crate::specs::Lines::progress_after))]
 pub fn push_line<T: Tagger>(
     out: &mut Vec<u8>,
     t: &T,
@@ -44,9 +45,9 @@ pub fn push_line<T: Tagger>(
     ensures text { OnOk result (out.new.items ≡ out.old.items
         ++ line_of keys.now progress.old (fields_of frame.entry)) }
     ensures moved { OnOk result (progress.new
-        ≡ moved keys.now progress.old (fields_of frame.entry)) }
+        ≡ progress_after keys.now progress.old (fields_of frame.entry)) }
     ensures err { OnErr result ((progress.new ≡ progress.old)
-        ⊎ (progress.new ≡ moved keys.now progress.old (fields_of frame.entry))) }
+        ⊎ (progress.new ≡ progress_after keys.now progress.old (fields_of frame.entry))) }
 {
     push_number(out, progress.line)?;
     push_judged(out, t, keys, &mut progress.fronts, frame)?;
@@ -65,13 +66,13 @@ fn push_judged<T: Tagger>(
     requires members { length fronts.old ≡ length keys.now.keys }
     requires room { (member : ℕ) → slice_index fronts.old member + 1 < 2 ^ 64 }
     ensures words { let f = fields_of frame.entry in OnOk result (out.new.items
-        ≡ out.old.items ++ outcome_words f (outcome_of keys.now fronts.old f)) }
+        ≡ out.old.items ++ check_words f (check_outcome keys.now fronts.old f)) }
     ensures fronts { let f = fields_of frame.entry in OnOk result (fronts.new
-        ≡ fronts_after fronts.old f (outcome_of keys.now fronts.old f)) }
+        ≡ fronts_after fronts.old f (check_outcome keys.now fronts.old f)) }
     ensures err { OnErr result (fronts.new ≡ fronts.old) }
 {
     // a law that the proof stands on: the call does nothing
-    laws::opened();
+    laws::judgement_opens();
     match open(t, keys, frame) {
         Ok(opened) => push_opened(out, fronts, opened.frame()),
         Err(fault) => push_refused(out, fault),
@@ -83,7 +84,7 @@ fn push_opened(out: &mut Vec<u8>, fronts: &mut Fronts, frame: &FrameRef) -> Resu
     requires known { (fields_of frame.now).from < length fronts.old }
     requires room { slice_index fronts.old (fields_of frame.now).from + 1 < 2 ^ 64 }
     ensures words { let f = fields_of frame.now in
-        OnOk result (out.new.items ≡ out.old.items ++ outcome_words f
+        OnOk result (out.new.items ≡ out.old.items ++ check_words f
         (opened_outcome (slice_index fronts.old f.from) f f.body.kind)) }
     ensures fronts { let f = fields_of frame.now in
         OnOk result (fronts.new ≡ fronts_after fronts.old f

@@ -43,7 +43,7 @@ fn push_part(out: &mut Vec<u8>, progress: &mut Progress, judged: &Judged) -> Res
         → Pushes k progress.old progress.new fs out.old.items out.new.items result }
 {
     // a law that the proof stands on: the call does nothing
-    laws::opened();
+    laws::judgement_opens();
     let mut findings = judged.findings.as_slice();
     let mut words = judged.words.as_slice();
     while let Some((finding, others)) = findings.split_first() {

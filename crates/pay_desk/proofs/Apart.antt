@@ -13,7 +13,7 @@ use Rattle.pay_desk.specs.declared.payments.Payments.{Payments}
 use Rattle.pay_desk.specs.declared.payments.Payments.TheVariants.{One, Several}
 use Rattle.pay_desk.specs.Kept.{is_value}
 use Rattle.pay_desk.specs.Laws.{AreOfLine, KeptAnswersItsOwn}
-use Rattle.pay_desk.specs.Payments.{pairs_of, value_of, if_named}
+use Rattle.pay_desk.specs.Payments.{pairs_of, value_of_payments, if_named}
 
 abbrev Pair : Type 0
 Pair = ℕ × ℕ
@@ -22,21 +22,21 @@ abbrev AreNamed : Payments → Type 0
 AreNamed payments = list_all names_payee (pairs_of payments) ≡ true
 
 -- what is known of the two
-named_first : (payments : Payments) → if_named payments (value_of payments) ≡ Some (value_of payments) → AreNamed payments
+named_first : (payments : Payments) → if_named payments (value_of_payments payments) ≡ Some (value_of_payments payments) → AreNamed payments
 named_first payments is =
     elim (cases_Bool (list_all names_payee (pairs_of payments))) [
       | inl all ↦ all
-      | inr some ↦ absurd (let none = sym (cond-false (list_all names_payee (pairs_of payments)) (Some (value_of payments)) None some) ∙ is in cc)
+      | inr some ↦ absurd (let none = sym (cond-false (list_all names_payee (pairs_of payments)) (Some (value_of_payments payments)) None some) ∙ is in cc)
     ]
 
-same_value : (again : Payments) (value : List ℕ) → is_value (if_named again (value_of again)) value ≡ true → AreNamed again × (value_of again ≡ value)
+same_value : (again : Payments) (value : List ℕ) → is_value (if_named again (value_of_payments again)) value ≡ true → AreNamed again × (value_of_payments again ≡ value)
 same_value again value is =
     elim (cases_Bool (list_all names_payee (pairs_of again))) [
       | inl all ↦ (
-          let found = cond-true (list_all names_payee (pairs_of again)) (Some (value_of again)) None all in
-          (all, (bytes_eq-Decides (value_of again) value).0 (sym (ap (λ o. is_value o value) found) ∙ is)))
+          let found = cond-true (list_all names_payee (pairs_of again)) (Some (value_of_payments again)) None all in
+          (all, (bytes_eq-Decides (value_of_payments again) value).0 (sym (ap (λ o. is_value o value) found) ∙ is)))
       | inr some ↦ absurd (
-          let found = cond-false (list_all names_payee (pairs_of again)) (Some (value_of again)) None some in
+          let found = cond-false (list_all names_payee (pairs_of again)) (Some (value_of_payments again)) None some in
           let no = sym (ap (λ o. is_value o value) found) ∙ is in cc)
     ]
 
@@ -60,7 +60,7 @@ same_pairs ps qs same = sym (pairs_back ps) ∙ ap (map pair_back) same ∙ pair
 
 module _ (apart : AreApart) where
   by_values : (asked again : Payments) → All FitsBytes (map payment_named (pairs_of asked)) → All FitsBytes (map payment_named (pairs_of again))
-      → value_of again ≡ value_of asked → again ≡ asked
+      → value_of_payments again ≡ value_of_payments asked → again ≡ asked
   by_values (One to amount) (One to' amount') fits fits' same =
       let p : Payment = payment_named (to, amount) in
       let q : Payment = payment_named (to', amount') in
@@ -75,5 +75,5 @@ module _ (apart : AreApart) where
 
   pub kept_answers_its_own : KeptAnswersItsOwn
   kept_answers_its_own asked again small small' first is =
-      let equal = same_value again (value_of asked) is in
+      let equal = same_value again (value_of_payments asked) is in
       by_values asked again (fit (pairs_of asked) (named_first asked first) small) (fit (pairs_of again) equal.0 small') equal.1

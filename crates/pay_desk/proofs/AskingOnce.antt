@@ -11,18 +11,18 @@ use Rattle.pay_desk.specs.declared.fault.DeskFault.{DeskFault}
 use Rattle.pay_desk.specs.declared.kept.Kept.{Kept}
 use Rattle.pay_desk.specs.declared.teller_fault.TellerFault.{TellerFault}
 use Rattle.pay_desk.specs.declared.teller_fault.TellerFault.TheVariants.{Memory, NoAccount, Spent}
-use Rattle.pay_desk.specs.Answers.{Answers, AnswersPay, Calls, GaveUp, Pays, Unless, account_fault, pay_fault}
+use Rattle.pay_desk.specs.Answers.{AnswersCommand, AnswersPay, Calls, GaveUp, Pays, Unless, account_fault, pay_fault}
 use Rattle.pay_desk.specs.Calls as call
-use Rattle.pay_desk.specs.Calls.{Call, TellerReply, asked_by, only_reads}
+use Rattle.pay_desk.specs.Calls.{Call, TellerReply, values_asked_by, reads_at_length}
 use Rattle.pay_desk.specs.Desk.{DeskSays, command_at}
 use Rattle.pay_desk.specs.Kept.{kept_after, kept_under}
 use Rattle.pay_desk.specs.Laws.{AreUnderFreeIds, AsksOnce, KeepsAll}
-use Rattle.pay_desk.specs.Payments.{pairs_of, value_of}
+use Rattle.pay_desk.specs.Payments.{pairs_of, value_of_payments}
 
 abbrev asked_of : Kept → List ℕ
 asked_of k = k.value
 
-module _ {T : Type 0} (says : T → Call → TellerReply → T → Type 0) (asked : T → List (List ℕ)) (only_asks : (old new : T) (called : Call) (reply : TellerReply) → says old called reply new → asked new ≡ asked old ++ asked_by called reply) where
+module _ {T : Type 0} (says : T → Call → TellerReply → T → Type 0) (asked : T → List (List ℕ)) (only_asks : (old new : T) (called : Call) (reply : TellerReply) → says old called reply new → asked new ≡ asked old ++ values_asked_by called reply) where
   -- nothing is broadcast, and nothing kept
   nothing : (old new : Desk T) → new.kept ≡ old.kept → asked new.teller ≡ asked old.teller ++ [] → AsksOnce asked old new
   nothing old new kept same = record { more = []; kept = kept ∙ sym (append-nil old.kept); broadcast = same; free = tt }
@@ -36,7 +36,7 @@ module _ {T : Type 0} (says : T → Call → TellerReply → T → Type 0) (aske
   by_unless None old new words P otherwise p = otherwise p
 
   -- a call that broadcasts nothing
-  by_call : {X : Type 0} (called : Call) (reply : X → TellerReply) (words : X → List ℕ) (old new : Desk T) (t : List ℕ) → ((r : TellerReply) → asked_by called r ≡ []) → Calls says called reply words old t new → AsksOnce asked old new
+  by_call : {X : Type 0} (called : Call) (reply : X → TellerReply) (words : X → List ℕ) (old new : Desk T) (t : List ℕ) → ((r : TellerReply) → values_asked_by called r ≡ []) → Calls says called reply words old t new → AsksOnce asked old new
   by_call {X} called reply words old new t silent calls =
       nothing old new (ap (λ (d : Desk T). d.kept) calls.same) (by_outcome calls.outcome calls.replied) where
         said : (r : TellerReply) → says old.teller called r new.teller → asked new.teller ≡ asked old.teller ++ []
@@ -68,11 +68,11 @@ module _ {T : Type 0} (says : T → Call → TellerReply → T → Type 0) (aske
       → AnswersPay says found order old t new → AsksOnce asked old new
   by_found order old new t (Some k) known answer = unchanged old new answer.same
   by_found order old new t None free answer =
-      let value = value_of order.payments in
+      let value = value_of_payments order.payments in
       by_unless (pay_fault old.accounts old.own (pairs_of order.payments)) old new t (Pays says order.id value old t new)
       (λ pays. by_paid order.id value old new pays.outcome free pays.replied pays.kept) answer
 
-  by_answer : (command : Option Command) (old new : Desk T) (t : List ℕ) → Answers says command old t new → AsksOnce asked old new
+  by_answer : (command : Option Command) (old new : Desk T) (t : List ℕ) → AnswersCommand says command old t new → AsksOnce asked old new
   by_answer None old new t refused = unchanged old new refused.same
   by_answer (Some (Pay order)) old new t answer = by_found order old new t (kept_under order.id old.kept) refl answer
   by_answer (Some (Balance account)) old new t answer =
@@ -87,7 +87,7 @@ module _ {T : Type 0} (says : T → Call → TellerReply → T → Type 0) (aske
       by_unless (account_fault old.accounts account) old new t _ (by_call (call.Waiting account) _ _ old new t (λ r. refl)) answer
   by_answer (Some Front) old new t answer = by_call call.Fronts _ _ old new t (λ r. refl) answer
 
-  silent : (called : Call) (r : TellerReply) → only_reads called ≡ true → asked_by called r ≡ []
+  silent : (called : Call) (r : TellerReply) → reads_at_length called ≡ true → values_asked_by called r ≡ []
   silent (call.Ask value) r reads = absurd (let bad : false ≡ true = reads in cc)
   silent (call.Query account) r reads = refl
   silent (call.State owner seq) r reads = refl

@@ -9,7 +9,7 @@ use Rattle.pay_book.specs.Payment.{names_payee, payment_named, payments_named, p
 use Rattle.pay_desk.specs.declared.fault.DeskFault.TheVariants.{NoAccount}
 use Rattle.pay_desk.specs.declared.payments.Payments.{Payments}
 use Rattle.pay_desk.specs.declared.payments.Payments.TheVariants.{Several}
-use Rattle.pay_desk.specs.Payments.{if_named, pairs_of, value_of}
+use Rattle.pay_desk.specs.Payments.{if_named, pairs_of, value_of_payments}
 use Rattle.pay_desk.specs.Answers.{is_account, pay_fault}
 
 named : (pairs : List (ℕ × ℕ)) (payments : List Payment) → Some payments ≡ payments_named pairs
@@ -21,7 +21,7 @@ named pairs payments is =
       | inr some ↦ absurd (let none = is ∙ cond-false (list_all names_payee pairs) _ _ some in cc)
     ]
 
-pub not_named : (pairs : List (ℕ × ℕ)) → None ≡ payments_named pairs → None ≡ if_named (Several pairs) (value_of (Several pairs))
+pub not_named : (pairs : List (ℕ × ℕ)) → None ≡ payments_named pairs → None ≡ if_named (Several pairs) (value_of_payments (Several pairs))
 unfolding payments_named
 not_named pairs is =
     elim (cases_Bool (list_all names_payee pairs)) [
@@ -37,7 +37,7 @@ named_few pairs payments few is =
     omega arith
 
 pub named_value : (pairs : List (ℕ × ℕ)) (payments : List Payment) (value : List ℕ) → Some payments ≡ payments_named pairs
-    → value ≡ payments_value payments → Some value ≡ if_named (Several pairs) (value_of (Several pairs))
+    → value ≡ payments_value payments → Some value ≡ if_named (Several pairs) (value_of_payments (Several pairs))
 named_value pairs payments value is written =
     let all = named pairs payments is in
     ap Some (written ∙ ap payments_value all.1) ∙ sym (cond-true (list_all names_payee pairs) _ _ all.0)
@@ -51,12 +51,12 @@ accounts_named accounts (p ∷ pairs) small all =
     and_from (names_payee p) (list_all names_payee pairs) (lt-ltb p.0 (2 ^ 16) (omega arith)) (accounts_named accounts pairs small both.1)
 
 -- so where one can't, some payee is no account
-pub unnamed_is_no_account : (accounts own : ℕ) (payments : Payments) → accounts < 2 ^ 16 → None ≡ if_named payments (value_of payments)
+pub unnamed_is_no_account : (accounts own : ℕ) (payments : Payments) → accounts < 2 ^ 16 → None ≡ if_named payments (value_of_payments payments)
     → pay_fault accounts own (pairs_of payments) ≡ Some NoAccount
 unnamed_is_no_account accounts own payments small none =
     elim (cases_Bool (list_all (is_account accounts) (pairs_of payments))) [
       | inl all ↦ (
-          let some = cond-true (list_all names_payee (pairs_of payments)) (Some (value_of payments)) None (accounts_named accounts (pairs_of payments) small all) in
-          let bad : None ≡ Some (value_of payments) = none ∙ some in absurd cc)
+          let some = cond-true (list_all names_payee (pairs_of payments)) (Some (value_of_payments payments)) None (accounts_named accounts (pairs_of payments) small all) in
+          let bad : None ≡ Some (value_of_payments payments) = none ∙ some in absurd cc)
       | inr out ↦ cond-false (list_all (is_account accounts) (pairs_of payments)) _ _ out
     ]

@@ -32,9 +32,11 @@ pub data TellerReply : Type 0 where
   Settled : List ℕ → TellerReply
   Refused : TellerFault → TellerReply
 
--- A call came to its end: it replied, or memory was refused and nothing changed. `says` is what becomes of a teller:
--- who it was, what it was asked, what it replied, and who it is then.
-abbrev pub Replies : {T X : Type 0} → (T → Call → TellerReply → T → Type 0) → T → Call → (X → TellerReply) → Result X TellerFault → T → Type 0
+-- A call came to its end: it replied, or memory was refused and nothing changed. `says` is what
+-- becomes of a teller: who it was, what it was asked, what it replied, and who it is then.
+abbrev pub Replies :
+    {T X : Type 0} → (T → Call → TellerReply → T → Type 0) → T → Call → (X → TellerReply)
+    → Result X TellerFault → T → Type 0
 Replies says old call reply (Ok x) new = says old call (reply x) new
 Replies says old call reply (Err Memory) new = new ≡ old
 Replies says old call reply (Err NoAccount) new = says old call (Refused NoAccount) new
@@ -46,27 +48,27 @@ seen_as (Ok x) see = Ok (see x)
 seen_as (Err fault) see = Err fault
 
 -- what was broadcast by a call with this reply
-abbrev pub asked_by : Call → TellerReply → List (List ℕ)
-asked_by (Ask value) (Asked seq) = value ∷ []
-asked_by (Ask value) (Queried told) = []
-asked_by (Ask value) (Stood state) = []
-asked_by (Ask value) (Stated statement) = []
-asked_by (Ask value) (Listed excerpt) = []
-asked_by (Ask value) (Settled fronts) = []
-asked_by (Ask value) (Refused fault) = []
-asked_by (Query account) reply = []
-asked_by (State owner seq) reply = []
-asked_by (Statement account) reply = []
-asked_by (Entries account from) reply = []
-asked_by (Waiting account) reply = []
-asked_by Fronts reply = []
+abbrev pub values_asked_by : Call → TellerReply → List (List ℕ)
+values_asked_by (Ask value) (Asked seq) = value ∷ []
+values_asked_by (Ask value) (Queried told) = []
+values_asked_by (Ask value) (Stood state) = []
+values_asked_by (Ask value) (Stated statement) = []
+values_asked_by (Ask value) (Listed excerpt) = []
+values_asked_by (Ask value) (Settled fronts) = []
+values_asked_by (Ask value) (Refused fault) = []
+values_asked_by (Query account) reply = []
+values_asked_by (State owner seq) reply = []
+values_asked_by (Statement account) reply = []
+values_asked_by (Entries account from) reply = []
+values_asked_by (Waiting account) reply = []
+values_asked_by Fronts reply = []
 
--- such a call leaves no entry at a member
-abbrev pub only_reads : Call → Bool
-only_reads (Ask value) = false
-only_reads (Query account) = false
-only_reads (State owner seq) = true
-only_reads (Statement account) = true
-only_reads (Entries account from) = true
-only_reads (Waiting account) = true
-only_reads Fronts = true
+-- such a call reads what may be long, so that memory for the answer may be refused after it
+abbrev pub reads_at_length : Call → Bool
+reads_at_length (Ask value) = false
+reads_at_length (Query account) = false
+reads_at_length (State owner seq) = false
+reads_at_length (Statement account) = true
+reads_at_length (Entries account from) = true
+reads_at_length (Waiting account) = true
+reads_at_length Fronts = false

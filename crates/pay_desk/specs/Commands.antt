@@ -1,5 +1,6 @@
 -- What the lines of a desk ask for, word by word.
-use Rattle.std.specs.Prelude.{⊤, ℕ, nat_le, nat_lt, List, length, drop, codes, if◌then◌else◌, Option, Some, None, option_and_then, option_map}
+use Rattle.std.specs.Prelude.{⊤, ℕ, nat_le, nat_lt, List, length, drop, codes, if◌then◌else◌}
+use Rattle.std.specs.Prelude.{Option, Some, None, option_and_then, option_map}
 use Rattle.std.specs.Str.{bytes_eq}
 use Rattle.pay_frame.specs.declared.limits.TheConstants.{SEQS}
 use Rattle.pay_text.specs.Words.{words_of, first_word, is_none}
@@ -7,7 +8,8 @@ use Rattle.pay_text.specs.Numbers.{first_number}
 use Rattle.pay_text.specs.Pairs.{pairs_within}
 use Rattle.pay_book.specs.declared.payment.TheConstants.{MOST_PAYMENTS}
 use Rattle.pay_desk.specs.declared.command.Command.{Command}
-use Rattle.pay_desk.specs.declared.command.Command.TheVariants.{Pay, Balance, State, Statement, Entries, Waiting, Front}
+use Rattle.pay_desk.specs.declared.command.Command.TheVariants.{Pay, Balance, State, Statement}
+use Rattle.pay_desk.specs.declared.command.Command.TheVariants.{Entries, Waiting, Front}
 use Rattle.pay_desk.specs.declared.command.TheConstants.{MOST_LINE}
 use Rattle.pay_desk.specs.declared.payments.Payments.TheVariants.{One, Several}
 use Rattle.pay_desk.specs.Payments.{HasFew}
@@ -23,7 +25,7 @@ first_seq words = option_and_then if_seq (first_number words)
 abbrev pub if_last : {X : Type 0} → List (List ℕ) → X → Option X
 if_last words x = if is_none words then Some x else None
 
--- ---- commands, by the words behind their names
+-- ---- commands, by the words after their names
 
 -- `ID TO AMOUNT`
 unfoldable pub pay_in : List (List ℕ) → Option Command
@@ -51,11 +53,13 @@ state_in words =
 
 -- `A`
 unfoldable pub balance_in : List (List ℕ) → Option Command
-balance_in words = option_and_then (λ account. if_last (drop 1 words) (Balance account)) (first_number words)
+balance_in words =
+    option_and_then (λ account. if_last (drop 1 words) (Balance account)) (first_number words)
 
 -- `A`
-unfoldable pub statement_in : List (List ℕ) → Option Command
-statement_in words = option_and_then (λ account. if_last (drop 1 words) (Statement account)) (first_number words)
+unfoldable pub statement_command_in : List (List ℕ) → Option Command
+statement_command_in words =
+    option_and_then (λ account. if_last (drop 1 words) (Statement account)) (first_number words)
 
 -- `A E`
 unfoldable pub entries_command : List (List ℕ) → Option Command
@@ -71,13 +75,13 @@ waiting_command words =
     option_and_then (λ account. if_last (drop 1 words) (Waiting account)) (first_number words)
 
 -- the command of this name
-abbrev pub command_of : List (List ℕ) → List ℕ → Option Command
-command_of words name =
+abbrev pub command_named : List (List ℕ) → List ℕ → Option Command
+command_named words name =
     if bytes_eq name (codes "PAY") then pay_in words
     else if bytes_eq name (codes "PAYS") then pays_in words
     else if bytes_eq name (codes "BALANCE") then balance_in words
     else if bytes_eq name (codes "STATE") then state_in words
-    else if bytes_eq name (codes "STATEMENT") then statement_in words
+    else if bytes_eq name (codes "STATEMENT") then statement_command_in words
     else if bytes_eq name (codes "ENTRIES") then entries_command words
     else if bytes_eq name (codes "WAITING") then waiting_command words
     else if bytes_eq name (codes "FRONT") then if_last words Front
@@ -85,7 +89,7 @@ command_of words name =
 
 -- what these words ask for
 unfoldable pub command_by : List (List ℕ) → Option Command
-command_by words = option_and_then (command_of (drop 1 words)) (first_word words)
+command_by words = option_and_then (command_named (drop 1 words)) (first_word words)
 
 -- what a line asks for; one over the bound is no command, whatever it says
 unfoldable pub command_in : List ℕ → Option Command

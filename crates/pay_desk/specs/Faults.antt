@@ -1,7 +1,8 @@
 -- The numbers and names of a desk's refusals.
 use Rattle.std.specs.Prelude.{ℕ, List, codes}
 use Rattle.pay_desk.specs.declared.fault.DeskFault.{DeskFault}
-use Rattle.pay_desk.specs.declared.fault.DeskFault.TheVariants.{Memory, BadLine, NoAccount, ZeroOrSelf, IdUsed, Spent}
+use Rattle.pay_desk.specs.declared.fault.DeskFault.TheVariants.{Memory, BadLine, NoAccount}
+use Rattle.pay_desk.specs.declared.fault.DeskFault.TheVariants.{ZeroOrSelf, IdUsed, Spent}
 use Rattle.pay_desk.specs.declared.teller_fault.TellerFault.{TellerFault}
 use Rattle.pay_desk.specs.declared.teller_fault.TellerFault.TheVariants as teller
 

@@ -1,5 +1,7 @@
--- What a desk keeps: each value that it asked for, oldest first, with its id and the number that it got.
-use Rattle.std.specs.Prelude.{ℕ, ◌==◌, Bool, false, List, [], ◌∷◌, ◌++◌, Option, Some, None, Result, Ok, Err}
+-- What a desk keeps: each value that it asked for, oldest first, with its id and the number that it
+-- got.
+use Rattle.std.specs.Prelude.{ℕ, ◌==◌, Bool, false, List, [], ◌∷◌, ◌++◌, Option, Some, None, Result}
+use Rattle.std.specs.Prelude.{Ok, Err}
 use Rattle.std.specs.List.{find}
 use Rattle.std.specs.Str.{bytes_eq}
 use Rattle.pay_desk.specs.declared.kept.Kept.{Kept}

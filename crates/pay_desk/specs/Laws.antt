@@ -1,5 +1,7 @@
--- When a desk refuses, and what holds of it over all lines, as statements. Each is proved as a public law.
-use Rattle.std.specs.Prelude.{◌≡◌, ◌↔◌, ◌⊎◌, ℕ, ◌<◌, ◌≤◌, ◌^◌, Bool, true, All, Any, List, [], ◌∷◌, ◌++◌, map, None, Option, Some, ⊤}
+-- When a desk refuses, and what holds of it over all lines, as statements. Each is proved as a
+-- public law.
+use Rattle.std.specs.Prelude.{◌≡◌, ◌↔◌, ◌⊎◌, ℕ, ◌<◌, ◌≤◌, ◌^◌, Bool, true, All, Any, List, [], ◌∷◌}
+use Rattle.std.specs.Prelude.{◌++◌, map, None, Option, Some, ⊤}
 use Rattle.pay_text.specs.Answers.{Answers}
 use Rattle.pay_desk.specs.declared.desk.Desk.{Desk}
 use Rattle.pay_desk.specs.declared.fault.DeskFault.TheVariants.{NoAccount, ZeroOrSelf}
@@ -9,13 +11,15 @@ use Rattle.pay_desk.specs.Answers.{account_fault, pay_fault}
 use Rattle.pay_desk.specs.Calls.{Call, TellerReply}
 use Rattle.pay_desk.specs.Desk.{DeskSays}
 use Rattle.pay_desk.specs.Kept.{kept_under, is_value}
-use Rattle.pay_desk.specs.Payments.{pairs_of, value_of, if_named}
+use Rattle.pay_desk.specs.Payments.{pairs_of, value_of_payments, if_named}
 
 -- ---- refusals
 
 -- of a question about an account: there is no such account
 abbrev pub AccountCause : Type 0
-AccountCause = (accounts account : ℕ) → (account_fault accounts account ≡ Some NoAccount) ↔ (accounts ≤ account)
+AccountCause =
+    (accounts account : ℕ) → (account_fault accounts account ≡ Some NoAccount)
+    ↔ (accounts ≤ account)
 
 -- of payments: some payee is no account
 abbrev pub PayeeCause : Type 0
@@ -40,42 +44,51 @@ AreOfLine payments = All (λ p. p.1 < 2 ^ 64) (pairs_of payments)
 abbrev pub KeptAnswersItsOwn : Type 0
 KeptAnswersItsOwn =
     (asked again : Payments) → AreOfLine asked → AreOfLine again
-    → if_named asked (value_of asked) ≡ Some (value_of asked)
-    → is_value (if_named again (value_of again)) (value_of asked) ≡ true → again ≡ asked
+    → if_named asked (value_of_payments asked) ≡ Some (value_of_payments asked)
+    → is_value (if_named again (value_of_payments again)) (value_of_payments asked) ≡ true
+    → again ≡ asked
 
 -- ---- all lines
 
--- these values are kept behind the others, each under an id that was free until then
+-- these values are kept after the others, each under an id that was free until then
 abbrev pub AreUnderFreeIds : List Kept → List Kept → Type 0
 AreUnderFreeIds kept [] = ⊤
-AreUnderFreeIds kept (k ∷ more) = (kept_under k.id kept ≡ None) × AreUnderFreeIds (kept ++ k ∷ []) more
+AreUnderFreeIds kept (k ∷ more) =
+    (kept_under k.id kept ≡ None) × AreUnderFreeIds (kept ++ k ∷ []) more
 
--- What a desk had its teller broadcast is just what it keeps since then, in order, each under an id that was free.
+-- What a desk had its teller broadcast is just what it keeps since then, in order, each under an id
+-- that was free.
 pub record AsksOnce {T : Type 0} (asked : T → List (List ℕ)) (old new : Desk T) : Type 0 where
   pub more : List Kept
   pub kept : new.kept ≡ old.kept ++ more
   pub broadcast : asked new.teller ≡ asked old.teller ++ map (λ k. k.value) more
   pub free : AreUnderFreeIds old.kept more
 
-abbrev pub LineAsksOnce : {T : Type 0} → (T → Call → TellerReply → T → Type 0) → (T → List (List ℕ)) → Type 0
+abbrev pub LineAsksOnce :
+    {T : Type 0} → (T → Call → TellerReply → T → Type 0) → (T → List (List ℕ)) → Type 0
 LineAsksOnce {T} says asked =
     (old new : Desk T) (line : Option (List ℕ)) (text : List ℕ) (on : Bool)
     → DeskSays says old line text on new → AsksOnce asked old new
 
-abbrev pub LinesAskOnce : {T : Type 0} → (T → Call → TellerReply → T → Type 0) → (T → List (List ℕ)) → Type 0
+abbrev pub LinesAskOnce :
+    {T : Type 0} → (T → Call → TellerReply → T → Type 0) → (T → List (List ℕ)) → Type 0
 LinesAskOnce {T} says asked =
     (old new : Desk T) (lines : List (Option (List ℕ))) (text : List ℕ) (on : Bool)
     → Answers (DeskSays says) old lines text on new → AsksOnce asked old new
 
 -- ---- a whole life
 
--- Kept is just what was broadcast since the member began, in order, each value under an id of its own: these values
--- before this teller, and the others through it.
-pub record KeepsAll {T : Type 0} (asked : T → List (List ℕ)) (before : List (List ℕ)) (desk : Desk T) : Type 0 where
+-- Kept is just what was broadcast since the member began, in order, each value under an id of its
+-- own: these values before this teller, and the others through it.
+pub record KeepsAll {T : Type 0} (asked : T → List (List ℕ)) (before : List (List ℕ))
+    (desk : Desk T) : Type 0 where
   pub values : map (λ k. k.value) desk.kept ≡ before ++ asked desk.teller
   pub free : AreUnderFreeIds [] desk.kept
 
-abbrev pub LinesKeepAll : {T : Type 0} → (T → Call → TellerReply → T → Type 0) → (T → List (List ℕ)) → Type 0
+abbrev pub LinesKeepAll :
+    {T : Type 0} → (T → Call → TellerReply → T → Type 0) → (T → List (List ℕ)) → Type 0
 LinesKeepAll {T} says asked =
-    (before : List (List ℕ)) (old new : Desk T) (lines : List (Option (List ℕ))) (text : List ℕ) (on : Bool)
-    → Answers (DeskSays says) old lines text on new → KeepsAll asked before old → KeepsAll asked before new
+    (before : List (List ℕ)) (old new : Desk T) (lines : List (Option (List ℕ))) (text : List ℕ)
+    (on : Bool)
+    → Answers (DeskSays says) old lines text on new → KeepsAll asked before old
+    → KeepsAll asked before new

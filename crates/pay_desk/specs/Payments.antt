@@ -16,9 +16,9 @@ abbrev pub HasFew : Payments → Type 0
 HasFew payments = length (pairs_of payments) ≤ MOST_PAYMENTS
 
 -- The value that pays them.
-abbrev pub value_of : Payments → List ℕ
-value_of (One to amount) = payment_value to amount
-value_of (Several pairs) = payments_value (map payment_named pairs)
+abbrev pub value_of_payments : Payments → List ℕ
+value_of_payments (One to amount) = payment_value to amount
+value_of_payments (Several pairs) = payments_value (map payment_named pairs)
 
 -- that value, where it can name all payees
 abbrev pub if_named : Payments → List ℕ → Option (List ℕ)

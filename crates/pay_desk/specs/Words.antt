@@ -8,7 +8,8 @@ use Rattle.pay_book.specs.declared.payment.Entry.TheVariants as entry
 use Rattle.pay_book.specs.Balance.{amount_of}
 use Rattle.pay_book.specs.Excerpt.{ExcerptFields}
 use Rattle.pay_member.specs.declared.standing.PaymentState.{PaymentState}
-use Rattle.pay_member.specs.declared.standing.PaymentState.TheVariants.{Unknown, Asked, Waiting, Settled}
+use Rattle.pay_member.specs.declared.standing.PaymentState.TheVariants.{Unknown, Asked, Waiting}
+use Rattle.pay_member.specs.declared.standing.PaymentState.TheVariants.{Settled}
 use Rattle.pay_desk.specs.declared.fault.DeskFault.{DeskFault}
 use Rattle.pay_desk.specs.Faults.{desk_fault_number, desk_fault_name}
 
@@ -19,7 +20,8 @@ end_of_line = 10 ∷ []
 -- `refused C NAME`
 unfoldable pub refused_words : DeskFault → List ℕ
 refused_words fault =
-    codes "refused " ++ decimal (desk_fault_number fault) ++ codes " " ++ desk_fault_name fault ++ end_of_line
+    codes "refused " ++ decimal (desk_fault_number fault) ++ codes " " ++ desk_fault_name fault
+    ++ end_of_line
 
 -- `asked ID seq S`
 unfoldable pub asked_words : ℕ → ℕ → List ℕ
@@ -27,7 +29,8 @@ asked_words id seq = codes "asked " ++ decimal id ++ codes " seq " ++ decimal se
 
 -- `balance A B`
 unfoldable pub balance_words : ℕ → ℕ → List ℕ
-balance_words account balance = codes "balance " ++ decimal account ++ codes " " ++ decimal balance ++ end_of_line
+balance_words account balance =
+    codes "balance " ++ decimal account ++ codes " " ++ decimal balance ++ end_of_line
 
 unfoldable pub state_name : PaymentState → List ℕ
 state_name Unknown = codes "unknown"
@@ -38,19 +41,23 @@ state_name Settled = codes "settled"
 -- `state OWNER SEQ WORD`
 unfoldable pub state_words : ℕ → ℕ → PaymentState → List ℕ
 state_words owner seq state =
-    codes "state " ++ decimal owner ++ codes " " ++ decimal seq ++ codes " " ++ state_name state ++ end_of_line
+    codes "state " ++ decimal owner ++ codes " " ++ decimal seq ++ codes " " ++ state_name state
+    ++ end_of_line
 
 -- `out SEQ to PAYEE AMOUNT`, `void SEQ` or `in OWNER SEQ AMOUNT`
 unfoldable pub line_words : Line → List ℕ
 line_words (Out seq payee amount) =
-    codes "out " ++ decimal seq ++ codes " to " ++ decimal payee ++ codes " " ++ decimal amount ++ end_of_line
+    codes "out " ++ decimal seq ++ codes " to " ++ decimal payee ++ codes " " ++ decimal amount
+    ++ end_of_line
 line_words (Void seq) = codes "void " ++ decimal seq ++ end_of_line
 line_words (In owner seq amount) =
-    codes "in " ++ decimal owner ++ codes " " ++ decimal seq ++ codes " " ++ decimal amount ++ end_of_line
+    codes "in " ++ decimal owner ++ codes " " ++ decimal seq ++ codes " " ++ decimal amount
+    ++ end_of_line
 
 -- `end A balance B`
 unfoldable pub end_words : ℕ → ℕ → List ℕ
-end_words account balance = codes "end " ++ decimal account ++ codes " balance " ++ decimal balance ++ end_of_line
+end_words account balance =
+    codes "end " ++ decimal account ++ codes " balance " ++ decimal balance ++ end_of_line
 
 -- the lines of a statement, and its end
 unfoldable pub statement_words : ℕ → List Line → ℕ → List ℕ
@@ -75,15 +82,15 @@ entries_words word account number (e ∷ entries) =
     entry_words word account number e ++ entries_words word account (number + 1) entries
 
 -- `end A E`
-unfoldable pub next_words : ℕ → ℕ → List ℕ
-next_words account number =
+unfoldable pub next_entry_words : ℕ → ℕ → List ℕ
+next_entry_words account number =
     codes "end " ++ decimal account ++ codes " " ++ decimal number ++ end_of_line
 
 -- a line for each settled entry, and the number of the next
 unfoldable pub settled_words : ℕ → ExcerptFields → List ℕ
 settled_words account excerpt =
     entries_words (codes "entry") account excerpt.first excerpt.entries
-    ++ next_words account (excerpt.first + length excerpt.entries)
+    ++ next_entry_words account (excerpt.first + length excerpt.entries)
 
 -- what a balance is short of for the first of these entries
 unfoldable pub short_by : ℕ → List (ℕ × Entry) → ℕ

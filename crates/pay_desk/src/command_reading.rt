@@ -4,7 +4,7 @@ ghost use Rattle.std.specs.Prelude.{◌≡◌, drop, IfOk, IfSome};
 ghost use Rattle.std.specs.Str.{bytes_eq};
 ghost use Rattle.pay_desk.specs.Commands.{AsksFew, balance_in, command_by, command_in, first_seq};
 ghost use Rattle.pay_desk.specs.Commands.{entries_command, if_last, pay_in, pays_in, state_in};
-ghost use Rattle.pay_desk.specs.Commands.{statement_in, waiting_command};
+ghost use Rattle.pay_desk.specs.Commands.{statement_command_in, waiting_command};
 
 use crate::command::{Command, MOST_LINE, Order};
 use crate::payments::Payments;
@@ -101,9 +101,9 @@ fn read_state(words: &mut Words) -> Option<Command>
     if_last(words, Command::State { owner, seq })
 }
 
-#[tactic(auto, unfolding(crate::specs::Commands::statement_in))]
+#[tactic(auto, unfolding(crate::specs::Commands::statement_command_in))]
 fn read_statement(words: &mut Words) -> Option<Command>
-    ensures command { result ≡ statement_in words.old }
+    ensures command { result ≡ statement_command_in words.old }
     ensures few { IfSome result AsksFew }
 {
     let account = words.next_number()?;

@@ -2,11 +2,13 @@ ghost use Rattle.std.specs.Prelude.{◌≡◌, ◌≤◌, [], length, IfOk, IfSo
 ghost use Rattle.std.specs.Prelude.{OnErr, None, Some, MatchResult};
 ghost use Rattle.std.specs.List.{list_all, list_any};
 ghost use Rattle.std.specs.Result.{result_err};
-ghost use Rattle.pay_desk.specs.Answers.{Answers, AnswersBalance, AnswersEntries, AnswersFront};
-ghost use Rattle.pay_desk.specs.Answers.{AnswersPay, AnswersState, AnswersStatement, AnswersWaiting};
+ghost use Rattle.pay_desk.specs.Answers.{AnswersCommand, AnswersBalance, AnswersEntries};
+ghost use Rattle.pay_desk.specs.Answers.{AnswersFront};
+ghost use Rattle.pay_desk.specs.Answers.{AnswersPay, AnswersState, AnswersStatement};
+ghost use Rattle.pay_desk.specs.Answers.{AnswersWaiting};
 ghost use Rattle.pay_desk.specs.Answers.{Calls, GaveUp, Pays, account_fault};
 ghost use Rattle.pay_desk.specs.Answers.{is_account, is_void, pay_fault, stated_words};
-ghost use Rattle.pay_desk.specs.Payments.{HasFew, if_named, pairs_of, value_of};
+ghost use Rattle.pay_desk.specs.Payments.{HasFew, if_named, pairs_of, value_of_payments};
 ghost use Rattle.pay_desk.specs.Calls as call;
 ghost use Rattle.pay_desk.specs.Commands.{command_in};
 ghost use Rattle.pay_desk.specs.Kept.{kept_under};
@@ -19,16 +21,14 @@ use crate::fault::DeskFault;
 use crate::kept::KeptValues;
 use crate::payments::Payments;
 use crate::putting::{
-    kept_text, put_asked, put_balance, put_refused, put_state, refused_text, room,
+    front_room, kept_text, put_asked, put_balance, put_front, put_refused, put_state, refused_text,
+    room,
 };
 use crate::teller::Teller;
 use crate::teller_fault::TellerFault;
-use crate::words::{push_front, push_statement};
+use crate::words::push_statement;
 use pay_frame::{Bytes, GREATEST_VALUE};
 use std::alloc::{AllocError, Global};
-
-/// How many bytes a number of an answer takes at most in a front, with the blank before it.
-const MOST_NUMBER: usize = 11;
 
 /// A desk: a teller, how many accounts there are and which one is the own, and all values that
 /// were asked for.
@@ -41,7 +41,7 @@ pub struct Desk<T> {
 }
 
 impl<T: Teller> Desk<T> {
-    /// A desk that asked for nothing yet, over a teller of this account among so many.
+    /// A desk that has asked for nothing, over a teller of account `own` among `accounts`.
     pub fn new(alloc: Global, teller: T, accounts: u16, own: u16) -> Desk<T>
         ensures { result ≡ record { teller = teller; accounts = accounts; own = own; kept = [] } }
     {
@@ -79,7 +79,7 @@ impl<T: Teller> Desk<T> {
     /// Where memory is refused the desk is unchanged, and the line may be given again.
     pub fn line(&mut self, alloc: Global, line: &[u8]) -> Result<Vec<u8>, AllocError>
         ensures text { IfOk result (λ text.
-            Answers T.says (command_in line.now) self.old text.items self.new) }
+            AnswersCommand T.says (command_in line.now) self.old text.items self.new) }
         ensures err { OnErr result (GaveUp T.says self.old self.new) }
     {
         let Some(command) = read_command(alloc, line)? else {
@@ -118,7 +118,8 @@ impl<T: Teller> Desk<T> {
         value: Option<Bytes>,
     ) -> Result<Vec<u8>, AllocError>
         requires fresh { kept_under order.now.id self.old.kept ≡ None }
-        requires value { value ≡ if_named order.now.payments (value_of order.now.payments) }
+        requires value { value
+            ≡ if_named order.now.payments (value_of_payments order.now.payments) }
         requires short { IfSome value (λ v. length v ≤ GREATEST_VALUE) }
         ensures text { IfOk result (λ text.
             AnswersPay T.says None order.now self.old text.items self.new) }
@@ -292,12 +293,11 @@ impl<T: Teller> Desk<T> {
     fn front(&mut self, alloc: Global) -> Result<Vec<u8>, AllocError>
         ensures text { IfOk result (λ text.
             AnswersFront T.says self.old text.items self.new) }
-        ensures err { OnErr result (GaveUp T.says self.old self.new) }
+        ensures err { OnErr result (self.new ≡ self.old) }
     {
-        let mut text = room(alloc)?;
-        text.reserve(front_room(self.accounts))?;
+        let mut text = front_room(alloc)?;
         match self.teller.fronts(alloc) {
-            Ok(fronts) => push_front(&mut text, fronts.as_slice())?,
+            Ok(fronts) => put_front(&mut text, fronts.as_slice()),
             Err(TellerFault::Memory) => return Err(AllocError),
             Err(fault) => put_refused(&mut text, DeskFault::from(fault)),
         }
@@ -305,7 +305,8 @@ impl<T: Teller> Desk<T> {
     }
 }
 
-// The value of payments, or why they aren't asked for. A payee that no value can name is no account.
+// The value of payments, or why they aren't asked for. A payee that no value can name is no
+// account.
 #[tactic(auto, using(crate::proofs::Naming::unnamed_is_no_account))]
 fn value_or_fault(
     accounts: u16,
@@ -313,7 +314,7 @@ fn value_or_fault(
     payments: &Payments,
     value: Option<Bytes>,
 ) -> Result<Bytes, DeskFault>
-    requires value { value ≡ if_named payments.now (value_of payments.now) }
+    requires value { value ≡ if_named payments.now (value_of_payments payments.now) }
     ensures value { IfOk result (λ found. value ≡ Some found) }
     ensures fault { result_err result ≡ pay_fault accounts own (pairs_of payments.now) }
 {
@@ -362,9 +363,4 @@ fn has_void(own: u16, pairs: &[(u64, u64)]) -> bool
     pairs
         .iter()
         .any(|pair| pair.1 == 0 || pair.0 == u64::from(own))
-}
-
-// How many bytes the numbers of so many accounts take at most, each behind a blank.
-fn front_room(accounts: u16) -> usize {
-    usize::from(accounts) * MOST_NUMBER
 }

@@ -1,6 +1,6 @@
-ghost use Rattle.std.specs.Prelude.{◌≡◌, MatchResult};
+ghost use Rattle.std.specs.Prelude.{◌≡◌, MatchResult, OnOk};
 ghost use Rattle.pay_io.specs.Counts.{KeepsCounts, itself};
-ghost use Rattle.pay_text.specs.Answers.{bytes_of};
+ghost use Rattle.pay_text.specs.Answers.{text_bytes};
 ghost use Rattle.pay_desk.specs.Desk.{DeskSays, WritesAnswers};
 ghost use Rattle.pay_desk.specs.Words.{refused_words};
 
@@ -36,8 +36,8 @@ impl<T: Teller> Answerer for Desk<T> {
 
 fn text_of(answer: Result<Vec<u8>, AllocError>) -> Text
     ensures { MatchResult answer
-        (λ text. bytes_of result ≡ text.items)
-        (λ _. bytes_of result ≡ refused_words DeskFault.Memory) }
+        (λ text. text_bytes result ≡ text.items)
+        (λ _. text_bytes result ≡ refused_words DeskFault.Memory) }
 {
     match answer {
         Ok(text) => Text::Made(text),
@@ -46,13 +46,13 @@ fn text_of(answer: Result<Vec<u8>, AllocError>) -> Text
 }
 
 fn bad_line_text() -> Text
-    ensures { bytes_of result ≡ refused_words DeskFault.BadLine }
+    ensures { text_bytes result ≡ refused_words DeskFault.BadLine }
 {
     Text::Fixed(BAD_LINE)
 }
 
 fn memory_text() -> Text
-    ensures { bytes_of result ≡ refused_words DeskFault.Memory }
+    ensures { text_bytes result ≡ refused_words DeskFault.Memory }
 {
     Text::Fixed(MEMORY)
 }
@@ -72,6 +72,8 @@ pub fn run_desk<T: Teller, R: Input, W: Output>(
         (R.remaining reader.new) (W.contents writer.old) (W.contents writer.new) result }
     ensures counts { KeepsCounts itself R.call_count R.failure_count R.remaining
         W.failure_count reader.old reader.new writer.old writer.new result }
+    ensures none_failed { OnOk result (R.failure_count reader.new ≡ R.failure_count reader.old) }
+    ensures all_written { OnOk result (W.failure_count writer.new ≡ W.failure_count writer.old) }
 {
     run_lines(alloc, MOST_LINE, desk, reader, writer)?;
     Ok(())

@@ -1,7 +1,7 @@
 //! The lines of entries that settled or wait, appended to what is written already.
 
 ghost use Rattle.std.specs.Prelude.{◌≡◌, ◌+◌, ◌++◌, ◌<◌, ◌^◌, length, OnOk};
-ghost use Rattle.pay_desk.specs.Words.{entries_words, entry_words, next_words, payment_words};
+ghost use Rattle.pay_desk.specs.Words.{entries_words, entry_words, next_entry_words, payment_words};
 ghost use Rattle.pay_desk.specs.Words.{settled_words, short_by, short_words, waiting_words};
 
 use pay_book::{Entry, Excerpt};
@@ -94,9 +94,9 @@ fn push_payment(out: &mut Vec<u8>, entry: Entry) -> Result<(), AllocError>
     }
 }
 
-#[tactic(auto, unfolding(crate::specs::Words::next_words))]
+#[tactic(auto, unfolding(crate::specs::Words::next_entry_words))]
 fn push_next(out: &mut Vec<u8>, account: u16, number: u64) -> Result<(), AllocError>
-    ensures { OnOk result (out.new.items ≡ out.old.items ++ next_words account number) }
+    ensures { OnOk result (out.new.items ≡ out.old.items ++ next_entry_words account number) }
 {
     push_word(out, "end ")?;
     push_number(out, u64::from(account))?;

@@ -72,8 +72,8 @@ impl KeptValues {
         Ok(())
     }
 
-    /// Has a teller broadcast a value, and keeps that it was asked for. Memory is refused before the
-    /// teller is asked, or by it. A refused value isn't kept.
+    /// Has a teller broadcast a value, and keeps that it was asked for. Memory is refused before
+    /// the teller is asked, or by it. A refused value isn't kept.
     pub fn ask<T: Teller>(
         &mut self,
         alloc: Global,

@@ -1,5 +1,5 @@
-//! Laws of a desk's refusals, and of a desk over all lines: each function's contract is the law, and its body does
-//! nothing.
+//! Laws of a desk's refusals, and of a desk over all lines: each function's contract is the law,
+//! and its body does nothing.
 
 ghost use Rattle.pay_desk.specs.Laws.{AccountCause, KeptAnswersItsOwn, LineAsksOnce};
 ghost use Rattle.pay_desk.specs.Laws.{LinesAskOnce, LinesKeepAll, PayeeCause, PaymentCause};
@@ -7,15 +7,16 @@ ghost use Rattle.pay_desk.specs.Laws.{LinesAskOnce, LinesKeepAll, PayeeCause, Pa
 use crate::teller::Teller;
 use pay_book::what_was_encoded;
 
-/// Each refusal before the teller is asked comes exactly where its own cause holds and no earlier one.
+/// Each refusal before the teller is asked comes exactly where its own cause holds and no earlier
+/// one.
 pub fn refusals_before_the_teller()
     ensures account { AccountCause }
     ensures payee { PayeeCause }
     ensures payment { PaymentCause }
 {}
 
-/// No two different payments have one value, so a kept id has its answer only for what was asked for
-/// under it.
+/// No two different payments have one value, so a kept id has its answer only for what was asked
+/// for under it.
 pub fn a_kept_id_answers_its_own()
     ensures { KeptAnswersItsOwn }
 {

@@ -22,7 +22,7 @@ impl<I: Instance + Drop, B: Settle + Drop> Teller for OneMember<I, B> {
 
     ghost asked = { λ m. values_asked m.member.history };
 
-    #[tactic(auto, unfolding(crate::specs::OneMember::reply_by, crate::specs::OneMember::member_after))]
+    #[tactic(auto, unfolding(crate::specs::OneMember::reply_by, crate::specs::OneMember::member_after_call))]
     fn ask(&mut self, alloc: Global, _id: u64, value: Bytes) -> Result<u32, TellerFault> {
         match self.member.ask(alloc, self.stamp, value) {
             Ok(seq) => Ok(seq),
@@ -33,7 +33,7 @@ impl<I: Instance + Drop, B: Settle + Drop> Teller for OneMember<I, B> {
         }
     }
 
-    #[tactic(auto, unfolding(crate::specs::OneMember::reply_by, crate::specs::OneMember::member_after))]
+    #[tactic(auto, unfolding(crate::specs::OneMember::reply_by, crate::specs::OneMember::member_after_call))]
     fn query(&mut self, alloc: Global, account: u16) -> Result<Told, TellerFault> {
         match self.member.query(alloc, self.stamp, account) {
             Ok(told) => Ok(told),
@@ -42,7 +42,7 @@ impl<I: Instance + Drop, B: Settle + Drop> Teller for OneMember<I, B> {
         }
     }
 
-    #[tactic(auto, unfolding(crate::specs::OneMember::reply_by, crate::specs::OneMember::member_after))]
+    #[tactic(auto, unfolding(crate::specs::OneMember::reply_by, crate::specs::OneMember::member_after_call))]
     fn state(&mut self, _alloc: Global, owner: u16, seq: u32) -> Result<PaymentState, TellerFault> {
         if owner >= self.member.genesis().members() {
             return Err(TellerFault::NoAccount);
@@ -50,7 +50,7 @@ impl<I: Instance + Drop, B: Settle + Drop> Teller for OneMember<I, B> {
         Ok(self.member.state(owner, seq))
     }
 
-    #[tactic(auto, unfolding(crate::specs::OneMember::reply_by, crate::specs::OneMember::member_after))]
+    #[tactic(auto, unfolding(crate::specs::OneMember::reply_by, crate::specs::OneMember::member_after_call))]
     fn statement(&mut self, alloc: Global, account: u16) -> Result<Statement, TellerFault> {
         if account >= self.member.genesis().members() {
             return Err(TellerFault::NoAccount);
@@ -59,7 +59,7 @@ impl<I: Instance + Drop, B: Settle + Drop> Teller for OneMember<I, B> {
         Ok(Statement::new(lines, self.member.balance(account)))
     }
 
-    #[tactic(auto, unfolding(crate::specs::OneMember::reply_by, crate::specs::OneMember::member_after))]
+    #[tactic(auto, unfolding(crate::specs::OneMember::reply_by, crate::specs::OneMember::member_after_call))]
     fn entries(&mut self, alloc: Global, account: u16, from: u64) -> Result<Excerpt, TellerFault> {
         if account >= self.member.genesis().members() {
             return Err(TellerFault::NoAccount);
@@ -67,7 +67,7 @@ impl<I: Instance + Drop, B: Settle + Drop> Teller for OneMember<I, B> {
         Ok(self.member.entries(alloc, account, from)?)
     }
 
-    #[tactic(auto, unfolding(crate::specs::OneMember::reply_by, crate::specs::OneMember::member_after))]
+    #[tactic(auto, unfolding(crate::specs::OneMember::reply_by, crate::specs::OneMember::member_after_call))]
     fn waiting(&mut self, alloc: Global, account: u16) -> Result<Excerpt, TellerFault> {
         if account >= self.member.genesis().members() {
             return Err(TellerFault::NoAccount);
@@ -75,12 +75,13 @@ impl<I: Instance + Drop, B: Settle + Drop> Teller for OneMember<I, B> {
         Ok(self.member.waiting(alloc, account)?)
     }
 
-    #[tactic(auto, unfolding(crate::specs::OneMember::reply_by, crate::specs::OneMember::member_after))]
+    #[tactic(auto, unfolding(crate::specs::OneMember::reply_by, crate::specs::OneMember::member_after_call))]
     fn fronts(&mut self, alloc: Global) -> Result<Vec<u32>, TellerFault> {
         Ok(self.member.fronts(alloc)?)
     }
 
     ghost use Rattle.pay_desk.specs.MemberAsks.{member_asks};
 
-    ghost only_asks = { λ old new called reply said. member_asks old.stamp old.member new.member called reply said.0 };
+    ghost only_asks = { λ old new called reply said.
+        member_asks old.stamp old.member new.member called reply said.0 };
 }

@@ -1,22 +1,29 @@
 //! Answers of one line each, put into room that was made before: so nothing stands between a
 //! teller's reply and the answer that tells it.
 
-ghost use Rattle.std.specs.Prelude.{◌≡◌, ◌+◌, ◌++◌, ◌≤◌, [], IfOk};
+ghost use Rattle.std.specs.Prelude.{◌≡◌, ◌+◌, ◌*◌, ◌++◌, ◌≤◌, [], IfOk};
 ghost use Rattle.std.specs.Prelude.{decimal, length, vec_capacity, vec_len};
 ghost use Rattle.pay_desk.specs.Answers.{kept_words};
 ghost use Rattle.pay_desk.specs.Kept.{is_value};
-ghost use Rattle.pay_desk.specs.Words.{asked_words, balance_words};
+ghost use Rattle.pay_frame.specs.declared.limits.TheConstants.{MOST_MEMBERS};
+ghost use Rattle.pay_desk.specs.Words.{asked_words, balance_words, front_words, number_words};
 ghost use Rattle.pay_desk.specs.Words.{refused_words, state_name, state_words};
 
 use crate::fault::DeskFault;
 use crate::kept::Kept;
 use itoa::Buffer;
-use pay_frame::Bytes;
+use pay_frame::{Bytes, MOST_MEMBERS};
 use pay_member::PaymentState;
 use std::alloc::{AllocError, Global};
 
 /// How many bytes an answer of one line has at most.
 pub(crate) const MOST_ANSWER: usize = 64;
+
+/// How many bytes a number takes at most, with the blank before it.
+const MOST_NUMBER: usize = 21;
+
+/// How many bytes an answer to `FRONT` has at most.
+const MOST_FRONT: usize = 64 + MOST_MEMBERS as usize * MOST_NUMBER;
 
 /// Room for an answer of one line.
 pub(crate) fn room(alloc: Global) -> Result<Vec<u8>, AllocError>
@@ -24,6 +31,14 @@ pub(crate) fn room(alloc: Global) -> Result<Vec<u8>, AllocError>
     ensures room { IfOk result (λ out. vec_len out + MOST_ANSWER ≤ vec_capacity out) }
 {
     Vec::with_capacity(alloc, MOST_ANSWER)
+}
+
+/// Room for an answer to `FRONT`.
+pub(crate) fn front_room(alloc: Global) -> Result<Vec<u8>, AllocError>
+    ensures empty { IfOk result (λ out. out.items ≡ []) }
+    ensures room { IfOk result (λ out. vec_len out + MOST_FRONT ≤ vec_capacity out) }
+{
+    Vec::with_capacity(alloc, MOST_FRONT)
 }
 
 #[tactic(auto, unfolding(crate::specs::Words::refused_words))]
@@ -76,6 +91,17 @@ pub(crate) fn put_state(out: &mut Vec<u8>, owner: u16, seq: u32, state: PaymentS
     put_word(out, "\n");
 }
 
+#[tactic(auto, unfolding(crate::specs::Words::front_words))]
+pub(crate) fn put_front(out: &mut Vec<u8>, fronts: &[u32])
+    requires few { length fronts.now ≤ MOST_MEMBERS }
+    requires room { vec_len out.old + MOST_FRONT ≤ vec_capacity out.old }
+    ensures { out.new.items ≡ out.old.items ++ front_words fronts.now }
+{
+    put_word(out, "front");
+    put_numbers(out, fronts);
+    put_word(out, "\n");
+}
+
 #[tactic(auto, unfolding(crate::specs::Words::state_name))]
 fn name_of(state: PaymentState) -> &'static str
     ensures name { result.now ≡ state_name state }
@@ -112,6 +138,20 @@ fn put_number(out: &mut Vec<u8>, number: u64)
     put_word(out, buffer.format(number));
 }
 
+// Puts numbers, each after a blank, into room that is there.
+#[tactic(auto, unfolding(crate::specs::Words::number_words))]
+fn put_numbers(out: &mut Vec<u8>, numbers: &[u32])
+    requires { vec_len out.old + MOST_NUMBER * length numbers.now ≤ vec_capacity out.old }
+    ensures items { out.new.items ≡ out.old.items ++ number_words numbers.now }
+    ensures len { vec_len out.new ≤ vec_len out.old + MOST_NUMBER * length numbers.now }
+    ensures capacity { vec_capacity out.old ≤ vec_capacity out.new }
+{
+    for number in numbers {
+        put_word(out, " ");
+        put_number(out, u64::from(*number));
+    }
+}
+
 /// A line that says why a command is refused.
 pub(crate) fn refused_text(alloc: Global, fault: DeskFault) -> Result<Vec<u8>, AllocError>
     ensures { IfOk result (λ text. text.items ≡ refused_words fault) }
@@ -121,7 +161,8 @@ pub(crate) fn refused_text(alloc: Global, fault: DeskFault) -> Result<Vec<u8>, A
     Ok(text)
 }
 
-/// What is answered to an id that is kept: the value that was asked for gets the answer that it got.
+/// What is answered to an id that is kept: the value that was asked for gets the answer that it
+/// got.
 pub(crate) fn kept_text(
     alloc: Global,
     kept: &Kept,

@@ -1,5 +1,6 @@
-ghost use Rattle.std.specs.Prelude.{◌≡◌, ◌++◌, ◌≤◌, ℕ, List, length};
-ghost use Rattle.pay_desk.specs.Calls.{Call, TellerReply, Replies, asked_by, seen_as};
+ghost use Rattle.std.specs.Prelude.{◌≡◌, ◌++◌, ◌≤◌, ℕ, List, IfOk, length};
+ghost use Rattle.pay_frame.specs.declared.limits.TheConstants.{MOST_MEMBERS};
+ghost use Rattle.pay_desk.specs.Calls.{Call, TellerReply, Replies, values_asked_by, seen_as};
 ghost use Rattle.pay_desk.specs.Calls as call;
 
 use crate::teller_fault::TellerFault;
@@ -45,12 +46,13 @@ pub trait Teller {
     fn waiting(&mut self, alloc: Global, account: u16) -> Result<Excerpt, TellerFault>
         ensures { Replies says self.old (call.Waiting account) call.Listed result self.new };
 
-    /// How many entries of each account are settled.
+    /// How many entries of each account are settled, of 128 accounts at most.
     fn fronts(&mut self, alloc: Global) -> Result<Vec<u32>, TellerFault>
-        ensures { Replies says self.old call.Fronts call.Settled
-            (seen_as result (λ fronts. fronts.items)) self.new };
+        ensures replies { Replies says self.old call.Fronts call.Settled
+            (seen_as result (λ fronts. fronts.items)) self.new }
+        ensures few { IfOk result (λ fronts. length fronts.items ≤ MOST_MEMBERS) };
 
     // Nothing is broadcast but what is asked for and gets a number.
     ghost only_asks: { (old new : Self) (called : Call) (reply : TellerReply)
-        → says old called reply new → asked new ≡ asked old ++ asked_by called reply };
+        → says old called reply new → asked new ≡ asked old ++ values_asked_by called reply };
 }

@@ -1,16 +1,15 @@
-//! The lines of a statement and of a front, written behind what is written already.
+//! The lines of a statement, appended to a text.
 
 ghost use Rattle.std.specs.Prelude.{◌≡◌, ◌++◌, OnOk};
 ghost use Rattle.std.specs.List.{flat_map};
 ghost use Rattle.pay_book.specs.declared.line.Line.TheVariants as line;
-ghost use Rattle.pay_desk.specs.Words.{end_words, front_words, line_words};
-ghost use Rattle.pay_desk.specs.Words.{number_words, statement_words};
+ghost use Rattle.pay_desk.specs.Words.{end_words, line_words, statement_words};
 
 use pay_book::Line;
 use pay_text::{push_number, push_word};
 use std::alloc::AllocError;
 
-/// The lines of an account's statement, and its balance, behind what is written already.
+/// Appends the lines of an account's statement, and its balance.
 #[tactic(auto, unfolding(crate::specs::Words::statement_words))]
 pub fn push_statement(
     out: &mut Vec<u8>,
@@ -91,25 +90,4 @@ fn push_end(out: &mut Vec<u8>, account: u16, balance: u64) -> Result<(), AllocEr
     push_word(out, " balance ")?;
     push_number(out, balance)?;
     push_word(out, "\n")
-}
-
-/// How many entries of each account are settled.
-#[tactic(auto, unfolding(crate::specs::Words::front_words))]
-pub(crate) fn push_front(out: &mut Vec<u8>, fronts: &[u32]) -> Result<(), AllocError>
-    ensures { OnOk result (out.new.items ≡ out.old.items ++ front_words fronts.now) }
-{
-    push_word(out, "front")?;
-    push_numbers(out, fronts)?;
-    push_word(out, "\n")
-}
-
-#[tactic(auto, unfolding(crate::specs::Words::number_words))]
-fn push_numbers(out: &mut Vec<u8>, numbers: &[u32]) -> Result<(), AllocError>
-    ensures { OnOk result (out.new.items ≡ out.old.items ++ number_words numbers.now) }
-{
-    for number in numbers {
-        push_word(out, " ")?;
-        push_number(out, u64::from(*number))?;
-    }
-    Ok(())
 }

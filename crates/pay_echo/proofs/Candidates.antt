@@ -8,7 +8,7 @@ use Rattle.std.proofs.lemmas.List.{map-set, map-append, length-map, length_push,
 use Rattle.std.proofs.Math.Seq.{map-set_same}
 use Rattle.std.proofs.lemmas.Bool.{cases_eq, cases_lt}
 use Rattle.pay_echo.specs.Plain.{AreDistinct, is_at, IsPlaceOf}
-use Rattle.pay_echo.specs.Masks.{has, with_process, place_by, votes_by, AreVotes, mask_of, values_of, masks_of, places_of, with_place, tally_by, TallyFields, IsTally}
+use Rattle.pay_echo.specs.Masks.{has, with_process, place_by, votes_by, AreVotes, mask_of, values_of, masks_of, vote_places, with_place, tally_by, TallyFields, IsTally}
 use Rattle.pay_echo.specs.declared.candidate.Candidate.{Candidate}
 use Rattle.pay_echo.specs.declared.vote_kind.VoteKind.{VoteKind}
 use Rattle.pay_echo.specs.declared.vote_kind.VoteKind.TheVariants as kind
@@ -25,13 +25,13 @@ IsTally-none members few = record {
 
 -- ---- how many there are
 
-pub length-places : (members : ℕ) (candidates : List Candidate) (of : VoteKind) → length (places_of of (tally_by members candidates)) ≡ members
+pub length-places : (members : ℕ) (candidates : List Candidate) (of : VoteKind) → length (vote_places of (tally_by members candidates)) ≡ members
 length-places members candidates kind.Echo = length-votes_by members (masks_of kind.Echo candidates)
 length-places members candidates kind.Ready = length-votes_by members (masks_of kind.Ready candidates)
 
 -- of what they show
-pub shown-members : (members : ℕ) (candidates : List Candidate) (t : TallyFields) (of : VoteKind) → tally_by members candidates ≡ t → length (places_of of t) ≡ members
-shown-members members candidates t of shown = ap (λ (t : TallyFields). length (places_of of t)) (sym shown) ∙ length-places members candidates of
+pub shown-members : (members : ℕ) (candidates : List Candidate) (t : TallyFields) (of : VoteKind) → tally_by members candidates ≡ t → length (vote_places of t) ≡ members
+shown-members members candidates t of shown = ap (λ (t : TallyFields). length (vote_places of t)) (sym shown) ∙ length-places members candidates of
 
 pub shown-values : (members : ℕ) (candidates : List Candidate) (t : TallyFields) → tally_by members candidates ≡ t → length t.values ≡ length candidates
 shown-values members candidates t shown = ap (λ (t : TallyFields). length t.values) (sym shown) ∙ length-map candidates (λ (c : Candidate). c.value)
@@ -42,7 +42,7 @@ value-there members candidates t shown place c there =
     ∙ slice_get-map (λ (c : Candidate). c.value) candidates place
     ∙ ap (option_map (λ (c : Candidate). c.value)) there
 
-pub places-are : (members : ℕ) (candidates : List Candidate) (of : VoteKind) → places_of of (tally_by members candidates) ≡ votes_by members (masks_of of candidates)
+pub places-are : (members : ℕ) (candidates : List Candidate) (of : VoteKind) → vote_places of (tally_by members candidates) ≡ votes_by members (masks_of of candidates)
 places-are members candidates kind.Echo = refl
 places-are members candidates kind.Ready = refl
 
@@ -51,7 +51,7 @@ votes-are members candidates echoed readied kind.Echo tally = (echoed, tally.ech
 votes-are members candidates echoed readied kind.Ready tally = (readied, tally.readys)
 
 -- how many voted for the value at a place
-pub count-at_place : (members : ℕ) (candidates : List Candidate) (echoed readied place : ℕ) (c : Candidate) (of : VoteKind) → IsTally members candidates echoed readied → place < length candidates → c ≡ get_or candidates place c → count_ones (mask_of of c) ≡ count_by (is_at place) (places_of of (tally_by members candidates))
+pub count-at_place : (members : ℕ) (candidates : List Candidate) (echoed readied place : ℕ) (c : Candidate) (of : VoteKind) → IsTally members candidates echoed readied → place < length candidates → c ≡ get_or candidates place c → count_ones (mask_of of c) ≡ count_by (is_at place) (vote_places of (tally_by members candidates))
 count-at_place members candidates echoed readied place c of tally below here =
     ap count_ones (ap (mask_of of) here ∙ sym (get_or-map (mask_of of) candidates place c 0 below))
     ∙ sym (counts_are_votes members (masks_of of candidates) place (votes-are members candidates echoed readied of tally).1.are (omega (arith, below, length-map candidates (mask_of of))))
@@ -60,20 +60,20 @@ count-at_place members candidates echoed readied place c of tally below here =
 -- ---- whose vote is where
 
 -- of what they show
-shown-place : (members : ℕ) (candidates : List Candidate) (t : TallyFields) (process : ℕ) (of : VoteKind) → tally_by members candidates ≡ t → process < length (places_of of t) → place_by (masks_of of candidates) process ≡ slice_index_or (places_of of t) process None
+shown-place : (members : ℕ) (candidates : List Candidate) (t : TallyFields) (process : ℕ) (of : VoteKind) → tally_by members candidates ≡ t → process < length (vote_places of t) → place_by (masks_of of candidates) process ≡ slice_index_or (vote_places of t) process None
 shown-place members candidates t process of shown small =
     sym (votes_by-at members (masks_of of candidates) process (omega (arith, small, shown-members members candidates t of shown)))
     ∙ ap (λ places. slice_index_or places process None) (sym (places-are members candidates of))
-    ∙ ap (λ (t : TallyFields). slice_index_or (places_of of t) process None) shown
+    ∙ ap (λ (t : TallyFields). slice_index_or (vote_places of t) process None) shown
 
-module _ (members : ℕ) (candidates : List Candidate) (echoed readied process : ℕ) (t : TallyFields) (of : VoteKind) (tally : IsTally members candidates echoed readied) (shown : tally_by members candidates ≡ t) (small : process < length (places_of of t)) where
-  pub place-found : (place : ℕ) (c : Candidate) → place < length candidates → c ≡ get_or candidates place c → has (mask_of of c) process ≡ true → Some place ≡ slice_index_or (places_of of t) process None
+module _ (members : ℕ) (candidates : List Candidate) (echoed readied process : ℕ) (t : TallyFields) (of : VoteKind) (tally : IsTally members candidates echoed readied) (shown : tally_by members candidates ≡ t) (small : process < length (vote_places of t)) where
+  pub place-found : (place : ℕ) (c : Candidate) → place < length candidates → c ≡ get_or candidates place c → has (mask_of of c) process ≡ true → Some place ≡ slice_index_or (vote_places of t) process None
   place-found place c below here there =
       sym (place_is members (masks_of of candidates) place process (votes-are members candidates echoed readied of tally).1.are (omega (arith, below, length-map candidates (mask_of of)))
       (ap (λ mask. has mask process) (get_or-map (mask_of of) candidates place c 0 below ∙ ap (mask_of of) (sym here)) ∙ there))
       ∙ shown-place members candidates t process of shown small
 
-  pub place-none : ((k : ℕ) → k < length candidates → has (slice_index (masks_of of candidates) k) process ≡ false) → None ≡ slice_index_or (places_of of t) process None
+  pub place-none : ((k : ℕ) → k < length candidates → has (slice_index (masks_of of candidates) k) process ≡ false) → None ≡ slice_index_or (vote_places of t) process None
   place-none out =
       sym (place_is_none (masks_of of candidates) process (λ k below. out k (omega (arith, below, length-map candidates (mask_of of)))))
       ∙ shown-place members candidates t process of shown small
@@ -187,7 +187,7 @@ module _ (members : ℕ) (candidates : List Candidate) (echoed readied place pro
   inside : (of : VoteKind) → place < length (masks_of of candidates)
   inside of = omega (arith, below, length-map candidates (mask_of of))
 
-  none-by : (of : VoteKind) → slice_index_or (places_of of (tally_by members candidates)) process None ≡ None → place_by (masks_of of candidates) process ≡ None
+  none-by : (of : VoteKind) → slice_index_or (vote_places of (tally_by members candidates)) process None ≡ None → place_by (masks_of of candidates) process ≡ None
   none-by of first = sym (votes_by-at members (masks_of of candidates) process small) ∙ ap (λ places. slice_index_or places process None) (sym (places-are members candidates of)) ∙ first
 
   module _ (of : VoteKind) (c_now : Candidate) (changed : mask_of of c_now ≡ with_process (mask_of of c) process) where
@@ -197,12 +197,12 @@ module _ (members : ℕ) (candidates : List Candidate) (echoed readied place pro
     masks-changed : masks_of of now ≡ slice_set (masks_of of candidates) place (with_process (slice_index (masks_of of candidates) place) process)
     masks-changed = map-set (mask_of of) candidates place c_now ∙ ap (slice_set (masks_of of candidates) place) (changed ∙ ap (λ m. with_process m process) (mask-here of))
 
-    votes-changed : (voted : ℕ) → AreVotes members (masks_of of candidates) voted → slice_index_or (places_of of (tally_by members candidates)) process None ≡ None → AreVotes members (masks_of of now) (with_process voted process)
+    votes-changed : (voted : ℕ) → AreVotes members (masks_of of candidates) voted → slice_index_or (vote_places of (tally_by members candidates)) process None ≡ None → AreVotes members (masks_of of now) (with_process voted process)
     votes-changed voted votes first =
         subst (λ masks. AreVotes members masks (with_process voted process)) (sym masks-changed)
         (AreVotes-one members (masks_of of candidates) voted place process votes (inside of) small (none-by of first))
 
-    places-changed : (voted : ℕ) → AreVotes members (masks_of of candidates) voted → slice_index_or (places_of of (tally_by members candidates)) process None ≡ None → votes_by members (masks_of of now) ≡ slice_set (votes_by members (masks_of of candidates)) process (Some place)
+    places-changed : (voted : ℕ) → AreVotes members (masks_of of candidates) voted → slice_index_or (vote_places of (tally_by members candidates)) process None ≡ None → votes_by members (masks_of of now) ≡ slice_set (votes_by members (masks_of of candidates)) process (Some place)
     places-changed voted votes first =
         ap (votes_by members) masks-changed ∙ votes_by-one members (masks_of of candidates) voted place process votes (inside of) small (none-by of first)
 

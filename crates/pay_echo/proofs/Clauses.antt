@@ -10,7 +10,7 @@ use Rattle.pay_echo.specs.declared.moves.Moves.{Moves}
 use Rattle.pay_echo.specs.Step.{vote_at, vote_before, moves_by, with_moves, with_vote, IsPlaced, after}
 use Rattle.pay_echo.specs.Plain.{meaning_by}
 use Rattle.pay_echo.proofs.OneMore.{readied-none, delivered-none}
-use Rattle.pay_echo.proofs.PlainLemmas.{votes_at-none}
+use Rattle.pay_echo.proofs.PlainLemmas.{votes_at_places-none}
 use Rattle.pay_echo.proofs.Stepping.{meaning-push, unchanged-IsMoves, with_vote-IsMoves}
 
 -- the meaning before any vote
@@ -32,7 +32,7 @@ ready_of-none g p = cond-None (eqb p g.own) (readied g []) (readied-none g)
 pub meaning_of-none : (g : Group) (values : List (List ℕ)) → g.own < g.members → meaning_by g values (replicate g.members None) (replicate g.members None) None ≡ meaning_of g []
 unfolding meaning_of echoed
 meaning_of-none g values member =
-    let blank = votes_at-none values g.members in
+    let blank = votes_at_places-none values g.members in
     let echoes = blank ∙ nobody (echo_of g []) g.members (echo_of-none g) in
     let readys = blank ∙ nobody (ready_of g []) g.members (ready_of-none g) in
     let own = ap (λ votes. vote_at votes g.own) blank ∙ get_or-replicate g.members g.own None None member in

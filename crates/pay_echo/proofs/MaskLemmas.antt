@@ -8,8 +8,8 @@ use Rattle.pay_echo.specs.Broadcast.{Group, Vote, Send, Echo, Ready, IsForeign, 
 use Rattle.pay_echo.specs.Meaning.{Meaning}
 use Rattle.pay_echo.specs.Moves.{Foresees}
 use Rattle.pay_echo.specs.Step.{vote_at, vote_before, put_echo, put_ready, put_if, with_moves}
-use Rattle.pay_echo.specs.Plain.{value_at, votes_at, IsPlace, AreDistinct, meaning_by, ArePlaces}
-use Rattle.pay_echo.specs.Masks.{TallyFields, place_before, IsCounted}
+use Rattle.pay_echo.specs.Plain.{value_at, votes_at_places, IsPlace, AreDistinct, meaning_by, AreVotePlaces}
+use Rattle.pay_echo.specs.Masks.{TallyFields, place_before, IsTallied}
 use Rattle.pay_echo.specs.declared.moves.Moves.{Moves}
 use Rattle.pay_echo.proofs.PlainLemmas.{counted-ArePlaces, counted-meaning, length-put_ready}
 
@@ -19,7 +19,7 @@ value-stands : (values : List (List ℕ)) (o : Option ℕ) → IsPlace (length v
 value-stands values None place = refl
 value-stands values (Some k) place = let none : List ℕ = [] in sym (ap is_some (slice_get-get_or values k none place))
 
-pub voted-at : (values : List (List ℕ)) (places : List (Option ℕ)) (p : ℕ) → All (IsPlace (length values)) places → is_some (get_or places p None) ≡ is_some (vote_at (votes_at values places) p)
+pub voted-at : (values : List (List ℕ)) (places : List (Option ℕ)) (p : ℕ) → All (IsPlace (length values)) places → is_some (get_or places p None) ≡ is_some (vote_at (votes_at_places values places) p)
 voted-at values [] p all = refl
 voted-at values (o ∷ places) zero all = value-stands values o (all 0 None (omega arith))
 voted-at values (o ∷ places) (suc p) all = voted-at values places p (λ k d below. all (suc k) d (omega arith))
@@ -60,7 +60,7 @@ voted-put_if false p place votes below = omega arith
 -- ---- a vote counted
 
 module _ (g : Group) (t t_now : TallyFields) (more : List (List ℕ)) (delivered delivered_now : Option ℕ) (x : Vote) (place : ℕ) (ready deliver : Bool)
-    (counted : IsCounted g t delivered) (grown : t_now.values ≡ t.values ++ more) (distinct : AreDistinct t_now.values) (is : slice_get t_now.values place ≡ Some (value_of x)) (foreign : IsForeign g x)
+    (counted : IsTallied g t delivered) (grown : t_now.values ≡ t.values ++ more) (distinct : AreDistinct t_now.values) (is : slice_get t_now.values place ≡ Some (value_of x)) (foreign : IsForeign g x)
     (echo_is : t_now.echoes ≡ put_echo g.own x place t.echoes) (ready_is : t_now.readys ≡ put_if ready g.own place (put_ready x place t.readys)) (delivered_is : delivered_now ≡ option_or (then_some deliver place) delivered) where
   abbrev told : Moves
   told = record { echo = false; ready = ready; deliver = deliver }
@@ -68,9 +68,9 @@ module _ (g : Group) (t t_now : TallyFields) (more : List (List ℕ)) (delivered
   standing : slice_get (t.values ++ more) place ≡ Some (value_of x)
   standing = ap (λ (vs : List (List ℕ)). slice_get vs place) (sym grown) ∙ is
 
-  pub counted-IsCounted : place_before g.own x t ≡ None → length t_now.values ≤ length t.values + 1 → IsCounted g t_now delivered_now
+  pub counted-IsCounted : place_before g.own x t ≡ None → length t_now.values ≤ length t.values + 1 → IsTallied g t_now delivered_now
   counted-IsCounted first one =
-      let are : ArePlaces g t_now.values t_now.echoes t_now.readys delivered_now =
+      let are : AreVotePlaces g t_now.values t_now.echoes t_now.readys delivered_now =
       rw (grown, echo_is, ready_is, delivered_is) (counted-ArePlaces g t.values more t.echoes t.readys delivered x place told counted.are (subst AreDistinct grown distinct) standing) in
       let long : length (put_ready x place t.readys) ≡ g.members = length-put_ready x place t.readys ∙ counted.are.readied in
       let more_voted = voted-put g x place t counted.are.own foreign counted.are.echoed counted.are.readied first in
@@ -87,7 +87,7 @@ module _ (g : Group) (t t_now : TallyFields) (more : List (List ℕ)) (delivered
       rw (grown, echo_is, ready_is, delivered_is) (counted-meaning g t.values more t.echoes t.readys delivered x place told counted.are (subst AreDistinct grown distinct) standing foreign)
 
 -- what stands in no place before a vote
-pub before-place : (g : Group) (t : TallyFields) (delivered : Option ℕ) (x : Vote) → ArePlaces g t.values t.echoes t.readys delivered → is_some (vote_before (meaning_by g t.values t.echoes t.readys delivered) x) ≡ false → place_before g.own x t ≡ None
+pub before-place : (g : Group) (t : TallyFields) (delivered : Option ℕ) (x : Vote) → AreVotePlaces g t.values t.echoes t.readys delivered → is_some (vote_before (meaning_by g t.values t.echoes t.readys delivered) x) ≡ false → place_before g.own x t ≡ None
 before-place g t delivered x are none = go x none where
   none-of : (o : Option ℕ) → is_some o ≡ false → o ≡ None
   none-of None e = refl

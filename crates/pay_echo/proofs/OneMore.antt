@@ -3,7 +3,7 @@ use Rattle.std.proofs.Common.{◌≡◌, ◌⊎◌, ℕ, ◌+◌, ◌*◌, Bool,
 use Rattle.std.specs.Option.{option_or}
 use Rattle.std.specs.List.{range_with_len}
 use Rattle.std.proofs.lemmas.Bool.{cases_Bool, le-ltb, both_ways}
-use Rattle.pay_echo.specs.Broadcast.{Group, Vote, Send, Echo, Ready, value_of, sent, echoed_by, readied_by, find_map, first_known, is_for, size, echoed, echo_of, echo_set, other_ready_of, other_ready_set, may_ready, readied, ready_of, ready_set, may_deliver, delivered}
+use Rattle.pay_echo.specs.Broadcast.{Group, Vote, Send, Echo, Ready, value_of, value_if_send, echoed_by, readied_by, find_map, first_known, is_for, size, echoed, echo_of, echo_set, other_ready_of, other_ready_set, may_ready, readied, ready_of, ready_set, may_deliver, delivered}
 use Rattle.pay_echo.proofs.Lists.{either, find_map-push, bytes_eq-true, bytes_eq-same, count_by-same, count_by-none}
 use Rattle.pay_echo.proofs.Known.{Steps, first_known-push}
 
@@ -11,11 +11,11 @@ use Rattle.pay_echo.proofs.Known.{Steps, first_known-push}
 abbrev pub IsOf : List ℕ → Option (List ℕ) → Type 0
 IsOf v o = (o ≡ None) ⊎ (o ≡ Some v)
 
-pub sent-IsOf : (x : Vote) → IsOf (value_of x) (sent x)
-unfolding sent value_of
-sent-IsOf (Send v) = inr refl
-sent-IsOf (Echo p v) = inl refl
-sent-IsOf (Ready p v) = inl refl
+pub value_if_send-IsOf : (x : Vote) → IsOf (value_of x) (value_if_send x)
+unfolding value_if_send value_of
+value_if_send-IsOf (Send v) = inr refl
+value_if_send-IsOf (Echo p v) = inl refl
+value_if_send-IsOf (Ready p v) = inl refl
 
 cond-IsOf : (b : Bool) (v : List ℕ) → IsOf v (cond b (Some v) None)
 cond-IsOf true v = inr refl
@@ -56,12 +56,12 @@ is_for-None : (v : List ℕ) (o : Option (List ℕ)) → o ≡ None → is_for v
 unfolding is_for
 is_for-None v o e = ap (is_for v) e
 
-pub echoed-push : (votes : List Vote) (x : Vote) → echoed (votes ++ x ∷ []) ≡ option_or (echoed votes) (sent x)
+pub echoed-push : (votes : List Vote) (x : Vote) → echoed (votes ++ x ∷ []) ≡ option_or (echoed votes) (value_if_send x)
 unfolding echoed
-echoed-push votes x = find_map-push sent votes x
+echoed-push votes x = find_map-push value_if_send votes x
 
 module _ (g : Group) where
-  pub echo_of-push : (votes : List Vote) (x : Vote) (p : ℕ) → echo_of g (votes ++ x ∷ []) p ≡ cond (eqb p g.own) (option_or (echoed votes) (sent x)) (option_or (find_map (echoed_by p) votes) (echoed_by p x))
+  pub echo_of-push : (votes : List Vote) (x : Vote) (p : ℕ) → echo_of g (votes ++ x ∷ []) p ≡ cond (eqb p g.own) (option_or (echoed votes) (value_if_send x)) (option_or (find_map (echoed_by p) votes) (echoed_by p x))
   unfolding echo_of
   echo_of-push votes x p = ap₂ (cond (eqb p g.own)) (echoed-push votes x) (find_map-push (echoed_by p) votes x)
 
@@ -76,8 +76,8 @@ module _ (g : Group) where
   echo_set-other : (votes : List Vote) (x : Vote) (w : List ℕ) → bytes_eq w (value_of x) ≡ false → size g.members (echo_set g (votes ++ x ∷ []) w) ≡ size g.members (echo_set g votes w)
   unfolding echo_set echo_of
   echo_set-other votes x w ne = size-same g.members (echo_set g (votes ++ x ∷ []) w) (echo_set g votes w)
-      (λ p. ap (is_for w) (echo_of-push votes x p) ∙ is_for-places w (eqb p g.own) (echoed votes) (find_map (echoed_by p) votes) (option_or (echoed votes) (sent x)) (option_or (find_map (echoed_by p) votes) (echoed_by p x))
-      (is_for-other w (value_of x) (echoed votes) (sent x) (sent-IsOf x) ne)
+      (λ p. ap (is_for w) (echo_of-push votes x p) ∙ is_for-places w (eqb p g.own) (echoed votes) (find_map (echoed_by p) votes) (option_or (echoed votes) (value_if_send x)) (option_or (find_map (echoed_by p) votes) (echoed_by p x))
+      (is_for-other w (value_of x) (echoed votes) (value_if_send x) (value_if_send-IsOf x) ne)
       (is_for-other w (value_of x) (find_map (echoed_by p) votes) (echoed_by p x) (echoed_by-IsOf p x) ne))
 
   other_ready_set-other : (votes : List Vote) (x : Vote) (w : List ℕ) → bytes_eq w (value_of x) ≡ false → size g.members (other_ready_set g (votes ++ x ∷ []) w) ≡ size g.members (other_ready_set g votes w)

@@ -2,7 +2,7 @@
 use Rattle.std.proofs.Common.{◌≡◌, ◌≢◌, ℕ, ◌+◌, ◌<◌, arith, true, false, List, eqb, slice_get, Option, None, Some, count_by, refl, sym, ap, ◌∙◌, bytes_eq, eq-eqb, ne_eqb}
 use Rattle.std.proofs.lemmas.Bool.{cases_Bool, cases_eq}
 use Rattle.pay_echo.specs.Broadcast.{is_for}
-use Rattle.pay_echo.specs.Plain.{value_at, votes_at, is_at, AreDistinct, IsPlaceOf}
+use Rattle.pay_echo.specs.Plain.{value_at, votes_at_places, is_at, AreDistinct, IsPlaceOf}
 use Rattle.pay_echo.proofs.Lists.{either, count_by-map, count_by-same, count_by-none, bytes_eq-true, bytes_eq-same}
 
 module _ (values : List (List ℕ)) (v : List ℕ) where
@@ -33,7 +33,7 @@ module _ (values : List (List ℕ)) (v : List ℕ) where
         let yes : bytes_eq w v ≡ true = ap (λ (u : List ℕ). bytes_eq u v) equal ∙ bytes_eq-same v in
         cc)))
 
-  pub count-at : AreDistinct values → (k : ℕ) → slice_get values k ≡ Some v → (places : List (Option ℕ)) → count_by (is_at k) places ≡ count_by (is_for v) (votes_at values places)
+  pub count-at : AreDistinct values → (k : ℕ) → slice_get values k ≡ Some v → (places : List (Option ℕ)) → count_by (is_at k) places ≡ count_by (is_for v) (votes_at_places values places)
   count-at distinct k here places =
       sym (count_by-map (is_for v) (value_at values) places ∙ count_by-same (λ o. is_for v (value_at values o)) (is_at k) (for-at distinct k here) places)
 
@@ -49,6 +49,6 @@ module _ (values : List (List ℕ)) (v : List ℕ) where
         (λ (same : bytes_eq w v ≡ true). absurd (absent j (some ∙ ap (λ (u : List ℕ). Some u) (bytes_eq-true w v same))))
         (λ (other : bytes_eq w v ≡ false). other)
 
-  pub count-none : IsPlaceOf v values None → (places : List (Option ℕ)) → 0 ≡ count_by (is_for v) (votes_at values places)
+  pub count-none : IsPlaceOf v values None → (places : List (Option ℕ)) → 0 ≡ count_by (is_for v) (votes_at_places values places)
   count-none absent places =
       sym (count_by-map (is_for v) (value_at values) places ∙ count_by-none (λ o. is_for v (value_at values o)) (for-none absent) places)

@@ -9,15 +9,15 @@ use Rattle.std.proofs.lemmas.Option.{slice_get-get_or, slice_get_within}
 use Rattle.pay_frame.specs.declared.limits.TheConstants.{MOST_MEMBERS}
 use Rattle.pay_echo.specs.Broadcast.{Group, Vote, Send, Echo, Ready, IsForeign, value_of}
 use Rattle.pay_echo.specs.Step.{vote_at, is_send, put_echo, put_ready, put_if, with_moves}
-use Rattle.pay_echo.specs.Plain.{value_at, votes_at, IsPlace, meaning_by, ArePlaces, AreDistinct}
+use Rattle.pay_echo.specs.Plain.{value_at, votes_at_places, IsPlace, meaning_by, AreVotePlaces, AreDistinct}
 use Rattle.pay_echo.specs.declared.moves.Moves.{Moves}
 
-pub votes_at-none : (values : List (List ℕ)) (n : ℕ) → votes_at values (replicate n None) ≡ replicate n None
-votes_at-none values zero = refl
-votes_at-none values (suc n) = ap (λ (votes : List (Option (List ℕ))). None ∷ votes) (votes_at-none values n)
+pub votes_at_places-none : (values : List (List ℕ)) (n : ℕ) → votes_at_places values (replicate n None) ≡ replicate n None
+votes_at_places-none values zero = refl
+votes_at_places-none values (suc n) = ap (λ (votes : List (Option (List ℕ))). None ∷ votes) (votes_at_places-none values n)
 
-pub ArePlaces-none : (g : Group) (values : List (List ℕ)) → values ≡ [] → g.members ≤ MOST_MEMBERS → g.own < g.members → ArePlaces g values (replicate g.members None) (replicate g.members None) None
-ArePlaces-none g values empty few member =
+pub AreVotePlaces-none : (g : Group) (values : List (List ℕ)) → values ≡ [] → g.members ≤ MOST_MEMBERS → g.own < g.members → AreVotePlaces g values (replicate g.members None) (replicate g.members None) None
+AreVotePlaces-none g values empty few member =
     let Place : Option ℕ → Type 0 = IsPlace (length values) in
     let none : Place None = tt in
     let places : All Place (replicate g.members None) = λ k d below. subst Place (sym (get_or-replicate g.members k None d (subst (λ n. k < n) (length-replicate g.members None) below))) none in
@@ -42,10 +42,10 @@ value_at-more values more (Some k) place =
     ∙ ap (λ (v : List ℕ). Some v) (get_or_append_left values more none k place)
     ∙ sym (slice_get-get_or values k none place)
 
-votes_at-more : (values more : List (List ℕ)) (places : List (Option ℕ)) → All (IsPlace (length values)) places → votes_at (values ++ more) places ≡ votes_at values places
-votes_at-more values more [] all = refl
-votes_at-more values more (o ∷ places) all =
-    ap₂ (λ (v : Option (List ℕ)) (votes : List (Option (List ℕ))). v ∷ votes) (value_at-more values more o (all 0 None (omega arith))) (votes_at-more values more places (λ k d below. all (suc k) d (omega arith)))
+votes_at_places-more : (values more : List (List ℕ)) (places : List (Option ℕ)) → All (IsPlace (length values)) places → votes_at_places (values ++ more) places ≡ votes_at_places values places
+votes_at_places-more values more [] all = refl
+votes_at_places-more values more (o ∷ places) all =
+    ap₂ (λ (v : Option (List ℕ)) (votes : List (Option (List ℕ))). v ∷ votes) (value_at-more values more o (all 0 None (omega arith))) (votes_at_places-more values more places (λ k d below. all (suc k) d (omega arith)))
 
 IsPlace-more : (n m : ℕ) → n ≤ m → (o : Option ℕ) → IsPlace n o → IsPlace m o
 IsPlace-more n m le None place = tt
@@ -54,20 +54,20 @@ IsPlace-more n m le (Some k) place = omega (arith, place)
 -- ---- a place written
 
 module _ (values : List (List ℕ)) (place : ℕ) (v : List ℕ) (is : slice_get values place ≡ Some v) where
-  votes_at-set : (places : List (Option ℕ)) (p : ℕ) → votes_at values (set places p (Some place)) ≡ set (votes_at values places) p (Some v)
-  votes_at-set places p = map-set (value_at values) places p (Some place) ∙ ap (λ o. set (votes_at values places) p o) is
+  votes_at-set : (places : List (Option ℕ)) (p : ℕ) → votes_at_places values (set places p (Some place)) ≡ set (votes_at_places values places) p (Some v)
+  votes_at-set places p = map-set (value_at values) places p (Some place) ∙ ap (λ o. set (votes_at_places values places) p o) is
 
-  votes_at-put_echo : (own : ℕ) (x : Vote) (places : List (Option ℕ)) → votes_at values (put_echo own x place places) ≡ put_echo own x v (votes_at values places)
+  votes_at-put_echo : (own : ℕ) (x : Vote) (places : List (Option ℕ)) → votes_at_places values (put_echo own x place places) ≡ put_echo own x v (votes_at_places values places)
   votes_at-put_echo own (Send w) places = votes_at-set places own
   votes_at-put_echo own (Echo p w) places = votes_at-set places p
   votes_at-put_echo own (Ready p w) places = refl
 
-  votes_at-put_ready : (x : Vote) (places : List (Option ℕ)) → votes_at values (put_ready x place places) ≡ put_ready x v (votes_at values places)
+  votes_at-put_ready : (x : Vote) (places : List (Option ℕ)) → votes_at_places values (put_ready x place places) ≡ put_ready x v (votes_at_places values places)
   votes_at-put_ready (Send w) places = refl
   votes_at-put_ready (Echo p w) places = refl
   votes_at-put_ready (Ready p w) places = votes_at-set places p
 
-  votes_at-put_if : (due : Bool) (p : ℕ) (places : List (Option ℕ)) → votes_at values (put_if due p place places) ≡ put_if due p v (votes_at values places)
+  votes_at-put_if : (due : Bool) (p : ℕ) (places : List (Option ℕ)) → votes_at_places values (put_if due p place places) ≡ put_if due p v (votes_at_places values places)
   votes_at-put_if true p places = votes_at-set places p
   votes_at-put_if false p places = refl
 
@@ -115,7 +115,7 @@ All-put_if P false q place places p all = all
 
 -- ---- a vote counted
 
-module _ (g : Group) (values more : List (List ℕ)) (echoes readys : List (Option ℕ)) (delivered : Option ℕ) (x : Vote) (place : ℕ) (moves : Moves) (are : ArePlaces g values echoes readys delivered) (distinct : AreDistinct (values ++ more)) (is : slice_get (values ++ more) place ≡ Some (value_of x)) where
+module _ (g : Group) (values more : List (List ℕ)) (echoes readys : List (Option ℕ)) (delivered : Option ℕ) (x : Vote) (place : ℕ) (moves : Moves) (are : AreVotePlaces g values echoes readys delivered) (distinct : AreDistinct (values ++ more)) (is : slice_get (values ++ more) place ≡ Some (value_of x)) where
   abbrev kept : List (List ℕ)
   kept = values ++ more
 
@@ -134,7 +134,7 @@ module _ (g : Group) (values more : List (List ℕ)) (echoes readys : List (Opti
   abbrev delivered_now : Option ℕ
   delivered_now = option_or (then_some moves.deliver place) delivered
 
-  pub counted-ArePlaces : ArePlaces g kept echoes_now readys_now delivered_now
+  pub counted-ArePlaces : AreVotePlaces g kept echoes_now readys_now delivered_now
   counted-ArePlaces =
       let Place : Option ℕ → Type 0 = IsPlace (length kept) in
       let weaker = IsPlace-more (length values) (length kept) longer in
@@ -155,15 +155,15 @@ module _ (g : Group) (values more : List (List ℕ)) (echoes readys : List (Opti
   pub counted-meaning : IsForeign g x → meaning_by g kept echoes_now readys_now delivered_now ≡ with_moves (meaning_by g values echoes readys delivered) x moves
   counted-meaning foreign =
       let v = value_of x in
-      let echo_votes : votes_at kept echoes_now ≡ put_echo g.own x v (votes_at values echoes) =
-      votes_at-put_echo kept place v is g.own x echoes ∙ ap (put_echo g.own x v) (votes_at-more values more echoes are.echo_places) in
-      let ready_votes : votes_at kept readys_now ≡ put_if moves.ready g.own v (put_ready x v (votes_at values readys)) =
+      let echo_votes : votes_at_places kept echoes_now ≡ put_echo g.own x v (votes_at_places values echoes) =
+      votes_at-put_echo kept place v is g.own x echoes ∙ ap (put_echo g.own x v) (votes_at_places-more values more echoes are.echo_places) in
+      let ready_votes : votes_at_places kept readys_now ≡ put_if moves.ready g.own v (put_ready x v (votes_at_places values readys)) =
       votes_at-put_if kept place v is moves.ready g.own (put_ready x place readys)
-      ∙ ap (put_if moves.ready g.own v) (votes_at-put_ready kept place v is x readys ∙ ap (put_ready x v) (votes_at-more values more readys are.ready_places)) in
-      let below : g.own < length (votes_at values echoes) = rw (length-map echoes (value_at values), are.echoed) are.own in
-      let below_ready : g.own < length (put_ready x v (votes_at values readys)) = rw (length-put_ready x v (votes_at values readys), length-map readys (value_at values), are.readied) are.own in
-      let echoed = ap (λ votes. vote_at votes g.own) echo_votes ∙ own_echo-put g x v (votes_at values echoes) below foreign in
-      let readied = ap (λ votes. vote_at votes g.own) ready_votes ∙ own-put_if moves.ready g.own v (put_ready x v (votes_at values readys)) below_ready ∙ ap (cond moves.ready (Some v)) (own_ready-put g x v (votes_at values readys) foreign) in
+      ∙ ap (put_if moves.ready g.own v) (votes_at-put_ready kept place v is x readys ∙ ap (put_ready x v) (votes_at_places-more values more readys are.ready_places)) in
+      let below : g.own < length (votes_at_places values echoes) = rw (length-map echoes (value_at values), are.echoed) are.own in
+      let below_ready : g.own < length (put_ready x v (votes_at_places values readys)) = rw (length-put_ready x v (votes_at_places values readys), length-map readys (value_at values), are.readied) are.own in
+      let echoed = ap (λ votes. vote_at votes g.own) echo_votes ∙ own_echo-put g x v (votes_at_places values echoes) below foreign in
+      let readied = ap (λ votes. vote_at votes g.own) ready_votes ∙ own-put_if moves.ready g.own v (put_ready x v (votes_at_places values readys)) below_ready ∙ ap (cond moves.ready (Some v)) (own_ready-put g x v (votes_at_places values readys) foreign) in
       λ i. record { group = g; echoed = echoed i; echoes = echo_votes i; readied = readied i; readys = ready_votes i; delivered = handed moves.deliver i } where
         handed : (due : Bool) → value_at kept (option_or (then_some due place) delivered) ≡ cond due (Some (value_of x)) (value_at values delivered)
         handed true = is

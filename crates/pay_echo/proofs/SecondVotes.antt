@@ -3,16 +3,16 @@ use Rattle.std.proofs.Common.{◌≡◌, ◌≢◌, ℕ, ◌<◌, cond, eqb, Lis
 use Rattle.std.specs.List.{range_with_len}
 use Rattle.std.proofs.lemmas.Bool.{cases_eq}
 use Rattle.std.proofs.lemmas.List.FromFn.{get_or-map-range_with_len}
-use Rattle.pay_echo.specs.Broadcast.{Group, Vote, Send, Echo, Ready, value_of, sent, echoed_by, readied_by, find_map, echoed, echo_of, readied, ready_of, delivered}
+use Rattle.pay_echo.specs.Broadcast.{Group, Vote, Send, Echo, Ready, value_of, value_if_send, echoed_by, readied_by, find_map, echoed, echo_of, readied, ready_of, delivered}
 use Rattle.pay_echo.specs.Meaning.{Meaning, meaning_of}
 use Rattle.pay_echo.specs.Step.{vote_at}
 use Rattle.pay_echo.proofs.Settling.{settled, with_send, with_echo, with_ready}
 use Rattle.pay_echo.proofs.Lists.{either, map-same}
-use Rattle.pay_echo.proofs.StepLaw.{stage, readys_with, stage-all, settles, settled-again, echo_of-other, readys_with-other, find_map-push-None, find_map-push-again, echoed_by-send, echoed_by-ready, echoed_by-other, readied_by-send, readied_by-echo, readied_by-other, sent-echo, sent-ready, first_send, first_echo, first_ready}
+use Rattle.pay_echo.proofs.StepLaw.{stage, readys_with, stage-all, settles, settled-again, echo_of-other, readys_with-other, find_map-push-None, find_map-push-again, echoed_by-send, echoed_by-ready, echoed_by-other, readied_by-send, readied_by-echo, readied_by-other, value_if_send-echo, value_if_send-ready, first_send, first_echo, first_ready}
 
 -- no place has another vote
 record IsSecond (g : Group) (votes : List Vote) (x : Vote) : Type 0 where
-  sends : find_map sent (votes ++ x ∷ []) ≡ find_map sent votes
+  sends : find_map value_if_send (votes ++ x ∷ []) ≡ find_map value_if_send votes
   echoes : (p : ℕ) → find_map (echoed_by p) (votes ++ x ∷ []) ≡ find_map (echoed_by p) votes
   readys : (p : ℕ) → find_map (readied_by p) (votes ++ x ∷ []) ≡ find_map (readied_by p) votes
 
@@ -56,7 +56,7 @@ module _ (g : Group) (votes : List Vote) (member : g.own < g.members) where
   push_send v (Some w) e =
       second_vote g votes (Send v) member
       record {
-        sends = find_map-push-again sent votes (Send v) w e;
+        sends = find_map-push-again value_if_send votes (Send v) w e;
         echoes = λ p. find_map-push-None (echoed_by p) votes (Send v) (echoed_by-send p v);
         readys = λ p. find_map-push-None (readied_by p) votes (Send v) (readied_by-send p v);
       }
@@ -67,7 +67,7 @@ module _ (g : Group) (votes : List Vote) (member : g.own < g.members) where
   push_echo q v below foreign (Some w) e =
       second_vote g votes (Echo q v) member
       record {
-        sends = find_map-push-None sent votes (Echo q v) (sent-echo q v);
+        sends = find_map-push-None value_if_send votes (Echo q v) (value_if_send-echo q v);
         echoes = again_by echoed_by votes (Echo q v) q w e (λ p ne. echoed_by-other p q v ne);
         readys = λ p. find_map-push-None (readied_by p) votes (Echo q v) (readied_by-echo p q v);
       }
@@ -78,7 +78,7 @@ module _ (g : Group) (votes : List Vote) (member : g.own < g.members) where
   push_ready q v below foreign (Some w) e =
       second_vote g votes (Ready q v) member
       record {
-        sends = find_map-push-None sent votes (Ready q v) (sent-ready q v);
+        sends = find_map-push-None value_if_send votes (Ready q v) (value_if_send-ready q v);
         echoes = λ p. find_map-push-None (echoed_by p) votes (Ready q v) (echoed_by-ready p q v);
         readys = again_by readied_by votes (Ready q v) q w e (λ p ne. readied_by-other p q v ne);
       }

@@ -3,7 +3,7 @@ use Rattle.std.proofs.Common.{◌≡◌, ◌≢◌, ℕ, ◌+◌, ◌*◌, ◌<�
 use Rattle.std.specs.Option.{option_or}
 use Rattle.std.specs.List.{range_with_len}
 use Rattle.std.proofs.lemmas.Bool.{cond-true, cond-false, cases_Bool}
-use Rattle.pay_echo.specs.Broadcast.{Group, Vote, Send, Echo, Ready, value_of, sent, echoed_by, readied_by, find_map, is_for, size, echoed, echo_of, echo_set, other_ready_of, other_ready_set, may_ready, readied, ready_of, ready_set, may_deliver, delivered}
+use Rattle.pay_echo.specs.Broadcast.{Group, Vote, Send, Echo, Ready, value_of, value_if_send, echoed_by, readied_by, find_map, is_for, size, echoed, echo_of, echo_set, other_ready_of, other_ready_set, may_ready, readied, ready_of, ready_set, may_deliver, delivered}
 use Rattle.pay_echo.specs.Meaning.{Meaning, meaning_of}
 use Rattle.pay_echo.proofs.Settling.{may_ready_at, may_deliver_at, now_ready, now_delivered, settled, with_send, with_echo, with_ready}
 use Rattle.pay_echo.proofs.Lists.{either, find_map-push, option_or-None, count_by-map, map-range-set, map-same}
@@ -180,9 +180,9 @@ readys_with-push-None : (g : Group) (votes : List Vote) (x : Vote) (r : Option (
 unfolding readys_with
 readys_with-push-None g votes x r p e = ap (cond (eqb p g.own) r) (find_map-push-None (readied_by p) votes x e)
 
-echo_of-push-None : (g : Group) (votes : List Vote) (x : Vote) (p : ℕ) → sent x ≡ None → echoed_by p x ≡ None → echo_of g (votes ++ x ∷ []) p ≡ echo_of g votes p
+echo_of-push-None : (g : Group) (votes : List Vote) (x : Vote) (p : ℕ) → value_if_send x ≡ None → echoed_by p x ≡ None → echo_of g (votes ++ x ∷ []) p ≡ echo_of g votes p
 unfolding echo_of echoed
-echo_of-push-None g votes x p s e = ap₂ (cond (eqb p g.own)) (find_map-push-None sent votes x s) (find_map-push-None (echoed_by p) votes x e)
+echo_of-push-None g votes x p s e = ap₂ (cond (eqb p g.own)) (find_map-push-None value_if_send votes x s) (find_map-push-None (echoed_by p) votes x e)
 
 echoed_by-self : (p : ℕ) (v : List ℕ) → echoed_by p (Echo p v) ≡ Some v
 unfolding echoed_by
@@ -216,23 +216,23 @@ pub echoed_by-ready : (p q : ℕ) (v : List ℕ) → echoed_by p (Ready q v) ≡
 unfolding echoed_by
 echoed_by-ready p q v = refl
 
-pub sent-echo : (q : ℕ) (v : List ℕ) → sent (Echo q v) ≡ None
-unfolding sent
-sent-echo q v = refl
+pub value_if_send-echo : (q : ℕ) (v : List ℕ) → value_if_send (Echo q v) ≡ None
+unfolding value_if_send
+value_if_send-echo q v = refl
 
-pub sent-ready : (q : ℕ) (v : List ℕ) → sent (Ready q v) ≡ None
-unfolding sent
-sent-ready q v = refl
+pub value_if_send-ready : (q : ℕ) (v : List ℕ) → value_if_send (Ready q v) ≡ None
+unfolding value_if_send
+value_if_send-ready q v = refl
 
 same_readys : (g : Group) (votes : List Vote) (x : Vote) (r : Option (List ℕ)) → ((p : ℕ) → readied_by p x ≡ None) → map (readys_with g votes r) (range_with_len 0 g.members) ≡ map (readys_with g (votes ++ x ∷ []) r) (range_with_len 0 g.members)
 same_readys g votes x r e = sym (map-same (readys_with g (votes ++ x ∷ []) r) (readys_with g votes r) (λ p. readys_with-push-None g votes x r p (e p)) (range_with_len 0 g.members))
 
-same_echoes : (g : Group) (votes : List Vote) (x : Vote) → sent x ≡ None → ((p : ℕ) → echoed_by p x ≡ None) → map (echo_of g votes) (range_with_len 0 g.members) ≡ map (echo_of g (votes ++ x ∷ [])) (range_with_len 0 g.members)
+same_echoes : (g : Group) (votes : List Vote) (x : Vote) → value_if_send x ≡ None → ((p : ℕ) → echoed_by p x ≡ None) → map (echo_of g votes) (range_with_len 0 g.members) ≡ map (echo_of g (votes ++ x ∷ [])) (range_with_len 0 g.members)
 same_echoes g votes x s e = sym (map-same (echo_of g (votes ++ x ∷ [])) (echo_of g votes) (λ p. echo_of-push-None g votes x p s (e p)) (range_with_len 0 g.members))
 
 -- the first vote of its place, written there
 pub first_send : (g : Group) (votes : List Vote) (v : List ℕ) → g.own < g.members → echoed votes ≡ None → with_send (meaning_of g votes) v ≡ stage g (votes ++ Send v ∷ []) (readied g votes) (delivered g votes)
-unfolding sent stage
+unfolding value_if_send stage
 first_send g votes v member none = ap (λ m. with_send m v) (stage-all g votes) ∙ written where
   now : echoed (votes ++ Send v ∷ []) ≡ Some v
   now = echoed-push votes (Send v) ∙ ap (λ o. option_or o (Some v)) none
@@ -252,10 +252,10 @@ pub first_echo : (g : Group) (votes : List Vote) (q : ℕ) (v : List ℕ) → q 
 unfolding stage echoed
 first_echo g votes q v below foreign none = ap (λ m. with_echo m q v) (stage-all g votes) ∙ written where
   same_echoed : echoed votes ≡ echoed (votes ++ Echo q v ∷ [])
-  same_echoed = sym (find_map-push-None sent votes (Echo q v) (sent-echo q v))
+  same_echoed = sym (find_map-push-None value_if_send votes (Echo q v) (value_if_send-echo q v))
 
   others : (p : ℕ) → p ≢ q → echo_of g (votes ++ Echo q v ∷ []) p ≡ echo_of g votes p
-  others p ne = echo_of-push-None g votes (Echo q v) p (sent-echo q v) (echoed_by-other p q v ne)
+  others p ne = echo_of-push-None g votes (Echo q v) p (value_if_send-echo q v) (echoed_by-other p q v ne)
 
   echoes : set (map (echo_of g votes) (range_with_len 0 g.members)) q (Some v) ≡ map (echo_of g (votes ++ Echo q v ∷ [])) (range_with_len 0 g.members)
   echoes = sym (map-range-set (echo_of g votes) (echo_of g (votes ++ Echo q v ∷ [])) g.members q (Some v) below others
@@ -271,10 +271,10 @@ pub first_ready : (g : Group) (votes : List Vote) (q : ℕ) (v : List ℕ) → q
 unfolding stage echoed
 first_ready g votes q v below foreign none = ap (λ m. with_ready m q v) (stage-all g votes) ∙ written where
   same_echoed : echoed votes ≡ echoed (votes ++ Ready q v ∷ [])
-  same_echoed = sym (find_map-push-None sent votes (Ready q v) (sent-ready q v))
+  same_echoed = sym (find_map-push-None value_if_send votes (Ready q v) (value_if_send-ready q v))
 
   echoes : map (echo_of g votes) (range_with_len 0 g.members) ≡ map (echo_of g (votes ++ Ready q v ∷ [])) (range_with_len 0 g.members)
-  echoes = same_echoes g votes (Ready q v) (sent-ready q v) (λ p. echoed_by-ready p q v)
+  echoes = same_echoes g votes (Ready q v) (value_if_send-ready q v) (λ p. echoed_by-ready p q v)
 
   readys : set (map (readys_with g votes (readied g votes)) (range_with_len 0 g.members)) q (Some v) ≡ map (readys_with g (votes ++ Ready q v ∷ []) (readied g votes)) (range_with_len 0 g.members)
   readys = sym (map-range-set (readys_with g votes (readied g votes)) (readys_with g (votes ++ Ready q v ∷ []) (readied g votes)) g.members q (Some v) below

@@ -3,7 +3,7 @@ use Rattle.std.proofs.Common.{◌≡◌, ◌≢◌, ℕ, ◌↔◌, Bool, true, 
 use Rattle.std.specs.Option.{option_or}
 use Rattle.std.proofs.lemmas.Bool.{cond-true, cond-false, false≢true}
 use Rattle.std.proofs.lemmas.List.Elements.{Contains-append_right}
-use Rattle.pay_echo.specs.Broadcast.{Group, Vote, Send, Echo, Ready, value_of, sent, echoed_by, readied_by, find_map, is_for, echoed, echo_of, echo_set, other_ready_of, other_ready_set, may_ready, readied, ready_of, ready_set, may_deliver, delivered}
+use Rattle.pay_echo.specs.Broadcast.{Group, Vote, Send, Echo, Ready, value_of, value_if_send, echoed_by, readied_by, find_map, is_for, echoed, echo_of, echo_set, other_ready_of, other_ready_set, may_ready, readied, ready_of, ready_set, may_deliver, delivered}
 use Rattle.pay_echo.specs.Laws.{EchoedByOneMore, ReadiedByOneMore, DeliveredByOneMore, EchoedStays, ReadiedStays, DeliveredStays, EchoStays, ReadyStays, OtherReadyStays, SecondSend, SecondEcho, SecondReady, InEchoSet, InReadySet, InOtherReadySet, OwnEcho, OwnReady, SendCame, EchoCame, ReadyCame}
 use Rattle.pay_echo.proofs.Lists.{find_map-push, bytes_eq-true, bytes_eq-same}
 use Rattle.pay_echo.proofs.OneMore.{echoed-push, readied-push, delivered-push}
@@ -33,7 +33,7 @@ find_map-stays f votes more v e = keeps (find_map f) (λ vs x. (f x, find_map-pu
 
 pub echoed_stays : EchoedStays
 unfolding echoed
-echoed_stays votes more v e = find_map-stays sent votes more v e
+echoed_stays votes more v e = find_map-stays value_if_send votes more v e
 
 pub readied_stays : ReadiedStays
 readied_stays g votes more v e =
@@ -146,11 +146,11 @@ pub cond-Some : (b : Bool) (v w : List ℕ) → cond b (Some v) None ≡ Some w 
 cond-Some true v w e = (refl, cc)
 cond-Some false v w e = cc
 
-sent-names : (v : List ℕ) (x : Vote) → sent x ≡ Some v → x ≡ Send v
-unfolding sent
-sent-names v (Send w) e = ap Send cc
-sent-names v (Echo p w) e = cc
-sent-names v (Ready p w) e = cc
+value_if_send-names : (v : List ℕ) (x : Vote) → value_if_send x ≡ Some v → x ≡ Send v
+unfolding value_if_send
+value_if_send-names v (Send w) e = ap Send cc
+value_if_send-names v (Echo p w) e = cc
+value_if_send-names v (Ready p w) e = cc
 
 echoed_by-names : (p : ℕ) (v : List ℕ) (x : Vote) → echoed_by p x ≡ Some v → x ≡ Echo p v
 unfolding echoed_by
@@ -166,7 +166,7 @@ readied_by-names p v (Ready q w) e = let h = cond-Some (eqb q p) w v e in rw (eq
 
 pub send_came : SendCame
 unfolding echoed
-send_came votes v e = found_came sent (Send v) v (sent-names v) votes e
+send_came votes v e = found_came value_if_send (Send v) v (value_if_send-names v) votes e
 
 pub echo_came : EchoCame
 echo_came g votes p v other e = found_came (echoed_by p) (Echo p v) v (echoed_by-names p v) votes (sym (echo_of-found g votes p other) ∙ e)

@@ -2,7 +2,7 @@
 use Rattle.std.proofs.Common.{◌≡◌, ℕ, zero, suc, ◌+◌, ◌*◌, ◌<◌, ◌⊎◌, Bool, true, false, cond, ◌&&◌, eqb, ltb, List, [], ◌∷◌, ◌++◌, length, get_or, Option, None, Some, refl, sym, ap, ◌∙◌, inl, inr, arith, eq-eqb, lt-ltb}
 use Rattle.std.specs.Option.{option_or}
 use Rattle.std.proofs.lemmas.Bool.{cond-true, both_ways, ltb-true, or_cases, or_left, or_right, and_parts}
-use Rattle.pay_echo.specs.Broadcast.{Group, Vote, Send, Echo, Ready, value_of, sent, echoed_by, readied_by, find_map, size, echoed, echo_of, echo_set, other_ready_set, may_ready, readied, ready_set, may_deliver, delivered}
+use Rattle.pay_echo.specs.Broadcast.{Group, Vote, Send, Echo, Ready, value_of, value_if_send, echoed_by, readied_by, find_map, size, echoed, echo_of, echo_set, other_ready_set, may_ready, readied, ready_set, may_deliver, delivered}
 use Rattle.pay_echo.specs.Laws.{EchoSetGrows, ReadySetGrows, OtherReadySetGrows, SendIsEchoed, EchoCounts, ReadyCounts, WhyReady, WhyDelivered, QuorumMakesReady, AmplificationMakesReady, ReadysDeliver, OneValueByQuorum}
 use Rattle.pay_echo.proofs.Lists.{either, by_push}
 use Rattle.pay_echo.proofs.OneMore.{readied-push, delivered-push, size-none, readied-none, delivered-none}
@@ -30,8 +30,8 @@ unfolding readied_by
 readied_by-own p v = cond-true (eqb p p) (Some v) None (eq-eqb p p refl)
 
 pub send_is_echoed : SendIsEchoed
-unfolding echoed sent
-send_is_echoed votes v came none = comes_found sent (Send v) v refl votes came.0 came.1 came.2 none
+unfolding echoed value_if_send
+send_is_echoed votes v came none = comes_found value_if_send (Send v) v refl votes came.0 came.1 came.2 none
 
 pub echo_counts : EchoCounts
 echo_counts g votes p v other came none =

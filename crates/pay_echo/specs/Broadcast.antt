@@ -33,10 +33,10 @@ IsForeign g (Echo p v) = (p < g.members) × (p ≢ g.own)
 IsForeign g (Ready p v) = (p < g.members) × (p ≢ g.own)
 
 -- the value, if the vote is a SEND, p's ECHO, p's READY
-unfoldable pub sent : Vote → Option (List ℕ)
-sent (Send v) = Some v
-sent (Echo p v) = None
-sent (Ready p v) = None
+unfoldable pub value_if_send : Vote → Option (List ℕ)
+value_if_send (Send v) = Some v
+value_if_send (Echo p v) = None
+value_if_send (Ready p v) = None
 
 unfoldable pub echoed_by : ℕ → Vote → Option (List ℕ)
 echoed_by p (Send v) = None
@@ -73,7 +73,7 @@ is_for v (Some w) = bytes_eq w v
 
 -- ECHOs: oneself echoes the first SEND; of another process the first ECHO that came counts
 unfoldable pub echoed : List Vote → Option (List ℕ)
-echoed votes = find_map sent votes
+echoed votes = find_map value_if_send votes
 
 unfoldable pub echo_of : Group → List Vote → ℕ → Option (List ℕ)
 echo_of g votes p = if p == g.own then echoed votes else find_map (echoed_by p) votes

@@ -2,7 +2,8 @@
 use Rattle.std.specs.Prelude.{◌≡◌, ◌≢◌, ℕ, ◌+◌, ◌*◌, ◌<◌, ◌≤◌, ◌⊎◌, ◌↔◌, Bool, true, if◌then◌else◌}
 use Rattle.std.specs.Prelude.{List, [], ◌∷◌, ◌++◌, Option, Some, None, Contains}
 use Rattle.std.specs.Option.{option_or}
-use Rattle.pay_echo.specs.Broadcast.{Group, Vote, Send, Echo, Ready, value_of, sent, size, echoed}
+use Rattle.pay_echo.specs.Broadcast.{Group, Vote, Send, Echo, Ready, value_of, value_if_send, size}
+use Rattle.pay_echo.specs.Broadcast.{echoed}
 use Rattle.pay_echo.specs.Broadcast.{echo_of, echo_set, other_ready_of, other_ready_set, may_ready}
 use Rattle.pay_echo.specs.Broadcast.{readied, ready_of, ready_set, may_deliver, delivered}
 use Rattle.pay_echo.specs.Meaning.{Meaning, meaning_of, Sees}
@@ -24,7 +25,7 @@ NotDeliveredAtFirst = (g : Group) → delivered g [] ≡ None
 
 -- what a SEND makes oneself echo is its value
 abbrev pub SentIsItsValue : Type 0
-SentIsItsValue = (x : Vote) → (sent x ≡ None) ⊎ (sent x ≡ Some (value_of x))
+SentIsItsValue = (x : Vote) → (value_if_send x ≡ None) ⊎ (value_if_send x ≡ Some (value_of x))
 
 -- a vote's value, where something holds
 abbrev pub value_if : Bool → Vote → Option (List ℕ)
@@ -32,7 +33,8 @@ value_if holds x = if holds then Some (value_of x) else None
 
 abbrev pub EchoedByOneMore : Type 0
 EchoedByOneMore =
-    (votes : List Vote) (x : Vote) → echoed (votes ++ x ∷ []) ≡ option_or (echoed votes) (sent x)
+    (votes : List Vote) (x : Vote)
+    → echoed (votes ++ x ∷ []) ≡ option_or (echoed votes) (value_if_send x)
 
 abbrev pub ReadiedByOneMore : Type 0
 ReadiedByOneMore =
@@ -96,7 +98,8 @@ ReadySetGrows =
 abbrev pub OtherReadySetGrows : Type 0
 OtherReadySetGrows =
     (g : Group) (votes more : List Vote) (v : List ℕ)
-    → size g.members (other_ready_set g votes v) ≤ size g.members (other_ready_set g (votes ++ more) v)
+    → size g.members (other_ready_set g votes v)
+    ≤ size g.members (other_ready_set g (votes ++ more) v)
 
 -- ---- a second vote of one process changes nothing
 
@@ -169,8 +172,8 @@ ReadyCounts =
 
 -- ---- why one is READY, and why one delivers
 
-abbrev pub HasQuorum : Group → List Vote → List ℕ → Type 0
-HasQuorum g votes v = g.members + g.faults < 2 * size g.members (echo_set g votes v)
+abbrev pub HasEchoQuorum : Group → List Vote → List ℕ → Type 0
+HasEchoQuorum g votes v = g.members + g.faults < 2 * size g.members (echo_set g votes v)
 
 abbrev pub IsAmplified : Group → List Vote → List ℕ → Type 0
 IsAmplified g votes v = g.faults < size g.members (other_ready_set g votes v)
@@ -181,7 +184,7 @@ HasReadys g votes v = 2 * g.faults < size g.members (ready_set g votes v)
 abbrev pub WhyReady : Type 0
 WhyReady =
     (g : Group) (votes : List Vote) (v : List ℕ) → readied g votes ≡ Some v
-    → HasQuorum g votes v ⊎ IsAmplified g votes v
+    → HasEchoQuorum g votes v ⊎ IsAmplified g votes v
 
 abbrev pub WhyDelivered : Type 0
 WhyDelivered =
@@ -190,7 +193,7 @@ WhyDelivered =
 -- where one may, one does
 abbrev pub QuorumMakesReady : Type 0
 QuorumMakesReady =
-    (g : Group) (votes : List Vote) (v : List ℕ) → HasQuorum g votes v → readied g votes ≢ None
+    (g : Group) (votes : List Vote) (v : List ℕ) → HasEchoQuorum g votes v → readied g votes ≢ None
 
 abbrev pub AmplificationMakesReady : Type 0
 AmplificationMakesReady =
@@ -203,5 +206,6 @@ ReadysDeliver =
 -- two quorums of ECHOs that one process took are for one value
 abbrev pub OneValueByQuorum : Type 0
 OneValueByQuorum =
-    (g : Group) (votes : List Vote) (v w : List ℕ) → HasQuorum g votes v → HasQuorum g votes w
+    (g : Group) (votes : List Vote) (v w : List ℕ) → HasEchoQuorum g votes v
+    → HasEchoQuorum g votes w
     → v ≡ w

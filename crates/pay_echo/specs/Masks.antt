@@ -5,7 +5,7 @@ use Rattle.std.specs.Prelude.{Some, None, is_some}
 use Rattle.std.specs.Int.{bit_at}
 use Rattle.std.specs.List.{count_by, find, range_with_len}
 use Rattle.pay_echo.specs.Broadcast.{Group, Vote, Send, Echo, Ready}
-use Rattle.pay_echo.specs.Plain.{AreDistinct, ArePlaces}
+use Rattle.pay_echo.specs.Plain.{AreDistinct, AreVotePlaces}
 use Rattle.pay_echo.specs.declared.candidate.Candidate.{Candidate}
 use Rattle.pay_echo.specs.declared.vote_kind.VoteKind.{VoteKind}
 use Rattle.pay_echo.specs.declared.vote_kind.VoteKind.TheVariants as kind
@@ -62,9 +62,9 @@ pub record TallyFields : Type 0 where
   pub echoes : List (Option ℕ)
   pub readys : List (Option ℕ)
 
-abbrev pub places_of : VoteKind → TallyFields → List (Option ℕ)
-places_of kind.Echo t = t.echoes
-places_of kind.Ready t = t.readys
+abbrev pub vote_places : VoteKind → TallyFields → List (Option ℕ)
+vote_places kind.Echo t = t.echoes
+vote_places kind.Ready t = t.readys
 
 -- with a process's vote for the value at a place
 abbrev pub with_place : VoteKind → ℕ → ℕ → TallyFields → TallyFields
@@ -98,7 +98,7 @@ place_before own (Echo p v) t = slice_index_or t.echoes p None
 place_before own (Ready p v) t = slice_index_or t.readys p None
 
 -- Each value has a vote, so there are at most two values for each member.
-pub record IsCounted (g : Group) (t : TallyFields) (delivered : Option ℕ) : Type 0 where
-  pub are : ArePlaces g t.values t.echoes t.readys delivered
+pub record IsTallied (g : Group) (t : TallyFields) (delivered : Option ℕ) : Type 0 where
+  pub are : AreVotePlaces g t.values t.echoes t.readys delivered
   pub voted : length t.values ≤ count_by is_some t.echoes + count_by is_some t.readys
   pub few : length t.values ≤ 2 * g.members

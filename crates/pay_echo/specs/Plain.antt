@@ -11,8 +11,8 @@ abbrev pub value_at : List (List ℕ) → Option ℕ → Option (List ℕ)
 value_at values None = None
 value_at values (Some k) = slice_get values k
 
-abbrev pub votes_at : List (List ℕ) → List (Option ℕ) → List (Option (List ℕ))
-votes_at values places = map (value_at values) places
+abbrev pub votes_at_places : List (List ℕ) → List (Option ℕ) → List (Option (List ℕ))
+votes_at_places values places = map (value_at values) places
 
 -- whether a vote stands at this place
 abbrev pub is_at : ℕ → Option ℕ → Bool
@@ -39,16 +39,16 @@ abbrev pub meaning_by :
 meaning_by g values echoes readys delivered =
     record {
       group = g;
-      echoed = vote_at (votes_at values echoes) g.own;
-      echoes = votes_at values echoes;
-      readied = vote_at (votes_at values readys) g.own;
-      readys = votes_at values readys;
+      echoed = vote_at (votes_at_places values echoes) g.own;
+      echoes = votes_at_places values echoes;
+      readied = vote_at (votes_at_places values readys) g.own;
+      readys = votes_at_places values readys;
       delivered = value_at values delivered;
     }
 
 -- There are few members, one's own number is one of theirs, no value is kept twice, each member has
 -- its places, and each place is one of the values.
-pub record ArePlaces (g : Group) (values : List (List ℕ)) (echoes readys : List (Option ℕ))
+pub record AreVotePlaces (g : Group) (values : List (List ℕ)) (echoes readys : List (Option ℕ))
     (delivered : Option ℕ) : Type 0 where
   pub few : g.members ≤ MOST_MEMBERS
   pub own : g.own < g.members

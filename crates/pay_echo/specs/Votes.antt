@@ -4,7 +4,7 @@ use Rattle.pay_echo.specs.declared.vote.VoteRef.{VoteRef}
 use Rattle.pay_echo.specs.declared.vote.VoteRef.TheVariants as given
 
 -- the vote that a `VoteRef` lends
-abbrev pub vote_of : VoteRef → Vote
-vote_of (given.Send value) = Send value.now
-vote_of (given.Echo process value) = Echo process value.now
-vote_of (given.Ready process value) = Ready process value.now
+abbrev pub vote_of_ref : VoteRef → Vote
+vote_of_ref (given.Send value) = Send value.now
+vote_of_ref (given.Echo process value) = Echo process value.now
+vote_of_ref (given.Ready process value) = Ready process value.now

@@ -3,7 +3,7 @@ ghost use Rattle.std.specs.Option.{option_copied};
 ghost use Rattle.pay_echo.specs.Broadcast.{IsForeign};
 ghost use Rattle.pay_echo.specs.Meaning.{Meaning, Sees, meaning_of};
 ghost use Rattle.pay_echo.specs.Moves.{Foresees};
-ghost use Rattle.pay_echo.specs.Votes.{vote_of};
+ghost use Rattle.pay_echo.specs.Votes.{vote_of_ref};
 
 use crate::group::Group;
 use crate::moves::Moves;
@@ -28,16 +28,16 @@ pub trait Instance: Sized {
 
     /// What this vote would make known. Nothing changes.
     fn moves(&self, vote: VoteRef) -> Moves
-        requires foreign { IsForeign (meaning self.now).group (vote_of vote) }
-        ensures { Foresees (meaning self.now) (vote_of vote.entry) result };
+        requires foreign { IsForeign (meaning self.now).group (vote_of_ref vote) }
+        ensures { Foresees (meaning self.now) (vote_of_ref vote.entry) result };
 
     /// Takes a vote, and with it what [`moves`](Instance::moves) says of it, so that no votes are
     /// counted again. A vote that is kept costs one copy of its value at most.
     fn take(&mut self, alloc: Global, vote: VoteRef, moves: Moves) -> Result<(), AllocError>
-        requires foreign { IsForeign (meaning self.old).group (vote_of vote) }
-        requires told { Foresees (meaning self.old) (vote_of vote) moves }
+        requires foreign { IsForeign (meaning self.old).group (vote_of_ref vote) }
+        requires told { Foresees (meaning self.old) (vote_of_ref vote) moves }
         ensures seen { OnOk result
-            (Sees (meaning self.old) (meaning self.new) (vote_of vote.entry)) }
+            (Sees (meaning self.old) (meaning self.new) (vote_of_ref vote.entry)) }
         ensures group { (meaning self.new).group ≡ (meaning self.old).group }
         ensures err { OnErr result (meaning self.new ≡ meaning self.old) };
 

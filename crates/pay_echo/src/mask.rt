@@ -3,7 +3,7 @@ ghost use Rattle.std.specs.Prelude.{slice_get, slice_index_or, IfOk, OnOk, OnErr
 ghost use Rattle.std.specs.Prelude.{true, false};
 ghost use Rattle.std.specs.List.{count_by};
 ghost use Rattle.pay_echo.specs.Broadcast.{IsForeign, is_for};
-ghost use Rattle.pay_echo.specs.Votes.{vote_of};
+ghost use Rattle.pay_echo.specs.Votes.{vote_of_ref};
 ghost use Rattle.pay_echo.specs.Step.{vote_before, echo_count, ready_count, moves_by, can_ready};
 ghost use Rattle.pay_echo.specs.Step.{can_deliver, put_echo, put_ready, put_if, with_moves};
 ghost use Rattle.pay_echo.specs.Step.{IsPlaced};
@@ -36,14 +36,14 @@ pub struct MaskInstance {
 impl Model for MaskInstance {
     ghost use Rattle.pay_echo.specs.Meaning.{Meaning};
     ghost use Rattle.pay_echo.specs.Plain.{meaning_by};
-    ghost use Rattle.pay_echo.specs.Masks.{IsCounted};
+    ghost use Rattle.pay_echo.specs.Masks.{IsTallied};
 
     ghost Value = { Meaning };
 
     ghost view = { λ i.
         meaning_by i.group i.tally.values i.tally.echoes i.tally.readys i.delivered };
 
-    ghost invariant = { λ i. IsCounted i.group i.tally i.delivered };
+    ghost invariant = { λ i. IsTallied i.group i.tally i.delivered };
 }
 
 impl Instance for MaskInstance {
@@ -90,8 +90,8 @@ impl Instance for MaskInstance {
 impl MaskInstance {
     // Whether a vote of that process and kind came before.
     fn has_voted(&self, vote: VoteRef) -> bool
-        requires { IsForeign self.now.group (vote_of vote) }
-        ensures voted { result ≡ is_some (vote_before self.now (vote_of vote.entry)) }
+        requires { IsForeign self.now.group (vote_of_ref vote) }
+        ensures voted { result ≡ is_some (vote_before self.now (vote_of_ref vote.entry)) }
         ensures placed { IsPlaced self.now }
     {
         match vote {
@@ -136,8 +136,8 @@ impl MaskInstance {
 
     // How many there are for this vote's value, itself included.
     fn counts_with(&self, vote: VoteRef) -> Counts
-        ensures echoes { result.echoes ≡ echo_count self.now (vote_of vote.entry) }
-        ensures readys { result.readys ≡ ready_count self.now (vote_of vote.entry) }
+        ensures echoes { result.echoes ≡ echo_count self.now (vote_of_ref vote.entry) }
+        ensures readys { result.readys ≡ ready_count self.now (vote_of_ref vote.entry) }
         ensures few_echoes { result.echoes ≤ MOST_MEMBERS + 1 }
         ensures few_readys { result.readys ≤ MOST_MEMBERS + 1 }
     {
@@ -156,10 +156,10 @@ impl MaskInstance {
     }
 
     // What this vote makes known where none came before it. Where READY was sent and a value is
-    // delivered, it can't make more known than an ECHO, and no value is looked at.
+    // delivered, it can't make more known than an ECHO, and no value is compared.
     #[tactic(auto, unfolding(crate::specs::Step::moves_by))]
     fn moves_by(&self, vote: VoteRef) -> Moves
-        ensures { result ≡ moves_by self.now (vote_of vote.entry) }
+        ensures { result ≡ moves_by self.now (vote_of_ref vote.entry) }
     {
         if self.has_readied() && self.has_delivered() {
             return Moves {
@@ -201,10 +201,10 @@ impl MaskInstance {
         ready: bool,
         deliver: bool,
     ) -> Result<(), AllocError>
-        requires foreign { IsForeign self.old.group (vote_of vote) }
-        requires first { is_some (vote_before self.old (vote_of vote)) ≡ false }
+        requires foreign { IsForeign self.old.group (vote_of_ref vote) }
+        requires first { is_some (vote_before self.old (vote_of_ref vote)) ≡ false }
         requires ready { ready ≡ true → is_some self.old.readied ≡ false }
-        ensures after { OnOk result (self.new ≡ with_moves self.old (vote_of vote.entry)
+        ensures after { OnOk result (self.new ≡ with_moves self.old (vote_of_ref vote.entry)
             (record { echo = false; ready = ready; deliver = deliver })) }
         ensures group { self.new.group ≡ self.old.group }
         ensures err { OnErr result (self.new ≡ self.old) }
@@ -228,15 +228,15 @@ struct Counts {
 // Takes a vote for the value at a place.
 fn put(tally: &mut Tally, group: Group, vote: VoteRef, place: usize)
     requires own { group.own < group.members }
-    requires foreign { IsForeign group (vote_of vote) }
+    requires foreign { IsForeign group (vote_of_ref vote) }
     requires echoes { length tally.old.echoes ≡ group.members }
     requires readys { length tally.old.readys ≡ group.members }
-    requires first { place_before group.own (vote_of vote) tally.old ≡ None }
+    requires first { place_before group.own (vote_of_ref vote) tally.old ≡ None }
     requires place { place < length tally.old.values }
     ensures values { tally.new.values ≡ tally.old.values }
     ensures echoes { tally.new.echoes
-        ≡ put_echo group.own (vote_of vote.entry) place tally.old.echoes }
-    ensures readys { tally.new.readys ≡ put_ready (vote_of vote.entry) place tally.old.readys }
+        ≡ put_echo group.own (vote_of_ref vote.entry) place tally.old.echoes }
+    ensures readys { tally.new.readys ≡ put_ready (vote_of_ref vote.entry) place tally.old.readys }
 {
     match vote {
         VoteRef::Send(_) => tally.vote(VoteKind::Echo, group.own, place),

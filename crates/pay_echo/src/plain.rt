@@ -4,11 +4,11 @@ ghost use Rattle.std.specs.Prelude.{is_some, is_none, true, false};
 ghost use Rattle.std.specs.List.{count_by};
 ghost use Rattle.std.specs.Option.{option_copied};
 ghost use Rattle.pay_echo.specs.Broadcast.{IsForeign, is_for};
-ghost use Rattle.pay_echo.specs.Votes.{vote_of};
+ghost use Rattle.pay_echo.specs.Votes.{vote_of_ref};
 ghost use Rattle.pay_echo.specs.Step.{vote_at, vote_before, echo_count, ready_count, moves_by};
 ghost use Rattle.pay_echo.specs.Step.{can_ready, can_deliver, put_echo, put_ready, put_if};
 ghost use Rattle.pay_echo.specs.Step.{with_moves, IsPlaced};
-ghost use Rattle.pay_echo.specs.Plain.{value_at, votes_at, is_at, AreDistinct, IsPlaceOf};
+ghost use Rattle.pay_echo.specs.Plain.{value_at, votes_at_places, is_at, AreDistinct, IsPlaceOf};
 
 use crate::group::Group;
 use crate::instance::Instance;
@@ -32,7 +32,7 @@ pub struct PlainInstance {
 
 impl Model for PlainInstance {
     ghost use Rattle.pay_echo.specs.Meaning.{Meaning};
-    ghost use Rattle.pay_echo.specs.Plain.{meaning_by, ArePlaces};
+    ghost use Rattle.pay_echo.specs.Plain.{meaning_by, AreVotePlaces};
 
     ghost Value = { Meaning };
 
@@ -40,7 +40,7 @@ impl Model for PlainInstance {
         meaning_by i.group i.values.items i.echoes.items i.readys.items i.delivered };
 
     ghost invariant = { λ i.
-        ArePlaces i.group i.values.items i.echoes.items i.readys.items i.delivered };
+        AreVotePlaces i.group i.values.items i.echoes.items i.readys.items i.delivered };
 }
 
 impl Instance for PlainInstance {
@@ -88,8 +88,8 @@ impl Instance for PlainInstance {
 impl PlainInstance {
     // Whether a vote of that process and kind came before.
     fn has_voted(&self, vote: VoteRef) -> bool
-        requires { IsForeign self.now.group (vote_of vote) }
-        ensures voted { result ≡ is_some (vote_before self.now (vote_of vote.entry)) }
+        requires { IsForeign self.now.group (vote_of_ref vote) }
+        ensures voted { result ≡ is_some (vote_before self.now (vote_of_ref vote.entry)) }
         ensures placed { IsPlaced self.now }
     {
         match vote {
@@ -101,7 +101,7 @@ impl PlainInstance {
 
     // How many ECHOs there are for this vote's value, itself included.
     fn echo_count(&self, vote: VoteRef) -> usize
-        ensures count { result ≡ echo_count self.now (vote_of vote.entry) }
+        ensures count { result ≡ echo_count self.now (vote_of_ref vote.entry) }
         ensures few { result ≤ MOST_MEMBERS + 1 }
     {
         let before = count_for(&self.values, &self.echoes, vote.value());
@@ -110,7 +110,7 @@ impl PlainInstance {
 
     // How many READYs there are for this vote's value, itself included.
     fn ready_count(&self, vote: VoteRef) -> usize
-        ensures count { result ≡ ready_count self.now (vote_of vote.entry) }
+        ensures count { result ≡ ready_count self.now (vote_of_ref vote.entry) }
         ensures few { result ≤ MOST_MEMBERS + 1 }
     {
         let before = count_for(&self.values, &self.readys, vote.value());
@@ -121,7 +121,7 @@ impl PlainInstance {
     // is looked at.
     fn echoes_asked_for(&self, vote: VoteRef) -> usize
         ensures count { is_none self.now.readied ≡ true
-            → result ≡ echo_count self.now (vote_of vote.entry) }
+            → result ≡ echo_count self.now (vote_of_ref vote.entry) }
         ensures few { result ≤ MOST_MEMBERS + 1 }
     {
         if self.readied().is_none() {
@@ -134,9 +134,9 @@ impl PlainInstance {
     // The count of READYs where it can make a READY or a delivery due.
     fn readys_asked_for(&self, vote: VoteRef) -> usize
         ensures ready { is_none self.now.readied ≡ true
-            → result ≡ ready_count self.now (vote_of vote.entry) }
+            → result ≡ ready_count self.now (vote_of_ref vote.entry) }
         ensures deliver { is_none self.now.delivered ≡ true
-            → result ≡ ready_count self.now (vote_of vote.entry) }
+            → result ≡ ready_count self.now (vote_of_ref vote.entry) }
         ensures few { result ≤ MOST_MEMBERS + 1 }
     {
         if self.readied().is_none() || self.delivered().is_none() {
@@ -149,7 +149,7 @@ impl PlainInstance {
     // What this vote makes known where none came before it.
     #[tactic(auto, unfolding(crate::specs::Step::moves_by))]
     fn moves_by(&self, vote: VoteRef) -> Moves
-        ensures { result ≡ moves_by self.now (vote_of vote.entry) }
+        ensures { result ≡ moves_by self.now (vote_of_ref vote.entry) }
     {
         let readys = self.readys_asked_for(vote);
         let ready = self.can_ready(self.echoes_asked_for(vote), readys);
@@ -178,8 +178,9 @@ impl PlainInstance {
 
     // Writes a vote in its place, and what it is told to make known.
     fn write(&mut self, alloc: Global, vote: VoteRef, moves: Moves) -> Result<(), AllocError>
-        requires foreign { IsForeign self.old.group (vote_of vote) }
-        ensures after { OnOk result (self.new ≡ with_moves self.old (vote_of vote.entry) moves) }
+        requires foreign { IsForeign self.old.group (vote_of_ref vote) }
+        ensures after { OnOk result
+            (self.new ≡ with_moves self.old (vote_of_ref vote.entry) moves) }
         ensures group { self.new.group ≡ self.old.group }
         ensures err { OnErr result (self.new ≡ self.old) }
     {
@@ -205,7 +206,7 @@ fn value_at(values: &[Bytes], place: Option<usize>) -> Option<&[u8]>
 // The value that a process voted for.
 fn vote_at<'a>(values: &'a [Bytes], places: &[Option<usize>], process: u16) -> Option<&'a [u8]>
     requires { process < length places.now }
-    ensures { option_copied result ≡ vote_at (votes_at values.now places.now) process }
+    ensures { option_copied result ≡ vote_at (votes_at_places values.now places.now) process }
 {
     value_at(values, places[usize::from(process)])
 }
@@ -214,7 +215,7 @@ fn vote_at<'a>(values: &'a [Bytes], places: &[Option<usize>], process: u16) -> O
 // looked at for each vote.
 fn count_for(values: &[Bytes], places: &[Option<usize>], value: &[u8]) -> usize
     requires { AreDistinct values.now }
-    ensures count { result ≡ count_by (is_for value.now) (votes_at values.now places.now) }
+    ensures count { result ≡ count_by (is_for value.now) (votes_at_places values.now places.now) }
     ensures few { result ≤ length places.now }
 {
     match place_of(values, value) {
@@ -274,12 +275,12 @@ fn put(
     place: usize,
 )
     requires own { group.own < group.members }
-    requires foreign { IsForeign group (vote_of vote) }
+    requires foreign { IsForeign group (vote_of_ref vote) }
     requires echoes { length echoes.old.items ≡ group.members }
     requires readys { length readys.old.items ≡ group.members }
     ensures echoes { echoes.new.items
-        ≡ put_echo group.own (vote_of vote.entry) place echoes.old.items }
-    ensures readys { readys.new.items ≡ put_ready (vote_of vote.entry) place readys.old.items }
+        ≡ put_echo group.own (vote_of_ref vote.entry) place echoes.old.items }
+    ensures readys { readys.new.items ≡ put_ready (vote_of_ref vote.entry) place readys.old.items }
 {
     match vote {
         VoteRef::Send(_) => echoes[usize::from(group.own)] = Some(place),

@@ -3,7 +3,7 @@ ghost use Rattle.std.specs.Prelude.{replicate, slice_get, slice_index_or, is_som
 ghost use Rattle.std.specs.List.{count_by};
 ghost use Rattle.std.specs.Option.{option_copied};
 ghost use Rattle.pay_echo.specs.Plain.{value_at, is_at, AreDistinct, IsPlaceOf};
-ghost use Rattle.pay_echo.specs.Masks.{has, with_process, places_of, with_place};
+ghost use Rattle.pay_echo.specs.Masks.{has, with_process, vote_places, with_place};
 
 use crate::candidate::Candidate;
 use crate::vote_kind::VoteKind;
@@ -72,8 +72,8 @@ impl Tally {
 
     /// The place of the value that a process voted for.
     pub(crate) fn place(&self, kind: VoteKind, process: u16) -> Option<usize>
-        requires { process < length (places_of kind self.now) }
-        ensures { result ≡ slice_index_or (places_of kind self.now) process None }
+        requires { process < length (vote_places kind self.now) }
+        ensures { result ≡ slice_index_or (vote_places kind self.now) process None }
     {
         for place in 0..self.candidates.len() {
             if is_in(self.candidates[place].mask(kind), process) {
@@ -85,8 +85,8 @@ impl Tally {
 
     /// Whether a process voted.
     pub(crate) fn has_voted(&self, kind: VoteKind, process: u16) -> bool
-        requires { process < length (places_of kind self.now) }
-        ensures { result ≡ is_some (slice_index_or (places_of kind self.now) process None) }
+        requires { process < length (vote_places kind self.now) }
+        ensures { result ≡ is_some (slice_index_or (vote_places kind self.now) process None) }
     {
         match kind {
             VoteKind::Echo => is_in(self.echoed, process),
@@ -97,8 +97,8 @@ impl Tally {
     /// How many voted for the value at a place.
     pub(crate) fn count(&self, kind: VoteKind, place: usize) -> u32
         requires { place < length self.now.values }
-        ensures count { result ≡ count_by (is_at place) (places_of kind self.now) }
-        ensures few { result ≤ length (places_of kind self.now) }
+        ensures count { result ≡ count_by (is_at place) (vote_places kind self.now) }
+        ensures few { result ≤ length (vote_places kind self.now) }
     {
         self.candidates[place].mask(kind).count_ones()
     }
@@ -128,8 +128,8 @@ impl Tally {
 
     /// Takes the vote of a process that didn't vote, for the value at a place.
     pub(crate) fn vote(&mut self, kind: VoteKind, process: u16, place: usize)
-        requires process { process < length (places_of kind self.old) }
-        requires first { slice_index_or (places_of kind self.old) process None ≡ None }
+        requires process { process < length (vote_places kind self.old) }
+        requires first { slice_index_or (vote_places kind self.old) process None ≡ None }
         requires place { place < length self.old.values }
         ensures { self.new ≡ with_place kind process place self.old }
     {

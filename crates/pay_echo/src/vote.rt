@@ -14,13 +14,13 @@ pub enum VoteRef<'a> {
 
 impl<'a> VoteRef<'a> {
     ghost use Rattle.pay_echo.specs.Broadcast.{value_of};
-    ghost use Rattle.pay_echo.specs.Votes.{vote_of};
+    ghost use Rattle.pay_echo.specs.Votes.{vote_of_ref};
     ghost use Rattle.pay_echo.specs.Step.{is_send, is_ready};
 
     /// The value that is voted for.
     #[tactic(auto, unfolding(crate::specs::Broadcast::value_of))]
     pub fn value(self) -> &'a [u8]
-        ensures value { result.now ≡ value_of (vote_of self.entry) }
+        ensures value { result.now ≡ value_of (vote_of_ref self.entry) }
     {
         match self {
             VoteRef::Send(value) | VoteRef::Echo(_, value) | VoteRef::Ready(_, value) => value,
@@ -28,7 +28,7 @@ impl<'a> VoteRef<'a> {
     }
 
     pub(crate) fn is_send(self) -> bool
-        ensures { result ≡ is_send (vote_of self.entry) }
+        ensures { result ≡ is_send (vote_of_ref self.entry) }
     {
         match self {
             VoteRef::Send(_) => true,
@@ -37,7 +37,7 @@ impl<'a> VoteRef<'a> {
     }
 
     pub(crate) fn is_ready(self) -> bool
-        ensures { result ≡ is_ready (vote_of self.entry) }
+        ensures { result ≡ is_ready (vote_of_ref self.entry) }
     {
         match self {
             VoteRef::Ready(_, _) => true,

@@ -12,7 +12,7 @@ use Rattle.pay_frame.specs.Frame.{FrameFields}
 use Rattle.pay_frame.specs.Stream.{IsBytes, IsFramesThen, IsStream, EveryStream, Parts}
 use Rattle.pay_engine.specs.Handling.{Steps, HandledAll, HandledPrefix, HasHandled, IsTail, Open, Ended, Start}
 use Rattle.pay_engine.proofs.Handlings.{Grows, begins_input, so_far}
-use Rattle.pay_engine.specs.Exact.{Function, IsText, BeginsText, Takes, Writes, WritesBeginning, WritesText, exactly, ending_text, state_after, text_from, texts_from}
+use Rattle.pay_engine.specs.Exact.{Function, IsText, BeginsText, TakesFrames, Writes, WritesBeginning, WritesText, exactly, ending_text, state_after, text_from, texts_from}
 
 module _ {S : Type 0} (h : Function S) where
   -- the relation says which state and which texts
@@ -139,7 +139,7 @@ module _ {S : Type 0} (h : Function S) where
   stream_begins None frames ending stream = tt
   stream_begins (Some bytes) frames ending stream = (stream.rest, stream.cut)
 
-  took_all : (start : Start S) (new : S) (left after : Option (List ℕ)) (ending : Option FrameFault) → HandledAll (exactly h) start new left after ending → Takes h start new
+  took_all : (start : Start S) (new : S) (left after : Option (List ℕ)) (ending : Option FrameFault) → HandledAll (exactly h) start new left after ending → TakesFrames h start new
   took_all start new left after ending all = record {
     frames = all.frames;
     each = all.stream.cut.each;
@@ -147,16 +147,16 @@ module _ {S : Type 0} (h : Function S) where
     state = (are_texts start.state new all.frames all.text all.handled).0;
   }
 
-  took_some : (grows : Grows) (start : Start S) (new : S) (left after : Option (List ℕ)) → HandledPrefix (exactly h) start new left after → Takes h start new
+  took_some : (grows : Grows) (start : Start S) (new : S) (left after : Option (List ℕ)) → HandledPrefix (exactly h) start new left after → TakesFrames h start new
   took_some grows start new left after some = by_tail some.tail some.follows where
     state : new ≡ state_after h start.state some.frames
     state = (are_texts start.state new some.frames some.text some.handled).0
 
-    by_tail : (tail : List ℕ) → IsTail (exactly h) start.input new some.read some.frames tail → Takes h start new
+    by_tail : (tail : List ℕ) → IsTail (exactly h) start.input new some.read some.frames tail → TakesFrames h start new
     by_tail tail (Open rest cut) = record { frames = some.frames; each = cut.each; begins = begins_input start.input left some.read rest some.frames grows some.consumed cut; state = state }
     by_tail tail (Ended fault stream whole) = record { frames = some.frames; each = stream.cut.each; begins = stream_begins start.input some.frames (Some fault) whole; state = state }
 
-  pub took : (grows : Grows) (start : Start S) (new : S) (left after : Option (List ℕ)) (result : Result ⊤ EngineFault) → HasHandled (exactly h) start new left after result → Takes h start new
+  pub took : (grows : Grows) (start : Start S) (new : S) (left after : Option (List ℕ)) (result : Result ⊤ EngineFault) → HasHandled (exactly h) start new left after result → TakesFrames h start new
   took grows start new left after (Ok _) (inl all) = took_all start new left after None all.0
   took grows start new left after (Ok _) (inr upto) = absurd upto.stopped
   took grows start new left after (Err (Frame fault)) all = took_all start new left after (Some fault) all

@@ -40,12 +40,12 @@ abbrev pub ending_text : {S : Type 0} → Function S → S → Option FrameFault
 ending_text h s None = []
 ending_text h s (Some fault) = h.fault_text s fault
 
--- the texts of some frames, and of the fault behind them, if any
+-- the texts of some frames, and of the fault after them, if any
 abbrev pub text_from :
     {S : Type 0} → Function S → S → List FrameFields → Option FrameFault → List ℕ
 text_from h s frames ending = texts_from h s frames ++ ending_text h (state_after h s frames) ending
 
--- the text of these bytes behind a first one, the fault that they end with, and the state behind
+-- the text of these bytes after a first one, the fault that they end with, and the state after
 -- them
 pub record IsText {S : Type 0} (h : Function S) (first : List ℕ) (old new : S)
     (bytes text : List ℕ) (ending : Option FrameFault) : Type 0 where
@@ -91,7 +91,7 @@ Writes h start new left after (Err Write) = WritesBeginning h start after
 Writes h start new left after (Err Bound) = WritesBeginning h start after
 
 -- The state is the one after some frames, which the input begins with.
-pub record Takes {S : Type 0} (h : Function S) (start : Start S) (new : S) : Type 0 where
+pub record TakesFrames {S : Type 0} (h : Function S) (start : Start S) (new : S) : Type 0 where
   pub frames : List FrameFields
   pub each : All IsFrame frames
   pub begins : IfSome start.input (λ bytes. (rest : List ℕ) × IsFramesThen bytes frames rest)

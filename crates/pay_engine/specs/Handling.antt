@@ -15,7 +15,7 @@ use Rattle.pay_frame.specs.Reading.{IsProperBeginning}
 use Rattle.pay_frame.specs.Stream.{IsFramesThen, IsStream}
 use Rattle.pay_engine.specs.declared.limits.TheConstants.{GREATEST_READ}
 
--- A step takes a state to the next by a frame, and has a text. Behind which frames a stream may be
+-- A step takes a state to the next by a frame, and has a text. At which frames a stream may be
 -- left, before it ends: they have no text, and the state stays. And the text of the fault that ends
 -- a stream.
 pub record Handling (S : Type 0) : Type 1 where
@@ -49,7 +49,7 @@ pub record StepsPrefix {S : Type 0} (h : Handling S) (before after : S) (fs : Li
   pub text : List ℕ
   pub handled : Steps h before after first text
 
--- the first of some frames were handled, and the stream is left behind the next one
+-- the first of some frames were handled, and the stream is left at the next one
 pub record StopsAmong {S : Type 0} (h : Handling S) (before after : S) (fs : List FrameFields)
     (old new : List ℕ) : Type 0 where
   pub first : List FrameFields
@@ -61,7 +61,7 @@ pub record StopsAmong {S : Type 0} (h : Handling S) (before after : S) (fs : Lis
   pub stopped : h.may_stop after last
   pub longer : new ≡ old ++ text
 
--- Of one frame, with whether the stream goes on: its text stands behind what was there. Where
+-- Of one frame, with whether the stream goes on: its text is appended. Where
 -- memory is refused the step was made, or the state is as it was.
 abbrev pub HandlesOne :
     {S : Type 0} → Handling S → S → S → FrameFields → List ℕ → List ℕ → Result Bool AllocError
@@ -73,7 +73,7 @@ HandlesOne h before after f old new (Ok false) =
 HandlesOne h before after f old new (Err _) =
     (after ≡ before) ⊎ ((text : List ℕ) × h.step before after f text)
 
--- Of some frames: all of them, or those before one that the stream is left behind; where memory is
+-- Of some frames: all of them, or those before one at which the stream is left; where memory is
 -- refused, some of them.
 abbrev pub HandlesBatch :
     {S : Type 0} → Handling S → S → S → List FrameFields → List ℕ → List ℕ
@@ -129,7 +129,7 @@ pub record HandledPrefix {S : Type 0} (h : Handling S) (start : Start S) (state 
   pub handled : Steps h start.state state frames text
   pub written : WroteBeginning start.before after (start.first ++ (text ++ tail))
 
--- The first frames of what was read were handled, the stream is left behind the next one, and all
+-- The first frames of what was read were handled, the stream is left at the next one, and all
 -- texts are written.
 pub record HandledUpTo {S : Type 0} (h : Handling S) (start : Start S) (state : S)
     (left after : Option (List ℕ)) : Type 0 where
@@ -165,8 +165,8 @@ abbrev pub HandledRead :
 HandledRead h start state left after reads =
     (held : List ℕ) × InProgress h start state left after held reads × IsProperBeginning held
 
--- By how it ended: all was handled where the input ended or is at fault, or all up to a frame that
--- the stream may be left behind; all that was read before a read failed or the bound was met; and
+-- By how it ended: all was handled where the input ended or is at fault, or all up to a frame at
+-- which the stream may be left; all that was read before a read failed or the bound was met; and
 -- else the first frames of what was read.
 abbrev pub HasHandled :
     {S : Type 0} → Handling S → Start S → S → Option (List ℕ) → Option (List ℕ)

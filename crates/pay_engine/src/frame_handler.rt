@@ -12,7 +12,7 @@ use std::alloc::{AllocError, Global};
 pub trait FrameHandler<S> {
     ghost handling: { Self → Handling S };
 
-    // The state allows so many frames more.
+    // Whether the state allows this many further frames.
     ghost has_room: { Self → S → ℕ → Type 0 };
 
     /// How many of the frames that the held bytes begin with are handled at most before their texts
@@ -28,7 +28,7 @@ pub trait FrameHandler<S> {
         CUTTER_ROOM
     }
 
-    /// Handles a frame, and writes its text behind what stands in `out`. Returns whether the stream
+    /// Handles a frame, and appends its text to `out`. Returns whether the stream
     /// goes on. Where memory is refused the frame was handled, or the state is as it was.
     fn handle(
         &self,
@@ -41,7 +41,7 @@ pub trait FrameHandler<S> {
         ensures handles { HandlesOne (handling self.now) state.old state.new
             (fields_of frame.entry) out.old.items out.new.items result };
 
-    /// Handles the frames that the bytes are, and writes their texts behind what stands in `out`.
+    /// Handles the frames that the bytes are, and appends their texts to `out`.
     /// Returns whether the stream goes on. They are handled one after the other, where a handler
     /// has no better way.
     fn handle_batch(

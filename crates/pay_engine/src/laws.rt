@@ -7,7 +7,7 @@ ghost use Rattle.pay_engine.specs.EngineFault.{engine_entry, engine_of};
 ghost use Rattle.pay_io.specs.StreamFault.{stream_entry};
 ghost use Rattle.pay_io.specs.declared.stream_fault.StreamFault.{StreamFault};
 ghost use Rattle.pay_engine.specs.Handling.{HasHandled, Start};
-ghost use Rattle.pay_engine.specs.Exact.{Function, Takes, Writes, exactly};
+ghost use Rattle.pay_engine.specs.Exact.{Function, TakesFrames, Writes, exactly};
 
 /// Where what is made of a frame is a function of the state, the text written is that of the bytes
 /// read, and the state the one after their frames.
@@ -17,7 +17,7 @@ pub fn exact_text<S>()
         → Writes h start new left after result }
     ensures took { (h : Function S) (start : Start S) (new : S) (left after : Option (List ℕ))
         (result : Result ⊤ EngineFault) → HasHandled (exactly h) start new left after result
-        → Takes h start new }
+        → TakesFrames h start new }
 {
     pay_frame::every_stream();
     pay_frame::stream_goes_on();

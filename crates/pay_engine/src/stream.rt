@@ -3,7 +3,7 @@ ghost use Rattle.std.specs.Prelude.{IfSome, IsErr, IsErrOf, IsTrue, OnOk};
 ghost use Rattle.std.specs.Io.KnownBytes.{Consumes};
 ghost use Rattle.pay_io.specs.Counts.{KeepsCounts};
 ghost use Rattle.pay_engine.specs.EngineFault.{engine_of};
-ghost use Rattle.pay_io.specs.Device.{counted};
+ghost use Rattle.pay_io.specs.Device.{next_count};
 ghost use Rattle.pay_frame.specs.Reading.{IsProperBeginning};
 ghost use Rattle.pay_frame.specs.Stream.{IsStream};
 ghost use Rattle.pay_engine.specs.Handling.{HandlesOnce, HasHandled, InProgress, Start};
@@ -26,7 +26,7 @@ struct Work {
 }
 
 /// Writes a first text, then reads frames, has them handled and writes their texts: to the input's
-/// end, or to a frame that the handler leaves the stream behind.
+/// end, or to a frame at which the handler leaves the stream.
 ///
 /// A fault in the frames ends it with its own text, and is returned. Where a read failed or no more
 /// may be made, all frames that were read were handled. After another fault a prefix of them was,
@@ -50,6 +50,9 @@ pub fn handle_stream<S, H: FrameHandler<S>, In: Input, Out: Output>(
         state.new (In.remaining reader.new) (Out.contents writer.new) result }
     ensures counts { KeepsCounts engine_of In.call_count In.failure_count In.remaining
         Out.failure_count reader.old reader.new writer.old writer.new result }
+    ensures none_failed { OnOk result (In.failure_count reader.new ≡ In.failure_count reader.old) }
+    ensures all_written { OnOk result
+        (Out.failure_count writer.new ≡ Out.failure_count writer.old) }
 {
     // laws that the proof stands on: the calls do nothing
     nothing_is_a_beginning();
@@ -90,12 +93,12 @@ fn read_once<S, H: FrameHandler<S>, In: Input, Out: Output>(
         (In.remaining reader.new) (Out.contents writer.new) work.new.read.bytes (reads + 1) result }
     ensures begins { IfOk result (λ on. IsTrue on → IsProperBeginning work.new.read.bytes) }
     ensures same_room { work.new.read.room ≡ work.old.read.room }
-    ensures called { In.call_count reader.new ≡ counted (In.call_count reader.old) }
+    ensures called { In.call_count reader.new ≡ next_count (In.call_count reader.old) }
     ensures bound { ¬ (IsErrOf result EngineFault.Bound) }
     ensures read { IsErrOf result EngineFault.Read
-        → In.failure_count reader.new ≡ counted (In.failure_count reader.old) }
+        → In.failure_count reader.new ≡ next_count (In.failure_count reader.old) }
     ensures write { IsErrOf result EngineFault.Write
-        → Out.failure_count writer.new ≡ counted (Out.failure_count writer.old) }
+        → Out.failure_count writer.new ≡ next_count (Out.failure_count writer.old) }
     ensures none_failed { OnOk result (In.failure_count reader.new ≡ In.failure_count reader.old) }
     ensures all_written { OnOk result
         (Out.failure_count writer.new ≡ Out.failure_count writer.old) }
@@ -116,8 +119,8 @@ fn read_once<S, H: FrameHandler<S>, In: Input, Out: Output>(
     end_at(handler, state, &mut work.out, writer, FrameFault::Truncated)
 }
 
-/// Handles the whole frames that are held, all or up to one that the stream is left behind, and
-/// returns the fault behind them. Returns whether the stream goes on.
+/// Handles the whole frames that are held, all or up to one at which the stream is left, and
+/// returns the fault after them. Returns whether the stream goes on.
 fn handle_held<S, H: FrameHandler<S>, Out: Output>(
     alloc: Global,
     handler: &H,
@@ -138,7 +141,7 @@ fn handle_held<S, H: FrameHandler<S>, Out: Output>(
     ensures bound { ¬ (IsErrOf result EngineFault.Bound) }
     ensures read { ¬ (IsErrOf result EngineFault.Read) }
     ensures write { IsErrOf result EngineFault.Write
-        → Out.failure_count writer.new ≡ counted (Out.failure_count writer.old) }
+        → Out.failure_count writer.new ≡ next_count (Out.failure_count writer.old) }
     ensures all_written { OnOk result
         (Out.failure_count writer.new ≡ Out.failure_count writer.old) }
 {
@@ -185,7 +188,7 @@ fn end_at<S, H: FrameHandler<S>, Out: Output>(
     ensures read { ¬ (IsErrOf result EngineFault.Read) }
     ensures err { IsErr result }
     ensures write { IsErrOf result EngineFault.Write
-        → Out.failure_count writer.new ≡ counted (Out.failure_count writer.old) }
+        → Out.failure_count writer.new ≡ next_count (Out.failure_count writer.old) }
 {
     out.clear();
     handler.end(state, fault, out)?;

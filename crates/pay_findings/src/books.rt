@@ -4,11 +4,12 @@ ghost use Rattle.std.specs.Prelude.{◌≡◌, ◌<◌, ◌++◌, OnOk};
 ghost use Rattle.std.specs.List.{flat_map};
 ghost use Rattle.pay_audit.specs.Export.{IsExport};
 ghost use Rattle.pay_audit.specs.Verdict.{book_of};
-ghost use Rattle.pay_findings.specs.Findings.{account_words, book_words, if_wrong, said_words};
+ghost use Rattle.pay_findings.specs.Findings.{account_finding_words, book_finding_words, if_wrong};
+ghost use Rattle.pay_findings.specs.Findings.{said_words};
 
 use crate::lines::push_in;
 use crate::named::Named;
-use pay_audit::settled;
+use pay_audit::settle_export;
 use pay_book::Settle;
 use pay_pending::WaitingBook;
 use pay_text::{push_number, push_word};
@@ -20,7 +21,7 @@ pub(crate) fn push_books(
     out: &mut Vec<u8>,
     group: &[Named<'_>],
 ) -> Result<(), AllocError>
-    ensures { OnOk result (out.new.items ≡ out.old.items ++ flat_map book_words group.now) }
+    ensures { OnOk result (out.new.items ≡ out.old.items ++ flat_map book_finding_words group.now) }
 {
     for named in group {
         push_book(alloc, out, *named)?;
@@ -29,11 +30,11 @@ pub(crate) fn push_books(
 }
 
 // What is wrong with those of one, account by account.
-#[tactic(auto, unfolding(crate::specs::Findings::book_words))]
+#[tactic(auto, unfolding(crate::specs::Findings::book_finding_words))]
 fn push_book(alloc: Global, out: &mut Vec<u8>, named: Named<'_>) -> Result<(), AllocError>
-    ensures { OnOk result (out.new.items ≡ out.old.items ++ book_words named.entry) }
+    ensures { OnOk result (out.new.items ≡ out.old.items ++ book_finding_words named.entry) }
 {
-    let book: WaitingBook = settled(alloc, named.export)?;
+    let book: WaitingBook = settle_export(alloc, named.export)?;
     // for the limits of an export: the call does nothing
     named.export.member();
     for account in 0..named.export.genesis().members() {
@@ -51,7 +52,8 @@ fn push_account<B: Settle>(
     requires book { B.shows book.now ≡ book_of named.export.now }
     requires limits { IsExport named.export.now }
     requires account { account < named.export.now.genesis.members }
-    ensures { OnOk result (out.new.items ≡ out.old.items ++ account_words named.entry account) }
+    ensures { OnOk result
+        (out.new.items ≡ out.old.items ++ account_finding_words named.entry account) }
 {
     let Named { export, .. } = named;
     let front = u64::from(book.front(account));

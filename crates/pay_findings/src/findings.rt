@@ -2,7 +2,8 @@
 
 ghost use Rattle.std.specs.Prelude.{◌≡◌, ◌++◌, filter, IfOk, OnOk};
 ghost use Rattle.std.specs.List.{flat_map};
-ghost use Rattle.pay_findings.specs.Findings.{begins, findings_by, findings_words, group_words};
+ghost use Rattle.pay_findings.specs.Findings.{has_genesis, findings_by, findings_words};
+ghost use Rattle.pay_findings.specs.Findings.{group_words};
 ghost use Rattle.pay_findings.specs.Findings.{stranger_words};
 
 use crate::books::push_books;
@@ -87,7 +88,7 @@ fn push_if_stranger(
 
 // Whether an export begins with a genesis.
 fn begins(genesis: &Genesis, named: Named<'_>) -> bool
-    ensures { result ≡ begins genesis.now named.entry }
+    ensures { result ≡ has_genesis genesis.now named.entry }
 {
     genesis.is_same(named.export.genesis())
 }
@@ -98,7 +99,7 @@ fn of_group<'a>(
     genesis: &Genesis,
     exports: &[Named<'a>],
 ) -> Result<Vec<Named<'a>>, AllocError>
-    ensures { IfOk result (λ group. group.items ≡ filter (begins genesis.now) exports.now) }
+    ensures { IfOk result (λ group. group.items ≡ filter (has_genesis genesis.now) exports.now) }
 {
     let mut group = Vec::new(alloc);
     for named in exports {

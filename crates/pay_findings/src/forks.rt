@@ -5,7 +5,8 @@ ghost use Rattle.std.specs.List.{flat_map, list_any, range_with_len};
 ghost use Rattle.std.specs.Option.{option_copied};
 ghost use Rattle.pay_findings.specs.Findings.{first_value, fork_words, if_first, is_forked};
 ghost use Rattle.pay_findings.specs.Findings.{lists_other, lists_value, longest, name_words};
-ghost use Rattle.pay_findings.specs.Findings.{owner_words, value_at, value_words, values_words};
+ghost use Rattle.pay_findings.specs.Findings.{owner_words, listed_value_at, value_words};
+ghost use Rattle.pay_findings.specs.Findings.{values_words};
 
 use crate::lines::{push_entries, push_name};
 use crate::named::Named;
@@ -108,7 +109,7 @@ fn first_value<'a>(group: &[Named<'a>], owner: u16, seq: u32) -> Option<&'a [u8]
 
 // The value that an export lists under a number, if it lists one.
 fn value_at<'a>(named: Named<'a>, owner: u16, seq: u32) -> Option<&'a [u8]>
-    ensures { option_copied result ≡ value_at owner seq named.entry }
+    ensures { option_copied result ≡ listed_value_at owner seq named.entry }
 {
     let Named { export, .. } = named;
     if seq < export.length(owner) {

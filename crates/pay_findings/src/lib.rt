@@ -2,7 +2,8 @@
 //! case, these name each, by the files that the exports are of.
 //!
 //! ```
-//! let exports = [Named { name: "a.json", export: &one }, Named { name: "b.json", export: &other }];
+//! let first = Named { name: "a.json", export: &one };
+//! let exports = [first, Named { name: "b.json", export: &other }];
 //! let text = findings_text(alloc, &exports)?;
 //! ```
 #![tactic(auto)]

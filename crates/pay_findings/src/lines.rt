@@ -3,7 +3,7 @@
 ghost use Rattle.std.specs.Prelude.{◌≡◌, ◌++◌, map, OnOk};
 ghost use Rattle.std.specs.List.{flat_map};
 ghost use Rattle.pay_book.specs.Payment.{entries_in};
-ghost use Rattle.pay_findings.specs.Findings.{entry_words, in_words, name_words};
+ghost use Rattle.pay_findings.specs.Findings.{payment_or_void, in_words, name_words};
 
 use crate::named::Named;
 use pay_book::laws::values_count_their_entries;
@@ -36,7 +36,7 @@ pub(crate) fn push_entries(
     value: &[u8],
 ) -> Result<(), AllocError>
     ensures { OnOk result (out.new.items ≡ out.old.items
-        ++ flat_map entry_words (entries_in members owner value.now)) }
+        ++ flat_map payment_or_void (entries_in members owner value.now)) }
 {
     values_count_their_entries();
     for place in 0..entries_in(value) {
@@ -45,9 +45,9 @@ pub(crate) fn push_entries(
     Ok(())
 }
 
-#[tactic(auto, unfolding(crate::specs::Findings::entry_words))]
+#[tactic(auto, unfolding(crate::specs::Findings::payment_or_void))]
 fn push_entry(out: &mut Vec<u8>, entry: Entry) -> Result<(), AllocError>
-    ensures { OnOk result (out.new.items ≡ out.old.items ++ entry_words entry) }
+    ensures { OnOk result (out.new.items ≡ out.old.items ++ payment_or_void entry) }
 {
     match entry {
         Entry::Pay { payee, amount } => {

@@ -9,7 +9,7 @@ use Rattle.pay_frame.specs.declared.fault.FrameFault.TheVariants.{Truncated}
 use Rattle.pay_frame.specs.Frame.{FrameFields, frame_bytes, IsFrame}
 use Rattle.pay_frame.specs.Reading.{IsReading, IsProperBeginning, IsFault}
 use Rattle.pay_frame.specs.Cutting.{Held, Feeds, HandsOut, EndsWith, IsDrained, frame_in}
-use Rattle.pay_frame.specs.Stream.{IsBytes, IsFramesThen, IsEnd, Nothing, CutOff, Faulty, IsStream, HasStream, GoesOn, end_of}
+use Rattle.pay_frame.specs.Stream.{IsBytes, IsFramesThen, IsStreamEnd, Nothing, CutOff, Faulty, IsStream, HasStream, GoesOn, stream_end}
 use Rattle.pay_frame.proofs.Starting.{length-frame}
 use Rattle.pay_frame.proofs.OneReading.{one_reading, same_front, drained_from_beginning}
 use Rattle.pay_frame.proofs.WholeRuns.{AllFrames, same_cut}
@@ -66,7 +66,7 @@ frames_in (f ∷ fs) h = (All-head IsFrame f fs h, frames_in fs (All-tail IsFram
 abbrev Answer : Type 0
 Answer = Result (Option (FrameFields × ℕ)) FrameFault
 
-drained_end : (r : List ℕ) (e : Option FrameFault) → IsEnd r e → IsDrained r
+drained_end : (r : List ℕ) (e : Option FrameFault) → IsStreamEnd r e → IsDrained r
 drained_end r _ (Nothing none) f has =
     absurd (omega (arith, ap length (sym none ∙ has.spelled), length-append (frame_bytes f) has.rest, length-frame f has.is))
 drained_end r _ (CutOff some begins) f has = drained_from_beginning r begins f has
@@ -95,7 +95,7 @@ within r fault wrong = let lt = wrong.within in omega arith
 some_fault : (j k : FrameFault) → j ≡ k → Some j ≡ Some k
 some_fault j k e = ap (λ (f : FrameFault). let o : Option FrameFault = Some f in o) e
 
-same_end : (r : List ℕ) (a b : Option FrameFault) → IsEnd r a → IsEnd r b → a ≡ b
+same_end : (r : List ℕ) (a b : Option FrameFault) → IsStreamEnd r a → IsStreamEnd r b → a ≡ b
 same_end r _ _ (Nothing none) (Nothing also) = refl
 same_end r _ _ (Nothing none) (CutOff some begins) = absurd (nothing_held r none some)
 same_end r _ _ (Nothing none) (Faulty {fault = k} wrong) = absurd (nothing_held r none (within r k wrong))
@@ -117,7 +117,7 @@ one_stream x fs gs a b s t =
     in
     record {
       frames = cut.frames;
-      ending = same_end t.rest a b (subst (λ (r : List ℕ). IsEnd r a) cut.rest s.ends) t.ends;
+      ending = same_end t.rest a b (subst (λ (r : List ℕ). IsStreamEnd r a) cut.rest s.ends) t.ends;
     }
 
 -- ---- what is after the first frames
@@ -213,10 +213,10 @@ pub first_fault : (old new : Held) (fault : FrameFault) → old.met ≡ None →
 first_fault old new fault none (inl some, same, _) = absurd (cc (none, some))
 first_fault old new fault none (inr first, same, _) = subst (λ (xs : List ℕ). IsFault xs fault) (sym same) first.1
 
-cut_off : (rest : List ℕ) (fault : FrameFault) → 0 < length rest → IsProperBeginning rest → fault ≡ Truncated → IsEnd rest (Some fault)
-cut_off rest fault some begins e = subst (λ (f : FrameFault). IsEnd rest (Some f)) (sym e) (CutOff some begins)
+cut_off : (rest : List ℕ) (fault : FrameFault) → 0 < length rest → IsProperBeginning rest → fault ≡ Truncated → IsStreamEnd rest (Some fault)
+cut_off rest fault some begins e = subst (λ (f : FrameFault). IsStreamEnd rest (Some f)) (sym e) (CutOff some begins)
 
-pub ended : (held : Held) (answer : Result Unit FrameFault) (read : List ℕ) (frames : List FrameFields) → held.met ≡ None → EndsWith held answer → IsFramesThen read frames held.bytes → IsStream read frames (end_of answer)
+pub ended : (held : Held) (answer : Result Unit FrameFault) (read : List ℕ) (frames : List FrameFields) → held.met ≡ None → EndsWith held answer → IsFramesThen read frames held.bytes → IsStream read frames (stream_end answer)
 ended held (Ok _) read frames none e c = record { rest = held.bytes; cut = c; ends = Nothing e.1 }
 ended held (Err fault) read frames none (inl some) c = absurd (cc (none, some))
 ended held (Err fault) read frames none (inr (_, some, inl wrong)) c = record { rest = held.bytes; cut = c; ends = Faulty wrong }

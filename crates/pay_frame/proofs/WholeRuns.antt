@@ -4,7 +4,7 @@ use Rattle.std.proofs.Common.{◌≡◌, ℕ, List, [], ◌∷◌, ◌++◌, tak
 use Rattle.std.specs.List.{flat_map}
 use Rattle.std.proofs.lemmas.List.{append-nil}
 use Rattle.pay_frame.specs.Frame.{FrameFields, frame_bytes, IsFrame}
-use Rattle.pay_frame.specs.Cutting.{Held, Call, Fed, Gave, Runs, stream_of, frames_of, nothing_held, IsDrained}
+use Rattle.pay_frame.specs.Cutting.{Held, CutterCall, Fed, Gave, Runs, stream_of, frames_of, nothing_held, IsDrained}
 use Rattle.pay_frame.proofs.OneReading.{same_front}
 
 abbrev pub AllFrames : List FrameFields → Type 0
@@ -15,11 +15,11 @@ abbrev spelled : List FrameFields → List ℕ
 spelled = flat_map frame_bytes
 
 -- what a run does to the stream
-record Keeps (old : Held) (calls : List Call) (new : Held) : Type 0 where
+record Keeps (old : Held) (calls : List CutterCall) (new : Held) : Type 0 where
   parts : old.bytes ++ stream_of calls ≡ spelled (frames_of calls) ++ new.bytes
   frames : AllFrames (frames_of calls)
 
-keeps : (old : Held) (calls : List Call) (new : Held) → Runs old calls new → Keeps old calls new
+keeps : (old : Held) (calls : List CutterCall) (new : Held) → Runs old calls new → Keeps old calls new
 keeps old [] new e = record { parts = append-nil old.bytes ∙ ap (λ (h : Held). h.bytes) (sym e); frames = tt }
 keeps old (Fed piece taken ∷ calls) new (between, feeds, runs) =
     let rest = keeps between calls new runs in
@@ -57,12 +57,12 @@ same_cut (f ∷ fs) (g ∷ gs) r s is js d e same =
     let tails : fs ≡ gs = rest.frames in
     record { frames = cc (heads, tails); rest = rest.rest }
 
-pub same_frames : (one two : List Call) (a b : Held) → Runs nothing_held one a → Runs nothing_held two b → stream_of one ≡ stream_of two → IsDrained a.bytes → IsDrained b.bytes → (frames_of one ≡ frames_of two) × (a.bytes ≡ b.bytes)
+pub same_frames : (one two : List CutterCall) (a b : Held) → Runs nothing_held one a → Runs nothing_held two b → stream_of one ≡ stream_of two → IsDrained a.bytes → IsDrained b.bytes → (frames_of one ≡ frames_of two) × (a.bytes ≡ b.bytes)
 same_frames one two a b p q same d e =
     let first = keeps nothing_held one a p in
     let other = keeps nothing_held two b q in
     let cut = same_cut (frames_of one) (frames_of two) a.bytes b.bytes first.frames other.frames d e (sym first.parts ∙ same ∙ other.parts) in
     (cut.frames, cut.rest)
 
-pub stream_is : (calls : List Call) (held : Held) → Runs nothing_held calls held → stream_of calls ≡ flat_map frame_bytes (frames_of calls) ++ held.bytes
+pub stream_is : (calls : List CutterCall) (held : Held) → Runs nothing_held calls held → stream_of calls ≡ flat_map frame_bytes (frames_of calls) ++ held.bytes
 stream_is calls held p = (keeps nothing_held calls held p).parts

@@ -76,12 +76,12 @@ EndsWith held (Err fault) =
 -- ---- whole runs
 
 -- a call of a cutter, with what it answered
-pub data Call : Type 0 where
-  Fed : List ℕ → ℕ → Call
-  Gave : Result (Option FrameFields) FrameFault → Call
+pub data CutterCall : Type 0 where
+  Fed : List ℕ → ℕ → CutterCall
+  Gave : Result (Option FrameFields) FrameFault → CutterCall
 
 -- the calls lead from one state to the other
-abbrev pub Runs : Held → List Call → Held → Type 0
+abbrev pub Runs : Held → List CutterCall → Held → Type 0
 Runs old [] new = new ≡ old
 Runs old (Fed piece taken ∷ calls) new =
     (between : Held) × Feeds old between piece taken × Runs between calls new
@@ -89,7 +89,7 @@ Runs old (Gave answer ∷ calls) new =
     (between : Held) × HandsOut old answer between × Runs between calls new
 
 -- the stream: all that was taken of the pieces
-abbrev pub stream_of : List Call → List ℕ
+abbrev pub stream_of : List CutterCall → List ℕ
 stream_of [] = []
 stream_of (Fed piece taken ∷ calls) = take taken piece ++ stream_of calls
 stream_of (Gave answer ∷ calls) = stream_of calls
@@ -100,7 +100,7 @@ frame_in (Ok None) = []
 frame_in (Err fault) = []
 
 -- the frames handed out
-abbrev pub frames_of : List Call → List FrameFields
+abbrev pub frames_of : List CutterCall → List FrameFields
 frames_of [] = []
 frames_of (Fed piece taken ∷ calls) = frames_of calls
 frames_of (Gave answer ∷ calls) = frame_in answer ++ frames_of calls

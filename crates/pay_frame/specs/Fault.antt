@@ -5,18 +5,18 @@ use Rattle.pay_frame.specs.declared.fault.FrameFault.TheVariants.{BadLength, Bad
 use Rattle.pay_frame.specs.declared.fault.FrameFault.TheVariants.{BadValueLength, BadSeq, BadWant}
 use Rattle.pay_frame.specs.declared.fault.FrameFault.TheVariants.{Truncated, Trailing}
 
-abbrev pub entry_of : FrameFault → ℕ × List ℕ
-entry_of BadLength = (1, codes "BadLength")
-entry_of BadVersion = (2, codes "BadVersion")
-entry_of BadKind = (3, codes "BadKind")
-entry_of BadValueLength = (4, codes "BadValueLength")
-entry_of BadSeq = (5, codes "BadSeq")
-entry_of BadWant = (6, codes "BadWant")
-entry_of Truncated = (7, codes "Truncated")
-entry_of Trailing = (8, codes "Trailing")
+abbrev pub fault_entry : FrameFault → ℕ × List ℕ
+fault_entry BadLength = (1, codes "BadLength")
+fault_entry BadVersion = (2, codes "BadVersion")
+fault_entry BadKind = (3, codes "BadKind")
+fault_entry BadValueLength = (4, codes "BadValueLength")
+fault_entry BadSeq = (5, codes "BadSeq")
+fault_entry BadWant = (6, codes "BadWant")
+fault_entry Truncated = (7, codes "Truncated")
+fault_entry Trailing = (8, codes "Trailing")
 
-abbrev pub number_of : FrameFault → ℕ
-number_of fault = (entry_of fault).0
+abbrev pub fault_number : FrameFault → ℕ
+fault_number fault = (fault_entry fault).0
 
 abbrev pub name_of : FrameFault → List ℕ
-name_of fault = (entry_of fault).1
+name_of fault = (fault_entry fault).1

@@ -50,7 +50,8 @@ fields_at bytes kind =
       from = two_at bytes 4;
       to = two_at bytes 6;
       number = eight_at bytes 8;
-      body = body_of_parts kind (two_at bytes 16) (four_at bytes 18) (slice_range bytes HEAD_LEN end);
+      body = body_of_parts kind (two_at bytes 16) (four_at bytes 18)
+          (slice_range bytes HEAD_LEN end);
       tag = drop end bytes;
     }
 

@@ -10,8 +10,8 @@ use Rattle.pay_frame.specs.declared.limits.TheConstants.{LEAST_LENGTH, GREATEST_
 abbrev pub length_field : List ℕ → ℕ
 length_field bytes = 256 * slice_index bytes 0 + slice_index bytes 1
 
-abbrev pub is_want : List ℕ → Bool
-is_want bytes = slice_index bytes 3 == 4
+abbrev pub says_want : List ℕ → Bool
+says_want bytes = slice_index bytes 3 == 4
 
 -- a length that some frame has
 abbrev pub is_length : ℕ → Bool
@@ -29,9 +29,9 @@ may_stand bytes place =
     else if place == 2 then byte == 1
     else if place == 3 then is_code byte && (not (byte == 4) || length_field bytes == LEAST_LENGTH)
     else if nat_lt place 16 then true
-    else if nat_lt place 18 then not (is_want bytes) || byte == 0
+    else if nat_lt place 18 then not (says_want bytes) || byte == 0
     else if nat_lt place 20 then byte == 0
-    else if nat_lt place 22 then not (is_want bytes) || byte == 0
+    else if nat_lt place 22 then not (says_want bytes) || byte == 0
     else if place == 22 then byte == (length_field bytes - LEAST_LENGTH) / 256
     else if place == 23 then byte == (length_field bytes - LEAST_LENGTH) % 256
     else true
@@ -76,7 +76,7 @@ is_bare_head h = (two_at h 16 == 0) && (two_at h 20 == 0) && (two_at h 22 == 0)
 abbrev pub is_head : List ℕ → Bool
 is_head h =
     are_lengths h && (slice_index h 2 == 1) && is_code (slice_index h 3)
-    && (two_at h 18 == 0) && (not (is_want h) || is_bare_head h)
+    && (two_at h 18 == 0) && (not (says_want h) || is_bare_head h)
 
 -- a head that passes, and as many bytes as its length field says
 pub record IsWhole (bytes : List ℕ) : Type 0 where

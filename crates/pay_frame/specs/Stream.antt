@@ -19,17 +19,17 @@ pub record IsFramesThen (bytes : List ℕ) (frames : List FrameFields) (rest : L
 
 -- What is after the frames, and the fault that it ends the stream with, if any: nothing, a frame
 -- that is cut off, or bytes that begin no frame.
-pub data IsEnd (rest : List ℕ) : Option FrameFault → Type 0 where
-  Nothing : rest ≡ [] → IsEnd rest None
-  CutOff : 0 < length rest → IsProperBeginning rest → IsEnd rest (Some Truncated)
-  Faulty : {fault : FrameFault} → IsFault rest fault → IsEnd rest (Some fault)
+pub data IsStreamEnd (rest : List ℕ) : Option FrameFault → Type 0 where
+  Nothing : rest ≡ [] → IsStreamEnd rest None
+  CutOff : 0 < length rest → IsProperBeginning rest → IsStreamEnd rest (Some Truncated)
+  Faulty : {fault : FrameFault} → IsFault rest fault → IsStreamEnd rest (Some fault)
 
 -- the stream is these frames, and ends so
 pub record IsStream (bytes : List ℕ) (frames : List FrameFields) (ending : Option FrameFault)
     : Type 0 where
   pub rest : List ℕ
   pub cut : IsFramesThen bytes frames rest
-  pub ends : IsEnd rest ending
+  pub ends : IsStreamEnd rest ending
 
 -- some frames are it, and it ends somehow
 pub record HasStream (bytes : List ℕ) : Type 0 where
@@ -45,9 +45,9 @@ pub record GoesOn (rest : List ℕ) (first all : List FrameFields) (ending : Opt
   pub is : IsStream rest more ending
 
 -- the end that a cutter's answer at the end of the input tells
-abbrev pub end_of : Result Unit FrameFault → Option FrameFault
-end_of (Ok _) = None
-end_of (Err fault) = Some fault
+abbrev pub stream_end : Result Unit FrameFault → Option FrameFault
+stream_end (Ok _) = None
+stream_end (Err fault) = Some fault
 
 -- ---- the laws that engines use, by name: `read` is what was read so far, `first` the frames that
 -- were handed out, `held` what is left of it, and `more` what wasn't read yet

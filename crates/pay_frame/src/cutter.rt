@@ -77,8 +77,8 @@ impl Cutter {
         }
     }
 
-    /// Removes the complete frames in front, at most so many, and returns how many these are, as
-    /// that many calls of `next` would. `given` lends their bytes.
+    /// Removes the complete frames in front, at most `most` of them, and returns their count, as
+    /// that many calls of `next` would. `given_bytes` lends their bytes.
     pub fn pass_frames(&mut self, most: usize) -> Result<usize, FrameFault>
         requires most { 0 < most }
         ensures passes { IfOk result (PassesFrames self.old self.new most) }
@@ -100,10 +100,10 @@ impl Cutter {
     }
 
     /// The bytes of the frames that were removed last.
-    pub fn given(&self) -> &[u8]
+    pub fn given_bytes(&self) -> &[u8]
         ensures { result.now ≡ self.now.given }
     {
-        self.stream.consumed()
+        self.stream.consumed_bytes()
     }
 
     /// Whether the stream may end here, with no complete frame in front: `Ok` if nothing is
@@ -136,6 +136,6 @@ impl Cutter {
         requires { IsWhole self.now.given }
         ensures { frame_bytes (fields_of result) ≡ self.now.given }
     {
-        frame_of(self.given())
+        frame_of(self.given_bytes())
     }
 }

@@ -1,5 +1,5 @@
 ghost use Rattle.std.specs.Prelude.{◌≡◌};
-ghost use Rattle.pay_frame.specs.Fault.{number_of, name_of};
+ghost use Rattle.pay_frame.specs.Fault.{fault_number, name_of};
 
 use std::fmt;
 use thiserror::Error;
@@ -27,7 +27,7 @@ pub enum FrameFault {
 
 impl FrameFault {
     const fn entry(self) -> (u8, &'static str)
-        ensures number { result.0 ≡ number_of self }
+        ensures number { result.0 ≡ fault_number self }
         ensures name { result.1.now ≡ name_of self }
     {
         match self {
@@ -43,7 +43,7 @@ impl FrameFault {
     }
 
     pub fn number(self) -> u8
-        ensures value { result ≡ number_of self }
+        ensures value { result ≡ fault_number self }
     {
         self.entry().0
     }

@@ -4,12 +4,13 @@
 ghost use Rattle.std.specs.Prelude.{◌≡◌, ℕ, ◌≤◌, List, [], ◌++◌, length, Option, Some, None};
 ghost use Rattle.std.specs.Prelude.{Result, Ok, Err, ◌↔◌};
 ghost use Rattle.pay_frame.specs.declared.fault.FrameFault.{FrameFault as Fault};
-ghost use Rattle.pay_frame.specs.Fault.{number_of};
+ghost use Rattle.pay_frame.specs.Fault.{fault_number};
 ghost use Rattle.pay_frame.specs.Frame.{FrameFields, frame_bytes, IsFrame};
 ghost use Rattle.pay_frame.specs.Reading.{IsReading, IsProperBeginning, IsFault};
 ghost use Rattle.pay_frame.specs.OneFrame.{IsOneFrame, IsOneReading, one_frame};
 ghost use Rattle.pay_frame.specs.Stream.{IsBytes};
-ghost use Rattle.pay_frame.specs.Cutting.{Held, Call, Runs, stream_of, frames_of, nothing_held};
+ghost use Rattle.pay_frame.specs.Cutting.{Held, CutterCall, Runs, stream_of, frames_of};
+ghost use Rattle.pay_frame.specs.Cutting.{nothing_held};
 ghost use Rattle.pay_frame.specs.Cutting.{IsDrained};
 ghost use Rattle.std.specs.List.{flat_map};
 
@@ -47,7 +48,7 @@ pub fn read_again()
 /// After any calls of a cutter, the bytes that it took from all pieces are the encodings of the
 /// frames that it returned, followed by the bytes that it still holds.
 pub fn stream_is_frames_and_rest()
-    ensures law { (calls : List Call) (held : Held) → Runs nothing_held calls held →
+    ensures law { (calls : List CutterCall) (held : Held) → Runs nothing_held calls held →
         stream_of calls ≡ flat_map frame_bytes (frames_of calls) ++ held.bytes }
 {}
 
@@ -55,7 +56,7 @@ pub fn stream_is_frames_and_rest()
 /// between them, have returned the same frames and hold the same bytes once neither has a complete
 /// frame.
 pub fn cuts_do_not_matter()
-    ensures law { (one two : List Call) (a b : Held) →
+    ensures law { (one two : List CutterCall) (a b : Held) →
         Runs nothing_held one a → Runs nothing_held two b →
         stream_of one ≡ stream_of two → IsDrained a.bytes → IsDrained b.bytes →
         (frames_of one ≡ frames_of two) × (a.bytes ≡ b.bytes) }
@@ -63,7 +64,7 @@ pub fn cuts_do_not_matter()
 
 /// The fault of bytes is one of the first six, so never `Truncated` or `Trailing`.
 pub fn faults_of_bytes()
-    ensures law { (bytes : List ℕ) (fault : Fault) → IsFault bytes fault → number_of fault ≤ 6 }
+    ensures law { (bytes : List ℕ) (fault : Fault) → IsFault bytes fault → fault_number fault ≤ 6 }
 {}
 
 /// The empty list is a proper prefix of a frame.

@@ -5,7 +5,8 @@ ghost use Rattle.pay_frame.specs.Lent.{fields_of, sized_of, one_of};
 ghost use Rattle.pay_frame.specs.Reading.{IsReading, IsProperBeginning, IsFault, fault_at};
 ghost use Rattle.pay_frame.specs.Cutting.{IsFront};
 ghost use Rattle.pay_frame.specs.OneFrame.{IsOneReading};
-ghost use Rattle.pay_frame.specs.Places.{length_field, is_want, may_stand, PassBelow, IsFirstWrong};
+ghost use Rattle.pay_frame.specs.Places.{length_field, says_want, may_stand, PassBelow};
+ghost use Rattle.pay_frame.specs.Places.{IsFirstWrong};
 ghost use Rattle.pay_frame.specs.Places.{IsWhole, IsSizeOf, two_at, eight_at, are_lengths};
 ghost use Rattle.pay_frame.specs.Places.{is_bare_head, is_head};
 
@@ -43,8 +44,8 @@ pub fn read_one(bytes: &[u8]) -> Result<FrameRef<'_>, FrameFault>
     }
 }
 
-/// The size and the count of the complete frames in front, at most so many: a fault only where it
-/// is in front of all.
+/// The size and the count of the complete frames in front, at most `most` of them. A fault is
+/// returned only where no frame is before it.
 pub fn frames_in_front(bytes: &[u8], most: usize) -> Result<(usize, usize), FrameFault>
     requires most { 0 < most }
     ensures front { IfOk result (λ found. IsFront bytes.now most found.0 found.1) }
@@ -212,7 +213,7 @@ fn length_field(bytes: &[u8]) -> u16
 
 fn is_want(bytes: &[u8]) -> bool
     requires { 3 < length bytes.now }
-    ensures { result ≡ is_want bytes.now }
+    ensures { result ≡ says_want bytes.now }
 {
     bytes[3] == WANT
 }

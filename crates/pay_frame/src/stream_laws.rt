@@ -8,7 +8,7 @@ ghost use Rattle.pay_frame.specs.Frame.{FrameFields, frame_bytes, IsFrame};
 ghost use Rattle.pay_frame.specs.Reading.{IsReading, IsProperBeginning, IsFault};
 ghost use Rattle.pay_frame.specs.Cutting.{Held, Feeds, HandsOut, EndsWith, frame_in};
 ghost use Rattle.pay_frame.specs.Stream.{IsBytes, IsFramesThen, IsStream, EveryStream, Joins};
-ghost use Rattle.pay_frame.specs.Stream.{Parts, end_of};
+ghost use Rattle.pay_frame.specs.Stream.{Parts, stream_end};
 
 use crate::limits::{GREATEST_FRAME, LEAST_LENGTH};
 
@@ -77,7 +77,7 @@ pub fn cutter_follows_stream()
     ensures end { (held : Held) (answer : Result Unit Fault) (read : List ℕ)
         (frames : List FrameFields)
         → held.met ≡ None → EndsWith held answer → IsFramesThen read frames held.bytes
-        → IsStream read frames (end_of answer) }
+        → IsStream read frames (stream_end answer) }
 {}
 
 /// How long a frame is; that less than one is shorter than the longest; and how many there can be.

@@ -1,7 +1,8 @@
--- What several members' lists of one account have in common, where at most f of the members lie: a list that more than f
--- lists begin with is one that a correct member has (Malkhi, Reiter, Byzantine Quorum Systems, 1998, section 4: a value
--- for which f + 1 servers vouch).
-use Rattle.std.specs.Prelude.{◌≡◌, ◌≢◌, ℕ, ◌≤◌, ◌<◌, List, [], ◌∷◌, ◌++◌, Bool, true, false, ◌&&◌, length, slice_get}
+-- What several members' lists of one account have in common, where at most f of the members lie: a
+-- list that more than f lists begin with is one that a correct member has (Malkhi, Reiter,
+-- Byzantine Quorum Systems, 1998, section 4: a value for which f + 1 servers vouch).
+use Rattle.std.specs.Prelude.{◌≡◌, ◌≢◌, ℕ, ◌≤◌, ◌<◌, List, [], ◌∷◌, ◌++◌, Bool, true, false, ◌&&◌}
+use Rattle.std.specs.Prelude.{length, slice_get}
 use Rattle.std.specs.Option.{option_map_or}
 use Rattle.std.specs.List.{count_by}
 use Rattle.std.specs.Str.{bytes_eq}
@@ -26,8 +27,8 @@ pub record IsGroupList (f : ℕ) (lists : List (List (List ℕ))) (l : List (Lis
   pub backed : IsBacked f lists l
   pub longest : (m : List (List ℕ)) → IsBacked f lists m → IsPrefix m l
 
--- Two values are backed at one place, behind the same values: more than f of the members lie. Up to there one list is
--- backed.
+-- Two values are backed at one place, after the same values: more than f of the members lie. Up to
+-- there one list is backed.
 pub record IsSplit (f : ℕ) (lists : List (List (List ℕ))) (place : ℕ) : Type 0 where
   pub before : List (List ℕ)
   pub at : length before ≡ place

@@ -1,5 +1,6 @@
 -- What a group's list is: there is one or a split, and a correct member has it.
-use Rattle.std.specs.Prelude.{◌≡◌, ◌⊎◌, ℕ, ◌≤◌, ◌<◌, Bool, true, not, List, length, map, slice_get, Some, Contains}
+use Rattle.std.specs.Prelude.{◌≡◌, ◌⊎◌, ℕ, ◌≤◌, ◌<◌, Bool, true, not, List, length, map, slice_get}
+use Rattle.std.specs.Prelude.{Some, Contains}
 use Rattle.std.specs.List.{count_by}
 use Rattle.pay_channel.specs.Prefix.{IsPrefix}
 use Rattle.pay_group.specs.Backing.{IsBacked, IsGroupList, IsSplit}
@@ -21,7 +22,8 @@ NoListOfASplit =
     (f : ℕ) (lists : List (List (List ℕ))) (l : List (List ℕ)) (place : ℕ)
     → IsGroupList f lists l → IsSplit f lists place → ⊥
 
--- Lists of members of whom at most f aren't correct: what is backed is how the list of a correct one begins.
+-- Lists of members of whom at most f aren't correct: what is backed is how the list of a correct
+-- one begins.
 abbrev pub BackedIsVouchedFor : Type 0
 BackedIsVouchedFor =
     (f : ℕ) (members : List (Bool × List (List ℕ))) (l : List (List ℕ))

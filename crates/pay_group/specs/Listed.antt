@@ -2,5 +2,5 @@
 use Rattle.std.specs.Prelude.{ℕ, List, [], slice_index_or}
 
 -- what is no account has none
-abbrev pub listed : List (List (List ℕ)) → ℕ → List (List ℕ)
-listed lists owner = slice_index_or lists owner []
+abbrev pub list_of_owner : List (List (List ℕ)) → ℕ → List (List ℕ)
+list_of_owner lists owner = slice_index_or lists owner []

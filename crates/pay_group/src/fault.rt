@@ -9,7 +9,8 @@ pub enum GroupFault {
     /// An allocation failed.
     #[error("no memory")]
     Memory,
-    /// Two values under one number of an account are each listed by more than `f` members, so more than `f` lie.
+    /// Two values under one number of an account are each listed by more than `f` members, so more
+    /// than `f` lie.
     #[error("two values under {seq} of account {owner}")]
     Split { owner: u16, seq: u32 },
 }

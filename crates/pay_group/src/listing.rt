@@ -1,12 +1,13 @@
 //! The list of an account that more than `f` members have.
 
-ghost use Rattle.std.specs.Prelude.{◌≡◌, ◌<◌, ◌≤◌, ℕ, Err, Some, IfErr, IfOk, List, OnOk, length, map, slice_get, take};
+ghost use Rattle.std.specs.Prelude.{◌≡◌, ◌<◌, ◌≤◌, ℕ, Err, Some, IfErr, IfOk, List, OnOk, length};
+ghost use Rattle.std.specs.Prelude.{map, slice_get, take};
 ghost use Rattle.std.specs.List.{All, filter};
 ghost use Rattle.pay_group.specs.Backing.{IsGroupList, IsSplit, begins, has_at};
 ghost use Rattle.pay_group.specs.declared.fault.GroupFault.TheVariants.{Split};
 
 use crate::fault::GroupFault;
-use crate::support::{has, is_disputed, supported};
+use crate::support::{has, is_disputed, supported_value};
 use pay_channel::Source;
 use std::alloc::{AllocError, Global};
 use std::marker::Model;
@@ -46,8 +47,9 @@ impl<S: Source> GroupList<'_, S> {
     }
 }
 
-/// What more than so many of the sources list of an account: the longest list with which they begin. Where there are two
-/// such lists the fault says so, with the first number at which they differ.
+/// What more than `faults` of the sources list of an account: the longest list with which they
+/// begin. Where there are two such lists the fault says so, with the first number at which they
+/// differ.
 pub(crate) fn group_list<'a, S: Source>(
     alloc: Global,
     sources: &[&'a S],
@@ -62,7 +64,7 @@ pub(crate) fn group_list<'a, S: Source>(
     let mut agreeing = Vec::from_slice(alloc, sources)?;
     let end = longest(sources, owner);
     for place in 0..end {
-        let Some(value) = supported(agreeing.as_slice(), owner, place, faults) else {
+        let Some(value) = supported_value(agreeing.as_slice(), owner, place, faults) else {
             return Ok(GroupList {
                 source: agreeing[0],
                 owner,

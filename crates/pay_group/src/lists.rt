@@ -1,6 +1,7 @@
 //! The lists of all accounts that more than `f` members have.
 
-ghost use Rattle.std.specs.Prelude.{◌≡◌, ◌<◌, ◌≤◌, ℕ, IfErr, IfOk, List, Some, length, map, slice_get};
+ghost use Rattle.std.specs.Prelude.{◌≡◌, ◌<◌, ◌≤◌, ℕ, IfErr, IfOk, List, Some, length, map};
+ghost use Rattle.std.specs.Prelude.{slice_get};
 ghost use Rattle.pay_group.specs.Backing.{IsGroupList, IsSplit};
 ghost use Rattle.pay_group.specs.declared.fault.GroupFault.TheVariants.{Split};
 
@@ -24,9 +25,9 @@ impl<'a, S: Source> Model for GroupLists<'a, S> {
     ghost view = { λ g. g.lists.items };
 }
 
-/// What more than so many of the sources list of each account: the longest list with which they begin. Where two values
-/// follow the same ones, each with more than so many sources, the fault names account and number, and no earlier account
-/// has such two.
+/// What more than `faults` of the sources list of each account: the longest list with which they
+/// begin. Where two values follow the same ones, each with more than `faults` sources, the fault
+/// names account and number, and no earlier account has such two.
 pub fn group_lists<'a, S: Source>(
     alloc: Global,
     sources: &[&'a S],
@@ -53,9 +54,9 @@ pub fn group_lists<'a, S: Source>(
 
 /// The group's lists; what is no account has none.
 impl<S: Source> Source for GroupLists<'_, S> {
-    ghost use Rattle.pay_group.specs.Listed.{listed};
+    ghost use Rattle.pay_group.specs.Listed.{list_of_owner};
 
-    ghost lists = { listed };
+    ghost lists = { list_of_owner };
 
     fn length(&self, owner: u16) -> u32 {
         match self.lists.get(usize::from(owner)) {

@@ -1,6 +1,7 @@
 //! Who has which value at a place of an account's list.
 
-ghost use Rattle.std.specs.Prelude.{◌≡◌, ◌≢◌, ◌<◌, ◌≤◌, ℕ, List, IfNone, IfSome, Some, IsTrue, IsFalse, slice_get};
+ghost use Rattle.std.specs.Prelude.{◌≡◌, ◌≢◌, ◌<◌, ◌≤◌, ℕ, List, IfNone, IfSome, Some, IsTrue};
+ghost use Rattle.std.specs.Prelude.{IsFalse, slice_get};
 ghost use Rattle.std.specs.List.{count_by};
 ghost use Rattle.pay_group.specs.Backing.{has_at};
 
@@ -23,8 +24,8 @@ pub(crate) fn support<S: Source>(sources: &[&S], owner: u16, place: u32, value: 
         .count()
 }
 
-/// The first value at a place that more than so many sources list.
-pub(crate) fn supported<'a, S: Source>(
+/// The first value at a place that more than `faults` sources list.
+pub(crate) fn supported_value<'a, S: Source>(
     sources: &[&'a S],
     owner: u16,
     place: u32,
@@ -46,7 +47,7 @@ pub(crate) fn supported<'a, S: Source>(
     None
 }
 
-/// Whether more than so many sources list another value there.
+/// Whether more than `faults` sources list another value there.
 pub(crate) fn is_disputed<S: Source>(
     sources: &[&S],
     owner: u16,
@@ -67,7 +68,7 @@ pub(crate) fn is_disputed<S: Source>(
     false
 }
 
-// Whether what a source lists there is another value, and more than so many sources list it.
+// Whether a source lists another value there, which more than `faults` sources list.
 fn has_rival<S: Source>(
     source: &S,
     sources: &[&S],

@@ -9,7 +9,7 @@ use Rattle.pay_frame.specs.declared.limits.TheConstants.{SEQS}
 use Rattle.pay_link.specs.Genesis.{GenesisFields}
 use Rattle.pay_group.specs.Backing.{IsBacked, IsGroupList, IsSplit}
 use Rattle.pay_group.specs.Laws.{BackedIsListed}
-use Rattle.pay_group.specs.Listed.{listed}
+use Rattle.pay_group.specs.Listed.{list_of_owner}
 use Rattle.pay_group.specs.declared.fault.GroupFault.{GroupFault}
 use Rattle.pay_group.specs.declared.fault.GroupFault.TheVariants as group
 use Rattle.pay_audit.specs.Auditor.{first_genesis}
@@ -47,7 +47,7 @@ backed_short law exports sound f owner l backed =
     omega (arith, short, ap (λ (m : List (List ℕ)). length m) found.3.is, length-append l found.3.rest)
 
 each_short : (lists : List (List (List ℕ))) → ((k : ℕ) (l : List (List ℕ)) → slice_get lists k ≡ Some l → length l ≤ SEQS)
-    → (owner : ℕ) → length (listed lists owner) ≤ SEQS
+    → (owner : ℕ) → length (list_of_owner lists owner) ≤ SEQS
 each_short [] short zero = omega arith
 each_short [] short (suc owner) = omega arith
 each_short (l ∷ lists) short zero = short 0 l refl
@@ -66,7 +66,7 @@ lists_are exports sources f lists lent are = record {
 }
 
 pub all_short : BackedIsListed → (exports : List ExportFields) → Each IsExport exports → (f : ℕ) (lists : List (List (List ℕ)))
-    → AreLists exports f lists → (owner : ℕ) → length (listed lists owner) ≤ SEQS
+    → AreLists exports f lists → (owner : ℕ) → length (list_of_owner lists owner) ≤ SEQS
 all_short law exports sound f lists are owner =
     each_short lists (λ k l at. backed_short law exports sound f k l (are.each k l at).backed) owner
 
@@ -77,17 +77,17 @@ shown f n a below = get_or-map-range_with_len f 0 n a a [] below (let e : 0 + a 
 
 pub book_lists : (exports : List ExportFields) (f n : ℕ) (lists : List (List (List ℕ))) (e : ExportFields) (g : GenesisFields)
     → e.genesis ≡ g → f ≡ g.faults → n ≡ g.members → length lists ≡ n → AreLists exports f lists
-    → e.lists ≡ map (listed lists) (range_with_len 0 g.members)
+    → e.lists ≡ map (list_of_owner lists) (range_with_len 0 g.members)
     → (account : ℕ) → account < e.genesis.members → IsGroupList e.genesis.faults (listed_by exports account) (lists_of e account)
 book_lists exports f n lists e g genesis faults members count are made account known =
     let below : account < g.members = subst (λ (h : GenesisFields). account < h.members) genesis known in
     let within : account < length lists = omega (arith, below, members, count) in
-    let same : lists_of e account ≡ listed lists account = ap (λ ls. list_in ls account) made ∙ shown (listed lists) g.members account below in
-    let is : IsGroupList f (listed_by exports account) (listed lists account) =
-    are.each account (listed lists account) (slice_get-get_or lists account [] within) in
+    let same : lists_of e account ≡ list_of_owner lists account = ap (λ ls. list_in ls account) made ∙ shown (list_of_owner lists) g.members account below in
+    let is : IsGroupList f (listed_by exports account) (list_of_owner lists account) =
+    are.each account (list_of_owner lists account) (slice_get-get_or lists account [] within) in
     let f_same : f ≡ e.genesis.faults = faults ∙ ap (λ (h : GenesisFields). h.faults) (sym genesis) in
     subst (λ l. IsGroupList e.genesis.faults (listed_by exports account) l) (sym same)
-    (subst (λ k. IsGroupList k (listed_by exports account) (listed lists account)) f_same is)
+    (subst (λ k. IsGroupList k (listed_by exports account) (list_of_owner lists account)) f_same is)
 
 -- ---- or none
 

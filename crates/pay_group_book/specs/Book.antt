@@ -1,6 +1,7 @@
--- The book of a group, by exports of its members: what more than f of them list, settled. Where f members lie at most, one
--- of more than f different members is correct.
-use Rattle.std.specs.Prelude.{◌≡◌, ℕ, ◌+◌, ◌<◌, ◌≤◌, ◌==◌, List, [], ◌∷◌, length, map, slice_get, Option, Some, None, if◌then◌else◌}
+-- The book of a group, by exports of its members: what more than f of them list, settled. Where f
+-- members lie at most, one of more than f different members is correct.
+use Rattle.std.specs.Prelude.{◌≡◌, ℕ, ◌+◌, ◌<◌, ◌≤◌, ◌==◌, List, [], ◌∷◌, length, map, slice_get}
+use Rattle.std.specs.Prelude.{Option, Some, None, if◌then◌else◌}
 use Rattle.std.specs.Option.{option_or}
 use Rattle.pay_link.specs.Genesis.{GenesisFields}
 use Rattle.pay_group.specs.Backing.{IsGroupList, IsSplit}
@@ -13,7 +14,8 @@ use Rattle.pay_audit.specs.declared.verdict.Verdict.TheVariants as verdict
 use Rattle.pay_group.specs.declared.fault.GroupFault.{GroupFault}
 use Rattle.pay_group.specs.declared.fault.GroupFault.TheVariants as group
 use Rattle.pay_group_book.specs.declared.fault.BookFault.{BookFault}
-use Rattle.pay_group_book.specs.declared.fault.BookFault.TheVariants.{Memory, OtherGenesis, Twice, Few, Split}
+use Rattle.pay_group_book.specs.declared.fault.BookFault.TheVariants.{Memory, OtherGenesis, Twice}
+use Rattle.pay_group_book.specs.declared.fault.BookFault.TheVariants.{Few, Split}
 
 -- what the exports list of an account
 abbrev pub listed_by : List ExportFields → ℕ → List (List (List ℕ))
@@ -33,7 +35,8 @@ twice_at x member y e = if e.member == member then Some (Twice x y) else None
 -- each export against those after it
 abbrev pub twice_from : ℕ → List ExportFields → Option BookFault
 twice_from x [] = None
-twice_from x (e ∷ es) = option_or (first_from (twice_at x e.member) (x + 1) es) (twice_from (x + 1) es)
+twice_from x (e ∷ es) =
+    option_or (first_from (twice_at x e.member) (x + 1) es) (twice_from (x + 1) es)
 
 -- ---- a book
 
@@ -44,8 +47,8 @@ pub record AreOfGroup (g : GenesisFields) (exports : List ExportFields) : Type 0
   pub members : twice_from 0 exports ≡ None
   pub many : g.faults < length exports
 
--- The group's book, as an export of the first of these members: of each account the longest list with which more than f
--- of the exports begin, and all settled that these lists allow.
+-- The group's book, as an export of the first of these members: of each account the longest list
+-- with which more than f of the exports begin, and all settled that these lists allow.
 pub record IsGroupBook (exports : List ExportFields) (b : ExportFields) : Type 0 where
   pub exports_are : AreOfGroup b.genesis exports
   pub is_export : IsExport b
@@ -64,8 +67,8 @@ pub record AreFew (exports : List ExportFields) (count : ℕ) : Type 0 where
   pub are : count ≡ length exports
   pub few : (g : GenesisFields) → first_genesis exports ≡ Some g → count ≤ g.faults
 
--- Two values under one number of an account are each listed by more than f exports, after the same values: more than f
--- members lie. Each account before it has a list.
+-- Two values under one number of an account are each listed by more than f exports, after the same
+-- values: more than f members lie. Each account before it has a list.
 pub record IsFirstSplit (exports : List ExportFields) (account seq : ℕ) : Type 0 where
   pub genesis : GenesisFields
   pub exports_are : AreOfGroup genesis exports
@@ -75,11 +78,13 @@ pub record IsFirstSplit (exports : List ExportFields) (account seq : ℕ) : Type
       (a : ℕ) → a < account
       → (list : List (List ℕ)) × IsGroupList genesis.faults (listed_by exports a) list
 
--- why there is no book: the first kind that there is, and within it the least case in the order of its words
+-- why there is no book: the first kind that there is, and within it the least case in the order of
+-- its words
 abbrev pub HasNoBook : List ExportFields → BookFault → Type 0
 HasNoBook exports Memory = Unit {0}
 HasNoBook exports (OtherGenesis x) = other_genesis exports ≡ Some (verdict.OtherGenesis x)
-HasNoBook exports (Twice x y) = (other_genesis exports ≡ None) × (twice_from 0 exports ≡ Some (Twice x y))
+HasNoBook exports (Twice x y) =
+    (other_genesis exports ≡ None) × (twice_from 0 exports ≡ Some (Twice x y))
 HasNoBook exports (Few count) = AreFew exports count
 HasNoBook exports (Split account seq) = IsFirstSplit exports account seq
 

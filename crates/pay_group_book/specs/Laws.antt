@@ -1,5 +1,6 @@
 -- What holds of groups' books. Each is proved as a public law.
-use Rattle.std.specs.Prelude.{◌≡◌, ℕ, ◌<◌, ◌≤◌, pos, Bool, false, List, length, slice_get, slice_index, sum, Some, None}
+use Rattle.std.specs.Prelude.{◌≡◌, ℕ, ◌<◌, ◌≤◌, pos, Bool, false, List, length, slice_get}
+use Rattle.std.specs.Prelude.{slice_index, sum, Some, None}
 use Rattle.std.specs.List.{count_by, range_with_len}
 use Rattle.pay_channel.specs.Prefix.{IsPrefix}
 use Rattle.pay_link.specs.Genesis.{IsGenesis}
@@ -14,7 +15,9 @@ use Rattle.pay_group_book.specs.declared.fault.BookFault.TheVariants.{Memory}
 
 -- exports have no two books
 abbrev pub BookIsOne : Type 0
-BookIsOne = (exports : List ExportFields) (b c : ExportFields) → IsGroupBook exports b → IsGroupBook exports c → b ≡ c
+BookIsOne =
+    (exports : List ExportFields) (b c : ExportFields) → IsGroupBook exports b
+    → IsGroupBook exports c → b ≡ c
 
 -- and none where they have a fault
 abbrev pub NoBookOfAFault : Type 0
@@ -30,7 +33,8 @@ MembersVouchOnce =
     → count_by (λ e. set e.member) exports ≤ count_by set (range_with_len 0 members)
 
 -- an export, among these, of a member that isn't faulty, whose list of an account begins so
-pub record IsVouchedFor (exports : List ExportFields) (faulty : ℕ → Bool) (account : ℕ) (list : List (List ℕ)) : Type 0 where
+pub record IsVouchedFor (exports : List ExportFields) (faulty : ℕ → Bool) (account : ℕ)
+    (list : List (List ℕ)) : Type 0 where
   pub place : ℕ
   pub export : ExportFields
   pub at : slice_get exports place ≡ Some export
@@ -43,14 +47,16 @@ BookIsVouchedFor =
     (exports : List ExportFields) (b : ExportFields) (faulty : ℕ → Bool)
     → Each IsExport exports → IsGroupBook exports b
     → count_by faulty (range_with_len 0 b.genesis.members) ≤ b.genesis.faults
-    → (account : ℕ) → account < b.genesis.members → IsVouchedFor exports faulty account (lists_of b account)
+    → (account : ℕ) → account < b.genesis.members
+    → IsVouchedFor exports faulty account (lists_of b account)
 
 -- The book is settled as far as its lists allow.
-abbrev pub BookIsSettled : Type 0
-BookIsSettled = (exports : List ExportFields) (b : ExportFields) → IsGroupBook exports b → HasRightFront b
+abbrev pub GroupBookIsSettled : Type 0
+GroupBookIsSettled =
+    (exports : List ExportFields) (b : ExportFields) → IsGroupBook exports b → HasRightFront b
 
--- The next genesis is one. Each account opens with its balance at the book's front, which so isn't below zero, and all
--- open with what all opened with before.
+-- The next genesis is one. Each account opens with its balance at the book's front, which so isn't
+-- below zero, and all open with what all opened with before.
 pub record IsNextGenesis (b : ExportFields) : Type 0 where
   pub genesis : IsGenesis (next_genesis b)
   pub total : sum (next_genesis b).opening ≡ sum b.genesis.opening
@@ -60,4 +66,5 @@ pub record IsNextGenesis (b : ExportFields) : Type 0 where
       ≡ balance_at b.genesis.opening (logs_of b) (slice_index b.front) account
 
 abbrev pub NextGenesisIsOne : Type 0
-NextGenesisIsOne = (exports : List ExportFields) (b : ExportFields) → IsGroupBook exports b → IsNextGenesis b
+NextGenesisIsOne =
+    (exports : List ExportFields) (b : ExportFields) → IsGroupBook exports b → IsNextGenesis b

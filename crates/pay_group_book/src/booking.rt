@@ -14,8 +14,8 @@ use pay_group::laws::backed_is_listed;
 use pay_group::{GroupFault, group_lists};
 use std::alloc::{AllocError, Global};
 
-/// The book of the group by these exports: of each account the longest list with which more than `f` of them begin, and
-/// all settled that these lists allow.
+/// The book of the group by these exports: of each account the longest list with which more than
+/// `f` of them begin, and all settled that these lists allow.
 pub fn group_book(alloc: Global, exports: &[Export]) -> Result<Export, BookFault>
     ensures book { IfOk result (IsGroupBook exports.now) }
     ensures fault { IfErr result (HasNoBook exports.now) }
@@ -36,7 +36,8 @@ pub fn group_book(alloc: Global, exports: &[Export]) -> Result<Export, BookFault
     settled_book(alloc, exports, first)
 }
 
-/// The book of exports of one genesis and of different members, of whom more are there than may lie.
+/// The book of exports of one genesis and of different members, of whom more are there than may
+/// lie.
 fn settled_book(alloc: Global, exports: &[Export], first: &Export) -> Result<Export, BookFault>
     requires first { slice_get exports.now 0 ≡ Some first.now }
     requires are { AreOfGroup first.now.genesis exports.now }
@@ -46,7 +47,7 @@ fn settled_book(alloc: Global, exports: &[Export], first: &Export) -> Result<Exp
     backed_is_listed();
     let genesis = first.genesis();
     let member = first.member();
-    let sources = lent(alloc, exports)?;
+    let sources = lend_each(alloc, exports)?;
     match group_lists(
         alloc,
         sources.as_slice(),
@@ -81,7 +82,7 @@ fn split_by(fault: GroupFault) -> BookFault
 }
 
 // Exports, each lent.
-fn lent<'a>(alloc: Global, exports: &'a [Export]) -> Result<Vec<&'a Export>, AllocError>
+fn lend_each<'a>(alloc: Global, exports: &'a [Export]) -> Result<Vec<&'a Export>, AllocError>
     ensures lent { IfOk result (λ lent. map (λ e. e.now) lent.items ≡ exports.now) }
     ensures limits { IfOk result (λ _. Each IsExport exports.now) }
 {
@@ -108,7 +109,8 @@ fn twice(exports: &[Export]) -> Option<BookFault>
     None
 }
 
-// The first export of the same member as export `one` among those that follow, of which the first is at `next`.
+// The first export of the same member as export `one` among those that follow, of which the first
+// is at `next`.
 fn twice_after(one: usize, export: &Export, next: usize, following: &[Export]) -> Option<BookFault>
     requires { next + length following.now < 2 ^ 64 }
     ensures { result ≡ first_from (twice_at one export.now.member) next following.now }

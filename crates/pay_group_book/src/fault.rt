@@ -19,7 +19,8 @@ pub enum BookFault {
     /// There are no more exports than members may lie.
     #[error("6 few {count}")]
     Few { count: usize },
-    /// Two values under one number of an account are each listed by more exports than members may lie.
+    /// Two values under one number of an account are each listed by more exports than members may
+    /// lie.
     #[error("7 split account {account} seq {seq}")]
     Split { account: u16, seq: u32 },
 }

@@ -1,5 +1,5 @@
-//! The book of a group in the words of people: what more than `f` exports of different members list, settled, and what
-//! single exports claim beyond it.
+//! The book of a group in the words of people: what more than `f` exports of different members
+//! list, settled, and what single exports claim beyond it.
 #![tactic(auto)]
 
 mod booking;

@@ -5,8 +5,9 @@ ghost use Rattle.std.specs.List.{enumerate_from, flat_map, range_with_len};
 ghost use Rattle.pay_group_book.specs.Book.{AreOfSize};
 ghost use Rattle.pay_group_book.specs.Text.{account_words, against_words, all_export_words};
 ghost use Rattle.pay_group_book.specs.Text.{all_waiting_words, beyond_words, claim_words};
-ghost use Rattle.pay_group_book.specs.Text.{entry_words, export_words, if_waits, lack_words};
-ghost use Rattle.pay_group_book.specs.Text.{short_words, total_words, waiting_words, waits_words};
+ghost use Rattle.pay_group_book.specs.Text.{payment_or_void, export_words, if_waits, lack_words};
+ghost use Rattle.pay_group_book.specs.Text.{shortfall_words, total_words, account_waiting_words};
+ghost use Rattle.pay_group_book.specs.Text.{waits_words};
 
 use crate::entries::numbered_entries;
 use pay_audit::{Export, difference_at};
@@ -55,7 +56,7 @@ pub(crate) fn push_all_waiting(
 }
 
 // An account's entries after its front.
-#[tactic(auto, unfolding(crate::specs::Text::waiting_words))]
+#[tactic(auto, unfolding(crate::specs::Text::account_waiting_words))]
 fn push_waiting(
     alloc: Global,
     out: &mut Vec<u8>,
@@ -63,7 +64,8 @@ fn push_waiting(
     account: u16,
 ) -> Result<(), AllocError>
     requires { account < book.now.genesis.members }
-    ensures { OnOk result (out.new.items ≡ out.old.items ++ waiting_words book.now account) }
+    ensures { OnOk result
+        (out.new.items ≡ out.old.items ++ account_waiting_words book.now account) }
 {
     let entries = numbered_entries(alloc, book, book.genesis().members(), account)?;
     push_those_that_wait(out, book, account, entries.as_slice())
@@ -127,9 +129,9 @@ fn push_waits(
     push_word(out, "\n")
 }
 
-#[tactic(auto, unfolding(crate::specs::Text::entry_words))]
+#[tactic(auto, unfolding(crate::specs::Text::payment_or_void))]
 fn push_entry(out: &mut Vec<u8>, entry: Entry) -> Result<(), AllocError>
-    ensures { OnOk result (out.new.items ≡ out.old.items ++ entry_words entry) }
+    ensures { OnOk result (out.new.items ≡ out.old.items ++ payment_or_void entry) }
 {
     match entry {
         Entry::Pay { payee, amount } => {
@@ -161,9 +163,9 @@ fn push_lack(
     }
 }
 
-#[tactic(auto, unfolding(crate::specs::Text::short_words))]
+#[tactic(auto, unfolding(crate::specs::Text::shortfall_words))]
 fn push_short(out: &mut Vec<u8>, balance: u64, entry: Entry) -> Result<(), AllocError>
-    ensures { OnOk result (out.new.items ≡ out.old.items ++ short_words balance entry) }
+    ensures { OnOk result (out.new.items ≡ out.old.items ++ shortfall_words balance entry) }
 {
     match entry {
         Entry::Pay { amount, .. } => {
@@ -207,7 +209,8 @@ fn push_export(
     Ok(())
 }
 
-// Where an export has another value of an account within the group's list, or else goes on at its end.
+// Where an export has another value of an account within the group's list, or else goes on at its
+// end.
 #[tactic(auto, unfolding(crate::specs::Text::beyond_words))]
 fn push_beyond(
     out: &mut Vec<u8>,

@@ -2,7 +2,8 @@
 
 ghost use Rattle.std.specs.Prelude.{◌≡◌, ◌++◌, IfOk, OnOk};
 ghost use Rattle.pay_group_book.specs.Book.{IsGroupBook};
-ghost use Rattle.pay_group_book.specs.Text.{IsBookText, book_words, end_of_line, fault_words, form_words};
+ghost use Rattle.pay_group_book.specs.Text.{IsBookText, book_words, end_of_line, fault_words};
+ghost use Rattle.pay_group_book.specs.Text.{form_words};
 
 use crate::booking::group_book;
 use crate::fault::BookFault;

@@ -7,12 +7,12 @@ use Rattle.std.specs.Io.KnownBytes.{Appends, Consumes}
 abbrev pub greatest_count : ℕ
 greatest_count = 2 ^ 64 - 1
 
-abbrev pub counted : ℕ → ℕ
-counted n = min (n + 1) greatest_count
+abbrev pub next_count : ℕ → ℕ
+next_count n = min (n + 1) greatest_count
 
 -- a count of failures rises where a call failed, and stays otherwise
 abbrev pub failures_after : {X E : Type 0} → ℕ → Result X E → ℕ
-failures_after n r = if is_ok r then n else counted n
+failures_after n r = if is_ok r then n else next_count n
 
 -- A count has risen by so many; one at the greatest value passes as risen.
 abbrev pub RoseBy : ℕ → ℕ → ℕ → Type 0

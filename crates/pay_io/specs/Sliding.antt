@@ -1,4 +1,4 @@
--- What a sliding buffer holds of a stream: the bytes that were consumed last and those behind them.
+-- What a sliding buffer holds of a stream: the bytes that were consumed last and those after them.
 use Rattle.std.specs.Prelude.{◌≡◌, ℕ, List, [], ◌++◌, length, Option}
 use Rattle.std.specs.Io.KnownBytes.{Consumes, IsAtEnd}
 

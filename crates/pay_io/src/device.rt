@@ -3,7 +3,7 @@
 ghost use Rattle.std.specs.Prelude.{◌≡◌, ◌+◌, ◌<◌, ℕ, List, Option, length, IfOk, OnOk, OnErr};
 ghost use Rattle.std.specs.Io.{ReadsAtMost, WritesAtMost};
 ghost use Rattle.std.specs.Io.KnownBytes.{Appends, ReadConsumes, WriteAppends};
-ghost use Rattle.pay_io.specs.Device.{counted, failures_after, RoseBy, WroteBeginning};
+ghost use Rattle.pay_io.specs.Device.{next_count, failures_after, RoseBy, WroteBeginning};
 
 use thiserror::Error;
 
@@ -26,7 +26,7 @@ pub trait Input {
     fn read(&mut self, buffer: &mut [u8]) -> Result<usize, DeviceFailed>
         ensures bound { ReadsAtMost result buffer.new }
         ensures bytes { ReadConsumes (remaining self.old) (remaining self.new) result buffer.new }
-        ensures called { call_count self.new ≡ counted (call_count self.old) }
+        ensures called { call_count self.new ≡ next_count (call_count self.old) }
         ensures failed { failure_count self.new ≡ failures_after (failure_count self.old) result };
 
     /// How often `read` was called. The count saturates.
@@ -53,7 +53,7 @@ pub trait Output {
         ensures bound { WritesAtMost result bytes.now }
         ensures some { IfOk result (λ count. 0 < length bytes.now → 0 < count) }
         ensures bytes { WriteAppends (contents self.old) (contents self.new) result bytes.now }
-        ensures called { call_count self.new ≡ counted (call_count self.old) }
+        ensures called { call_count self.new ≡ next_count (call_count self.old) }
         ensures failed { failure_count self.new ≡ failures_after (failure_count self.old) result };
 
     /// How often `write` was called. The count saturates.
@@ -72,7 +72,7 @@ pub fn write_all<W: Output>(writer: &mut W, bytes: &[u8]) -> Result<(), DeviceFa
     ensures beginning { OnErr result
         (WroteBeginning (W.contents writer.old) (W.contents writer.new) bytes.now) }
     ensures failed { OnErr result
-        (W.failure_count writer.new ≡ counted (W.failure_count writer.old)) }
+        (W.failure_count writer.new ≡ next_count (W.failure_count writer.old)) }
 {
     let mut written = 0;
     while written < bytes.len() {

@@ -1,7 +1,7 @@
 ghost use Rattle.std.specs.Prelude.{◌≡◌, ◌+◌, ◌-◌, ◌<◌, ◌≤◌, ◌++◌, drop, length, min, take};
 ghost use Rattle.std.specs.Prelude.{vec_len, IfOk, OnErr};
 ghost use Rattle.std.specs.Io.KnownBytes.{Keeps};
-ghost use Rattle.pay_io.specs.Device.{counted, failures_after};
+ghost use Rattle.pay_io.specs.Device.{next_count, failures_after};
 ghost use Rattle.pay_io.specs.Sliding.{ReadsMore, nothing_in};
 
 use crate::device::{DeviceFailed, Input};
@@ -37,7 +37,7 @@ impl Model for SlidingBuffer {
 }
 
 impl SlidingBuffer {
-    /// An empty buffer with room for so many bytes. This is the only call that allocates.
+    /// An empty buffer for `room` bytes. This is the only call that allocates.
     pub fn new(alloc: Global, room: usize) -> Result<SlidingBuffer, AllocError>
         ensures empty { IfOk result (λ buffer. buffer ≡ nothing_in room) }
     {
@@ -76,7 +76,7 @@ impl SlidingBuffer {
         ensures kept { OnErr result (self.new.bytes ≡ self.old.bytes) }
         ensures none { OnErr result (Keeps (In.remaining reader.old) (In.remaining reader.new)) }
         ensures room { self.new.room ≡ self.old.room }
-        ensures called { In.call_count reader.new ≡ counted (In.call_count reader.old) }
+        ensures called { In.call_count reader.new ≡ next_count (In.call_count reader.old) }
         ensures failed { In.failure_count reader.new
             ≡ failures_after (In.failure_count reader.old) result }
     {
@@ -97,7 +97,7 @@ impl SlidingBuffer {
         &self.buffer[self.start..self.end]
     }
 
-    /// Discards the first `size` bytes. `consumed` lends them until more are appended.
+    /// Discards the first `size` bytes. `consumed_bytes` lends them until more are appended.
     pub fn consume(&mut self, size: usize)
         requires { size ≤ length self.old.bytes }
         ensures consumed { self.new.consumed ≡ take size self.old.bytes }
@@ -109,7 +109,7 @@ impl SlidingBuffer {
     }
 
     /// The bytes that were consumed last.
-    pub fn consumed(&self) -> &[u8]
+    pub fn consumed_bytes(&self) -> &[u8]
         ensures { result.now ≡ self.now.consumed }
     {
         &self.buffer[self.consumed..self.start]

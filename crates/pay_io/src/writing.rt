@@ -1,6 +1,6 @@
 ghost use Rattle.std.specs.Prelude.{◌≡◌, IfErr, OnErr, OnOk};
 ghost use Rattle.std.specs.Io.KnownBytes.{Appends};
-ghost use Rattle.pay_io.specs.Device.{WroteBeginning, counted};
+ghost use Rattle.pay_io.specs.Device.{WroteBeginning, next_count};
 
 use crate::device::{Output, write_all};
 use crate::stream_fault::StreamFault;
@@ -13,7 +13,7 @@ pub fn write_text<W: Output>(writer: &mut W, text: &[u8]) -> Result<(), StreamFa
     ensures beginning { OnErr result
         (WroteBeginning (W.contents writer.old) (W.contents writer.new) text.now) }
     ensures failed { OnErr result
-        (W.failure_count writer.new ≡ counted (W.failure_count writer.old)) }
+        (W.failure_count writer.new ≡ next_count (W.failure_count writer.old)) }
 {
     if write_all(writer, text).is_err() {
         return Err(StreamFault::Write);

@@ -55,19 +55,19 @@ title_words day account number seq =
 
 -- What a line of an account's statement becomes: a payment of its own a transaction, a void entry a
 -- comment. What was paid to it is its payer's transaction.
-unfoldable pub entry_words : List ℕ → ℕ → ℕ → Line → List ℕ
-entry_words day account number (Out seq payee amount) =
+unfoldable pub transaction_words : List ℕ → ℕ → ℕ → Line → List ℕ
+transaction_words day account number (Out seq payee amount) =
     title_words day account number seq
     ++ posting_words (codes "-") account amount
     ++ posting_words [] payee amount
-entry_words day account number (Void seq) =
+transaction_words day account number (Void seq) =
     end_of_line ++ codes "; void " ++ entry_name account seq number
-entry_words day account number (In owner seq amount) = []
+transaction_words day account number (In owner seq amount) = []
 
 -- what settled of an account's own entries, in the order of its statement
-unfoldable pub entries_words : List ℕ → ExportFields → ℕ → List ℕ
-entries_words day e account =
-    flat_map (λ l. entry_words day account l.0 l.1) (enumerate_from 0 (lines_in e account))
+unfoldable pub account_transactions : List ℕ → ExportFields → ℕ → List ℕ
+account_transactions day e account =
+    flat_map (λ l. transaction_words day account l.0 l.1) (enumerate_from 0 (lines_in e account))
 
 -- The journal of a day, by its text: the names of all accounts, what they opened with, and each
 -- account's entries, account by account.
@@ -75,7 +75,7 @@ unfoldable pub journal_on : List ℕ → ExportFields → List ℕ
 journal_on day e =
     names_words e.genesis.members
     ++ opening_words day e
-    ++ flat_map (entries_words day e) (range_with_len 0 e.genesis.members)
+    ++ flat_map (account_transactions day e) (range_with_len 0 e.genesis.members)
 
 -- The journal of a date.
 abbrev pub journal_of : Date → ExportFields → List ℕ

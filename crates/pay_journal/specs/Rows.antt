@@ -1,7 +1,7 @@
 -- A worked example: four accounts, and their journal written by hand.
 use Rattle.std.specs.Prelude.{ℕ, List, [], ◌∷◌, ◌++◌, codes}
 use Rattle.std.specs.List.{flat_map}
-use Rattle.pay_book.specs.Rows.{five_to_1_one_to_3, four, four_payments, thirty_to_0}
+use Rattle.pay_book.specs.Rows.{five_to_1_one_to_3, four_numbers, four_payments, thirty_to_0}
 use Rattle.pay_desk.specs.Words.{end_of_line}
 use Rattle.pay_audit.specs.Export.{ExportFields}
 
@@ -11,11 +11,11 @@ use Rattle.pay_audit.specs.Export.{ExportFields}
 abbrev pub worked_export : ExportFields
 worked_export =
     record {
-      genesis = record { members = 4; faults = 1; opening = four 100 0 0 50 };
+      genesis = record { members = 4; faults = 1; opening = four_numbers 100 0 0 50 };
       member = 2;
       lists = (four_payments ∷ []) ∷ (thirty_to_0 ∷ []) ∷ [] ∷ (five_to_1_one_to_3 ∷ []) ∷ [];
-      front = four 3 1 0 2;
-      balances = four 10 45 50 45;
+      front = four_numbers 3 1 0 2;
+      balances = four_numbers 10 45 50 45;
     }
 
 -- a text of these lines

@@ -9,12 +9,12 @@ use Rattle.pay_desk.specs.Words.{statement_words}
 use Rattle.pay_audit.specs.Export.{ExportFields, lists_of}
 use Rattle.pay_audit.specs.Verdict.{book_of}
 
-abbrev pub if_account : ExportFields → ℕ → Option ℕ
-if_account e account = if nat_lt account e.genesis.members then Some account else None
+abbrev pub account_if_there : ExportFields → ℕ → Option ℕ
+account_if_there e account = if nat_lt account e.genesis.members then Some account else None
 
 -- the account that a word names
 abbrev pub account_named : ExportFields → List ℕ → Option ℕ
-account_named e word = option_and_then (if_account e) (number_of word)
+account_named e word = option_and_then (account_if_there e) (number_of word)
 
 -- what settled on an account
 abbrev pub lines_in : ExportFields → ℕ → List Line

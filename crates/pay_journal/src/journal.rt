@@ -3,13 +3,14 @@
 ghost use Rattle.std.specs.Prelude.{◌≡◌, ◌++◌, ◌<◌, IfOk, OnOk};
 ghost use Rattle.std.specs.List.{enumerate_from, flat_map, range_with_len};
 ghost use Rattle.pay_audit.specs.Verdict.{book_of};
-ghost use Rattle.pay_journal.specs.Journal.{declared_words, entries_words, entry_name, entry_words};
+ghost use Rattle.pay_journal.specs.Journal.{declared_words, account_transactions, entry_name};
+ghost use Rattle.pay_journal.specs.Journal.{transaction_words};
 ghost use Rattle.pay_journal.specs.Journal.{journal_of, names_words, opening_posting};
 ghost use Rattle.pay_journal.specs.Journal.{opening_words, posting_words, title_words};
 
 use crate::statements::lines_of;
 use jiff::civil::Date;
-use pay_audit::{Export, settled};
+use pay_audit::{Export, settle_export};
 use pay_book::{Line, Settle};
 use pay_pending::WaitingBook;
 use pay_text::{push_number, push_word};
@@ -20,7 +21,7 @@ use std::alloc::{AllocError, Global};
 pub fn journal_text(alloc: Global, export: &Export, date: Date) -> Result<Vec<u8>, AllocError>
     ensures { IfOk result (λ text. text.items ≡ journal_of date export.now) }
 {
-    let book: WaitingBook = settled(alloc, export)?;
+    let book: WaitingBook = settle_export(alloc, export)?;
     let date = date.to_string(alloc)?;
     let day = date.as_str();
     let members = export.genesis().members();
@@ -76,7 +77,7 @@ fn push_openings(out: &mut Vec<u8>, export: &Export) -> Result<(), AllocError>
 }
 
 // What settled of an account's own entries, by a book of the export's lists.
-#[tactic(auto, unfolding(crate::specs::Journal::entries_words))]
+#[tactic(auto, unfolding(crate::specs::Journal::account_transactions))]
 fn push_entries<B: Settle>(
     alloc: Global,
     out: &mut Vec<u8>,
@@ -88,7 +89,7 @@ fn push_entries<B: Settle>(
     requires book { B.shows book.now ≡ book_of export.now }
     requires account { account < export.now.genesis.members }
     ensures { OnOk result (out.new.items
-        ≡ out.old.items ++ entries_words day.now export.now account) }
+        ≡ out.old.items ++ account_transactions day.now export.now account) }
 {
     let lines = lines_of(alloc, export, book, account)?;
     push_lines(out, day, account, lines.as_slice())
@@ -96,7 +97,7 @@ fn push_entries<B: Settle>(
 
 fn push_lines(out: &mut Vec<u8>, day: &str, account: u16, lines: &[Line]) -> Result<(), AllocError>
     ensures { OnOk result (out.new.items ≡ out.old.items
-        ++ flat_map (λ l. entry_words day.now account l.0 l.1) (enumerate_from 0 lines.now)) }
+        ++ flat_map (λ l. transaction_words day.now account l.0 l.1) (enumerate_from 0 lines.now)) }
 {
     for (number, line) in lines.iter().enumerate() {
         push_entry(out, day, account, number as u64, *line)?;
@@ -104,7 +105,7 @@ fn push_lines(out: &mut Vec<u8>, day: &str, account: u16, lines: &[Line]) -> Res
     Ok(())
 }
 
-#[tactic(auto, unfolding(crate::specs::Journal::entry_words))]
+#[tactic(auto, unfolding(crate::specs::Journal::transaction_words))]
 fn push_entry(
     out: &mut Vec<u8>,
     day: &str,
@@ -113,7 +114,7 @@ fn push_entry(
     line: Line,
 ) -> Result<(), AllocError>
     ensures { OnOk result (out.new.items
-        ≡ out.old.items ++ entry_words day.now account number line) }
+        ≡ out.old.items ++ transaction_words day.now account number line) }
 {
     match line {
         Line::Out { seq, payee, amount } => {

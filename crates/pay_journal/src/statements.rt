@@ -5,7 +5,7 @@ ghost use Rattle.pay_audit.specs.Verdict.{book_of};
 ghost use Rattle.pay_journal.specs.Statements.{account_named, lines_in, statement_in};
 ghost use Rattle.pay_journal.specs.Statements.{statements_in};
 
-use pay_audit::{Export, settled};
+use pay_audit::{Export, settle_export};
 use pay_book::laws::settled_book_exists;
 use pay_book::{Line, Settle, statement};
 use pay_desk::push_statement;
@@ -31,7 +31,7 @@ pub fn statement_text(alloc: Global, export: &Export, account: u16) -> Result<Ve
     requires { account < export.now.genesis.members }
     ensures { IfOk result (λ text. text.items ≡ statement_in export.now account) }
 {
-    let book: WaitingBook = settled(alloc, export)?;
+    let book: WaitingBook = settle_export(alloc, export)?;
     let mut text = Vec::new(alloc);
     push_account(alloc, &mut text, export, &book, account)?;
     Ok(text)
@@ -41,7 +41,7 @@ pub fn statement_text(alloc: Global, export: &Export, account: u16) -> Result<Ve
 pub fn statements_text(alloc: Global, export: &Export) -> Result<Vec<u8>, AllocError>
     ensures { IfOk result (λ texts. texts.items ≡ statements_in export.now) }
 {
-    let book: WaitingBook = settled(alloc, export)?;
+    let book: WaitingBook = settle_export(alloc, export)?;
     let mut texts = Vec::new(alloc);
     for account in 0..export.genesis().members() {
         push_account(alloc, &mut texts, export, &book, account)?;

@@ -4,16 +4,18 @@ use Rattle.std.specs.List.{flat_map}
 use Rattle.std.specs.Prelude.{IfSome, MatchOption, OnOk}
 use Rattle.std.specs.Result.{is_err}
 use Rattle.std.proofs.lemmas.Grind.{flat_map-append}
-use Rattle.std.proofs.lemmas.List.{map-append, length-take-le, length-drop, take_all, take_more, drop_more, get_or-drop}
+use Rattle.std.proofs.lemmas.List.{map-append, length-take-le, length-drop, drop_all, take_all, take_more, drop_more, get_or-drop}
+use Rattle.std.proofs.Math.Logic.{∥∥₁_map}
 use Rattle.pay_log.specs.declared.log.Log.{Log}
 use Rattle.pay_member.specs.declared.entry.HistoryEntry.{HistoryEntry}
 use Rattle.pay_record.specs.Records.{record_of}
 use Rattle.pay_member.specs.Member.{MemberFields}
-use Rattle.pay_resume.specs.Resuming.{IsResumed, LoggedFields, entries_of}
-use Rattle.pay_kept.specs.Following.{HasGathered, IsFlushed, IsFollowing, IsFollowingSome, chunk_of_pending, records_of, with_id}
-use Rattle.pay_kept.specs.Kept.{IsOnDisk}
+use Rattle.pay_node.specs.Nodes.{NodeFields}
+use Rattle.pay_resume.specs.Resuming.{IsResumed, LoggedFields, entries_of_logged}
+use Rattle.pay_kept.specs.Following.{AllKnown, HasGathered, IsFlushed, IsFollowing, IsFollowingSome, chunk_of_pending, records_of, with_id}
+use Rattle.pay_kept.specs.Kept.{AreDurable, HasAtLeast, HasEntries, IsHistoryKept, IsOnDisk}
 
-entries_back : (ids : List ℕ) (entries : List HistoryEntry) → entries_of (map (with_id ids) entries) ≡ entries
+entries_back : (ids : List ℕ) (entries : List HistoryEntry) → entries_of_logged (map (with_id ids) entries) ≡ entries
 entries_back ids [] = refl
 entries_back ids (e ∷ entries) = ap (λ (l : List HistoryEntry). e ∷ l) (entries_back ids entries)
 
@@ -33,7 +35,7 @@ module _ {D : Type 0} (is_known : D → Type 0) (seen : D → List ℕ) (may_lea
     settled = f.settled;
     logged = f.logged ++ map (with_id ids) more;
     are = map-append (λ (l : LoggedFields). l.entry) f.logged (map (with_id ids) more)
-        ∙ ap (λ (l : List HistoryEntry). l ++ entries_of (map (with_id ids) more)) f.are
+        ∙ ap (λ (l : List HistoryEntry). l ++ entries_of_logged (map (with_id ids) more)) f.are
         ∙ ap (λ (l : List HistoryEntry). entries ++ l) (entries_back ids more);
     records = flat_map-append record_of f.logged (map (with_id ids) more)
         ∙ ap (λ (l : List ℕ). l ++ records_of ids more) f.records
@@ -105,6 +107,61 @@ module _ {D : Type 0} (is_known : D → Type 0) (seen : D → List ℕ) (may_lea
             (subst (λ (l : List HistoryEntry). IsFollowing is_known seen may_leave new last (f.entries ++ l))
             (all ∙ ap (λ (n : ℕ). drop n history) (sym f.counted)) after);
       }
+
+  -- a history that isn't longer than what is on the disk has nothing beyond that
+  pub nothing_beyond :
+      (log : Log D) (count : ℕ) (history : List HistoryEntry) → length history ≤ count
+      → IsFollowingSome is_known seen may_leave log [] count → IsOnDisk is_known seen may_leave history log
+  nothing_beyond log count history within f =
+      let none : drop (length f.entries) history ≡ [] = drop_all (length f.entries) history (omega (arith, within, f.counted)) in
+      record {
+        before = f.entries;
+        follows = subst (λ (l : List HistoryEntry). IsFollowing is_known seen may_leave log [] l)
+            (sym (append-nil f.entries) ∙ ap (λ (l : List HistoryEntry). f.entries ++ l) (sym none)) f.follows;
+      }
+
+  -- of a log behind which nothing waits
+  pub are_durable :
+      (log : Log D) (count entries : ℕ) (pending : List ℕ) → pending ≡ [] → entries ≡ count
+      → ∥ (AllKnown is_known → IsFollowingSome is_known seen may_leave log pending count) ∥₁
+      → AreDurable is_known seen may_leave entries
+  are_durable log count entries pending none same follows all = ∥∥₁_map follows (λ f. (
+    log,
+    subst (λ (n : ℕ). IsFollowingSome is_known seen may_leave log [] n) (sym same)
+        (subst (λ (p : List ℕ). IsFollowingSome is_known seen may_leave log p count) none (f all)),
+  ))
+
+  pub durable_if :
+      (log : Log D) (count : ℕ) (pending : List ℕ) (found : Option ℕ)
+      → ∥ (AllKnown is_known → IsFollowingSome is_known seen may_leave log pending count) ∥₁
+      → IfSome found (λ entries. (pending ≡ []) × (entries ≡ count))
+      → IfSome found (AreDurable is_known seen may_leave)
+  durable_if log count pending None follows told = tt
+  durable_if log count pending (Some entries) follows told =
+      are_durable log count entries pending told.0 told.1 follows
+
+  pub has_at_least :
+      (log : Log D) (count entries : ℕ) (pending : List ℕ)
+      → ∥ (AllKnown is_known → IsFollowingSome is_known seen may_leave log pending count) ∥₁
+      → (pending ≡ []) × (entries ≤ count) → HasAtLeast is_known seen may_leave entries
+  has_at_least log count entries pending follows told = record {
+    count = count;
+    enough = told.1;
+    durable = are_durable log count count pending told.0 refl follows;
+  }
+
+  pub kept_already :
+      (node : NodeFields) (entries : ℕ) → HasEntries node entries → HasAtLeast is_known seen may_leave entries
+      → IsHistoryKept is_known seen may_leave node
+  kept_already node entries has found = record {
+    member = has.member;
+    own = has.own;
+    legal = has.legal;
+    on_disk = λ all. ∥∥₁_map (found.durable all) (λ (log, f). (
+      log,
+      nothing_beyond log found.count has.member.history (omega (arith, has.many, found.enough)) f,
+    ));
+  }
 
 -- ---- one entry more
 

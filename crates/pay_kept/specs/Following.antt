@@ -1,13 +1,14 @@
 -- A log that follows a member's history.
-use Rattle.std.specs.Prelude.{◌≡◌, ℕ, ◌+◌, ◌-◌, ◌≤◌, List, [], ◌∷◌, ◌++◌, length, map, take, drop, slice_index_or}
+use Rattle.std.specs.Prelude.{◌≡◌, ℕ, ◌+◌, ◌-◌, ◌≤◌, List, [], ◌∷◌, ◌++◌, length, map, take, drop}
+use Rattle.std.specs.Prelude.{slice_index_or}
 use Rattle.std.specs.List.{flat_map}
 use Rattle.pay_log.specs.declared.log.Log.{Log}
-use Rattle.pay_log.specs.Logs.{IsSettled}
+use Rattle.pay_log.specs.Logs.{IsSynced}
 use Rattle.pay_member.specs.declared.entry.HistoryEntry.{HistoryEntry}
 use Rattle.pay_member.specs.declared.reply.Reply.{Reply}
 use Rattle.pay_member.specs.declared.reply.Reply.TheVariants.{Asked, Took, Told}
 use Rattle.pay_record.specs.Records.{record_of}
-use Rattle.pay_resume.specs.Resuming.{LoggedFields, entries_of}
+use Rattle.pay_resume.specs.Resuming.{LoggedFields, entries_of_logged}
 
 -- Of each file it is known what it has: of a real one it never is, and then nothing is claimed.
 abbrev pub AllKnown : {D : Type 0} → (D → Type 0) → Type 0
@@ -27,25 +28,28 @@ abbrev pub records_of : List ℕ → List HistoryEntry → List ℕ
 records_of ids entries = flat_map record_of (map (with_id ids) entries)
 
 -- A settled log, and what waits to be written behind it, are together the records of these entries.
-pub record IsFollowing {D : Type 0} (is_known : D → Type 0) (seen : D → List ℕ) (may_leave : D → List ℕ → Type 0)
+pub record IsFollowing {D : Type 0} (is_known : D → Type 0) (seen : D → List ℕ)
+    (may_leave : D → List ℕ → Type 0)
     (log : Log D) (pending : List ℕ) (entries : List HistoryEntry) : Type 0 where
   pub header : List ℕ
   pub ps : List (List ℕ)
-  pub settled : IsSettled is_known seen may_leave log header ps
+  pub settled : IsSynced is_known seen may_leave log header ps
   pub logged : List LoggedFields
-  pub are : entries_of logged ≡ entries
+  pub are : entries_of_logged logged ≡ entries
   pub records : flat_map record_of logged ≡ flat_map (λ p. p) ps ++ pending
 
 -- The same of so many entries.
-pub record IsFollowingSome {D : Type 0} (is_known : D → Type 0) (seen : D → List ℕ) (may_leave : D → List ℕ → Type 0)
+pub record IsFollowingSome {D : Type 0} (is_known : D → Type 0) (seen : D → List ℕ)
+    (may_leave : D → List ℕ → Type 0)
     (log : Log D) (pending : List ℕ) (count : ℕ) : Type 0 where
   pub entries : List HistoryEntry
   pub counted : length entries ≡ count
   pub follows : IsFollowing is_known seen may_leave log pending entries
 
--- So many entries of a history, from the first one that was missing on, were gathered: their records wait behind those
--- that waited.
-pub record HasGathered (ids : List ℕ) (history : List HistoryEntry) (count new_count : ℕ) (pending new_pending : List ℕ) : Type 0 where
+-- So many entries of a history, from the first one that was missing on, were gathered: their
+-- records wait behind those that waited.
+pub record HasGathered (ids : List ℕ) (history : List HistoryEntry) (count new_count : ℕ)
+    (pending new_pending : List ℕ) : Type 0 where
   pub many : ℕ
   pub within : many ≤ length history - count
   pub counted : new_count ≡ count + many
@@ -57,9 +61,10 @@ chunk_of_pending [] = []
 chunk_of_pending (b ∷ bytes) = (b ∷ bytes) ∷ []
 
 -- All that waited is in the log, and on the disk.
-pub record IsFlushed {D : Type 0} (is_known : D → Type 0) (seen : D → List ℕ) (may_leave : D → List ℕ → Type 0)
+pub record IsFlushed {D : Type 0} (is_known : D → Type 0) (seen : D → List ℕ)
+    (may_leave : D → List ℕ → Type 0)
     (log new_log : Log D) (pending new_pending : List ℕ) : Type 0 where
   pub nothing_waits : new_pending ≡ []
   pub settled :
-      (header : List ℕ) (ps : List (List ℕ)) → IsSettled is_known seen may_leave log header ps
-      → IsSettled is_known seen may_leave new_log header (ps ++ chunk_of_pending pending)
+      (header : List ℕ) (ps : List (List ℕ)) → IsSynced is_known seen may_leave log header ps
+      → IsSynced is_known seen may_leave new_log header (ps ++ chunk_of_pending pending)

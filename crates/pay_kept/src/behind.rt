@@ -1,7 +1,7 @@
 ghost use Rattle.std.specs.Prelude.{◌≡◌, ◌<◌, IfOk, length};
 ghost use Rattle.std.specs.Io.{WritesAtMost};
 ghost use Rattle.std.specs.Io.KnownBytes.{WriteAppends};
-ghost use Rattle.pay_io.specs.Device.{counted, failures_after};
+ghost use Rattle.pay_io.specs.Device.{next_count, failures_after};
 
 use crate::keeper::Keeper;
 use pay_book::Settle;
@@ -10,8 +10,8 @@ use pay_io::{DeviceFailed, Output};
 use pay_node::{Beginning, Node};
 use std::sync::Wait;
 
-/// An output that is written to only once its keeper has kept all of the node's history; where that fails, its writes
-/// fail.
+/// An output that is written to only once its keeper has kept all of the node's history; where that
+/// fails, its writes fail.
 ///
 /// It owns the output: of a struct that holds a `&mut`, nothing is known after an engine had it.
 #[derive(Drop)]
@@ -69,7 +69,7 @@ impl<R: Wait, K: Keeper, I: Instance + Drop, B: Settle + Drop, S: Beginning, W: 
         ensures some { IfOk result (λ count. 0 < length bytes.now → 0 < count) }
         ensures bytes { WriteAppends (W.contents self.old.inner) (W.contents self.new.inner)
             result bytes.now }
-        ensures called { self.new.calls ≡ counted self.old.calls }
+        ensures called { self.new.calls ≡ next_count self.old.calls }
         ensures failed { self.new.failures ≡ failures_after self.old.failures result }
     {
         self.calls = self.calls.saturating_add(1);

@@ -1,6 +1,6 @@
 //! A log that follows a member's history.
 
-ghost use Rattle.std.specs.Prelude.{◌≡◌, ◌≤◌, [], IfOk, IfErr, IfSome, IsTrue, length};
+ghost use Rattle.std.specs.Prelude.{◌≡◌, ◌≤◌, ◌↔◌, [], IfOk, IfErr, IfSome, IsTrue, length};
 ghost use Rattle.pay_log.specs.declared.limits.TheConstants.{MOST_PAYLOAD};
 ghost use Rattle.pay_kept.specs.Following.{AllKnown, HasGathered, IsFlushed, IsFollowingSome};
 ghost use Rattle.pay_kept.specs.Following.{id_under};
@@ -14,8 +14,8 @@ use pay_record::laws::legal_entries_have_room;
 use pay_record::push_record;
 use std::alloc::{AllocError, Global};
 
-/// A log with the records of the first entries of a member's history, and those behind them that were gathered and
-/// aren't written yet.
+/// A log with the records of the first entries of a member's history, and those behind them that
+/// were gathered and aren't written yet.
 #[derive(Drop)]
 pub struct Following<D: Device> {
     log: Log<D>,
@@ -42,8 +42,28 @@ impl<D: Device + Drop> Following<D> {
         }
     }
 
-    /// Gathers the records of the entries that a member has beyond these, until all are or very many bytes wait. An
-    /// ask's id is the one under its number. Says whether all are.
+    /// Whether the log has so many entries on the disk, and nothing waits behind them.
+    pub fn has(&self, entries: usize) -> bool
+        ensures { IsTrue result
+            ↔ ((self.now.pending.items ≡ []) × (entries ≤ self.now.count)) }
+    {
+        self.pending.is_empty() && entries <= self.count
+    }
+
+    /// How many entries the log has on the disk, where nothing waits behind them.
+    pub fn durable(&self) -> Option<usize>
+        ensures { IfSome result (λ entries. (self.now.pending.items ≡ [])
+            × (entries ≡ self.now.count)) }
+    {
+        if self.pending.is_empty() {
+            Some(self.count)
+        } else {
+            None
+        }
+    }
+
+    /// Gathers the records of the entries that a member has beyond these, until all are or very
+    /// many bytes wait. An ask's id is the one under its number. Says whether all are.
     pub fn gather<I: Instance + Drop, B: Settle + Drop>(
         self,
         alloc: Global,
@@ -70,8 +90,9 @@ impl<D: Device + Drop> Following<D> {
         (gathered, answer)
     }
 
-    /// Writes all that waits, and syncs. Where memory is refused, all is as it was. After a failed write or sync the
-    /// log is gone: it isn't tried again, since the kernel may show bytes that it never wrote.
+    /// Writes all that waits, and syncs. Where memory is refused, all is as it was. After a failed
+    /// write or sync the log is gone: it isn't tried again, since the kernel may show bytes that it
+    /// never wrote.
     pub fn flush(self, alloc: Global) -> Result<Following<D>, Option<Following<D>>>
         ensures flushed { IfOk result (λ after. IsFlushed D.is_known D.seen D.may_leave
             self.log after.log self.pending.items after.pending.items) }

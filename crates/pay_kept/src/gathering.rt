@@ -2,7 +2,7 @@
 
 ghost use Rattle.std.specs.Prelude.{◌≡◌, ◌≤◌, List, ℕ, IfSome, MatchOption, None, length, true};
 ghost use Rattle.pay_kept.specs.Following.{HasGathered};
-ghost use Rattle.pay_kept.specs.Kept.{IsKept};
+ghost use Rattle.pay_kept.specs.Kept.{IsHistoryKept};
 
 use crate::following::Following;
 use pay_book::Settle;
@@ -13,8 +13,9 @@ use pay_node::{Beginning, Gatherer, Node};
 use std::alloc::{AllocError, Global};
 use std::sync::{Mutex, Wait};
 
-/// A log that gathers from a node's member, with the ids of the owner's payments. These are locked while the member
-/// is: an ask that is gathered has its id there, since that is noted before the node is asked.
+/// A log that gathers from a node's member, with the ids of the owner's payments. These are locked
+/// while the member is: an ask that is gathered has its id there, since that is noted before the
+/// node is asked.
 #[derive(Drop)]
 struct Gathering<'a, R, D: Device> {
     rt: &'a R,
@@ -59,7 +60,8 @@ pub(crate) enum Step {
     Failed,
 }
 
-/// Gathers from the node's member, and writes what was gathered. A log that fails is gone from its slot.
+/// Gathers from the node's member, and writes what was gathered. A log that fails is gone from its
+/// slot.
 pub(crate) fn bring_up<R, I, B, S, D>(
     rt: &R,
     alloc: Global,
@@ -73,7 +75,7 @@ where
     B: Settle + Drop,
     S: Beginning,
     D: Device + Drop,
-    ensures { result ≡ Step.Done → IsKept D.is_known D.seen D.may_leave node.now }
+    ensures { result ≡ Step.Done → IsHistoryKept D.is_known D.seen D.may_leave node.now }
 {
     let mut gathering = Gathering {
         rt,

@@ -1,11 +1,12 @@
 //! A node whose history is kept in a log.
 
-ghost use Rattle.std.specs.Prelude.{IsTrue};
-ghost use Rattle.pay_kept.specs.Kept.{IsKept};
+ghost use Rattle.std.specs.Prelude.{IfSome, IsTrue};
+ghost use Rattle.pay_kept.specs.Kept.{AreDurable, HasAtLeast, HasEntries, IsHistoryKept};
 
 use crate::following::Following;
 use crate::gathering::{Step, bring_up};
 use crate::keeper::Keeper;
+use crate::measuring::history_len;
 use pay_book::Settle;
 use pay_echo::Instance;
 use pay_log::Device;
@@ -15,8 +16,9 @@ use std::sync::{Mutex, Wait};
 
 /// A log that follows a node's history, and the ids of its owner's payments.
 ///
-/// While one thread syncs, others wait for the log's lock. The first of them gathers what all of them need, and those
-/// behind it find nothing left to do. Locks are taken in this order: the log's, the node's, the ids'.
+/// While one thread syncs, others wait for the log's lock, each of which has noted before how long
+/// the history was. The first of them gathers what all of them need, and those behind it find that
+/// on the disk. Locks are taken in this order: the log's, the node's, the ids'.
 #[derive(Drop)]
 pub struct Kept<D: Device> {
     alloc: Global,
@@ -41,29 +43,83 @@ impl<D: Device + Drop> Kept<D> {
 }
 
 impl<D: Device + Drop> Keeper for Kept<D> {
-    ghost kept = { λ _ node. IsKept D.is_known D.seen D.may_leave node };
+    ghost kept = { λ _ node. IsHistoryKept D.is_known D.seen D.may_leave node };
+
+    ghost has = { λ _ entries. AreDurable D.is_known D.seen D.may_leave entries };
 
     fn keep<R: Wait, I: Instance + Drop, B: Settle + Drop, S: Beginning>(
         &self,
         rt: &R,
         node: &Node<I, B, S>,
     ) -> bool {
+        let Ok(entries) = history_len(rt, node) else {
+            return false;
+        };
         let mut guard = self.following.lock(rt);
-        let slot = &mut *guard;
-        for _ in rt.forever() {
-            match bring_up(rt, self.alloc, node, &self.ids, slot) {
-                Step::Done => return true,
-                Step::More => {}
-                Step::NoMemory | Step::Failed => return false,
-            }
-        }
-        false
+        keep_entries(rt, self.alloc, node, &self.ids, entries, &mut *guard)
     }
 
-    // Before the ask, so whoever gathers an ask finds its id. An order that was refused is overwritten by the next one.
+    // Before the ask, so whoever gathers an ask finds its id. An order that was refused is
+    // overwritten by the next one.
     fn order<R: Wait>(&self, rt: &R, seq: u32, id: u64) -> Result<(), AllocError> {
         let mut guard = self.ids.lock(rt);
         note(&mut *guard, seq as usize, id)
+    }
+
+    fn durable<R: Wait>(&self, rt: &R) -> Option<usize> {
+        durable_in(&*self.following.lock(rt))
+    }
+}
+
+// Brings a log up to the node's history, until it has at least so many entries on the disk. Another
+// call may have done that already.
+fn keep_entries<R, I, B, S, D>(
+    rt: &R,
+    alloc: Global,
+    node: &Node<I, B, S>,
+    ids: &Mutex<Vec<u64>>,
+    entries: usize,
+    slot: &mut Option<Following<D>>,
+) -> bool
+where
+    R: Wait,
+    I: Instance + Drop,
+    B: Settle + Drop,
+    S: Beginning,
+    D: Device + Drop,
+    requires { HasEntries node.now entries }
+    ensures { IsTrue result → IsHistoryKept D.is_known D.seen D.may_leave node.now }
+{
+    for _ in rt.forever() {
+        if has_entries(slot, entries) {
+            return true;
+        }
+        match bring_up(rt, alloc, node, ids, slot) {
+            Step::Done => return true,
+            Step::More => {}
+            Step::NoMemory | Step::Failed => return false,
+        }
+    }
+    false
+}
+
+// Whether a log has so many entries on the disk.
+fn has_entries<D: Device + Drop>(slot: &Option<Following<D>>, entries: usize) -> bool
+    ensures { IsTrue result → HasAtLeast D.is_known D.seen D.may_leave entries }
+{
+    match slot {
+        Some(following) => following.has(entries),
+        None => false,
+    }
+}
+
+// How many entries a log has on the disk, if there is one and it is known.
+fn durable_in<D: Device + Drop>(slot: &Option<Following<D>>) -> Option<usize>
+    ensures { IfSome result (AreDurable D.is_known D.seen D.may_leave) }
+{
+    match slot {
+        Some(following) => following.durable(),
+        None => None,
     }
 }
 

@@ -16,6 +16,7 @@ mod gathering;
 mod keeper;
 mod kept;
 mod limits;
+mod measuring;
 mod restarting;
 
 pub use behind::Behind;

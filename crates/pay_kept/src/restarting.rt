@@ -19,7 +19,8 @@ use pay_record::{EntryRecords, log_header, log_key};
 use pay_resume::{Resumed, resume};
 use std::alloc::Global;
 
-/// A member that has started again, the ids of its asks in their order, and the log that follows it.
+/// A member that has started again, the ids of its asks in their order, and the log that follows
+/// it.
 #[derive(Drop)]
 pub struct Restarted<I: Instance + Drop, B: Settle + Drop, D: Device> {
     pub member: Member<I, B>,
@@ -27,8 +28,8 @@ pub struct Restarted<I: Instance + Drop, B: Settle + Drop, D: Device> {
     pub following: Following<D>,
 }
 
-/// The member whose history is that of a log's records. The log is the one of this genesis and these keys, and each
-/// frame is opened again.
+/// The member whose history is that of a log's records. The log is the one of this genesis and
+/// these keys, and each frame is opened again.
 pub fn restart<D: Device + Drop, I: Instance + Drop, B: Settle + Drop, T: Tagger>(
     alloc: Global,
     device: D,

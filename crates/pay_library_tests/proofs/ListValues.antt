@@ -8,7 +8,7 @@ use Rattle.std.proofs.lemmas.Bool.{cases_eq}
 use Rattle.std.proofs.lemmas.List.{length-map, map-append}
 use Rattle.std.proofs.lemmas.List.Elements.{All-head, All-tail}
 use Rattle.pay_channel.specs.Source.{GrowsOnly}
-use Rattle.pay_library_tests.specs.Lists.{values_of}
+use Rattle.pay_library_tests.specs.Lists.{owner_values}
 
 abbrev pub Bytes : Type 0
 Bytes = Vec ℕ Global
@@ -20,88 +20,88 @@ Values = Vec (Vec ℕ Global) Global
 abbrev pub items_of : Values → List (List ℕ)
 items_of list = map (λ v. v.items) list.items
 
-pub values_of-read : (lists : List Values) (owner : ℕ) (list : Values) → owner < length lists → list ≡ get_or lists owner list → values_of lists owner ≡ items_of list
-values_of-read [] owner list h e = absurd (omega arith)
-values_of-read (first ∷ lists) zero list h e = ap items_of (sym e)
-values_of-read (first ∷ lists) (suc owner) list h e = values_of-read lists owner list (omega arith) e
+pub owner_values-read : (lists : List Values) (owner : ℕ) (list : Values) → owner < length lists → list ≡ get_or lists owner list → owner_values lists owner ≡ items_of list
+owner_values-read [] owner list h e = absurd (omega arith)
+owner_values-read (first ∷ lists) zero list h e = ap items_of (sym e)
+owner_values-read (first ∷ lists) (suc owner) list h e = owner_values-read lists owner list (omega arith) e
 
-pub values_of-past : (lists : List Values) (owner : ℕ) → length lists ≤ owner → values_of lists owner ≡ []
-values_of-past [] owner h = refl
-values_of-past (first ∷ lists) zero h = absurd (omega arith)
-values_of-past (first ∷ lists) (suc owner) h = values_of-past lists owner (omega arith)
+pub owner_values-past : (lists : List Values) (owner : ℕ) → length lists ≤ owner → owner_values lists owner ≡ []
+owner_values-past [] owner h = refl
+owner_values-past (first ∷ lists) zero h = absurd (omega arith)
+owner_values-past (first ∷ lists) (suc owner) h = owner_values-past lists owner (omega arith)
 
-pub values_of-within : (lists : List Values) (owner k : ℕ) → k < length (values_of lists owner) → owner < length lists
-values_of-within [] owner k h = absurd (omega arith)
-values_of-within (first ∷ lists) zero k h = omega arith
-values_of-within (first ∷ lists) (suc owner) k h = let rest = values_of-within lists owner k h in omega arith
+pub owner_values-within : (lists : List Values) (owner k : ℕ) → k < length (owner_values lists owner) → owner < length lists
+owner_values-within [] owner k h = absurd (omega arith)
+owner_values-within (first ∷ lists) zero k h = omega arith
+owner_values-within (first ∷ lists) (suc owner) k h = let rest = owner_values-within lists owner k h in omega arith
 
-pub values_of-set_same : (lists : List Values) (owner : ℕ) (list : Values) → owner < length lists → values_of (set lists owner list) owner ≡ items_of list
-values_of-set_same [] owner list h = absurd (omega arith)
-values_of-set_same (first ∷ lists) zero list h = refl
-values_of-set_same (first ∷ lists) (suc owner) list h = values_of-set_same lists owner list (omega arith)
+pub owner_values-set_same : (lists : List Values) (owner : ℕ) (list : Values) → owner < length lists → owner_values (set lists owner list) owner ≡ items_of list
+owner_values-set_same [] owner list h = absurd (omega arith)
+owner_values-set_same (first ∷ lists) zero list h = refl
+owner_values-set_same (first ∷ lists) (suc owner) list h = owner_values-set_same lists owner list (omega arith)
 
-pub values_of-set_other : (lists : List Values) (owner a : ℕ) (list : Values) → a ≢ owner → values_of (set lists owner list) a ≡ values_of lists a
-values_of-set_other [] owner a list ne = refl
-values_of-set_other (first ∷ lists) zero zero list ne = absurd (ne refl)
-values_of-set_other (first ∷ lists) zero (suc a) list ne = refl
-values_of-set_other (first ∷ lists) (suc owner) zero list ne = refl
-values_of-set_other (first ∷ lists) (suc owner) (suc a) list ne = values_of-set_other lists owner a list (λ e. ne (ap suc e))
+pub owner_values-set_other : (lists : List Values) (owner a : ℕ) (list : Values) → a ≢ owner → owner_values (set lists owner list) a ≡ owner_values lists a
+owner_values-set_other [] owner a list ne = refl
+owner_values-set_other (first ∷ lists) zero zero list ne = absurd (ne refl)
+owner_values-set_other (first ∷ lists) zero (suc a) list ne = refl
+owner_values-set_other (first ∷ lists) (suc owner) zero list ne = refl
+owner_values-set_other (first ∷ lists) (suc owner) (suc a) list ne = owner_values-set_other lists owner a list (λ e. ne (ap suc e))
 
 -- new lists are empty
-pub values_of-empty : (lists : List Values) → All (λ list. vec_len list ≡ 0) lists → (owner : ℕ) → length (values_of lists owner) ≡ 0
-values_of-empty [] empty owner = refl
-values_of-empty (first ∷ lists) empty zero =
+pub owner_values-empty : (lists : List Values) → All (λ list. vec_len list ≡ 0) lists → (owner : ℕ) → length (owner_values lists owner) ≡ 0
+owner_values-empty [] empty owner = refl
+owner_values-empty (first ∷ lists) empty zero =
     let none : vec_len first ≡ 0 = All-head (λ list. vec_len list ≡ 0) first lists empty in
     length-map first.items _ ∙ sym first.ok.0 ∙ none
-values_of-empty (first ∷ lists) empty (suc owner) =
-    values_of-empty lists (All-tail (λ list. vec_len list ≡ 0) first lists empty) owner
+owner_values-empty (first ∷ lists) empty (suc owner) =
+    owner_values-empty lists (All-tail (λ list. vec_len list ≡ 0) first lists empty) owner
 
 -- one value more at the end of one list
-pub values_of-append : (lists : List Values) (owner : ℕ) (old new : Values) (value : Bytes) → owner < length lists → old ≡ get_or lists owner old → new.items ≡ old.items ++ value ∷ [] → GrowsOnly (values_of lists) (values_of (set lists owner new)) owner
-values_of-append lists owner old new value h is pushed = record {
+pub owner_values-append : (lists : List Values) (owner : ℕ) (old new : Values) (value : Bytes) → owner < length lists → old ≡ get_or lists owner old → new.items ≡ old.items ++ value ∷ [] → GrowsOnly (owner_values lists) (owner_values (set lists owner new)) owner
+owner_values-append lists owner old new value h is pushed = record {
   grown = (
     value.items ∷ [],
-    values_of-set_same lists owner new h
+    owner_values-set_same lists owner new h
         ∙ ap (map (λ (v : Bytes). v.items)) pushed
         ∙ map-append (λ (v : Bytes). v.items) old.items (value ∷ [])
-        ∙ ap (λ values. values ++ value.items ∷ []) (sym (values_of-read lists owner old h is)),
+        ∙ ap (λ values. values ++ value.items ∷ []) (sym (owner_values-read lists owner old h is)),
   );
-  others = λ a ne. values_of-set_other lists owner a new ne;
+  others = λ a ne. owner_values-set_other lists owner a new ne;
 }
 
 -- a list with the items that it had
-pub values_of-kept : (lists : List Values) (owner : ℕ) (old new : Values) → owner < length lists → old ≡ get_or lists owner old → new.items ≡ old.items → (a : ℕ) → values_of (set lists owner new) a ≡ values_of lists a
-values_of-kept lists owner old new h is same a =
+pub owner_values-kept : (lists : List Values) (owner : ℕ) (old new : Values) → owner < length lists → old ≡ get_or lists owner old → new.items ≡ old.items → (a : ℕ) → owner_values (set lists owner new) a ≡ owner_values lists a
+owner_values-kept lists owner old new h is same a =
     elim (cases_eq a owner) [
-      | inl e ↦ (let P : ℕ → Type 0 = λ x. values_of (set lists owner new) x ≡ values_of lists x in
-          subst P (sym e) (values_of-set_same lists owner new h ∙ ap (map (λ (v : Bytes). v.items)) same ∙ sym (values_of-read lists owner old h is)))
-      | inr ne ↦ values_of-set_other lists owner a new ne
+      | inl e ↦ (let P : ℕ → Type 0 = λ x. owner_values (set lists owner new) x ≡ owner_values lists x in
+          subst P (sym e) (owner_values-set_same lists owner new h ∙ ap (map (λ (v : Bytes). v.items)) same ∙ sym (owner_values-read lists owner old h is)))
+      | inr ne ↦ owner_values-set_other lists owner a new ne
     ]
 
 -- what reading a list shows of its owner's values
-pub length_at-read : (lists items : List Values) (owner : ℕ) (list : Values) (n : ℕ) → lists ≡ items → owner < length lists → list ≡ get_or lists owner list → n ≡ vec_len list → n ≡ length (values_of items owner)
+pub length_at-read : (lists items : List Values) (owner : ℕ) (list : Values) (n : ℕ) → lists ≡ items → owner < length lists → list ≡ get_or lists owner list → n ≡ vec_len list → n ≡ length (owner_values items owner)
 length_at-read lists items owner list n same h is len =
-    let values = ap length (values_of-read lists owner list h is) in
-    let here = ap (λ xs. length (values_of xs owner)) same in
+    let values = ap length (owner_values-read lists owner list h is) in
+    let here = ap (λ xs. length (owner_values xs owner)) same in
     let long = length-map list.items (λ (v : Bytes). v.items) in
     let vec = list.ok.0 in
     omega arith
 
-pub length_at-past : (lists items : List Values) (owner : ℕ) → lists ≡ items → length lists ≤ owner → 0 ≡ length (values_of items owner)
+pub length_at-past : (lists items : List Values) (owner : ℕ) → lists ≡ items → length lists ≤ owner → 0 ≡ length (owner_values items owner)
 length_at-past lists items owner same h =
-    ap length (sym (values_of-past lists owner h)) ∙ ap (λ xs. length (values_of xs owner)) same
+    ap length (sym (owner_values-past lists owner h)) ∙ ap (λ xs. length (owner_values xs owner)) same
 
-pub place_within : (items : List Values) (owner k : ℕ) (list : Values) → k < length (values_of items owner) → list ≡ get_or items owner list → k < vec_len list
+pub place_within : (items : List Values) (owner k : ℕ) (list : Values) → k < length (owner_values items owner) → list ≡ get_or items owner list → k < vec_len list
 place_within items owner k list h is =
-    let there = values_of-within items owner k h in
+    let there = owner_values-within items owner k h in
     let len = length_at-read items items owner list (vec_len list) refl there is refl in
     omega arith
 
-pub value_at-read : (items : List Values) (owner k : ℕ) (list : Values) (value : Bytes) (bytes : List ℕ) → k < length (values_of items owner) → list ≡ get_or items owner list → value ≡ get_or list.items k value → bytes ≡ value.items → slice_get (values_of items owner) k ≡ Some bytes
+pub value_at-read : (items : List Values) (owner k : ℕ) (list : Values) (value : Bytes) (bytes : List ℕ) → k < length (owner_values items owner) → list ≡ get_or items owner list → value ≡ get_or list.items k value → bytes ≡ value.items → slice_get (owner_values items owner) k ≡ Some bytes
 value_at-read items owner k list value bytes h is value_is bytes_is =
-    let there = values_of-within items owner k h in
+    let there = owner_values-within items owner k h in
     let within = place_within items owner k list h is in
-    ap (λ values. slice_get values k) (values_of-read items owner list there is)
+    ap (λ values. slice_get values k) (owner_values-read items owner list there is)
     ∙ slice_get-map (λ (v : Bytes). v.items) list.items k
     ∙ ap (option_map (λ (v : Bytes). v.items)) (slice_get_read list.items (vec_len list) k value list.ok.0 within value_is)
     ∙ ap Some (sym bytes_is)
@@ -115,11 +115,11 @@ pub OnErr-from : {T E : Type 0} {P : Type 0} (r : Result T E) → P → OnErr r 
 OnErr-from (Ok x) p = tt
 OnErr-from (Err e) p = p
 
-pub values_of-short : (lists : List Values) (most : ℕ) → All (λ list. vec_len list ≤ most) lists → (owner : ℕ) → length (values_of lists owner) ≤ most
-values_of-short [] most short owner = omega arith
-values_of-short (first ∷ lists) most short zero =
+pub owner_values-short : (lists : List Values) (most : ℕ) → All (λ list. vec_len list ≤ most) lists → (owner : ℕ) → length (owner_values lists owner) ≤ most
+owner_values-short [] most short owner = omega arith
+owner_values-short (first ∷ lists) most short zero =
     let here : vec_len first ≤ most = All-head (λ list. vec_len list ≤ most) first lists short in
     let vec = first.ok.0 in
     omega (arith, length-map first.items (λ (v : Bytes). v.items))
-values_of-short (first ∷ lists) most short (suc owner) =
-    values_of-short lists most (All-tail (λ list. vec_len list ≤ most) first lists short) owner
+owner_values-short (first ∷ lists) most short (suc owner) =
+    owner_values-short lists most (All-tail (λ list. vec_len list ≤ most) first lists short) owner

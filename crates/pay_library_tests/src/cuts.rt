@@ -201,7 +201,7 @@ fn end(cutter: &mut Cutter) -> Option<Result<(), FrameFault>>
     }
 }
 
-fn joined(alloc: Global, pieces: &[Piece]) -> Result<Vec<u8>, Fail> {
+fn join_pieces(alloc: Global, pieces: &[Piece]) -> Result<Vec<u8>, Fail> {
     let mut stream = Vec::new(alloc);
     for (head, behind) in pieces {
         stream.append(&mut hex::decode(alloc, head)?)?;
@@ -224,7 +224,7 @@ fn unmet_in(cutter: &mut Cutter, stream: &[u8], run: &Run) -> Result<Option<usiz
 
 /// The same of a new cutter.
 fn unmet(alloc: Global, run: &Run) -> Result<Option<usize>, Fail> {
-    let stream = joined(alloc, run.stream)?;
+    let stream = join_pieces(alloc, run.stream)?;
     let mut cutter = Cutter::new(alloc)?;
     Ok(unmet_in(&mut cutter, stream.as_slice(), run)?)
 }

@@ -76,7 +76,7 @@ impl Write for FailingWriter {
 }
 
 /// What goes out for the bytes, and how it ends, where so many reads and writes are made.
-fn served(
+fn serve_failing(
     alloc: Global,
     bytes: &[u8],
     reads: usize,
@@ -110,7 +110,7 @@ fn each_read_fails(rt: HostRuntime) -> Result<(), Fail> {
     // one more read comes to the input's end
     let needed = stream.len() + 1;
     for reads in 0..=needed {
-        let (text, ended) = served(
+        let (text, ended) = serve_failing(
             rt.alloc(),
             stream.as_slice(),
             reads,
@@ -136,7 +136,7 @@ fn each_write_fails(rt: HostRuntime) -> Result<(), Fail> {
     let wants = hex::decode(rt.alloc(), WANTS)?;
     for refusal in &[Refusal::Fails, Refusal::TakesNothing] {
         for writes in 0..=wants.len() {
-            let (text, ended) = served(
+            let (text, ended) = serve_failing(
                 rt.alloc(),
                 stream.as_slice(),
                 usize::MAX,

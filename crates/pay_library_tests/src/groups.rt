@@ -19,7 +19,7 @@ fn letters(alloc: Global, text: &str) -> Result<Lists, AllocError> {
 }
 
 /// The letters that the lists have of account 1.
-fn spelled(alloc: Global, lists: &GroupLists<'_, Lists>) -> Result<Vec<u8>, AllocError> {
+fn spell_lists(alloc: Global, lists: &GroupLists<'_, Lists>) -> Result<Vec<u8>, AllocError> {
     let mut text = Vec::new(alloc);
     for place in 0..lists.length(1) {
         text.extend_from_slice(lists.at(1, place))?;
@@ -36,7 +36,7 @@ fn letters_of_two_members_are_the_groups(rt: HostRuntime) -> Result<(), Fail> {
     let other = letters(alloc, "xyz")?;
     let lists = group_lists(alloc, &[&other, &one, &two, &three], 2, 1)?;
     assert_eq!(rt; lists.length(0), 0);
-    assert_eq!(rt; spelled(alloc, &lists)?.as_slice(), b"ab".as_slice());
+    assert_eq!(rt; spell_lists(alloc, &lists)?.as_slice(), b"ab".as_slice());
     Ok(())
 }
 

@@ -315,7 +315,7 @@ pub(crate) fn fresh(alloc: Global, own: u16) -> Result<Tried, Fail> {
 }
 
 /// The number that a value gets, of which one more is asked for where memory is refused.
-fn asked(alloc: Global, member: &mut Tried, value: Bytes, again: Bytes) -> Result<u32, AskFault> {
+fn try_ask(alloc: Global, member: &mut Tried, value: Bytes, again: Bytes) -> Result<u32, AskFault> {
     match member.ask(alloc, 0, value) {
         Err(AskFault::Memory) => member.ask(alloc, 0, again),
         first => first,
@@ -326,11 +326,11 @@ fn asked(alloc: Global, member: &mut Tried, value: Bytes, again: Bytes) -> Resul
 fn asked_for(alloc: Global, member: &mut Tried, value: &str) -> Result<u32, Fail> {
     let again = Bytes::new(hex::decode(alloc, value)?);
     let value = Bytes::new(hex::decode(alloc, value)?);
-    Ok(asked(alloc, member, value, again)?)
+    Ok(try_ask(alloc, member, value, again)?)
 }
 
 /// What comes of bytes, which are brought once more where memory is refused.
-fn taken(alloc: Global, member: &mut Tried, bytes: &[u8]) -> Result<Brought, AllocError> {
+fn try_take(alloc: Global, member: &mut Tried, bytes: &[u8]) -> Result<Brought, AllocError> {
     match member.bring(alloc, 0, &HmacSha256, bytes) {
         Ok(brought) => Ok(brought),
         Err(_) => member.bring(alloc, 0, &HmacSha256, bytes),
@@ -338,9 +338,9 @@ fn taken(alloc: Global, member: &mut Tried, bytes: &[u8]) -> Result<Brought, All
 }
 
 /// The same of bytes in hexadecimal.
-fn brought(alloc: Global, member: &mut Tried, bytes: &str) -> Result<Brought, Fail> {
+fn try_bring(alloc: Global, member: &mut Tried, bytes: &str) -> Result<Brought, Fail> {
     let bytes = hex::decode(alloc, bytes)?;
-    Ok(taken(alloc, member, bytes.as_slice())?)
+    Ok(try_take(alloc, member, bytes.as_slice())?)
 }
 
 /// Whether an answer has this WANT, or none where that is empty.
@@ -358,11 +358,11 @@ impl Step {
         match self {
             Step::Ask(value, seq) => Ok(asked_for(alloc, member, value)? == *seq),
             Step::Bring(bytes, outcome, want) => {
-                let brought = brought(alloc, member, bytes)?;
+                let brought = try_bring(alloc, member, bytes)?;
                 Ok(brought.outcome == *outcome && is_wanted(alloc, &brought, want)?)
             }
             Step::Take(bytes, took) => {
-                Ok(brought(alloc, member, bytes)?.outcome == Outcome::Took(*took))
+                Ok(try_bring(alloc, member, bytes)?.outcome == Outcome::Took(*took))
             }
             Step::Show(state, front) => Ok(
                 member.genesis().members() > 0
@@ -382,7 +382,11 @@ fn text_of(alloc: Global, member: &Tried) -> Result<String, ReplayFault> {
 }
 
 /// The member that a history of this one is replayed to, once more where memory is refused.
-fn replayed(alloc: Global, member: &Tried, history: &[HistoryEntry]) -> Result<Tried, ReplayFault> {
+fn try_replay(
+    alloc: Global,
+    member: &Tried,
+    history: &[HistoryEntry],
+) -> Result<Tried, ReplayFault> {
     match replay(alloc, member.genesis(), member.keys(), history) {
         Err(ReplayFault::Memory) => replay(alloc, member.genesis(), member.keys(), history),
         first => first,
@@ -395,7 +399,7 @@ fn replayed_text(
     member: &Tried,
     history: &[HistoryEntry],
 ) -> Result<String, ReplayFault> {
-    match replayed(alloc, member, history) {
+    match try_replay(alloc, member, history) {
         Ok(again) => text_of(alloc, &again),
         Err(fault) => Err(fault),
     }
@@ -474,7 +478,7 @@ fn played_by(
     Ok(read_export(alloc, row.export.as_bytes())?)
 }
 
-fn played(rt: &(impl Abort + AllocGlobal), row: &Row) -> Result<Export, Fail> {
+fn play_row(rt: &(impl Abort + AllocGlobal), row: &Row) -> Result<Export, Fail> {
     let mut member = fresh(rt.alloc(), row.own)?;
     played_by(rt, row, &mut member)
 }
@@ -486,7 +490,7 @@ fn play_each(
     exports: &mut Vec<Export>,
 ) -> Result<(), Fail> {
     for row in rows {
-        exports.push(played(rt, row)?)?;
+        exports.push(play_row(rt, row)?)?;
     }
     Ok(())
 }

@@ -2,7 +2,7 @@
 //! `hashlib` compute them.
 
 ghost use Rattle.std.specs.Prelude.{IsTrue};
-ghost use Rattle.pay_record.specs.Loggable.{HasRoom};
+ghost use Rattle.pay_record.specs.Loggable.{FitsRecord};
 
 use crate::members::{SENT, Tried, fresh};
 use pay_frame::{Bytes, GREATEST_VALUE};
@@ -54,7 +54,7 @@ const ROWS: &[Row] = &[
 ];
 
 /// The genesis and the keys of a row.
-fn made(alloc: Global, row: &Row) -> Result<(Genesis, Keys), Fail> {
+fn genesis_and_keys(alloc: Global, row: &Row) -> Result<(Genesis, Keys), Fail> {
     let genesis = Genesis::new(alloc, row.opening.len() as u64, row.faults, row.opening)?;
     if row.own >= genesis.members() {
         return Err(Fail::new("no such member"));
@@ -67,7 +67,7 @@ fn made(alloc: Global, row: &Row) -> Result<(Genesis, Keys), Fail> {
 fn keys_and_headers_of_logs_are_those_of_others(rt: HostRuntime) -> Result<(), Fail> {
     let alloc = rt.alloc();
     for row in ROWS {
-        let (genesis, keys) = made(alloc, row)?;
+        let (genesis, keys) = genesis_and_keys(alloc, row)?;
         let key = hex::encode(alloc, log_key(alloc, &keys)?.as_slice())?;
         assert_eq!(rt; key.as_str(), row.key);
         let bytes = log_header(alloc, &genesis, &keys)?.encode(alloc)?;
@@ -89,7 +89,7 @@ fn asked_and_brought(alloc: Global) -> Result<Tried, Fail> {
 
 /// Whether a record has room for an entry.
 fn has_room(entry: &HistoryEntry) -> bool
-    ensures { IsTrue result → HasRoom entry.now.event }
+    ensures { IsTrue result → FitsRecord entry.now.event }
 {
     match &entry.event {
         Event::Ask(value) => value.len() <= usize::from(GREATEST_VALUE),

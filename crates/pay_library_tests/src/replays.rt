@@ -27,7 +27,7 @@ fn history_of(alloc: Global, seq: u32) -> Result<Vec<HistoryEntry>, Fail> {
 }
 
 /// How many values are settled in the replay of a history, or why it is none.
-fn settled(
+fn replay_settles(
     alloc: Global,
     genesis: &Genesis,
     keys: &Keys,
@@ -56,10 +56,12 @@ fn settled_at_last(
     requires keys { IsKeysOf genesis.now keys.now }
 {
     let history = history_of(alloc, seq)?;
-    Ok(match settled(alloc, genesis, keys, history.as_slice()) {
-        Err(ReplayFault::Memory) => settled(alloc, genesis, keys, history.as_slice()),
-        first => first,
-    })
+    Ok(
+        match replay_settles(alloc, genesis, keys, history.as_slice()) {
+            Err(ReplayFault::Memory) => replay_settles(alloc, genesis, keys, history.as_slice()),
+            first => first,
+        },
+    )
 }
 
 /// The same at a member alone.

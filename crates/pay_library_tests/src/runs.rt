@@ -13,7 +13,7 @@ use std::alloc::Global;
 use std::test::Fail;
 
 /// What happens to a member.
-enum Deed {
+enum Action {
     /// It is asked to pay 30 to account 1.
     Ask(u16),
     /// These bytes, in hexadecimal, are brought to it.
@@ -82,92 +82,96 @@ type Shown = (u64, bool, bool);
 /// Events, those after them, and what comes of all.
 struct Row {
     group: Group,
-    deeds: &'static [Deed],
-    more: &'static [Deed],
+    actions: &'static [Action],
+    more: &'static [Action],
     shown: Result<Shown, WorldFault>,
 }
 
 /// All that is said of the payment but the READY of member 2 to member 1.
-const ALL_BUT_ONE: &[Deed] = &[
-    Deed::Ask(0),
-    Deed::Bring(1, SENT),
-    Deed::Bring(1, ECHOED),
-    Deed::Bring(2, SENT_TO_2),
-    Deed::Bring(2, ECHOED_TO_2),
-    Deed::Bring(2, ECHO_OF_1_TO_2),
-    Deed::Bring(0, ECHO_OF_1),
-    Deed::Bring(1, ECHO_OF_2_TO_1),
-    Deed::Bring(0, ECHO_OF_2),
-    Deed::Bring(0, READY_OF_1),
+const ALL_BUT_ONE: &[Action] = &[
+    Action::Ask(0),
+    Action::Bring(1, SENT),
+    Action::Bring(1, ECHOED),
+    Action::Bring(2, SENT_TO_2),
+    Action::Bring(2, ECHOED_TO_2),
+    Action::Bring(2, ECHO_OF_1_TO_2),
+    Action::Bring(0, ECHO_OF_1),
+    Action::Bring(1, ECHO_OF_2_TO_1),
+    Action::Bring(0, ECHO_OF_2),
+    Action::Bring(0, READY_OF_1),
     // with this one member 0 has three READYs
-    Deed::Bring(0, READY_OF_2),
-    Deed::Bring(1, READY_TO_1),
-    Deed::Bring(2, READY_TO_2),
-    Deed::Bring(2, READY_OF_1_TO_2),
+    Action::Bring(0, READY_OF_2),
+    Action::Bring(1, READY_TO_1),
+    Action::Bring(2, READY_TO_2),
+    Action::Bring(2, READY_OF_1_TO_2),
 ];
 
 const ROWS: &[Row] = &[
     Row {
         group: FOUR,
-        deeds: &[],
+        actions: &[],
         more: &[],
         shown: Ok((100, false, true)),
     },
     Row {
         group: FOUR,
-        deeds: &[Deed::Ask(0)],
+        actions: &[Action::Ask(0)],
         more: &[],
         shown: Ok((100, true, false)),
     },
     Row {
         group: FOUR,
-        deeds: &[Deed::Ask(0), Deed::Bring(1, SENT), Deed::Bring(1, "05")],
+        actions: &[
+            Action::Ask(0),
+            Action::Bring(1, SENT),
+            Action::Bring(1, "05"),
+        ],
         more: &[],
         shown: Ok((100, true, false)),
     },
     Row {
         group: FOUR,
-        deeds: &[Deed::Ask(0), Deed::Bring(1, SENT)],
-        more: &[Deed::Bring(1, FORGED), Deed::Bring(1, FORGED)],
+        actions: &[Action::Ask(0), Action::Bring(1, SENT)],
+        more: &[Action::Bring(1, FORGED), Action::Bring(1, FORGED)],
         shown: Err(WorldFault::Forged(2)),
     },
     Row {
         group: FOUR,
-        deeds: ALL_BUT_ONE,
+        actions: ALL_BUT_ONE,
         more: &[],
         shown: Ok((70, true, false)),
     },
     Row {
         group: FOUR,
-        deeds: ALL_BUT_ONE,
-        more: &[Deed::Bring(1, READY_OF_2_TO_1)],
+        actions: ALL_BUT_ONE,
+        more: &[Action::Bring(1, READY_OF_2_TO_1)],
         shown: Ok((70, true, true)),
     },
     Row {
         group: FOUR,
-        deeds: ALL_BUT_ONE,
-        more: &[Deed::Bring(1, READY_OF_2_TO_1), Deed::Ask(0)],
+        actions: ALL_BUT_ONE,
+        more: &[Action::Bring(1, READY_OF_2_TO_1), Action::Ask(0)],
         shown: Ok((70, true, false)),
     },
     Row {
         group: ALONE,
-        deeds: &[],
+        actions: &[],
         more: &[],
         shown: Ok((7, false, true)),
     },
     // its payment is void: there is no account 1
     Row {
         group: ALONE,
-        deeds: &[Deed::Ask(0)],
+        actions: &[Action::Ask(0)],
         more: &[],
         shown: Ok((7, false, true)),
     },
 ];
 
-fn event_of(alloc: Global, deed: &Deed) -> Result<WorldEvent, Fail> {
-    Ok(match deed {
-        Deed::Ask(member) => WorldEvent::Ask(*member, bytes_of(alloc, "010001000000000000001e")?),
-        Deed::Bring(member, text) => WorldEvent::Bring(*member, bytes_of(alloc, text)?),
+fn event_of(alloc: Global, action: &Action) -> Result<WorldEvent, Fail> {
+    Ok(match action {
+        Action::Ask(member) => WorldEvent::Ask(*member, bytes_of(alloc, "010001000000000000001e")?),
+        Action::Bring(member, text) => WorldEvent::Bring(*member, bytes_of(alloc, text)?),
     })
 }
 
@@ -177,8 +181,8 @@ fn bytes_of(alloc: Global, text: &str) -> Result<Bytes, Fail> {
 
 // Puts a row's events on a list.
 fn list_events(alloc: Global, row: &Row, events: &mut Vec<WorldEvent>) -> Result<(), Fail> {
-    for deed in row.deeds.iter().chain(row.more) {
-        events.push(event_of(alloc, deed)?)?;
+    for action in row.actions.iter().chain(row.more) {
+        events.push(event_of(alloc, action)?)?;
     }
     Ok(())
 }
@@ -189,7 +193,7 @@ fn events_of(alloc: Global, row: &Row) -> Result<Vec<WorldEvent>, Fail> {
     Ok(events)
 }
 
-fn shown(world: &World<PlainInstance, PlainBook>) -> Shown {
+fn show_world(world: &World<PlainInstance, PlainBook>) -> Shown {
     let balance = match world.member(0) {
         Some(member) if member.genesis().members() > 0 => member.balance(0),
         _ => 0,
@@ -209,7 +213,7 @@ fn run_among(
     requires liars { AreLiarsOf genesis.now liars.now }
 {
     match run_world(alloc, &HmacSha256, genesis, keys, liars, events) {
-        Ok(world) => Ok(shown(&world)),
+        Ok(world) => Ok(show_world(&world)),
         Err(fault) => Err(fault),
     }
 }

@@ -344,7 +344,7 @@ fn spell(script: &str, bytes: &mut Vec<u8>) -> Result<(), AllocError> {
 }
 
 // Whether a script prints this among members of this form, and how it ends.
-fn printed<I: Instance + Drop>(
+fn prints<I: Instance + Drop>(
     alloc: Global,
     script: &[u8],
     text: &str,
@@ -363,8 +363,8 @@ fn printed_in_both(alloc: Global, script: &str, text: &str) -> Result<[(bool, Si
     let mut bytes = Vec::new(alloc);
     spell(script, &mut bytes)?;
     Ok([
-        printed::<MaskInstance>(alloc, bytes.as_slice(), text)?,
-        printed::<PlainInstance>(alloc, bytes.as_slice(), text)?,
+        prints::<MaskInstance>(alloc, bytes.as_slice(), text)?,
+        prints::<PlainInstance>(alloc, bytes.as_slice(), text)?,
     ])
 }
 

@@ -45,7 +45,7 @@ pub(crate) fn fresh(alloc: Global) -> Result<Member<PlainInstance, PlainBook>, F
 }
 
 /// What goes out for the bytes, and how it ends.
-fn served(alloc: Global, bytes: &[u8]) -> Result<(Vec<u8>, Result<(), EngineFault>), Fail> {
+fn serve_stream(alloc: Global, bytes: &[u8]) -> Result<(Vec<u8>, Result<(), EngineFault>), Fail> {
     let mut member = fresh(alloc)?;
     let mut reader = Reader::new(bytes);
     let mut writer = Writer::new(Vec::new(alloc));
@@ -63,8 +63,8 @@ fn served(alloc: Global, bytes: &[u8]) -> Result<(Vec<u8>, Result<(), EngineFaul
 
 /// The same, once more where memory is refused: to a call, or to the list that is written to.
 fn served_at_last(alloc: Global, bytes: &[u8]) -> Result<(Vec<u8>, Result<(), EngineFault>), Fail> {
-    match served(alloc, bytes)? {
-        (_, Err(EngineFault::Memory | EngineFault::Write)) => served(alloc, bytes),
+    match serve_stream(alloc, bytes)? {
+        (_, Err(EngineFault::Memory | EngineFault::Write)) => serve_stream(alloc, bytes),
         first => Ok(first),
     }
 }

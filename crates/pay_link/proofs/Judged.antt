@@ -9,7 +9,7 @@ use Rattle.pay_frame.specs.Frame.{BodyFields, FrameFields}
 use Rattle.pay_link.specs.Keys.{IsPeer, KeyFields, is_peer, key_for}
 use Rattle.pay_link.specs.Opening.{IsTagged, OpenedFields, Opens, judgement, opened_fields, right_tag}
 use Rattle.pay_hmac.specs.Mac.{mac}
-use Rattle.pay_link.specs.Sealing.{sealed, tagged_bytes}
+use Rattle.pay_link.specs.Sealing.{sealed_frame, tagged_bytes}
 use Rattle.pay_link.specs.declared.link_fault.LinkFault.{LinkFault}
 use Rattle.pay_link.specs.declared.link_fault.LinkFault.TheVariants.{BadTag, Gap, NotForMe, Repeat, UnknownOwner, UnknownSender}
 
@@ -207,9 +207,9 @@ opened_law k f o =
 -- what is sealed for a peer opens there
 pub sealed_opens_law : (a b : KeyFields) (number : ℕ) (body : BodyFields) → IsPeer b a.own →
     key_for a b.own ≡ key_for b a.own → body.owner < length b.keys →
-    judgement b (sealed a b.own number body) ≡ Ok (opened_fields b (sealed a b.own number body))
+    judgement b (sealed_frame a b.own number body) ≡ Ok (opened_fields b (sealed_frame a b.own number body))
 sealed_opens_law a b number body peer shared owner =
-    (opened_law b (sealed a b.own number body) _).1 (
+    (opened_law b (sealed_frame a b.own number body) _).1 (
       record {
         for_me = refl;
         sender = peer;

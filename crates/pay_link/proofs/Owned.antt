@@ -6,7 +6,7 @@ use Rattle.pay_frame.specs.OneFrame.{IsOneFrame}
 use Rattle.pay_link.specs.Checked.{CheckedFields, IsChecked, IsFor, bytes_of, checked_fields}
 use Rattle.pay_link.specs.Keys.{IsPeer, KeyFields, key_for}
 use Rattle.pay_link.specs.Opening.{OpenedFields, judgement, opened_fields}
-use Rattle.pay_link.specs.Sealing.{sealed}
+use Rattle.pay_link.specs.Sealing.{sealed_frame}
 use Rattle.pay_link.proofs.Judged.{opened_law}
 
 pub kept_law : (k : KeyFields) (f : FrameFields) (o : OpenedFields) → IsFrame f → f.body.kind ≢ Want →
@@ -40,7 +40,7 @@ one_frame_law c is_checked = record { is = is_checked.frame; spelled = refl }
 
 -- what is sealed for a peer opens there, and is then what was owned
 pub sealed_owned : (a k : KeyFields) (to number : ℕ) (body : BodyFields) (c : CheckedFields) → IsChecked c →
-    c ≡ record { frame = sealed a to number body; key = key_for a to } → k.own ≡ to → IsPeer k a.own →
+    c ≡ record { frame = sealed_frame a to number body; key = key_for a to } → k.own ≡ to → IsPeer k a.own →
     key_for a to ≡ key_for k a.own → body.owner < length k.keys →
     IsFor k c × (judgement k c.frame ≡ Ok (opened_fields k c.frame)) × (checked_fields (opened_fields k c.frame) ≡ c)
 sealed_owned a k to number body c is_checked value own peer shared owner =

@@ -5,7 +5,7 @@ use Rattle.std.specs.Option.{option_map_or}
 use Rattle.pay_frame.specs.declared.limits.TheConstants.{MOST_MEMBERS}
 use Rattle.pay_link.specs.declared.limits.TheConstants.{GREATEST_TOTAL}
 use Rattle.pay_link.specs.Json.{Data, value_in}
-use Rattle.pay_link.specs.Files.{IsLeastBad, KeysSaid, SaysKeys, genesis_in, genesis_said, key_at, keys_from, keys_in, keys_judged, keys_said, ◌>>=◌}
+use Rattle.pay_link.specs.Files.{IsLeastBad, KeysSaid, SaysKeys, genesis_in, genesis_said, key_at, keys_from, keys_in_file, keys_judged, keys_said, ◌>>=◌}
 use Rattle.pay_link.specs.Genesis.{GenesisFields, genesis_fault}
 use Rattle.pay_link.specs.Keys.{KeyFields, no_key, place_fault}
 use Rattle.pay_link.specs.declared.genesis_fault.GenesisFault.{GenesisFault}
@@ -281,11 +281,11 @@ keys_judged-no_shape members said h =
       | inr w ↦ keys_from-no said.own 0 said.texts _ (λ p e. cc) w.1
     ]
 
-pub keys_json_law : (members : ℕ) (bytes : List ℕ) → (keys_in members bytes ≡ Err keys.BadJson) ↔ (value_in bytes ≡ None)
+pub keys_json_law : (members : ℕ) (bytes : List ℕ) → (keys_in_file members bytes ≡ Err keys.BadJson) ↔ (value_in bytes ≡ None)
 keys_json_law members bytes =
     steps-json keys.BadJson keys.BadShape keys_said (keys_judged members) (value_in bytes) (λ e. cc) (keys_judged-no_json members)
 
-pub keys_shape_law : (members : ℕ) (bytes : List ℕ) → (keys_in members bytes ≡ Err keys.BadShape)
+pub keys_shape_law : (members : ℕ) (bytes : List ℕ) → (keys_in_file members bytes ≡ Err keys.BadShape)
     ↔ ((d : Data) × ((value_in bytes ≡ Some d) × (keys_said d ≡ None)))
 keys_shape_law members bytes =
     steps-shape keys.BadJson keys.BadShape keys_said (keys_judged members) (value_in bytes) (λ e. cc) (keys_judged-no_shape members)

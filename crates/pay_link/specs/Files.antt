@@ -60,15 +60,15 @@ keys_from own place (text ∷ texts) = do
   Ok (key ∷ others)
 
 -- the keys that all the texts say, or the first place whose text says none
-abbrev pub all_keys : KeysSaid → Result KeyFields KeysFault
-all_keys said = do
+abbrev pub keys_of_texts : KeysSaid → Result KeyFields KeysFault
+keys_of_texts said = do
   kept ← keys_from said.own 0 said.texts
   Ok (record { own = said.own; keys = kept })
 
 -- the keys that these texts say for one of so many members, or the first of their faults
 abbrev pub keys_judged : ℕ → KeysSaid → Result KeyFields KeysFault
 keys_judged members said =
-    option_map_or Err (place_fault members said.own (length said.texts)) (all_keys said)
+    option_map_or Err (place_fault members said.own (length said.texts)) (keys_of_texts said)
 
 -- the text at a place
 abbrev pub text_at : KeysSaid → ℕ → List ℕ
@@ -88,8 +88,8 @@ pub record SaysKeys (said : KeysSaid) (k : KeyFields) : Type 0 where
       (p : ℕ) → p < length said.texts → key_at said.own p (text_at said p) ≡ Some (key_for k p)
 
 -- the keys of a file for a genesis of so many members, or the first of its faults
-abbrev pub keys_in : ℕ → List ℕ → Result KeyFields KeysFault
-keys_in members bytes = do
+abbrev pub keys_in_file : ℕ → List ℕ → Result KeyFields KeysFault
+keys_in_file members bytes = do
   d ← ok_or (value_in bytes) keys.BadJson
   said ← ok_or (keys_said d) keys.BadShape
   keys_judged members said

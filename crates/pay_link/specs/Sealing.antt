@@ -10,8 +10,8 @@ unfoldable pub tagged_bytes : ℕ → ℕ → ℕ → BodyFields → List ℕ
 tagged_bytes from to number body = head_bytes from to number body ++ body.value
 
 -- the frame that spells a body for a peer under this number, with the tag under their key
-abbrev pub sealed : KeyFields → ℕ → ℕ → BodyFields → FrameFields
-sealed k to number body = record {
+abbrev pub sealed_frame : KeyFields → ℕ → ℕ → BodyFields → FrameFields
+sealed_frame k to number body = record {
   from = k.own;
   to = to;
   number = number;
@@ -24,5 +24,5 @@ abbrev pub want_body : BodyFields
 want_body = record { kind = Want; owner = 0; seq = 0; value = [] }
 
 -- the WANT that asks a peer for its frames from a number on
-abbrev pub wanted : KeyFields → ℕ → ℕ → FrameFields
-wanted k to number = sealed k to number want_body
+abbrev pub want_frame : KeyFields → ℕ → ℕ → FrameFields
+want_frame k to number = sealed_frame k to number want_body

@@ -11,8 +11,8 @@ use std::sync::Arc;
 /// A frame by itself that was opened, with the key that it was opened under. Copies share it.
 ///
 /// Its type keeps that the frame is within its limits, that its tag is right under that key, and
-/// that it is no WANT. `Opened::own`, `sealed` and `copy` alone make one. Like `Keys` it has no
-/// `Debug`, so that no line of a log shows the key.
+/// that it is no WANT. Only `Opened::own`, `seal_checked` and `copy` make one. Like `Keys` it has
+/// no `Debug`, so that no line of a log shows the key.
 #[derive(Drop)]
 pub struct Checked {
     parts: Arc<CheckedParts, Global>,

@@ -2,7 +2,7 @@ ghost use Rattle.std.specs.Prelude.{◌≡◌, ◌<◌, ◌≤◌, ◌↔◌, �
 ghost use Rattle.std.specs.Prelude.{MatchOption, length, map};
 ghost use Rattle.std.specs.Option.{option_map_or};
 ghost use Rattle.std.specs.Result.{result_map_both};
-ghost use Rattle.pay_link.specs.Files.{key_at, keys_from, keys_in};
+ghost use Rattle.pay_link.specs.Files.{key_at, keys_from, keys_in_file};
 ghost use Rattle.pay_link.specs.Keys.{IsKeys, IsKeysOf, IsPeer, kept_keys, key_for, keys_fault};
 ghost use Rattle.pay_link.specs.Keys.{place_fault};
 
@@ -60,7 +60,7 @@ impl Keys {
 
     /// The keys that a file of JSON says for a member of this genesis.
     pub fn read(alloc: Global, genesis: &Genesis, bytes: &[u8]) -> Result<Keys, KeysFault>
-        ensures value { (result ≡ keys_in genesis.now.members bytes.now)
+        ensures value { (result ≡ keys_in_file genesis.now.members bytes.now)
             ⊎ (result ≡ Err KeysFault.Memory) }
         ensures genesis { IfOk result (IsKeysOf genesis.now) }
     {

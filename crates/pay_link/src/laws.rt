@@ -6,13 +6,13 @@ ghost use Rattle.pay_frame.specs.OneFrame.{IsOneFrame};
 ghost use Rattle.pay_link.specs.Json.{Data, value_in};
 ghost use Rattle.pay_link.specs.Checked.{CheckedFields, IsChecked, IsFor, bytes_of, checked_fields};
 ghost use Rattle.pay_link.specs.Files.{IsLeastBad, KeysSaid, SaysKeys, genesis_in, genesis_said};
-ghost use Rattle.pay_link.specs.Files.{keys_in, keys_judged, keys_said};
+ghost use Rattle.pay_link.specs.Files.{keys_in_file, keys_judged, keys_said};
 ghost use Rattle.pay_link.specs.Fronts.{turn};
 ghost use Rattle.pay_link.specs.Genesis.{GenesisFields, IsGenesis, genesis_fault};
 ghost use Rattle.pay_link.specs.Keys.{IsPeer, KeyFields, kept_keys, key_for, keys_fault, no_key};
 ghost use Rattle.pay_link.specs.Keys.{place_fault};
 ghost use Rattle.pay_link.specs.Opening.{IsTagged, OpenedFields, Opens, judgement, opened_fields};
-ghost use Rattle.pay_link.specs.Sealing.{sealed};
+ghost use Rattle.pay_link.specs.Sealing.{sealed_frame};
 ghost use Rattle.pay_link.specs.TestKeys.{test_keys_of};
 
 use crate::genesis_fault::GenesisFault;
@@ -67,10 +67,10 @@ pub fn keys_causes()
 /// where there is none, the keys are those that the texts say.
 pub fn keys_file_faults()
     ensures json { (members : ℕ) (bytes : List ℕ)
-        → (keys_in members bytes ≡ Err KeysFault.BadJson)
+        → (keys_in_file members bytes ≡ Err KeysFault.BadJson)
         ↔ (value_in bytes ≡ None) }
     ensures shape { (members : ℕ) (bytes : List ℕ)
-        → (keys_in members bytes ≡ Err KeysFault.BadShape)
+        → (keys_in_file members bytes ≡ Err KeysFault.BadShape)
         ↔ ((d : Data) × ((value_in bytes ≡ Some d) × (keys_said d ≡ None))) }
     ensures key { (members : ℕ) (said : KeysSaid) (place : ℕ) →
         (keys_judged members said ≡ Err (KeysFault.BadKey place))
@@ -100,14 +100,14 @@ pub fn numbers_in_turn()
 
 /// A frame opens exactly where it is for the member, from a peer, about a member's broadcast and
 /// rightly tagged, and it is then what was opened.
-pub fn opened()
+pub fn judgement_opens()
     ensures { (k : KeyFields) (f : FrameFields) (o : OpenedFields) →
         (judgement k f ≡ Ok o) ↔ (Opens k f × (o ≡ opened_fields k f)) }
 {}
 
 /// Each refusal comes exactly where its own cause holds and no earlier one. Whether a number is the
 /// next one isn't asked yet.
-pub fn refused()
+pub fn judgement_refuses()
     ensures not_for_me { (k : KeyFields) (f : FrameFields) →
         (judgement k f ≡ Err LinkFault.NotForMe) ↔ (f.to ≢ k.own) }
     ensures unknown_sender { (k : KeyFields) (f : FrameFields) →
@@ -127,7 +127,7 @@ pub fn refused()
 
 /// What opens at a member, once it is owned, is for that member; and what is for a member opens
 /// there again, and is then what was owned. Its bytes are that frame and nothing else.
-pub fn owned()
+pub fn owned_opens_again()
     ensures kept { (k : KeyFields) (f : FrameFields) (o : OpenedFields) → IsFrame f
         → f.body.kind ≢ Kind.Want → judgement k f ≡ Ok o
         → IsChecked (checked_fields o) × IsFor k (checked_fields o) }
@@ -141,7 +141,7 @@ pub fn owned()
 pub fn sealed_opens()
     ensures { (a b : KeyFields) (number : ℕ) (body : BodyFields) → IsPeer b a.own
         → key_for a b.own ≡ key_for b a.own → body.owner < length b.keys
-        → let f = sealed a b.own number body in judgement b f ≡ Ok (opened_fields b f) }
+        → let f = sealed_frame a b.own number body in judgement b f ≡ Ok (opened_fields b f) }
 {}
 
 /// Two members' test keys for each other are the same.

@@ -1,9 +1,10 @@
 //! Links: what a ledger begins with, the keys of its members, and frames that are rightly tagged
 //! and for the member that opens them.
 //!
-//! [`Genesis`] and [`Keys`] are read from files of JSON, whose parts [`value_in`] and [`numbers_at`]
-//! find; which text has which value is `serde_json`'s. [`seal`] encodes a frame for a peer; [`open`]
-//! gives an [`Opened`] frame or the first cause to refuse it, and a [`Checked`] one can be kept.
+//! [`Genesis`] and [`Keys`] are read from files of JSON, whose parts [`value_in`] and
+//! [`numbers_at`] find; which text has which value is `serde_json`'s. [`seal`] encodes a frame for
+//! a peer; [`open`] gives an [`Opened`] frame or the first cause to refuse it, and a [`Checked`]
+//! one can be kept.
 //!
 //! ```
 //! let genesis = Genesis::read(alloc, &file)?;
@@ -41,4 +42,4 @@ pub use limits::{GREATEST_TOTAL, WANT_LEN};
 pub use link_fault::LinkFault;
 pub use opened::{Opened, open};
 pub use pay_frame::MOST_MEMBERS;
-pub use sealing::{seal, sealed, want};
+pub use sealing::{seal, seal_checked, want};

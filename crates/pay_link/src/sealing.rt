@@ -4,7 +4,7 @@ ghost use Rattle.pay_hmac.specs.Mac.{mac};
 ghost use Rattle.pay_link.specs.Checked.{IsChecked, IsFor, bytes_of, checked_fields};
 ghost use Rattle.pay_link.specs.Keys.{IsPeer, KeyFields, key_for};
 ghost use Rattle.pay_link.specs.Opening.{judgement, opened_fields};
-ghost use Rattle.pay_link.specs.Sealing.{sealed, tagged_bytes, wanted};
+ghost use Rattle.pay_link.specs.Sealing.{sealed_frame, tagged_bytes, want_frame};
 
 use crate::checked::Checked;
 use crate::checked_parts::CheckedParts;
@@ -25,8 +25,8 @@ pub fn seal<T: Tagger>(
 ) -> Result<Vec<u8>, AllocError>
     requires { IsPeer keys.now to }
     ensures bytes { IfOk result (λ bytes.
-        bytes.items ≡ frame_bytes (sealed keys.now to number body.now)) }
-    ensures frame { IfOk result (λ _. IsFrame (sealed keys.now to number body.now)) }
+        bytes.items ≡ frame_bytes (sealed_frame keys.now to number body.now)) }
+    ensures frame { IfOk result (λ _. IsFrame (sealed_frame keys.now to number body.now)) }
 {
     let tag = tag_for(t, keys, to, number, body);
     write(alloc, keys.own(), to, number, body, &tag)
@@ -35,8 +35,8 @@ pub fn seal<T: Tagger>(
 /// The same frame by itself, with the key that it was sealed under.
 ///
 /// At the peer, where that has the same key for the sender, its bytes open, and what is owned there
-/// is this very frame. So whoever hands it on in one process computes its tag but once.
-pub fn sealed<T: Tagger>(
+/// is this very frame. So handing it on within one process takes one tag.
+pub fn seal_checked<T: Tagger>(
     alloc: Global,
     t: &T,
     keys: &Keys,
@@ -47,10 +47,10 @@ pub fn sealed<T: Tagger>(
     requires peer { IsPeer keys.now to }
     requires kind { body.now.kind ≢ Kind.Want }
     ensures value { IfOk result (λ checked. checked
-        ≡ record { frame = sealed keys.now to number body.now; key = key_for keys.now to }) }
+        ≡ record { frame = sealed_frame keys.now to number body.now; key = key_for keys.now to }) }
     ensures bytes { IfOk result (λ checked.
-        bytes_of checked ≡ frame_bytes (sealed keys.now to number body.now)) }
-    ensures frame { IsFrame (sealed keys.now to number body.now) }
+        bytes_of checked ≡ frame_bytes (sealed_frame keys.now to number body.now)) }
+    ensures frame { IsFrame (sealed_frame keys.now to number body.now) }
     ensures limits { IfOk result IsChecked }
     ensures owned { IfOk result (λ checked. (k : KeyFields) → k.own ≡ to → IsPeer k keys.now.own
         → key_for keys.now to ≡ key_for k keys.now.own → body.now.owner < length k.keys
@@ -66,18 +66,18 @@ pub fn sealed<T: Tagger>(
 /// takes no memory.
 pub fn want<T: Tagger>(t: &T, keys: &Keys, to: u16, number: u64) -> [u8; WANT_LEN]
     requires { IsPeer keys.now to }
-    ensures bytes { result ≡ frame_bytes (wanted keys.now to number) }
-    ensures frame { IsFrame (wanted keys.now to number) }
+    ensures bytes { result ≡ frame_bytes (want_frame keys.now to number) }
+    ensures frame { IsFrame (want_frame keys.now to number) }
 {
     let body = Body::new(Kind::Want, 0, 0, keys.no_bytes());
     let mut head = [0; HEAD_LEN];
     head_into(&mut head, keys.own(), to, number, &body);
     let tag = tag_for(t, keys, to, number, &body);
-    joined(&head, &tag)
+    join_head_and_tag(&head, &tag)
 }
 
 // A head and a tag with no value between them.
-fn joined(head: &[u8; HEAD_LEN], tag: &[u8; TAG_LEN]) -> [u8; WANT_LEN]
+fn join_head_and_tag(head: &[u8; HEAD_LEN], tag: &[u8; TAG_LEN]) -> [u8; WANT_LEN]
     ensures { result ≡ head.now ++ tag.now }
 {
     let mut bytes = [0; WANT_LEN];
@@ -92,7 +92,7 @@ fn tag_for<T: Tagger>(t: &T, keys: &Keys, to: u16, number: u64, body: &Body) -> 
     requires { IsPeer keys.now to }
     ensures tag { result
         ≡ mac (key_for keys.now to) (tagged_bytes keys.now.own to number body.now) }
-    ensures frame { IsFrame (sealed keys.now to number body.now) }
+    ensures frame { IsFrame (sealed_frame keys.now to number body.now) }
 {
     let mut head = [0; HEAD_LEN];
     head_into(&mut head, keys.own(), to, number, body);
@@ -111,8 +111,8 @@ fn checked_for<T: Tagger>(
     requires peer { IsPeer keys.now to }
     requires kind { body.now.kind ≢ Kind.Want }
     ensures value { IfOk result (λ checked. checked
-        ≡ record { frame = sealed keys.now to number body.now; key = key_for keys.now to }) }
-    ensures frame { IsFrame (sealed keys.now to number body.now) }
+        ≡ record { frame = sealed_frame keys.now to number body.now; key = key_for keys.now to }) }
+    ensures frame { IsFrame (sealed_frame keys.now to number body.now) }
     ensures limits { IfOk result IsChecked }
 {
     let tag = tag_for(t, keys, to, number, body);

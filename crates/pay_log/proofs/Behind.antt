@@ -3,7 +3,7 @@ use Rattle.std.proofs.Common.{◌≡◌, ◌≢◌, inl, inr, ℕ, ◌+◌, ◌<
 use Rattle.std.specs.List.{All}
 use Rattle.std.proofs.lemmas.List.{nil_from_length, drop_at, drop-append-le, length-drop}
 use Rattle.pay_log.specs.Chunks.{BeginsWith, chunk_of, IsShort}
-use Rattle.pay_log.specs.Damage.{HasChunkBehind, IsByChance, IsChunkAt, IsDamaged}
+use Rattle.pay_log.specs.Damage.{HasChunkAfter, IsByChance, IsChunkAt, IsDamaged}
 use Rattle.pay_log.specs.Logs.{end_place, log_bytes, IsLog}
 use Rattle.pay_log.proofs.Chunks.{Front, decide_front, none_at_nothing, room_is}
 use Rattle.pay_log.proofs.Logs.{all_push, cut_short, log-push, one_log, same_or_not}
@@ -16,7 +16,7 @@ pub inside : (key : List ℕ) (place : ℕ) (bytes : List ℕ) (at : ℕ) → Is
 inside key place bytes at chunk =
     omega (arith, room_is key (place + at) chunk.payload (drop at bytes) chunk.stands, length-drop at bytes)
 
-none_in_nothing : (key : List ℕ) (place : ℕ) → HasChunkBehind key place [] → ⊥
+none_in_nothing : (key : List ℕ) (place : ℕ) → HasChunkAfter key place [] → ⊥
 none_in_nothing key place has = absurd (omega (arith, inside key place [] has.at has.chunk))
 
 -- a file's log has one end
@@ -29,11 +29,11 @@ same_rest key header file ps qs p q =
 -- damage as it is seen from any reading of the file
 pub damage_at :
     (key header file : List ℕ) (ps : List (List ℕ)) (count : ℕ) (log : IsLog key header file ps) → IsDamaged key header file count
-    → HasChunkBehind key (end_place ps) log.rest
+    → HasChunkAfter key (end_place ps) log.rest
 damage_at key header file ps count log damaged =
     let same : damaged.ps ≡ ps = one_log key header file damaged.ps ps damaged.log log in
-    subst (λ (b : List ℕ). HasChunkBehind key (end_place ps) b) (same_rest key header file damaged.ps ps damaged.log log)
-    (subst (λ (l : List (List ℕ)). HasChunkBehind key (end_place l) damaged.log.rest) same damaged.has)
+    subst (λ (b : List ℕ). HasChunkAfter key (end_place ps) b) (same_rest key header file damaged.ps ps damaged.log log)
+    (subst (λ (l : List (List ℕ)). HasChunkAfter key (end_place l) damaged.log.rest) same damaged.has)
 
 -- ---- what a crash leaves of one chunk more
 
@@ -48,7 +48,7 @@ torn_damage key header ps p file tail count short short_p is few damaged = elim 
   ]
   | inr end ↦
       let log : IsLog key header file ps = record { short = short; rest = tail; is = is; ended = end } in
-      let has : HasChunkBehind key (end_place ps) tail = damage_at key header file ps count log damaged in
+      let has : HasChunkAfter key (end_place ps) tail = damage_at key header file ps count log damaged in
       record { tail = tail; is = is; at = has.at; chunk = has.chunk; unwritten = inl has.behind }
 ]
   where
@@ -98,7 +98,7 @@ pub cut_damage :
     → length (log_bytes key header ps) ≤ length c → IsDamaged key header c count → IsDamaged key header file (length ps)
 cut_damage key header file c ps after count log cut long damaged =
     let short : IsLog key header c ps = cut_short key header file c ps after log cut long in
-    let has : HasChunkBehind key (end_place ps) short.rest = damage_at key header c ps count short damaged in
+    let has : HasChunkAfter key (end_place ps) short.rest = damage_at key header c ps count short damaged in
     let all : List ℕ = log_bytes key header ps in
     let rest : log.rest ≡ short.rest ++ after =
     cancel all log.rest (short.rest ++ after) (sym log.is ∙ cut ∙ ap (λ (l : List ℕ). l ++ after) short.is ∙ append_assoc all short.rest after) in
@@ -106,6 +106,6 @@ cut_damage key header file c ps after count log cut long damaged =
       ps = ps;
       log = log;
       counted = refl;
-      has = subst (λ (b : List ℕ). HasChunkBehind key (end_place ps) b) (sym rest)
+      has = subst (λ (b : List ℕ). HasChunkAfter key (end_place ps) b) (sym rest)
           (record { at = has.at; behind = has.behind; chunk = chunk_in_whole key (end_place ps) short.rest after has.at has.chunk });
     }

@@ -9,21 +9,21 @@ use Rattle.std.proofs.lemmas.Nat.{from_be_bytes-to_be_bytes_4, be_bytes_4}
 use Rattle.std.proofs.lemmas.Slice.Eq.{bytes_eq-Decides}
 use Rattle.pay_hmac.specs.Mac.{mac, length-mac}
 use Rattle.pay_log.specs.declared.limits.TheConstants.{MOST_PAYLOAD}
-use Rattle.pay_log.specs.Chunks.{BeginsWith, body_of, sum_of, chunk_of, place_bytes, head_of, length_at, mark, IsHead, IsHeadless, IsShort, IsEnd}
+use Rattle.pay_log.specs.Chunks.{BeginsWith, chunk_body, sum_of, chunk_of, place_bytes, chunk_head, length_at, mark, IsHead, IsHeadless, IsShort, IsEnd}
 
-eight : (n : ℕ) → length (head_of n) ≡ 8
+eight : (n : ℕ) → length (chunk_head n) ≡ 8
 eight n = refl
 
 pub length-chunk : (key : List ℕ) (sum : ℕ) (p : List ℕ) → length (chunk_of key sum p) ≡ 40 + length p
 unfolding chunk_of
 length-chunk key sum p =
-    omega (arith, length-append (body_of p) (sum_of key sum p), length-append (head_of (length p)) p, length-mac key (place_bytes sum ++ body_of p), eight (length p))
+    omega (arith, length-append (chunk_body p) (sum_of key sum p), length-append (chunk_head (length p)) p, length-mac key (place_bytes sum ++ chunk_body p), eight (length p))
 
 -- the parts of a chunk, each at its place
-pub spread : (key : List ℕ) (sum : ℕ) (p rest : List ℕ) → chunk_of key sum p ++ rest ≡ head_of (length p) ++ (p ++ (sum_of key sum p ++ rest))
+pub spread : (key : List ℕ) (sum : ℕ) (p rest : List ℕ) → chunk_of key sum p ++ rest ≡ chunk_head (length p) ++ (p ++ (sum_of key sum p ++ rest))
 unfolding chunk_of
 spread key sum p rest =
-    append_assoc (body_of p) (sum_of key sum p) rest ∙ append_assoc (head_of (length p)) p (sum_of key sum p ++ rest)
+    append_assoc (chunk_body p) (sum_of key sum p) rest ∙ append_assoc (chunk_head (length p)) p (sum_of key sum p ++ rest)
 
 short_fits : (n : ℕ) → n ≤ MOST_PAYLOAD → n < 2 ^ 32
 short_fits n short = omega arith
@@ -36,18 +36,18 @@ pub payload_is : (key : List ℕ) (sum : ℕ) (p bytes : List ℕ) → BeginsWit
 payload_is key sum p bytes begins =
     ap (λ (l : List ℕ). take (length p) (drop 8 l)) (begins.is ∙ spread key sum p begins.rest) ∙ take_at p (sum_of key sum p ++ begins.rest) (length p) refl
 
-pub body_is : (key : List ℕ) (sum : ℕ) (p bytes : List ℕ) → BeginsWith bytes (chunk_of key sum p) → take (8 + length p) bytes ≡ body_of p
+pub body_is : (key : List ℕ) (sum : ℕ) (p bytes : List ℕ) → BeginsWith bytes (chunk_of key sum p) → take (8 + length p) bytes ≡ chunk_body p
 unfolding chunk_of
 body_is key sum p bytes begins =
-    ap (λ (l : List ℕ). take (8 + length p) l) (begins.is ∙ append_assoc (body_of p) (sum_of key sum p) begins.rest)
-    ∙ take_at (body_of p) (sum_of key sum p ++ begins.rest) (8 + length p) (omega (arith, length-append (head_of (length p)) p, eight (length p)))
+    ap (λ (l : List ℕ). take (8 + length p) l) (begins.is ∙ append_assoc (chunk_body p) (sum_of key sum p) begins.rest)
+    ∙ take_at (chunk_body p) (sum_of key sum p ++ begins.rest) (8 + length p) (omega (arith, length-append (chunk_head (length p)) p, eight (length p)))
 
 pub sum_is : (key : List ℕ) (sum : ℕ) (p bytes : List ℕ) → BeginsWith bytes (chunk_of key sum p) → take 32 (drop (8 + length p) bytes) ≡ sum_of key sum p
 unfolding chunk_of
 sum_is key sum p bytes begins =
-    ap (λ (l : List ℕ). take 32 (drop (8 + length p) l)) (begins.is ∙ append_assoc (body_of p) (sum_of key sum p) begins.rest)
-    ∙ ap (take 32) (drop_at (body_of p) (sum_of key sum p ++ begins.rest) (8 + length p) (omega (arith, length-append (head_of (length p)) p, eight (length p))))
-    ∙ take_at (sum_of key sum p) begins.rest 32 (length-mac key (place_bytes sum ++ body_of p))
+    ap (λ (l : List ℕ). take 32 (drop (8 + length p) l)) (begins.is ∙ append_assoc (chunk_body p) (sum_of key sum p) begins.rest)
+    ∙ ap (take 32) (drop_at (chunk_body p) (sum_of key sum p ++ begins.rest) (8 + length p) (omega (arith, length-append (chunk_head (length p)) p, eight (length p))))
+    ∙ take_at (sum_of key sum p) begins.rest 32 (length-mac key (place_bytes sum ++ chunk_body p))
 
 pub room_is : (key : List ℕ) (sum : ℕ) (p bytes : List ℕ) → BeginsWith bytes (chunk_of key sum p) → 40 + length p ≤ length bytes
 room_is key sum p bytes begins =
@@ -130,7 +130,7 @@ no_mark key sum bytes none p short begins = none (ap (take 4) (begins.is ∙ spr
 eight_more : (m : ℕ) → 8 + m ≡ suc (suc (suc (suc (suc (suc (suc (suc m)))))))
 eight_more m = omega arith
 
-pub body_at : (bytes : List ℕ) (n : ℕ) → take 4 bytes ≡ mark → n ≡ length_at bytes → 40 + n ≤ length bytes → ((i : ℕ) → get_or bytes i 0 < 256) → take (8 + n) bytes ≡ body_of (take n (drop 8 bytes))
+pub body_at : (bytes : List ℕ) (n : ℕ) → take 4 bytes ≡ mark → n ≡ length_at bytes → 40 + n ≤ length bytes → ((i : ℕ) → get_or bytes i 0 < 256) → take (8 + n) bytes ≡ chunk_body (take n (drop 8 bytes))
 body_at [] n marked is room small = absurd (omega arith)
 body_at (s ∷ []) n marked is room small = absurd (omega arith)
 body_at (s ∷ t ∷ []) n marked is room small = absurd (omega arith)
@@ -145,7 +145,7 @@ body_at (s ∷ t ∷ u ∷ v ∷ a ∷ b ∷ c ∷ d ∷ rest) n marked is room 
     front
     ∙ ap (λ (l : List ℕ). l ++ (a ∷ b ∷ c ∷ d ∷ take n rest)) marked
     ∙ ap (λ (l : List ℕ). mark ++ l ++ take n rest) (sym number)
-    ∙ ap (λ (m : ℕ). head_of m ++ take n rest) (sym long)
+    ∙ ap (λ (m : ℕ). chunk_head m ++ take n rest) (sym long)
   where
     four_fit : (i : ℕ) → get_or (a ∷ b ∷ c ∷ d ∷ []) i 0 < 256
     four_fit zero = small 4
@@ -163,14 +163,14 @@ pub whole_chunk : (key : List ℕ) (sum : ℕ) (bytes : List ℕ) (n : ℕ) → 
 unfolding chunk_of
 whole_chunk key sum bytes n marked is room small fitting =
     let body = body_at bytes n marked is room small in
-    let tail : drop (8 + n) bytes ≡ mac key (place_bytes sum ++ body_of (take n (drop 8 bytes))) ++ drop (40 + n) bytes =
+    let tail : drop (8 + n) bytes ≡ mac key (place_bytes sum ++ chunk_body (take n (drop 8 bytes))) ++ drop (40 + n) bytes =
     sym (take-append-drop 32 (drop (8 + n) bytes))
     ∙ ap (λ (l : List ℕ). l ++ drop 32 (drop (8 + n) bytes)) (fitting ∙ ap (λ (l : List ℕ). mac key (place_bytes sum ++ l)) body)
-    ∙ ap (λ (l : List ℕ). mac key (place_bytes sum ++ body_of (take n (drop 8 bytes))) ++ l) (drop-drop 32 (8 + n) bytes ∙ ap (λ (m : ℕ). drop m bytes) (forty n)) in
+    ∙ ap (λ (l : List ℕ). mac key (place_bytes sum ++ chunk_body (take n (drop 8 bytes))) ++ l) (drop-drop 32 (8 + n) bytes ∙ ap (λ (m : ℕ). drop m bytes) (forty n)) in
     sym (take-append-drop (8 + n) bytes)
     ∙ ap (λ (l : List ℕ). l ++ drop (8 + n) bytes) body
-    ∙ ap (λ (l : List ℕ). body_of (take n (drop 8 bytes)) ++ l) tail
-    ∙ sym (append_assoc (body_of (take n (drop 8 bytes))) (mac key (place_bytes sum ++ body_of (take n (drop 8 bytes)))) (drop (40 + n) bytes))
+    ∙ ap (λ (l : List ℕ). chunk_body (take n (drop 8 bytes)) ++ l) tail
+    ∙ sym (append_assoc (chunk_body (take n (drop 8 bytes))) (mac key (place_bytes sum ++ chunk_body (take n (drop 8 bytes)))) (drop (40 + n) bytes))
   where
     forty : (n : ℕ) → 8 + n + 32 ≡ 40 + n
     forty n = omega arith

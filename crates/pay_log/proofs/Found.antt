@@ -3,7 +3,7 @@ use Rattle.std.proofs.Common.{◌≡◌, ℕ, ◌+◌, List, ◌++◌, length, t
 use Rattle.std.proofs.lemmas.List.{drop-drop}
 use Rattle.pay_log.specs.declared.limits.TheConstants.{HEADER_LEN}
 use Rattle.pay_log.specs.Chunks.{IsEnd, chunks_of}
-use Rattle.pay_log.specs.Damage.{HasChunkBehind, IsDamaged}
+use Rattle.pay_log.specs.Damage.{HasChunkAfter, IsDamaged}
 use Rattle.pay_log.specs.Logs.{IsLog, end_place, log_bytes}
 use Rattle.pay_log.specs.Recovery.{HasRead, IsReadLog}
 use Rattle.pay_log.specs.Sinks.{TakesAll}
@@ -44,13 +44,13 @@ found takes key header file old new n len count long front read =
 
 pub found_sound :
     {S : Type 0} (takes : S → S → List ℕ → Type 0) (key header file : List ℕ) (old new : S) (len count : ℕ)
-    → Found takes key header file old new HEADER_LEN len count → (HasChunkBehind key len (drop (HEADER_LEN + len) file) → ⊥)
+    → Found takes key header file old new HEADER_LEN len count → (HasChunkAfter key len (drop (HEADER_LEN + len) file) → ⊥)
     → IsReadLog takes key header file old new len
 found_sound takes key header file old new len count at none = record {
   ps = at.ps;
   log = at.log;
-  sound = λ has. none (subst (λ (p : ℕ). HasChunkBehind key p (drop (HEADER_LEN + len) file)) (sym at.place)
-      (subst (λ (b : List ℕ). HasChunkBehind key (end_place at.ps) b) at.rest has));
+  sound = λ has. none (subst (λ (p : ℕ). HasChunkAfter key p (drop (HEADER_LEN + len) file)) (sym at.place)
+      (subst (λ (b : List ℕ). HasChunkAfter key (end_place at.ps) b) at.rest has));
   place = at.place;
   size = at.size;
   taken = at.taken;
@@ -58,14 +58,14 @@ found_sound takes key header file old new len count at none = record {
 
 pub found_damaged :
     {S : Type 0} (takes : S → S → List ℕ → Type 0) (key header file : List ℕ) (old new : S) (n len count : ℕ)
-    → Found takes key header file old new n len count → HasChunkBehind key len (drop (n + len) file)
+    → Found takes key header file old new n len count → HasChunkAfter key len (drop (n + len) file)
     → IsDamaged key header file count
 found_damaged takes key header file old new n len count at has = record {
   ps = at.ps;
   log = at.log;
   counted = at.counted;
-  has = subst (λ (b : List ℕ). HasChunkBehind key (end_place at.ps) b) (sym at.rest)
-      (subst (λ (p : ℕ). HasChunkBehind key p (drop (n + len) file)) at.place has);
+  has = subst (λ (b : List ℕ). HasChunkAfter key (end_place at.ps) b) (sym at.rest)
+      (subst (λ (p : ℕ). HasChunkAfter key p (drop (n + len) file)) at.place has);
 }
 
 -- a log that was read is not damaged

@@ -16,11 +16,11 @@ abbrev pub mark : List ℕ
 mark = 112 ∷ 108 ∷ 111 ∷ 103 ∷ []
 
 -- mark and length
-abbrev pub head_of : ℕ → List ℕ
-head_of n = mark ++ to_be_bytes w32 n
+abbrev pub chunk_head : ℕ → List ℕ
+chunk_head n = mark ++ to_be_bytes w32 n
 
-abbrev pub body_of : List ℕ → List ℕ
-body_of payload = head_of (length payload) ++ payload
+abbrev pub chunk_body : List ℕ → List ℕ
+chunk_body payload = chunk_head (length payload) ++ payload
 
 -- a chunk's place in eight bytes: how many bytes of chunks stand before it
 abbrev pub place_bytes : ℕ → List ℕ
@@ -28,10 +28,10 @@ place_bytes place = to_be_bytes w64 place
 
 -- the sum of a chunk at this place
 abbrev pub sum_of : List ℕ → ℕ → List ℕ → List ℕ
-sum_of key place payload = mac key (place_bytes place ++ body_of payload)
+sum_of key place payload = mac key (place_bytes place ++ chunk_body payload)
 
 unfoldable pub chunk_of : List ℕ → ℕ → List ℕ → List ℕ
-chunk_of key place payload = body_of payload ++ sum_of key place payload
+chunk_of key place payload = chunk_body payload ++ sum_of key place payload
 
 -- the place after it
 abbrev pub next_place : ℕ → List ℕ → ℕ

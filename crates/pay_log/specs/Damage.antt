@@ -11,7 +11,7 @@ pub record IsChunkAt (key : List ℕ) (place : ℕ) (bytes : List ℕ) (at : ℕ
   pub stands : BeginsWith (drop at bytes) (chunk_of key (place + at) payload)
 
 -- One stands after their first byte.
-pub record HasChunkBehind (key : List ℕ) (place : ℕ) (bytes : List ℕ) : Type 0 where
+pub record HasChunkAfter (key : List ℕ) (place : ℕ) (bytes : List ℕ) : Type 0 where
   pub at : ℕ
   pub behind : 0 < at
   pub chunk : IsChunkAt key place bytes at
@@ -21,7 +21,7 @@ pub record IsDamaged (key header file : List ℕ) (count : ℕ) : Type 0 where
   pub ps : List (List ℕ)
   pub log : IsLog key header file ps
   pub counted : length ps ≡ count
-  pub has : HasChunkBehind key (end_place ps) log.rest
+  pub has : HasChunkAfter key (end_place ps) log.rest
 
 -- Bytes that nobody wrote have a checksum that fits: after the log of these payloads a chunk stands
 -- that isn't this one at its place.

@@ -44,7 +44,8 @@ pub record LeavesOnly {D : Type 0} (moment : D → ℕ) (left_since : D → ℕ 
 
 -- A device was only read: it has what it had, and a crash at any moment leaves what it might have
 -- left before.
-pub record IsUnchanged {D : Type 0} (is_known : D → Type 0) (seen : D → List ℕ) (may_leave : D → List ℕ → Type 0)
+pub record IsUnchanged {D : Type 0} (is_known : D → Type 0) (seen : D → List ℕ)
+    (may_leave : D → List ℕ → Type 0)
     (moment : D → ℕ) (left_since : D → ℕ → List ℕ → Type 0) (old new : D) : Type 0 where
   pub known : is_known new
   pub seen_same : seen new ≡ seen old

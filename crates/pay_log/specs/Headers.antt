@@ -19,14 +19,14 @@ abbrev pub header_bytes : Header → List ℕ
 header_bytes h = magic ++ version ++ h.genesis ++ to_be_bytes w16 h.member ++ h.keys
 
 -- A file begins with another header, and this is the first part that differs.
-abbrev pub IsForeign : Header → List ℕ → Mismatch → Type 0
-IsForeign h file NoLog = (length file < HEADER_LEN) ⊎ (take 8 file ≢ magic)
-IsForeign h file Version = (take 8 file ≡ magic) × (take 1 (drop 8 file) ≢ version)
-IsForeign h file Genesis =
+abbrev pub IsForeignHeader : Header → List ℕ → Mismatch → Type 0
+IsForeignHeader h file NoLog = (length file < HEADER_LEN) ⊎ (take 8 file ≢ magic)
+IsForeignHeader h file Version = (take 8 file ≡ magic) × (take 1 (drop 8 file) ≢ version)
+IsForeignHeader h file Genesis =
     (take 9 file ≡ magic ++ version) × (take 32 (drop 9 file) ≢ h.genesis)
-IsForeign h file Member =
+IsForeignHeader h file Member =
     (take 41 file ≡ magic ++ version ++ h.genesis)
     × (take 2 (drop 41 file) ≢ to_be_bytes w16 h.member)
-IsForeign h file Keys =
+IsForeignHeader h file Keys =
     (take 43 file ≡ magic ++ version ++ h.genesis ++ to_be_bytes w16 h.member)
     × (take 32 (drop 43 file) ≢ h.keys)

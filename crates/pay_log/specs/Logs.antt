@@ -32,7 +32,8 @@ IsWithOrWithout key header ps p file =
     IsLog key header file ps ⊎ IsLog key header file (ps ++ p ∷ []) ⊎ IsStray key header ps p file
 
 -- An open log: the file is that of these payloads, and all of it is on the disk.
-pub record IsSettled {D : Type 0} (is_known : D → Type 0) (seen : D → List ℕ) (may_leave : D → List ℕ → Type 0)
+pub record IsSynced {D : Type 0} (is_known : D → Type 0) (seen : D → List ℕ)
+    (may_leave : D → List ℕ → Type 0)
     (log : Log D) (header : List ℕ) (ps : List (List ℕ)) : Type 0 where
   pub works : log.has_failed ≡ false
   pub known : is_known log.device

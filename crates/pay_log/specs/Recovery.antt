@@ -4,8 +4,8 @@ use Rattle.std.specs.List.{All}
 use Rattle.pay_log.specs.declared.limits.TheConstants.{HEADER_LEN}
 use Rattle.pay_log.specs.declared.log.Log.{Log}
 use Rattle.pay_log.specs.Chunks.{IsShort, IsEnd, chunks_of}
-use Rattle.pay_log.specs.Damage.{HasChunkBehind}
-use Rattle.pay_log.specs.Logs.{IsLog, IsSettled, end_place, log_bytes}
+use Rattle.pay_log.specs.Damage.{HasChunkAfter}
+use Rattle.pay_log.specs.Logs.{IsLog, IsSynced, end_place, log_bytes}
 use Rattle.pay_log.specs.Sinks.{TakesAll}
 
 -- The first so many bytes are so many chunks, whose payloads were taken.
@@ -30,7 +30,7 @@ pub record IsReadLog {S : Type 0} (takes : S → S → List ℕ → Type 0) (key
     (old new : S) (len : ℕ) : Type 0 where
   pub ps : List (List ℕ)
   pub log : IsLog key header file ps
-  pub sound : HasChunkBehind key (end_place ps) log.rest → ⊥
+  pub sound : HasChunkAfter key (end_place ps) log.rest → ⊥
   pub place : len ≡ end_place ps
   pub size : HEADER_LEN + len ≡ length (log_bytes key header ps)
   pub taken : TakesAll takes old new ps
@@ -41,9 +41,10 @@ opened_log device key place =
     record { device = device; key = key; place = place; has_failed = false }
 
 -- A file was the log of payloads that were taken, and the log is settled with them.
-pub record IsRecovered {D S : Type 0} (is_known : D → Type 0) (seen : D → List ℕ) (may_leave : D → List ℕ → Type 0)
-    (takes : S → S → List ℕ → Type 0) (header file : List ℕ) (old new : S) (log : Log D) : Type 0 where
+pub record IsRecovered {D S : Type 0} (is_known : D → Type 0) (seen : D → List ℕ)
+    (may_leave : D → List ℕ → Type 0) (takes : S → S → List ℕ → Type 0) (header file : List ℕ)
+    (old new : S) (log : Log D) : Type 0 where
   pub ps : List (List ℕ)
   pub was : IsLog log.key header file ps
   pub taken : TakesAll takes old new ps
-  pub settled : IsSettled is_known seen may_leave log header ps
+  pub settled : IsSynced is_known seen may_leave log header ps

@@ -89,7 +89,7 @@ fn length_at(bytes: &[u8]) -> usize
     u32::from_be_bytes([bytes[4], bytes[5], bytes[6], bytes[7]]) as usize
 }
 
-// The checksum of so many bytes at a place.
+// The checksum of the first `len` bytes, which stand at a place of the log.
 fn sum_of(key: &[u8; 32], place: u64, bytes: &[u8], len: usize) -> [u8; 32]
     requires { len ≤ length bytes.now }
     ensures { result ≡ mac key.now (place_bytes place ++ take len bytes.now) }

@@ -1,15 +1,15 @@
 //! Whether a chunk stands after a place where none does.
 
 ghost use Rattle.std.specs.Prelude.{◌↔◌, ◌+◌, ◌≤◌, ◌^◌, ◌<◌, IsTrue, length};
-ghost use Rattle.pay_log.specs.Damage.{HasChunkBehind, IsChunkAt};
+ghost use Rattle.pay_log.specs.Damage.{HasChunkAfter, IsChunkAt};
 
 use crate::chunk::front;
 
 /// Looks for a chunk at each byte after the first of these, which stands at this place: most aren't
 /// its mark.
-pub(crate) fn has_chunk_behind(key: &[u8; 32], place: usize, bytes: &[u8]) -> bool
+pub(crate) fn has_chunk_after(key: &[u8; 32], place: usize, bytes: &[u8]) -> bool
     requires { place < 2 ^ 63 }
-    ensures { IsTrue result ↔ HasChunkBehind key.now place bytes.now }
+    ensures { IsTrue result ↔ HasChunkAfter key.now place bytes.now }
 {
     for at in 1..bytes.len() {
         if is_chunk_at(key, place, bytes, at) {
@@ -19,7 +19,7 @@ pub(crate) fn has_chunk_behind(key: &[u8; 32], place: usize, bytes: &[u8]) -> bo
     false
 }
 
-// Whether a chunk stands so many bytes after their first.
+// Whether the bytes from `at` on begin with a chunk.
 fn is_chunk_at(key: &[u8; 32], place: usize, bytes: &[u8], at: usize) -> bool
     requires place { place < 2 ^ 63 }
     requires at { at ≤ length bytes.now }

@@ -16,7 +16,7 @@ pub struct LogFile {
 }
 
 impl LogFile {
-    /// The file, which has so many bytes.
+    /// A log in a file of `len` bytes.
     pub fn new(file: File, len: u64) -> LogFile {
         LogFile { file, len }
     }

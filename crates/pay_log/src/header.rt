@@ -2,7 +2,7 @@
 
 ghost use Rattle.std.specs.Prelude.{◌≡◌, ◌↔◌, ◌+◌, ◌≤◌, IfOk, IfSome, IfNone, IsTrue, length, take};
 ghost use Rattle.std.specs.Prelude.{drop};
-ghost use Rattle.pay_log.specs.Headers.{header_bytes, IsForeign};
+ghost use Rattle.pay_log.specs.Headers.{header_bytes, IsForeignHeader};
 
 use crate::limits::HEADER_LEN;
 use crate::mismatch::Mismatch;
@@ -42,7 +42,7 @@ impl Header {
     /// What at the front of some bytes isn't as in this header, if anything isn't.
     pub fn mismatch(&self, front: &[u8]) -> Option<Mismatch>
         ensures same { IfNone result (take HEADER_LEN front.now ≡ header_bytes self.now) }
-        ensures differs { IfSome result (IsForeign self.now front.now) }
+        ensures differs { IfSome result (IsForeignHeader self.now front.now) }
     {
         if front.len() < HEADER_LEN {
             return Some(Mismatch::NoLog);
@@ -66,7 +66,7 @@ impl Header {
     }
 }
 
-// Whether a part stands so many bytes after their first.
+// Whether the bytes from `at` on begin with a part.
 fn is_at(bytes: &[u8], at: usize, part: &[u8]) -> bool
     requires { at + length part.now ≤ length bytes.now }
     ensures { IsTrue result ↔ (take (length part.now) (drop at bytes.now) ≡ part.now) }

@@ -5,8 +5,8 @@ ghost use Rattle.std.specs.Prelude.{take};
 ghost use Rattle.pay_log.specs.Chunks.{IsShort};
 ghost use Rattle.pay_log.specs.Damage.{IsByChance, IsDamaged};
 ghost use Rattle.pay_log.specs.Device.{IsUnchanged, LeavesOnly, Only};
-ghost use Rattle.pay_log.specs.Headers.{IsForeign, header_bytes};
-ghost use Rattle.pay_log.specs.Logs.{IsLog, IsSettled, IsWithOrWithout};
+ghost use Rattle.pay_log.specs.Headers.{IsForeignHeader, header_bytes};
+ghost use Rattle.pay_log.specs.Logs.{IsLog, IsSynced, IsWithOrWithout};
 ghost use Rattle.pay_log.specs.Recovery.{IsRecovered, opened_log};
 ghost use Rattle.pay_log.specs.Sinks.{TakesAll};
 ghost use Rattle.pay_log.specs.declared.mismatch.Mismatch.{Mismatch};
@@ -56,18 +56,19 @@ impl<D: Device> Log<D> {
     pub fn append(&mut self, alloc: Global, payload: &[u8]) -> Result<(), LogFault>
         requires { IsShort payload.now }
         ensures acknowledged { OnOk result ((header : List ℕ) (ps : List (List ℕ))
-            → IsSettled D.is_known D.seen D.may_leave self.old header ps
-            → IsSettled D.is_known D.seen D.may_leave self.new header (ps ++ payload.now ∷ [])) }
+            → IsSynced D.is_known D.seen D.may_leave self.old header ps
+            → IsSynced D.is_known D.seen D.may_leave self.new header (ps ++ payload.now ∷ [])) }
         ensures any_moment { (header : List ℕ) (ps : List (List ℕ))
-            → IsSettled D.is_known D.seen D.may_leave self.old header ps
+            → IsSynced D.is_known D.seen D.may_leave self.old header ps
             → LeavesOnly D.moment D.left_since self.old.device self.new.device
             (IsWithOrWithout self.old.key header ps payload.now) }
         ensures no_damage { (header : List ℕ) (ps : List (List ℕ))
-            → IsSettled D.is_known D.seen D.may_leave self.old header ps
+            → IsSynced D.is_known D.seen D.may_leave self.old header ps
             → LeavesOnly D.moment D.left_since self.old.device self.new.device
             (λ file. (count : ℕ) → IsDamaged self.old.key header file count
             → IsByChance self.old.key header ps payload.now file) }
-        ensures fault { OnErr result ((result ≡ Err LogFault.Memory) ⊎ (result ≡ Err LogFault.Disk)) }
+        ensures fault { OnErr result ((result ≡ Err LogFault.Memory)
+            ⊎ (result ≡ Err LogFault.Disk)) }
         ensures memory { result ≡ Err LogFault.Memory → self.new ≡ self.old }
         ensures fails { result ≡ Err LogFault.Disk → self.new.has_failed ≡ true }
         ensures stopped { self.old.has_failed ≡ true → result ≡ Err LogFault.Disk }
@@ -108,7 +109,7 @@ pub fn recover<D: Device, S: Sink>(
         → IsDamaged key.now (header_bytes header.now) (D.seen device.old) count → ⊥) }
     ensures foreign { (part : Mismatch) → result ≡ Err (LogFault.Foreign part)
         → D.is_known device.old
-        → IsForeign header.now (take HEADER_LEN (D.seen device.old)) part }
+        → IsForeignHeader header.now (take HEADER_LEN (D.seen device.old)) part }
     ensures damaged { (count : ℕ) → result ≡ Err (LogFault.Damaged count)
         → D.is_known device.old
         → IsDamaged key.now (header_bytes header.now) (D.seen device.old) count }

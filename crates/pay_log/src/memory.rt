@@ -57,7 +57,7 @@ fn replace(
 }
 
 // The bytes with more after them.
-fn joined(alloc: Global, bytes: &[u8], more: &[u8]) -> Result<Vec<u8>, AllocError>
+fn concatenate(alloc: Global, bytes: &[u8], more: &[u8]) -> Result<Vec<u8>, AllocError>
     ensures { IfOk result (λ all. all.items ≡ bytes.now ++ more.now) }
 {
     let mut all = bytes.to_vec(alloc)?;
@@ -65,7 +65,7 @@ fn joined(alloc: Global, bytes: &[u8], more: &[u8]) -> Result<Vec<u8>, AllocErro
     Ok(all)
 }
 
-// The first so many bytes.
+// A copy of the first `len` bytes.
 fn front(alloc: Global, bytes: &[u8], len: usize) -> Result<Vec<u8>, AllocError>
     requires { len ≤ length bytes.now }
     ensures { IfOk result (λ all. all.items ≡ take len bytes.now) }
@@ -108,7 +108,7 @@ impl Device for MemoryFile {
     }
 
     fn append(&mut self, bytes: &[u8]) -> Result<(), DiskFailed> {
-        let Ok(next) = joined(self.alloc, &self.bytes, bytes) else {
+        let Ok(next) = concatenate(self.alloc, &self.bytes, bytes) else {
             return Err(DiskFailed);
         };
         let Ok(_) = replace(self.alloc, &mut self.bytes, &mut self.past, next) else {

@@ -4,15 +4,15 @@ ghost use Rattle.std.specs.Prelude.{List, ◌≡◌, ◌≢◌, ◌↔◌, ◌++
 ghost use Rattle.std.specs.Prelude.{IfNone};
 ghost use Rattle.std.specs.Prelude.{IsTrue, OnErr, OnOk, length, drop, take};
 ghost use Rattle.pay_log.specs.Chunks.{IsEnd, chunk_of};
-ghost use Rattle.pay_log.specs.Damage.{HasChunkBehind, IsDamaged};
+ghost use Rattle.pay_log.specs.Damage.{HasChunkAfter, IsDamaged};
 ghost use Rattle.pay_log.specs.Device.{IsUnchanged};
-ghost use Rattle.pay_log.specs.Headers.{IsForeign, header_bytes};
+ghost use Rattle.pay_log.specs.Headers.{IsForeignHeader, header_bytes};
 ghost use Rattle.pay_log.specs.Recovery.{HasRead, IsReadLog};
 ghost use Rattle.pay_log.specs.Sinks.{TakesAll};
 ghost use Rattle.pay_log.specs.declared.mismatch.Mismatch.{Mismatch};
 
 use crate::chunk::{front, payload_length};
-use crate::damage::has_chunk_behind;
+use crate::damage::has_chunk_after;
 use crate::device::{Device, DeviceFault};
 use crate::fault::LogFault;
 use crate::header::Header;
@@ -42,7 +42,7 @@ pub(crate) fn read_log<D: Device, S: Sink>(
         sink.old sink.new len) }
     ensures foreign { (part : Mismatch) → result ≡ Err (LogFault.Foreign part)
         → D.is_known device.old
-        → IsForeign header.now (take HEADER_LEN (D.seen device.old)) part }
+        → IsForeignHeader header.now (take HEADER_LEN (D.seen device.old)) part }
     ensures damaged { (count : ℕ) → result ≡ Err (LogFault.Damaged count)
         → D.is_known device.old
         → IsDamaged key.now (header_bytes header.now) (D.seen device.old) count }
@@ -63,7 +63,7 @@ fn judge_header<D: Device>(alloc: Global, device: &mut D, header: &Header) -> Re
         OnOk result (take HEADER_LEN (D.seen device.old) ≡ header_bytes header.now) }
     ensures foreign { (part : Mismatch) → result ≡ Err (LogFault.Foreign part)
         → D.is_known device.old
-        → IsForeign header.now (take HEADER_LEN (D.seen device.old)) part }
+        → IsForeignHeader header.now (take HEADER_LEN (D.seen device.old)) part }
     ensures other { (count : ℕ) → result ≡ Err (LogFault.Damaged count) → ⊥ }
     ensures unchanged { D.is_known device.old →
         IsUnchanged D.is_known D.seen D.may_leave D.moment D.left_since device.old device.new }
@@ -84,12 +84,12 @@ fn has_more<D: Device>(
 ) -> Result<bool, DeviceFault>
     requires { place ≤ MOST_PLACE + 33554432 }
     ensures value { D.is_known device.old → IfOk result (λ more. IsTrue more
-        ↔ HasChunkBehind key.now place (drop (HEADER_LEN + place) (D.seen device.old))) }
+        ↔ HasChunkAfter key.now place (drop (HEADER_LEN + place) (D.seen device.old))) }
     ensures unchanged { D.is_known device.old →
         IsUnchanged D.is_known D.seen D.may_leave D.moment D.left_since device.old device.new }
 {
     let tail = device.read(alloc, HEADER_LEN + place, usize::MAX)?;
-    Ok(has_chunk_behind(key, place, &tail))
+    Ok(has_chunk_after(key, place, &tail))
 }
 
 /// Reads the chunks that stand from a place of a file on, up to where none stands, and hands on

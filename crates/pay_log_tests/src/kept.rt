@@ -157,7 +157,7 @@ struct Ended {
 }
 
 /// Pays under each id on a disk whose call of this number fails.
-fn crashed<R: Wait + Clock>(
+fn pay_until_crash<R: Wait + Clock>(
     rt: &R,
     alloc: Global,
     fails: usize,
@@ -222,7 +222,7 @@ fn payments_on<R: Wait + Clock>(
 fn failing_disk_loses_no_kept_payment(rt: HostRuntime) -> Result<(), Fail> {
     for fails in 0..=CALLS {
         for torn in 0..70 {
-            let ended = crashed(&rt, rt.alloc(), fails, torn)?;
+            let ended = pay_until_crash(&rt, rt.alloc(), fails, torn)?;
             assert!(rt; ended.stops, "call {fails}, {torn} bytes");
             let kept = ended.acknowledged;
             let read = payments_on(&rt, rt.alloc(), ended.bytes)?;

@@ -143,7 +143,11 @@ fn texts_on(alloc: Global, bytes: &[u8]) -> Result<Option<usize>, Fail> {
 
 /// The log after a crash at the call of this number, where so many bytes of an append were written,
 /// with how many texts were acknowledged, and whether each call failed after one had.
-fn crashed(alloc: Global, fails: usize, torn: usize) -> Result<(Vec<u8>, usize, bool), Fail> {
+fn log_after_crash(
+    alloc: Global,
+    fails: usize,
+    torn: usize,
+) -> Result<(Vec<u8>, usize, bool), Fail> {
     let mut disk = FailingDisk {
         bytes: HEADER.encode(alloc)?,
         fails,
@@ -175,7 +179,7 @@ fn crashed(alloc: Global, fails: usize, torn: usize) -> Result<(Vec<u8>, usize, 
 fn failing_disk_loses_no_acknowledged_text(rt: HostRuntime) -> Result<(), Fail> {
     for fails in 0..9 {
         for torn in 0..50 {
-            let (bytes, acknowledged, stops) = crashed(rt.alloc(), fails, torn)?;
+            let (bytes, acknowledged, stops) = log_after_crash(rt.alloc(), fails, torn)?;
             assert!(rt; stops, "call {fails}");
             let read = texts_on(rt.alloc(), &bytes)?;
             let is_right = read == Some(acknowledged)

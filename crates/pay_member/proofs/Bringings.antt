@@ -25,18 +25,18 @@ use Rattle.pay_member.specs.declared.reply.Reply.TheVariants as reply
 use Rattle.pay_member.specs.declared.take_fault.TakeFault.{TakeFault}
 use Rattle.pay_member.specs.declared.take_fault.TakeFault.TheVariants as take
 use Rattle.pay_member.specs.declared.took.Took.{Took}
-use Rattle.pay_member.specs.Answer.{taken}
+use Rattle.pay_member.specs.Answer.{answer_of_take}
 use Rattle.pay_member.specs.Events.{events}
 use Rattle.pay_member.specs.Refusal.{refusal, turn_refusal}
 use Rattle.pay_member.specs.Reply.{took_by}
 use Rattle.pay_member.specs.Member.{MemberFields}
-use Rattle.pay_member.specs.Bringing.{event_of, event_in, opened_in, answered, answer_to, incoming_at, outcome_of, outcome_to, want_for, want_after, with_taken}
+use Rattle.pay_member.specs.Bringing.{event_of_frame, event_in, opened_in, outcome_of_judged, answer_to, incoming_at, outcome_of, outcome_to, want_for, want_after, with_taken}
 use Rattle.pay_member.proofs.Members.{events-push}
 
 -- ---- what taking a frame for this member answers
 
 abbrev pub Answers : Option MemberFault → Result Took TakeFault → Type 0
-Answers refused r = MatchOption refused (IsOkUnless r take.Memory) (λ fault. taken r ≡ Err fault)
+Answers refused r = MatchOption refused (IsOkUnless r take.Memory) (λ fault. answer_of_take r ≡ Err fault)
 
 refusal_for :
     (g : GenesisFields) (k : KeyFields) (before : List channel.Event) (c : CheckedFields) → IsFor k c
@@ -123,14 +123,14 @@ pub answers_took :
 unfolding answer_to
 answers_took g k before c took mine answers is =
     let turned = turned_ok (next c.frame.from before) c.frame.number took (subst (λ o. Answers o (Ok took)) (refusal_for g k before c mine) answers) in
-    ap outcome.Took is ∙ sym (ap (answered g k.own before c.frame) turned)
+    ap outcome.Took is ∙ sym (ap (outcome_of_judged g k.own before c.frame) turned)
 
 pub answers_repeat :
     (g : GenesisFields) (k : KeyFields) (before : List channel.Event) (c : CheckedFields) (told : ℕ) → IsFor k c
     → Answers (refusal g k before (Taken c)) (Err (take.Repeat told)) → outcome.Link (link.Repeat told) ≡ answer_to g k.own before c.frame
 unfolding answer_to
 answers_repeat g k before c told mine answers =
-    sym (ap (answered g k.own before c.frame)
+    sym (ap (outcome_of_judged g k.own before c.frame)
     (turned_repeat (next c.frame.from before) c.frame.number told (subst (λ o. Answers o (Err (take.Repeat told))) (refusal_for g k before c mine) answers)))
 
 pub answers_gap :
@@ -138,7 +138,7 @@ pub answers_gap :
     → Answers (refusal g k before (Taken c)) (Err (take.Gap told)) → outcome.Link (link.Gap told) ≡ answer_to g k.own before c.frame
 unfolding answer_to
 answers_gap g k before c told mine answers =
-    sym (ap (answered g k.own before c.frame)
+    sym (ap (outcome_of_judged g k.own before c.frame)
     (turned_gap (next c.frame.from before) c.frame.number told (subst (λ o. Answers o (Err (take.Gap told))) (refusal_for g k before c mine) answers)))
 
 -- ---- memory is asked for where the frame is the next one
@@ -146,17 +146,17 @@ answers_gap g k before c told mine answers =
 some_none : {X : Type 0} (x : X) → Some x ≡ None → ⊥
 some_none x same = cc
 
-in_turn : (before : List channel.Event) (f : FrameFields) → f.number ≡ next f.from before → event_of before f ≢ None
+in_turn : (before : List channel.Event) (f : FrameFields) → f.number ≡ next f.from before → event_of_frame before f ≢ None
 in_turn before f same =
-    let is : event_of before f ≡ Some (channel.From f.from f.body) = search rules in
+    let is : event_of_frame before f ≡ Some (channel.From f.from f.body) = search rules in
     λ none. some_none (channel.From f.from f.body) (sym is ∙ none)
 
-pub judged_next : (before : List channel.Event) (f : FrameFields) → turn (next f.from before) f.number ≡ Ok tt → event_of before f ≢ None
+pub judged_next : (before : List channel.Event) (f : FrameFields) → turn (next f.from before) f.number ≡ Ok tt → event_of_frame before f ≢ None
 judged_next before f is = go (cases_order f.number n) where
   n : ℕ
   n = next f.from before
 
-  go : (f.number ≡ n) ⊎ ((f.number < n) ⊎ (n < f.number)) → event_of before f ≢ None
+  go : (f.number ≡ n) ⊎ ((f.number < n) ⊎ (n < f.number)) → event_of_frame before f ≢ None
   go (inl same) = in_turn before f same
   go (inr (inl below)) =
       let here : turn n f.number ≡ Err (link.Repeat n) = search rules in
@@ -170,11 +170,11 @@ pub judged_not :
     (g : GenesisFields) (own : ℕ) (before : List channel.Event) (f : FrameFields) (fault : LinkFault)
     → turn (next f.from before) f.number ≡ Err fault → outcome.Link fault ≡ answer_to g own before f
 unfolding answer_to
-judged_not g own before f fault is = sym (ap (answered g own before f) is)
+judged_not g own before f fault is = sym (ap (outcome_of_judged g own before f) is)
 
 pub answers_memory :
     (g : GenesisFields) (k : KeyFields) (before : List channel.Event) (c : CheckedFields) → IsFor k c
-    → Answers (refusal g k before (Taken c)) (Err take.Memory) → event_of before c.frame ≢ None
+    → Answers (refusal g k before (Taken c)) (Err take.Memory) → event_of_frame before c.frame ≢ None
 answers_memory g k before c mine answers = go (cases_order c.frame.number n) where
   n : ℕ
   n = next c.frame.from before
@@ -185,7 +185,7 @@ answers_memory g k before c mine answers = go (cases_order c.frame.number n) whe
   turned : At (turn_refusal n c.frame.number)
   turned = subst At (refusal_for g k before c mine) answers
 
-  go : (c.frame.number ≡ n) ⊎ ((c.frame.number < n) ⊎ (n < c.frame.number)) → event_of before c.frame ≢ None
+  go : (c.frame.number ≡ n) ⊎ ((c.frame.number < n) ⊎ (n < c.frame.number)) → event_of_frame before c.frame ≢ None
   go (inl same) = in_turn before c.frame same
   go (inr (inl below)) = absurd (memory_no_repeat n (err_is {A = Reply} Memory (Repeat n) (subst At (below_repeats n c.frame.number below) turned)))
   go (inr (inr above)) = absurd (memory_no_gap n (err_is {A = Reply} Memory (Gap n) (subst At (above_gaps n c.frame.number above) turned)))
@@ -204,14 +204,14 @@ keys_kept m stamp c outcome.WrongKey = refl
 pub events_taken :
     (m : MemberFields) (stamp : ℕ) (c : CheckedFields)
     → events (with_taken m stamp c (answer_to m.genesis m.keys.own (events m.history) c.frame)).history
-    ≡ events m.history ++ option_to_list (event_of (events m.history) c.frame)
+    ≡ events m.history ++ option_to_list (event_of_frame (events m.history) c.frame)
 unfolding answer_to
 events_taken m stamp c = go (eqb c.frame.number n) (ltb c.frame.number n) where
   n : ℕ
   n = next c.frame.from (events m.history)
 
   go : (same below : Bool)
-      → events (with_taken m stamp c (answered m.genesis m.keys.own (events m.history) c.frame (cond same (Ok tt) (cond below (Err (link.Repeat n)) (Err (link.Gap n)))))).history
+      → events (with_taken m stamp c (outcome_of_judged m.genesis m.keys.own (events m.history) c.frame (cond same (Ok tt) (cond below (Err (link.Repeat n)) (Err (link.Gap n)))))).history
       ≡ events m.history ++ option_to_list (cond same (Some (channel.From c.frame.from c.frame.body)) None)
   go true below =
       events-push m.history
@@ -223,7 +223,7 @@ events_taken m stamp c = go (eqb c.frame.number n) (ltb c.frame.number n) where
 pub key_known : (g : GenesisFields) (own : ℕ) (before : List channel.Event) (f : FrameFields) → answer_to g own before f ≢ outcome.WrongKey
 unfolding answer_to
 key_known g own before f = go (turn (next f.from before) f.number) where
-  go : (r : Result ⊤ LinkFault) → answered g own before f r ≢ outcome.WrongKey
+  go : (r : Result ⊤ LinkFault) → outcome_of_judged g own before f r ≢ outcome.WrongKey
   go (Ok x) = λ is. cc
   go (Err fault) = λ is. cc
 
@@ -251,6 +251,6 @@ want_found k after bytes found is = sym (ap (option_map (want_for k after)) is)
 
 pub event_found :
     (k : KeyFields) (before : List channel.Event) (bytes : List ℕ) (found : Option FrameFields) → opened_in k bytes ≡ found
-    → option_and_then (event_of before) found ≡ event_in k before bytes
+    → option_and_then (event_of_frame before) found ≡ event_in k before bytes
 unfolding event_in
-event_found k before bytes found is = sym (ap (option_and_then (event_of before)) is)
+event_found k before bytes found is = sym (ap (option_and_then (event_of_frame before)) is)

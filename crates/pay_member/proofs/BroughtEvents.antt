@@ -13,7 +13,7 @@ use Rattle.pay_link.specs.Keys.{KeyFields}
 use Rattle.pay_link.specs.Opening.{OpenedFields, Opens, judgement, opened_fields}
 use Rattle.pay_link.specs.declared.link_fault.LinkFault.{LinkFault}
 use Rattle.pay_member.specs.Group.{group_in}
-use Rattle.pay_member.specs.Bringing.{is_want, unless_want, opened_in, event_of, event_in}
+use Rattle.pay_member.specs.Bringing.{is_want, unless_want, opened_in, event_of_frame, event_in}
 use Rattle.pay_member.specs.Laws.{OpenedIn, EventIn, BroughtMayCome}
 use Rattle.pay_member.proofs.Openings.{FrameIs, OpenedIs}
 use Rattle.pay_member.proofs.Histories.{some_is, none_some}
@@ -69,7 +69,7 @@ event_is k before bytes e is = at (opened_in k bytes) refl is where
   by f some true same whole = (f, some, eqb-true f.number (next f.from before) same, sym (some_is _ _ whole))
   by f some false same whole = absurd (none_some e whole)
 
-  at : (o : Option FrameFields) → opened_in k bytes ≡ o → option_and_then (event_of before) o ≡ Some e → (x : FrameFields) × (opened_in k bytes ≡ Some x) × (x.number ≡ next x.from before) × (e ≡ channel.From x.from x.body)
+  at : (o : Option FrameFields) → opened_in k bytes ≡ o → option_and_then (event_of_frame before) o ≡ Some e → (x : FrameFields) × (opened_in k bytes ≡ Some x) × (x.number ≡ next x.from before) × (e ≡ channel.From x.from x.body)
   at None was whole = absurd (none_some e whole)
   at (Some f) was whole = by f was (eqb f.number (next f.from before)) refl whole
 
@@ -78,7 +78,7 @@ comes_in :
     → opened_in k bytes ≡ Some f → f.number ≡ next f.from before → e ≡ channel.From f.from f.body → event_in k before bytes ≡ Some e
 unfolding event_in
 comes_in k before bytes e f some turn is =
-    ap (option_and_then (event_of before)) some ∙ cond-true _ _ _ (eq-eqb f.number (next f.from before) turn) ∙ ap Some (sym is)
+    ap (option_and_then (event_of_frame before)) some ∙ cond-true _ _ _ (eq-eqb f.number (next f.from before) turn) ∙ ap Some (sym is)
 
 pub event_in_is : EventIn
 event_in_is k before bytes e = (event_is k before bytes e, λ has. comes_in k before bytes e has.0 has.1 has.2 has.3)

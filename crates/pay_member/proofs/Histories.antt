@@ -9,7 +9,7 @@ use Rattle.pay_channel.specs.History as channel
 use Rattle.pay_channel.specs.History.{IsEvent, out, list_of}
 use Rattle.pay_channel.specs.Prefix.{IsPrefix}
 use Rattle.pay_channel.specs.SentLaws.{OutGrows}
-use Rattle.pay_channel.specs.ListLaws.{DeliveredCame, ListsGrow, value_in}
+use Rattle.pay_channel.specs.ListLaws.{DeliveredCame, ListsGrow, value_of_event}
 use Rattle.pay_link.specs.Genesis.{GenesisFields}
 use Rattle.pay_link.specs.Keys.{KeyFields, IsKeysOf, is_peer, key_for}
 use Rattle.pay_link.specs.Checked.{CheckedFields, IsChecked}
@@ -21,8 +21,8 @@ use Rattle.pay_member.specs.declared.entry.HistoryEntry.{HistoryEntry}
 use Rattle.pay_member.specs.Group.{group_in}
 use Rattle.pay_member.specs.Events.{channel_event, events}
 use Rattle.pay_member.specs.Book.{book_after}
-use Rattle.pay_member.specs.Refusal.{refusal, is_for}
-use Rattle.pay_member.specs.Legal.{IsKept, IsOwed, IsValue}
+use Rattle.pay_member.specs.Refusal.{refusal, is_for_member}
+use Rattle.pay_member.specs.Legal.{IsStorable, IsOwed, IsValue}
 use Rattle.pay_member.specs.Laws.{PrefixIsLegal, LegalEventsMayCome, DeliveredAreValues, EventsGrow, SentGrows, ListsOfHistoryGrow, SettledStays, FrontsGrow, BookIsSettled, TotalIsKept, NobodyOwes, EqualListsEqualBooksAfter}
 
 pub prefix_is_legal : PrefixIsLegal
@@ -110,14 +110,14 @@ ask_may_come g k before v taken = go (cases_Bool (ltb GREATEST_VALUE (length v))
   go (inl long) = absurd (some_none _ (sym (cond-true _ _ _ long) ∙ taken))
   go (inr fits) = ltb-false GREATEST_VALUE (length v) fits
 
-taken_is_for : (g : GenesisFields) (k : KeyFields) (before : List channel.Event) (c : CheckedFields) → refusal g k before (Taken c) ≡ None → is_for k c ≡ true
-taken_is_for g k before c taken = go (cases_Bool (is_for k c)) where
-  go : (is_for k c ≡ true) ⊎ (is_for k c ≡ false) → is_for k c ≡ true
+taken_is_for : (g : GenesisFields) (k : KeyFields) (before : List channel.Event) (c : CheckedFields) → refusal g k before (Taken c) ≡ None → is_for_member k c ≡ true
+taken_is_for g k before c taken = go (cases_Bool (is_for_member k c)) where
+  go : (is_for_member k c ≡ true) ⊎ (is_for_member k c ≡ false) → is_for_member k c ≡ true
   go (inl is) = is
   go (inr other) = absurd (some_none _ (sym (cond-false _ _ _ other) ∙ taken))
 
 frame_may_come :
-    (g : GenesisFields) (k : KeyFields) (c : CheckedFields) → IsKeysOf g k → IsChecked c → is_for k c ≡ true
+    (g : GenesisFields) (k : KeyFields) (c : CheckedFields) → IsKeysOf g k → IsChecked c → is_for_member k c ≡ true
     → IsEvent (group_in g k.own) (channel.From c.frame.from c.frame.body)
 frame_may_come g k c members checked mine =
     let keyed = and_parts _ (bytes_eq c.key (key_for k c.frame.from)) mine in
@@ -134,7 +134,7 @@ owed_may_come :
     (g : GenesisFields) (k : KeyFields) → IsKeysOf g k → (before : List channel.Event) (y : HistoryEntry) → IsOwed g k before y
     → (e : channel.Event) → channel_event y.event ≡ Some e → IsEvent (group_in g k.own) e
 owed_may_come g k members before y owed e is = go y.event owed.kept owed.taken is where
-  go : (x : Event) → IsKept x → refusal g k before x ≡ None → channel_event x ≡ Some e → IsEvent (group_in g k.own) e
+  go : (x : Event) → IsStorable x → refusal g k before x ≡ None → channel_event x ≡ Some e → IsEvent (group_in g k.own) e
   go (Ask v) kept taken is = subst (IsEvent (group_in g k.own)) (some_is _ _ is) (ask_may_come g k before v taken)
   go (Taken c) kept taken is =
       subst (IsEvent (group_in g k.own)) (some_is _ _ is) (frame_may_come g k c members kept.0 (taken_is_for g k before c taken))
@@ -148,20 +148,20 @@ events_may_come g k history members legal =
 
 owed_value :
     (g : GenesisFields) (k : KeyFields) (before : List channel.Event) (y : HistoryEntry) → IsOwed g k before y
-    → (e : channel.Event) → channel_event y.event ≡ Some e → IsValue (value_in e)
+    → (e : channel.Event) → channel_event y.event ≡ Some e → IsValue (value_of_event e)
 owed_value g k before y owed e is = go y.event owed.kept owed.taken is where
-  go : (x : Event) → IsKept x → refusal g k before x ≡ None → channel_event x ≡ Some e → IsValue (value_in e)
+  go : (x : Event) → IsStorable x → refusal g k before x ≡ None → channel_event x ≡ Some e → IsValue (value_of_event e)
   go (Ask v) kept taken is =
       let value : IsValue v = record { bytes = kept; size = ask_may_come g k before v taken } in
-      subst (λ (y : channel.Event). IsValue (value_in y)) (some_is _ _ is) value
+      subst (λ (y : channel.Event). IsValue (value_of_event y)) (some_is _ _ is) value
   go (Taken c) kept taken is =
       let value : IsValue c.frame.body.value = record { bytes = kept.1; size = kept.0.frame.body.value } in
-      subst (λ (y : channel.Event). IsValue (value_in y)) (some_is _ _ is) value
+      subst (λ (y : channel.Event). IsValue (value_of_event y)) (some_is _ _ is) value
   go (Query a) kept taken is = absurd (none_some e is)
 
 pub delivered_are_values : DeliveredCame → DeliveredAreValues
 delivered_are_values came g k history a s v legal is =
-    let Value : channel.Event → Type 0 = λ x. IsValue (value_in x) in
+    let Value : channel.Event → Type 0 = λ x. IsValue (value_of_event x) in
     let all = events_all Value history (λ before y after at. owed_value g k (events before) y (legal.each before y after at)) in
     let from = came (group_in g k.own) (events history) a s v is in
     subst IsValue from.2 (All-contains Value (events history) from.0 all from.1)

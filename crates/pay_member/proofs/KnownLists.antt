@@ -6,13 +6,13 @@ use Rattle.std.proofs.lemmas.Option.{slice_get-get_or}
 use Rattle.std.proofs.lemmas.Bool.{cases_eq, eq-eqb, ne_eqb, cond-true, cond-false}
 use Rattle.pay_echo.specs.Broadcast.{Group, echoed}
 use Rattle.pay_echo.specs.Meaning.{Meaning, meaning_of}
-use Rattle.pay_channel.specs.Asked.{asked}
+use Rattle.pay_channel.specs.Asked.{asked_values}
 use Rattle.pay_channel.specs.FollowLaws.{ListsFollow}
 use Rattle.pay_channel.specs.History as channel
 use Rattle.pay_channel.specs.History.{IsEvent, asks, list_of, votes}
 use Rattle.pay_channel.specs.Prefix.{IsPrefix}
 use Rattle.pay_channel.specs.SentLaws.{AsksAreCounted, OwnEchoIsAsk}
-use Rattle.pay_channel.specs.State.{lists_of, meaning_at}
+use Rattle.pay_channel.specs.State.{channel_lists, meaning_at}
 use Rattle.pay_link.specs.Genesis.{GenesisFields}
 use Rattle.pay_member.specs.Group.{group_in}
 use Rattle.pay_member.specs.Ledger.{LedgerFields, Tracks}
@@ -20,10 +20,10 @@ use Rattle.pay_member.specs.Reading.{values_known}
 use Rattle.pay_member.proofs.Ledgers.{lists_are}
 
 -- they begin with the account's list
-pub known_grow : ListsFollow → (g : GenesisFields) (own : ℕ) (events : List channel.Event) (l : LedgerFields) → Tracks g own events l → (a : ℕ) → IsPrefix (lists_of l.channel a) (values_known g own events a)
+pub known_grow : ListsFollow → (g : GenesisFields) (own : ℕ) (events : List channel.Event) (l : LedgerFields) → Tracks g own events l → (a : ℕ) → IsPrefix (channel_lists l.channel a) (values_known g own events a)
 unfolding values_known
 known_grow follow g own events l tracks a =
-    let rest : List (List ℕ) = cond (eqb a own) (drop (length (list_of (group_in g own) events a)) (asked events)) [] in
+    let rest : List (List ℕ) = cond (eqb a own) (drop (length (list_of (group_in g own) events a)) (asked_values events)) [] in
     record { rest = rest; is = ap (λ values. values ++ rest) (sym (lists_are follow g own events l tracks a)) }
 
 -- ---- a list, and behind it the rest of another one
@@ -60,38 +60,38 @@ get_rest (x ∷ xs) (y ∷ ys) (suc k) h = get_rest xs ys k (omega arith)
 -- ---- as a ledger has them
 
 module _ (g : GenesisFields) (own : ℕ) (events : List channel.Event) (l : LedgerFields) (tracks : Tracks g own events l) (follow : ListsFollow) (a : ℕ) where
-  pub known_count_is : AsksAreCounted → (n : ℕ) → n ≡ cond (eqb a own) (max (length (lists_of l.channel a)) l.channel.asks) (length (lists_of l.channel a)) → n ≡ length (values_known g own events a)
+  pub known_count_is : AsksAreCounted → (n : ℕ) → n ≡ cond (eqb a own) (max (length (channel_lists l.channel a)) l.channel.asks) (length (channel_lists l.channel a)) → n ≡ length (values_known g own events a)
   unfolding values_known
   known_count_is counted n is =
       let list : List (List ℕ) = list_of (group_in g own) events a in
       let listed = ap length (lists_are follow g own events l tracks a) in
-      let all : l.channel.asks ≡ length (asked events) = tracks.follows.asks ∙ counted events in
-      count_of list (asked events) (eqb a own) n
+      let all : l.channel.asks ≡ length (asked_values events) = tracks.follows.asks ∙ counted events in
+      count_of list (asked_values events) (eqb a own) n
       (is ∙ ap (λ (k : ℕ). cond (eqb a own) (max k l.channel.asks) k) listed ∙ ap (λ (k : ℕ). cond (eqb a own) (max (length list) k) (length list)) all)
 
-  pub known_in_list : (k : ℕ) → k < length (lists_of l.channel a) → slice_get (values_known g own events a) k ≡ slice_get (lists_of l.channel a) k
+  pub known_in_list : (k : ℕ) → k < length (channel_lists l.channel a) → slice_get (values_known g own events a) k ≡ slice_get (channel_lists l.channel a) k
   unfolding values_known
   known_in_list k below =
       let list : List (List ℕ) = list_of (group_in g own) events a in
       let same = lists_are follow g own events l tracks a in
       let listed = ap length same in
-      get_first list (cond (eqb a own) (drop (length list) (asked events)) []) k (omega arith) ∙ ap (λ values. slice_get values k) (sym same)
+      get_first list (cond (eqb a own) (drop (length list) (asked_values events)) []) k (omega arith) ∙ ap (λ values. slice_get values k) (sym same)
 
   -- what isn't listed was asked for, and is what the own broadcast echoed
-  pub known_behind_list : OwnEchoIsAsk → All (IsEvent (group_in g own)) events → (k : ℕ) → length (lists_of l.channel a) ≤ k → k < length (values_known g own events a) → (meaning_at l.channel a k).echoed ≡ slice_get (values_known g own events a) k
+  pub known_behind_list : OwnEchoIsAsk → All (IsEvent (group_in g own)) events → (k : ℕ) → length (channel_lists l.channel a) ≤ k → k < length (values_known g own events a) → (meaning_at l.channel a k).echoed ≡ slice_get (values_known g own events a) k
   unfolding values_known meaning_of
   known_behind_list echo all k past below =
       let list : List (List ℕ) = list_of (group_in g own) events a in
-      let rest : List (List ℕ) = drop (length list) (asked events) in
+      let rest : List (List ℕ) = drop (length list) (asked_values events) in
       let listed = ap length (lists_are follow g own events l tracks a) in
       let own_is : l.channel.group.own ≡ own = ap (λ (x : Group). x.own) tracks.group in
       let may_come : All (IsEvent l.channel.group) events = subst (λ (x : Group). All (IsEvent x) events) (sym tracks.group) all in
-      let echoed_is : (meaning_at l.channel l.channel.group.own k).echoed ≡ slice_get (asked events) k =
+      let echoed_is : (meaning_at l.channel l.channel.group.own k).echoed ≡ slice_get (asked_values events) k =
       ap (λ (m : Meaning). m.echoed) (tracks.follows.meanings l.channel.group.own k) ∙ echo l.channel.group events k may_come in
       elim (cases_eq a own) [
         | inl e ↦
             ap (λ (o : ℕ). (meaning_at l.channel o k).echoed) (e ∙ sym own_is) ∙ echoed_is
-            ∙ sym (get_rest list (asked events) k (omega arith))
+            ∙ sym (get_rest list (asked_values events) k (omega arith))
             ∙ ap (λ more. slice_get (list ++ more) k) (sym (cond-true (eqb a own) rest [] (eq-eqb a own e)))
         | inr ne ↦
             (let none = ap (λ more. length (list ++ more)) (cond-false (eqb a own) rest [] (ne_eqb a own ne)) in

@@ -9,9 +9,9 @@ use Rattle.pay_echo.specs.Broadcast.{Group}
 use Rattle.pay_channel.specs.Source.{GrowsOnly}
 use Rattle.pay_channel.specs.History as channel
 use Rattle.pay_channel.specs.History.{list_of}
-use Rattle.pay_channel.specs.State.{State, Follows, lists_of}
+use Rattle.pay_channel.specs.State.{State, IsStateBy, channel_lists}
 use Rattle.pay_channel.specs.Applied.{IsAsBefore}
-use Rattle.pay_channel.specs.Answer.{IsAnswer}
+use Rattle.pay_channel.specs.Answer.{IsChannelAnswer}
 use Rattle.pay_channel.specs.ListLaws.{EmptyAtFirst}
 use Rattle.pay_channel.specs.FollowLaws.{ChannelFollows, UnchangedFollows, ListsFollow, AnswersFollow, ListsOfAreShort, UnchangedLists}
 use Rattle.pay_link.specs.Genesis.{GenesisFields, IsGenesis}
@@ -27,7 +27,7 @@ use Rattle.pay_member.specs.Ledger.{LedgerFields, IsLedger, Tracks, Grows, IsSam
 -- a channel that took nothing, with a fresh book
 pub fresh_ledger :
     EmptyAtFirst → ListsFollow → FreshBookIsSettled → (g : GenesisFields) (own : ℕ) (c : State)
-    → IsGenesis g → Follows c [] → c.group ≡ group_in g own
+    → IsGenesis g → IsStateBy c [] → c.group ≡ group_in g own
     → Tracks g own [] (record { channel = c; book = fresh g.opening })
 fresh_ledger empty lists settled g own c limits follows group =
     let members = ap (λ (x : Group). x.members) group in
@@ -38,7 +38,7 @@ fresh_ledger empty lists settled g own c limits follows group =
       sound = record {
         few = subst (λ n. n ≤ MOST_MEMBERS) (sym members) limits.few;
         accounts = limits.opening ∙ sym members;
-        settled = settled g.opening (lists_of c) (λ a _. ap length (lists c [] follows a ∙ empty c.group a));
+        settled = settled g.opening (channel_lists c) (λ a _. ap length (lists c [] follows a ∙ empty c.group a));
       };
     }
 
@@ -50,22 +50,22 @@ same_ledger unchanged stays old new book same ledger =
     record {
       few = subst (λ (g : Group). g.members ≤ MOST_MEMBERS) (sym same.group) ledger.few;
       accounts = ledger.accounts ∙ ap (λ (g : Group). g.members) (sym same.group);
-      settled = stays (lists_of old) (lists_of new) book (λ a _. sym (unchanged old new same a)) ledger.settled;
+      settled = stays (channel_lists old) (channel_lists new) book (λ a _. sym (unchanged old new same a)) ledger.settled;
     }
 
 -- one list grew: the book can settle
 pub grown_can_settle :
     ListsOfAreShort → GroupListsAreCountable → GrownListCanSettle → (old new : State) (book : Standing) (owner : ℕ)
-    → IsLedger (record { channel = old; book = book }) → GrowsOnly (lists_of old) (lists_of new) owner → owner < old.group.members
-    → CanSettle (lists_of new) book owner
+    → IsLedger (record { channel = old; book = book }) → GrowsOnly (channel_lists old) (channel_lists new) owner → owner < old.group.members
+    → CanSettle (channel_lists new) book owner
 grown_can_settle short countable can old new book owner ledger grows member =
-    can (lists_of old) (lists_of new) book owner ledger.settled grows (subst (λ n. owner < n) (sym ledger.accounts) member)
-    (countable (lists_of new) book (λ a _. short new a) (subst (λ n. n ≤ MOST_MEMBERS) (sym ledger.accounts) ledger.few))
+    can (channel_lists old) (channel_lists new) book owner ledger.settled grows (subst (λ n. owner < n) (sym ledger.accounts) member)
+    (countable (channel_lists new) book (λ a _. short new a) (subst (λ n. n ≤ MOST_MEMBERS) (sym ledger.accounts) ledger.few))
 
 -- and after it settled
 pub settled_ledger :
     (old new : State) (before after : Standing) → IsLedger (record { channel = old; book = before })
-    → new.group ≡ old.group → after.opening ≡ before.opening → IsSettled (lists_of new) after
+    → new.group ≡ old.group → after.opening ≡ before.opening → IsSettled (channel_lists new) after
     → IsLedger (record { channel = new; book = after })
 settled_ledger old new before after ledger group opening settled =
     record {
@@ -109,7 +109,7 @@ tracks_same unchanged g own events old new tracks same =
 
 pub lists_are :
     ListsFollow → (g : GenesisFields) (own : ℕ) (events : List channel.Event) (l : LedgerFields) → Tracks g own events l
-    → (a : ℕ) → lists_of l.channel a ≡ list_of (group_in g own) events a
+    → (a : ℕ) → channel_lists l.channel a ≡ list_of (group_in g own) events a
 lists_are follow g own events l tracks a = follow l.channel events tracks.follows a ∙ ap (λ (x : Group). list_of x events a) tracks.group
 
 pub book_is :
@@ -117,8 +117,8 @@ pub book_is :
     → l.book ≡ book_after g own events
 unfolding book_after
 book_is follow one g own events l tracks =
-    one (lists_of l.channel) l.book tracks.sound.settled
-    ∙ ap (λ (o : List ℕ). settled_book o (lists_of l.channel)) tracks.opening
+    one (channel_lists l.channel) l.book tracks.sound.settled
+    ∙ ap (λ (o : List ℕ). settled_book o (channel_lists l.channel)) tracks.opening
     ∙ ap (λ (lists : ℕ → List (List ℕ)). settled_book g.opening lists) (λ t a. lists_are follow g own events l tracks a t)
 
 -- ---- what is told
@@ -133,7 +133,7 @@ pub took_is :
 unfolding took_by
 took_is more lists answers one g own events old new e took tracks grows =
     let later = tracks_more more g own events old new e took tracks grows in
-    let Told : Group → Type 0 = λ x. IsAnswer x events e (record { echo = took.echo; ready = took.ready; deliver = took.deliver; grown = grows.grown }) in
+    let Told : Group → Type 0 = λ x. IsChannelAnswer x events e (record { echo = took.echo; ready = took.ready; deliver = took.deliver; grown = grows.grown }) in
     let told = subst Told tracks.group (answers old.channel new.channel events e (record { echo = took.echo; ready = took.ready; deliver = took.deliver; grown = grows.grown }) tracks.follows grows.takes grows.applied) in
     let was = ap (λ (b : Standing). sum b.front) (book_is lists one g own events old tracks) in
     let now = ap (λ (b : Standing). sum b.front) (book_is lists one g own (events ++ e ∷ []) new later) in

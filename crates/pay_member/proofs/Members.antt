@@ -13,7 +13,7 @@ use Rattle.pay_channel.specs.History.{asks}
 use Rattle.pay_channel.specs.Taken.{is_from, next}
 use Rattle.pay_channel.specs.TakenLaws.{NothingTakenAtFirst, NextByOneMore, NextIsCount}
 use Rattle.pay_channel.specs.FollowLaws.{ChannelFollows, ListsFollow}
-use Rattle.pay_channel.specs.State.{lists_of}
+use Rattle.pay_channel.specs.State.{channel_lists}
 use Rattle.pay_channel.specs.History.{list_of}
 use Rattle.pay_book.specs.Places.{place_of}
 use Rattle.pay_book.specs.Book.{Standing}
@@ -214,17 +214,17 @@ member_fresh nothing g k own ledger fronts limits of_genesis mine tracks zeros =
 
 -- ---- what a query is told, and the state of a payment
 
-told-same : (b f n b' f' n' : ℕ) → b ≡ b' → f ≡ f' → n ≡ n' → ◌≡◌ {A = Told} (record { balance = b; front = f; listed = n }) (record { balance = b'; front = f'; listed = n' })
-told-same b f n b' f' n' p q r = λ i. record { balance = p i; front = q i; listed = r i }
+answer_of_query-same : (b f n b' f' n' : ℕ) → b ≡ b' → f ≡ f' → n ≡ n' → ◌≡◌ {A = Told} (record { balance = b; front = f; listed = n }) (record { balance = b'; front = f'; listed = n' })
+answer_of_query-same b f n b' f' n' p q r = λ i. record { balance = p i; front = q i; listed = r i }
 
 pub told_is :
     ListsFollow → SettledBookIsOne → (g : GenesisFields) (own : ℕ) (history : List channel.Event) (l : LedgerFields) (a b f n : ℕ)
-    → Tracks g own history l → b ≡ slice_index l.book.balances a → f ≡ slice_index l.book.front a → n ≡ length (lists_of l.channel a)
+    → Tracks g own history l → b ≡ slice_index l.book.balances a → f ≡ slice_index l.book.front a → n ≡ length (channel_lists l.channel a)
     → ◌≡◌ {A = Told} (record { balance = b; front = f; listed = n }) (told_of g own history a)
 unfolding told_of
 told_is follow one g own history l a b f n tracks balance front listed =
     let book = book_is follow one g own history l tracks in
-    told-same b f n _ _ _
+    answer_of_query-same b f n _ _ _
     (balance ∙ ap (λ (s : Standing). slice_index s.balances a) book)
     (front ∙ ap (λ (s : Standing). slice_index s.front a) book)
     (listed ∙ ap length (lists_are follow g own history l tracks a))
@@ -235,11 +235,11 @@ state_from front listed mine asked seq =
 
 pub state_is :
     ListsFollow → SettledBookIsOne → (g : GenesisFields) (own : ℕ) (history : List channel.Event) (l : LedgerFields) (owner seq : ℕ) → Tracks g own history l
-    → state_from (place_of l.book.places owner).0 (length (lists_of l.channel owner)) (eqb owner own) l.channel.asks seq ≡ state_of g own history owner seq
+    → state_from (place_of l.book.places owner).0 (length (channel_lists l.channel owner)) (eqb owner own) l.channel.asks seq ≡ state_of g own history owner seq
 unfolding state_of
 state_is follow one g own history l owner seq tracks =
     let book = book_is follow one g own history l tracks in
-    ap (λ f. state_from f (length (lists_of l.channel owner)) (eqb owner own) l.channel.asks seq) (ap (λ (s : Standing). (place_of s.places owner).0) book)
+    ap (λ f. state_from f (length (channel_lists l.channel owner)) (eqb owner own) l.channel.asks seq) (ap (λ (s : Standing). (place_of s.places owner).0) book)
     ∙ ap (λ n. state_from (place_of (book_after g own history).places owner).0 n (eqb owner own) l.channel.asks seq) (ap length (lists_are follow g own history l tracks owner))
     ∙ ap (λ k. state_from (place_of (book_after g own history).places owner).0 (length (list_of (group_in g own) history owner)) (eqb owner own) k seq) tracks.follows.asks
 

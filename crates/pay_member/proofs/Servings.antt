@@ -9,13 +9,13 @@ use Rattle.pay_link.specs.Genesis.{GenesisFields}
 use Rattle.pay_link.specs.Keys.{KeyFields}
 use Rattle.pay_link.specs.Checked.{checked_fields}
 use Rattle.pay_link.specs.Opening.{OpenedFields, judgement}
-use Rattle.pay_link.specs.Sealing.{wanted}
+use Rattle.pay_link.specs.Sealing.{want_frame}
 use Rattle.pay_link.specs.declared.link_fault.LinkFault.{LinkFault}
 use Rattle.pay_member.specs.declared.incoming.Incoming.TheVariants.{Want, Message}
 use Rattle.pay_member.specs.declared.outcome.Outcome.{Outcome}
 use Rattle.pay_member.specs.Events.{events}
 use Rattle.pay_member.specs.Member.{MemberFields}
-use Rattle.pay_member.specs.Bringing.{is_want, incoming_of, incoming_at, unless_want, opened_in, outcome_to, answer_to, event_in, event_of, want_for, want_after, checked_with, with_taken, with_brought}
+use Rattle.pay_member.specs.Bringing.{is_want, incoming_of, incoming_at, unless_want, opened_in, outcome_to, answer_to, event_in, event_of_frame, want_for, want_after, checked_with, with_taken, with_brought}
 use Rattle.pay_member.specs.Serving.{after_frame, want_of}
 use Rattle.pay_member.proofs.Openings.{Opened, OpenedIs, message_in, message_same}
 use Rattle.pay_member.proofs.Bringings.{event_found, events_taken, keys_kept, want_found}
@@ -62,9 +62,9 @@ after_opened law stamp m f o outcome has is =
     ∙ sym (ap (with_brought m stamp (outcome_to m.genesis m.keys.own (events m.history) (incoming_at m.keys f))) (message_in m.keys f o has))
 
 pub memory_opened :
-    (before : List channel.Event) (k : KeyFields) (f : FrameFields) (o : OpenedFields) → Opened k f o → event_of before o.frame ≢ None
-    → option_and_then (event_of before) (unless_want (judgement k f)) ≢ None
-memory_opened before k f o has is = λ none. is (sym (ap (option_and_then (event_of before)) (message_in k f o has)) ∙ none)
+    (before : List channel.Event) (k : KeyFields) (f : FrameFields) (o : OpenedFields) → Opened k f o → event_of_frame before o.frame ≢ None
+    → option_and_then (event_of_frame before) (unless_want (judgement k f)) ≢ None
+memory_opened before k f o has is = λ none. is (sym (ap (option_and_then (event_of_frame before)) (message_in k f o has)) ∙ none)
 
 -- ---- none
 
@@ -84,18 +84,18 @@ keys_after stamp m f = taken_keys m stamp (outcome_to m.genesis m.keys.own (even
 
 pub events_after :
     (stamp : ℕ) (m : MemberFields) (f : FrameFields)
-    → events (after_frame stamp m f).history ≡ events m.history ++ option_to_list (option_and_then (event_of (events m.history)) (unless_want (judgement m.keys f)))
+    → events (after_frame stamp m f).history ≡ events m.history ++ option_to_list (option_and_then (event_of_frame (events m.history)) (unless_want (judgement m.keys f)))
 unfolding after_frame incoming_at
 events_after stamp m f = at (judgement m.keys f) where
   of_frame : (o : OpenedFields) (asks : Bool)
       → events (with_brought m stamp (outcome_to m.genesis m.keys.own (events m.history) (Ok (cond asks (Want o.frame.from o.frame.number) (Message o)))) (cond asks None (Some o.frame))).history
-      ≡ events m.history ++ option_to_list (option_and_then (event_of (events m.history)) (cond asks None (Some o.frame)))
+      ≡ events m.history ++ option_to_list (option_and_then (event_of_frame (events m.history)) (cond asks None (Some o.frame)))
   of_frame o true = sym (append-nil (events m.history))
   of_frame o false = events_taken m stamp (checked_with m.keys o.frame)
 
   at : (j : Result OpenedFields LinkFault)
       → events (with_brought m stamp (outcome_to m.genesis m.keys.own (events m.history) (incoming_of j)) (unless_want j)).history
-      ≡ events m.history ++ option_to_list (option_and_then (event_of (events m.history)) (unless_want j))
+      ≡ events m.history ++ option_to_list (option_and_then (event_of_frame (events m.history)) (unless_want j))
   at (Err fault) = sym (append-nil (events m.history))
   at (Ok o) = of_frame o (is_want o.frame.body.kind)
 
@@ -104,10 +104,10 @@ events_after stamp m f = at (judgement m.keys f) where
 pub want_some :
     OpenedIs → (k : KeyFields) (f : FrameFields) (after : List channel.Event) (number : ℕ)
     → Some number ≡ option_map (λ (x : FrameFields). next x.from after) (unless_want (judgement k f))
-    → Some (frame_bytes (wanted k f.from number)) ≡ option_map (want_for k after) (unless_want (judgement k f))
+    → Some (frame_bytes (want_frame k f.from number)) ≡ option_map (want_for k after) (unless_want (judgement k f))
 want_some law k f after number is = at (unless_want (judgement k f)) refl is where
   At : Option FrameFields → Type 0
-  At found = Some number ≡ option_map (λ (x : FrameFields). next x.from after) found → Some (frame_bytes (wanted k f.from number)) ≡ option_map (want_for k after) found
+  At found = Some number ≡ option_map (λ (x : FrameFields). next x.from after) found → Some (frame_bytes (want_frame k f.from number)) ≡ option_map (want_for k after) found
 
   some_is : (x y : ℕ) → Some x ≡ Some y → x ≡ y
   some_is x y same = cc
@@ -119,7 +119,7 @@ want_some law k f after number is = at (unless_want (judgement k f)) refl is whe
   at None none = λ same. absurd (some_none same)
   at (Some x) some = λ same.
       let from : f.from ≡ x.from = sym (ap (λ (y : FrameFields). y.from) (message_same law k f x some)) in
-      (λ i. Some (frame_bytes (wanted k (from i) (some_is number (next x.from after) same i))))
+      (λ i. Some (frame_bytes (want_frame k (from i) (some_is number (next x.from after) same i))))
 
 pub none_wanted : (stamp : ℕ) (m : MemberFields) (f : FrameFields) → unless_want (judgement m.keys f) ≡ None → None ≡ want_of stamp m f
 unfolding want_of
@@ -157,7 +157,7 @@ events_of_bytes stamp m after f bytes is found =
 
 pub memory_of_bytes :
     (k : KeyFields) (before : List channel.Event) (f : FrameFields) (bytes : List ℕ) → opened_in k bytes ≡ unless_want (judgement k f)
-    → option_and_then (event_of before) (unless_want (judgement k f)) ≢ None → event_in k before bytes ≢ None
+    → option_and_then (event_of_frame before) (unless_want (judgement k f)) ≢ None → event_in k before bytes ≢ None
 memory_of_bytes k before f bytes found some = λ none. some (event_found k before bytes (unless_want (judgement k f)) found ∙ none)
 
 -- ---- bytes that are no frame

@@ -18,17 +18,17 @@ use Rattle.pay_member.specs.Reply.{reply_to}
 
 -- ---- what each call answers, as what is answered to an event
 
-abbrev pub asked : Result ℕ AskFault → Result Reply MemberFault
-asked (Ok seq) = Ok (reply.Asked seq)
-asked (Err fault) = Err (fault_of_ask fault)
+abbrev pub answer_of_ask : Result ℕ AskFault → Result Reply MemberFault
+answer_of_ask (Ok seq) = Ok (reply.Asked seq)
+answer_of_ask (Err fault) = Err (fault_of_ask fault)
 
-abbrev pub taken : Result Took TakeFault → Result Reply MemberFault
-taken (Ok took) = Ok (reply.Took took)
-taken (Err fault) = Err (fault_of_take fault)
+abbrev pub answer_of_take : Result Took TakeFault → Result Reply MemberFault
+answer_of_take (Ok took) = Ok (reply.Took took)
+answer_of_take (Err fault) = Err (fault_of_take fault)
 
-abbrev pub told : Result Told QueryFault → Result Reply MemberFault
-told (Ok state) = Ok (reply.Told state)
-told (Err fault) = Err (fault_of_query fault)
+abbrev pub answer_of_query : Result Told QueryFault → Result Reply MemberFault
+answer_of_query (Ok state) = Ok (reply.Told state)
+answer_of_query (Err fault) = Err (fault_of_query fault)
 
 -- ---- what is owed
 

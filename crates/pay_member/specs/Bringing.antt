@@ -1,5 +1,6 @@
 -- What bytes that are brought to a member are to it, and what it answers to them.
-use Rattle.std.specs.Prelude.{◌≡◌, ◌≢◌, ℕ, ◌==◌, Bool, true, false, if◌then◌else◌, List, Option, Some, None, option_and_then, option_map, Result, Ok, Err, ⊤}
+use Rattle.std.specs.Prelude.{◌≡◌, ◌≢◌, ℕ, ◌==◌, Bool, true, false, if◌then◌else◌, List, Option}
+use Rattle.std.specs.Prelude.{Some, None, option_and_then, option_map, Result, Ok, Err, ⊤}
 use Rattle.pay_frame.specs.declared.fault.FrameFault.{FrameFault}
 use Rattle.pay_frame.specs.declared.kind.Kind.{Kind}
 use Rattle.pay_frame.specs.declared.kind.Kind.TheVariants as kind
@@ -12,7 +13,7 @@ use Rattle.pay_link.specs.Keys.{KeyFields, IsPeer, key_for}
 use Rattle.pay_link.specs.Checked.{CheckedFields}
 use Rattle.pay_link.specs.Fronts.{turn}
 use Rattle.pay_link.specs.Opening.{OpenedFields, judgement}
-use Rattle.pay_link.specs.Sealing.{wanted}
+use Rattle.pay_link.specs.Sealing.{want_frame}
 use Rattle.pay_link.specs.declared.link_fault.LinkFault.{LinkFault}
 use Rattle.pay_member.specs.declared.event.Event.TheVariants.{Taken}
 use Rattle.pay_member.specs.declared.brought.Brought.{Brought}
@@ -20,7 +21,8 @@ use Rattle.pay_member.specs.declared.incoming.Incoming.{Incoming}
 use Rattle.pay_member.specs.declared.incoming.Incoming.TheVariants.{Want, Message}
 use Rattle.pay_member.specs.declared.received.Received.{Received}
 use Rattle.pay_member.specs.declared.outcome.Outcome.{Outcome}
-use Rattle.pay_member.specs.declared.outcome.Outcome.TheVariants.{Took, Wanted, Frame, Link, WrongKey}
+use Rattle.pay_member.specs.declared.outcome.Outcome.TheVariants.{Took, Wanted, Frame, Link}
+use Rattle.pay_member.specs.declared.outcome.Outcome.TheVariants.{WrongKey}
 use Rattle.pay_member.specs.declared.reply.Reply.TheVariants as reply
 use Rattle.pay_member.specs.Reply.{took_by}
 use Rattle.pay_member.specs.Member.{MemberFields, with_entry}
@@ -65,25 +67,25 @@ unfoldable pub opened_in : KeyFields → List ℕ → Option FrameFields
 opened_in k bytes = option_and_then (λ f. unless_want (judgement k f)) (one_frame bytes)
 
 -- what a frame is to a channel, where its number is the next from its sender
-abbrev pub event_of : List channel.Event → FrameFields → Option channel.Event
-event_of before f =
+abbrev pub event_of_frame : List channel.Event → FrameFields → Option channel.Event
+event_of_frame before f =
     if f.number == next f.from before then Some (channel.From f.from f.body) else None
 
--- what bytes are to the channel of the member with these keys, behind these events: nothing, or one
+-- what bytes are to the channel of the member with these keys, after these events: nothing, or one
 -- event
 unfoldable pub event_in : KeyFields → List channel.Event → List ℕ → Option channel.Event
-event_in k before bytes = option_and_then (event_of before) (opened_in k bytes)
+event_in k before bytes = option_and_then (event_of_frame before) (opened_in k bytes)
 
 -- ---- the answer
 
 -- to a frame that opened: it is taken where its number is the next one
-abbrev pub answered :
+abbrev pub outcome_of_judged :
     GenesisFields → ℕ → List channel.Event → FrameFields → Result ⊤ LinkFault → Outcome
-answered g own before f (Ok _) = Took (took_by g own before (channel.From f.from f.body))
-answered g own before f (Err fault) = Link fault
+outcome_of_judged g own before f (Ok _) = Took (took_by g own before (channel.From f.from f.body))
+outcome_of_judged g own before f (Err fault) = Link fault
 
 unfoldable pub answer_to : GenesisFields → ℕ → List channel.Event → FrameFields → Outcome
-answer_to g own before f = answered g own before f (turn (next f.from before) f.number)
+answer_to g own before f = outcome_of_judged g own before f (turn (next f.from before) f.number)
 
 -- to a frame
 abbrev pub outcome_to :
@@ -113,13 +115,13 @@ answered_at_once outcome = record { outcome = outcome; next = None }
 abbrev pub with_want : KeyFields → ℕ → Received → Brought
 with_want k from r = record {
   outcome = r.outcome;
-  want = option_map (λ number. frame_bytes (wanted k from number)) r.next;
+  want = option_map (λ number. frame_bytes (want_frame k from number)) r.next;
 }
 
--- the WANT that goes with it, where a frame opened that is none: for what is next behind these
+-- the WANT that goes with it, where a frame opened that is none: for what is next after these
 -- events
 abbrev pub want_for : KeyFields → List channel.Event → FrameFields → List ℕ
-want_for k after f = frame_bytes (wanted k f.from (next f.from after))
+want_for k after f = frame_bytes (want_frame k f.from (next f.from after))
 
 unfoldable pub want_after : KeyFields → List channel.Event → List ℕ → Option (List ℕ)
 want_after k after bytes = option_map (want_for k after) (opened_in k bytes)

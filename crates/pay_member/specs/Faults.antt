@@ -7,7 +7,8 @@ use Rattle.pay_member.specs.declared.take_fault.TakeFault.TheVariants as take
 use Rattle.pay_member.specs.declared.query_fault.QueryFault.{QueryFault}
 use Rattle.pay_member.specs.declared.query_fault.QueryFault.TheVariants as query
 use Rattle.pay_member.specs.declared.fault.MemberFault.{MemberFault}
-use Rattle.pay_member.specs.declared.fault.MemberFault.TheVariants.{Memory, Spent, TooLong, Repeat, Gap, WrongKey, NoAccount}
+use Rattle.pay_member.specs.declared.fault.MemberFault.TheVariants.{Memory, Spent, TooLong, Repeat}
+use Rattle.pay_member.specs.declared.fault.MemberFault.TheVariants.{Gap, WrongKey, NoAccount}
 
 abbrev pub member_fault_entry : MemberFault → ℕ × List ℕ
 member_fault_entry Memory = (0, codes "Memory")

@@ -1,6 +1,7 @@
 -- What holds of histories that a member can have, and of what is brought to it, as statements. Each
 -- is proved as a public law.
-use Rattle.std.specs.Prelude.{◌≡◌, ◌≢◌, ◌↔◌, ℕ, ◌<◌, ◌≤◌, pos, ◌≤ℤ◌, List, [], ◌∷◌, ◌++◌, length, slice_index, sum, All, Some}
+use Rattle.std.specs.Prelude.{◌≡◌, ◌≢◌, ◌↔◌, ℕ, ◌<◌, ◌≤◌, pos, ◌≤ℤ◌, List, [], ◌∷◌, ◌++◌, length}
+use Rattle.std.specs.Prelude.{slice_index, sum, All, Some}
 use Rattle.pay_frame.specs.declared.kind.Kind.TheVariants.{Want}
 use Rattle.pay_frame.specs.Frame.{FrameFields}
 use Rattle.pay_frame.specs.OneFrame.{IsOneFrame}

@@ -2,7 +2,7 @@
 use Rattle.std.specs.Prelude.{◌≡◌, ℕ, ◌+◌, ◌≤◌, List, length, sum}
 use Rattle.pay_frame.specs.declared.limits.TheConstants.{MOST_MEMBERS}
 use Rattle.pay_channel.specs.History as channel
-use Rattle.pay_channel.specs.State.{State, Follows, lists_of}
+use Rattle.pay_channel.specs.State.{State, IsStateBy, channel_lists}
 use Rattle.pay_channel.specs.Applied.{IsAsBefore, Takes, IsApplied}
 use Rattle.pay_link.specs.Genesis.{GenesisFields}
 use Rattle.pay_book.specs.Book.{Standing, IsSettled}
@@ -18,13 +18,13 @@ pub record LedgerFields : Type 0 where
 pub record IsLedger (l : LedgerFields) : Type 0 where
   pub few : l.channel.group.members ≤ MOST_MEMBERS
   pub accounts : length l.book.opening ≡ l.channel.group.members
-  pub settled : IsSettled (lists_of l.channel) l.book
+  pub settled : IsSettled (channel_lists l.channel) l.book
 
 -- It is what these events make of the ledger of member `own` of this genesis.
 pub record Tracks (g : GenesisFields) (own : ℕ) (events : List channel.Event) (l : LedgerFields)
     : Type 0 where
   pub group : l.channel.group ≡ group_in g own
-  pub follows : Follows l.channel events
+  pub follows : IsStateBy l.channel events
   pub opening : l.book.opening ≡ g.opening
   pub sound : IsLedger l
 

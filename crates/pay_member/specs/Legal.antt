@@ -15,19 +15,19 @@ use Rattle.pay_member.specs.Refusal.{refusal}
 
 -- values in it are bytes, and a frame is within its limits, rightly tagged under its key, and no
 -- WANT
-abbrev pub IsKept : Event → Type 0
-IsKept (Ask v) = IsBytes v
-IsKept (Taken c) = IsChecked c × IsBytes c.frame.body.value
-IsKept (Query a) = ⊤
+abbrev pub IsStorable : Event → Type 0
+IsStorable (Ask v) = IsBytes v
+IsStorable (Taken c) = IsChecked c × IsBytes c.frame.body.value
+IsStorable (Query a) = ⊤
 
--- behind these events nothing refuses the entry's event, and its reply is the one owed
+-- after these events nothing refuses the entry's event, and its reply is the one owed
 pub record IsOwed (g : GenesisFields) (k : KeyFields) (before : List channel.Event)
     (e : HistoryEntry) : Type 0 where
-  pub kept : IsKept e.event
+  pub kept : IsStorable e.event
   pub taken : refusal g k before e.event ≡ None
   pub reply : e.reply ≡ reply_to g k.own before e.event
 
--- each entry is one that may stand behind those before it
+-- each entry is one that may stand after those before it
 pub record Legal (g : GenesisFields) (k : KeyFields) (history : List HistoryEntry) : Type 0 where
   pub each :
       (before : List HistoryEntry) (e : HistoryEntry) (after : List HistoryEntry)

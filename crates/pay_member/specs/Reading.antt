@@ -1,13 +1,15 @@
 -- What can be read of a member, as functions of the events that it took.
-use Rattle.std.specs.Prelude.{ℕ, nat_lt, ◌&&◌, ◌==◌, List, [], ◌++◌, drop, take, length, if◌then◌else◌}
+use Rattle.std.specs.Prelude.{ℕ, nat_lt, ◌&&◌, ◌==◌, List, [], ◌++◌, drop, take, length}
+use Rattle.std.specs.Prelude.{if◌then◌else◌}
 use Rattle.pay_frame.specs.Frame.{BodyFields}
-use Rattle.pay_channel.specs.Asked.{asked}
+use Rattle.pay_channel.specs.Asked.{asked_values}
 use Rattle.pay_channel.specs.History.{Event, asks, out, list_of}
 use Rattle.pay_link.specs.Genesis.{GenesisFields}
 use Rattle.pay_book.specs.Excerpt.{ExcerptFields, settled_excerpt, waiting_excerpt}
 use Rattle.pay_book.specs.Places.{place_of}
 use Rattle.pay_member.specs.declared.standing.PaymentState.{PaymentState}
-use Rattle.pay_member.specs.declared.standing.PaymentState.TheVariants.{Unknown, Asked, Waiting, Settled}
+use Rattle.pay_member.specs.declared.standing.PaymentState.TheVariants.{Unknown, Asked, Waiting}
+use Rattle.pay_member.specs.declared.standing.PaymentState.TheVariants.{Settled}
 use Rattle.pay_member.specs.Group.{group_in}
 use Rattle.pay_member.specs.Book.{book_after}
 
@@ -20,8 +22,8 @@ state_of g own events owner seq =
     else Unknown
 
 -- the bodies sent to all, from a place on: at most so many, and at most as many as one fetch gives
-unfoldable pub fetched : GenesisFields → ℕ → List Event → ℕ → ℕ → List BodyFields
-fetched g own events number count = take count (drop number (out (group_in g own) events))
+unfoldable pub fetched_bodies : GenesisFields → ℕ → List Event → ℕ → ℕ → List BodyFields
+fetched_bodies g own events number count = take count (drop number (out (group_in g own) events))
 
 -- An account's values as far as a member knows them: those of its list and, of its own account,
 -- what it was asked to broadcast and hasn't listed yet.
@@ -29,7 +31,7 @@ unfoldable pub values_known : GenesisFields → ℕ → List Event → ℕ → L
 values_known g own events account =
     list_of (group_in g own) events account
     ++ (if account == own
-    then drop (length (list_of (group_in g own) events account)) (asked events)
+    then drop (length (list_of (group_in g own) events account)) (asked_values events)
     else [])
 
 -- what settled of an account from a number on

@@ -1,5 +1,6 @@
 -- Why a member refuses an event, if it does: the first cause that holds.
-use Rattle.std.specs.Prelude.{ℕ, nat_le, nat_lt, Bool, ◌&&◌, ◌==◌, List, length, Option, Some, None, if◌then◌else◌}
+use Rattle.std.specs.Prelude.{ℕ, nat_le, nat_lt, Bool, ◌&&◌, ◌==◌, List, length, Option, Some, None}
+use Rattle.std.specs.Prelude.{if◌then◌else◌}
 use Rattle.pay_frame.specs.declared.limits.TheConstants.{GREATEST_VALUE, SEQS}
 use Rattle.pay_channel.specs.History as channel
 use Rattle.pay_channel.specs.History.{asks}
@@ -11,11 +12,12 @@ use Rattle.pay_link.specs.Checked.{CheckedFields}
 use Rattle.pay_member.specs.declared.event.Event.{Event}
 use Rattle.pay_member.specs.declared.event.Event.TheVariants.{Ask, Taken, Query}
 use Rattle.pay_member.specs.declared.fault.MemberFault.{MemberFault}
-use Rattle.pay_member.specs.declared.fault.MemberFault.TheVariants.{Spent, TooLong, Repeat, Gap, WrongKey, NoAccount}
+use Rattle.pay_member.specs.declared.fault.MemberFault.TheVariants.{Spent, TooLong, Repeat, Gap}
+use Rattle.pay_member.specs.declared.fault.MemberFault.TheVariants.{WrongKey, NoAccount}
 
 -- whether a frame is for the member with these keys, as a test
-abbrev pub is_for : KeyFields → CheckedFields → Bool
-is_for k c =
+abbrev pub is_for_member : KeyFields → CheckedFields → Bool
+is_for_member k c =
     (c.frame.to == k.own) && is_peer k c.frame.from && nat_lt c.frame.body.owner (length k.keys)
     && bytes_eq c.key (key_for k c.frame.from)
 
@@ -32,5 +34,6 @@ refusal g k before (Ask v) =
     else if nat_le SEQS (asks before) then Some Spent
     else None
 refusal g k before (Taken c) =
-    if is_for k c then turn_refusal (next c.frame.from before) c.frame.number else Some WrongKey
+    if is_for_member k c then turn_refusal (next c.frame.from before) c.frame.number
+    else Some WrongKey
 refusal g k before (Query a) = if nat_lt a g.members then None else Some NoAccount

@@ -8,7 +8,8 @@ use Rattle.pay_link.specs.Checked.{CheckedFields, IsFor}
 use Rattle.pay_link.specs.Genesis.{GenesisFields}
 use Rattle.pay_link.specs.Keys.{KeyFields}
 use Rattle.pay_member.specs.declared.event.Event.TheVariants.{Ask, Taken, Query}
-use Rattle.pay_member.specs.declared.fault.MemberFault.TheVariants.{Spent, TooLong, Repeat, Gap, WrongKey, NoAccount}
+use Rattle.pay_member.specs.declared.fault.MemberFault.TheVariants.{Spent, TooLong, Repeat, Gap}
+use Rattle.pay_member.specs.declared.fault.MemberFault.TheVariants.{WrongKey, NoAccount}
 use Rattle.pay_member.specs.Refusal.{refusal}
 
 -- of a value of its own: no frame has room for it

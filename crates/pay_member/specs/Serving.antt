@@ -6,16 +6,16 @@ use Rattle.pay_engine.specs.Handling.{Start}
 use Rattle.pay_engine.specs.Exact.{Function}
 use Rattle.pay_channel.specs.Taken.{next}
 use Rattle.pay_link.specs.Opening.{judgement}
-use Rattle.pay_link.specs.Sealing.{wanted}
+use Rattle.pay_link.specs.Sealing.{want_frame}
 use Rattle.pay_member.specs.Events.{events}
 use Rattle.pay_member.specs.Member.{MemberFields}
 use Rattle.pay_member.specs.Bringing.{incoming_at, unless_want, outcome_to, want_for, with_brought}
 
 -- the WANT to a peer for what is next from it
 unfoldable pub first_want : MemberFields → ℕ → List ℕ
-first_want m peer = frame_bytes (wanted m.keys peer (next peer (events m.history)))
+first_want m peer = frame_bytes (want_frame m.keys peer (next peer (events m.history)))
 
--- the member behind a frame that was brought to it under a stamp
+-- the member after a frame that was brought to it under a stamp
 unfoldable pub after_frame : ℕ → MemberFields → FrameFields → MemberFields
 after_frame stamp m f =
     with_brought m stamp
@@ -28,15 +28,15 @@ want_of stamp m f =
     option_map (want_for m.keys (events (after_frame stamp m f).history))
     (unless_want (judgement m.keys f))
 
-abbrev pub bytes_of : Option (List ℕ) → List ℕ
-bytes_of None = []
-bytes_of (Some bytes) = bytes
+abbrev pub bytes_if_any : Option (List ℕ) → List ℕ
+bytes_if_any None = []
+bytes_if_any (Some bytes) = bytes
 
 -- Frame by frame, the WANT of the answer. A fault is not answered to the peer.
 abbrev pub serving : ℕ → Function MemberFields
 serving stamp = record {
   after = after_frame stamp;
-  text = λ m f. bytes_of (want_of stamp m f);
+  text = λ m f. bytes_if_any (want_of stamp m f);
   fault_text = λ m fault. [];
 }
 

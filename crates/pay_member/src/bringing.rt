@@ -1,4 +1,4 @@
-//! What a frame is that reached a member, before its history is looked at.
+//! What a frame is to a member, whatever its history.
 
 ghost use Rattle.std.specs.Prelude.{◌≡◌, IfOk};
 ghost use Rattle.pay_frame.specs.Lent.{fields_of};
@@ -18,7 +18,7 @@ pub fn open_frame<'a, T: Tagger>(
     ensures incoming { result ≡ incoming_at keys.now (fields_of frame.entry) }
     ensures peer { IfOk result (IsOfPeer keys.now (fields_of frame.entry)) }
 {
-    laws::opened();
+    laws::judgement_opens();
     let opened = open(tagger, keys, frame)?;
     let frame = opened.frame();
     match frame.kind() {

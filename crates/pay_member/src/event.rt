@@ -1,6 +1,6 @@
 ghost use Rattle.std.specs.Prelude.{◌≡◌, IfOk};
 ghost use Rattle.pay_frame.specs.Stream.{IsBytes};
-ghost use Rattle.pay_member.specs.Legal.{IsKept};
+ghost use Rattle.pay_member.specs.Legal.{IsStorable};
 
 use pay_frame::Bytes;
 use pay_link::Checked;
@@ -21,7 +21,7 @@ impl Event {
     /// A clone of the event. Each is one that a history may hold.
     pub fn copy(&self, alloc: Global) -> Result<Event, AllocError>
         ensures value { IfOk result (λ copy. copy ≡ self.now) }
-        ensures kept { IsKept self.now }
+        ensures kept { IsStorable self.now }
     {
         match self {
             Event::Ask(value) => {
@@ -39,14 +39,14 @@ impl Event {
 
 /// A law: what is asked for is bytes.
 pub(crate) fn asked_is_kept(value: &Bytes)
-    ensures { IsKept (Event.Ask value.now) }
+    ensures { IsStorable (Event.Ask value.now) }
 {
     slice_is_bytes(value.as_slice());
 }
 
 /// A law: what was opened is within a frame's limits, and its value is bytes.
 pub(crate) fn taken_is_kept(checked: &Checked)
-    ensures { IsKept (Event.Taken checked.now) }
+    ensures { IsStorable (Event.Taken checked.now) }
 {
     slice_is_bytes(checked.body().value());
 }

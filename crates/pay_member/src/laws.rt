@@ -18,7 +18,7 @@ use pay_book::laws::{
 };
 use pay_channel::laws::{delivered_for_good, grow_at_the_end, lists_grow};
 use pay_frame::one_frame_is;
-use pay_link::laws::opened;
+use pay_link::laws::judgement_opens;
 
 /// The frame that opens from bytes is all of them; it is for the member, from a peer, about a
 /// member's broadcast and rightly tagged, and it is no WANT.
@@ -26,7 +26,7 @@ pub fn what_opens()
     ensures { WhatOpens }
 {
     one_frame_is();
-    opened();
+    judgement_opens();
 }
 
 /// The events of a history, one entry after the other: a query is none.
@@ -97,5 +97,5 @@ pub fn what_is_brought()
     ensures may_come { BroughtMayCome }
 {
     one_frame_is();
-    opened();
+    judgement_opens();
 }

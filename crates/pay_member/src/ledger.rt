@@ -1,13 +1,14 @@
-ghost use Rattle.std.specs.Prelude.{true, ◌≡◌, ◌<◌, [], drop, take, length};
+ghost use Rattle.std.specs.Prelude.{true, ◌≡◌, ◌<◌, ◌≤◌, [], drop, take, length};
 ghost use Rattle.std.specs.Prelude.{slice_get, slice_index, IfOk, OnErr};
 ghost use Rattle.std.specs.Option.{option_copied};
 ghost use Rattle.pay_channel.specs.History.{IsEvent, is_ask, owner_of, seqs};
-ghost use Rattle.pay_channel.specs.State.{lists_of, meaning_at};
+ghost use Rattle.pay_channel.specs.State.{channel_lists, meaning_at};
 ghost use Rattle.pay_book.specs.Excerpt.{settled_excerpt, waiting_excerpt};
 ghost use Rattle.pay_book.specs.Front.{AllGrow};
 ghost use Rattle.pay_book.specs.Places.{place_of};
 ghost use Rattle.pay_book.specs.Statement.{statement_of};
-ghost use Rattle.pay_channel.specs.Applied.{event_of};
+ghost use Rattle.pay_channel.specs.Applied.{event_of_ref};
+ghost use Rattle.pay_frame.specs.declared.limits.TheConstants.{MOST_MEMBERS};
 ghost use Rattle.pay_member.specs.Ledger.{Tracks, IsSameLedger, Grows};
 
 use crate::took::Took;
@@ -65,11 +66,11 @@ impl<I: Instance + Drop, B: Settle + Drop> Ledger<I, B> {
 
     /// Takes an event and settles what it lets settle. Memory is refused before the first change.
     pub fn apply(&mut self, alloc: Global, event: EventRef, owner: u16) -> Result<Took, AllocError>
-        requires event { IsEvent self.old.channel.group (event_of event) }
-        requires number { is_ask (event_of event) ≡ true → self.old.channel.asks < seqs }
-        requires owner { owner ≡ owner_of self.old.channel.group.own (event_of event) }
+        requires event { IsEvent self.old.channel.group (event_of_ref event) }
+        requires number { is_ask (event_of_ref event) ≡ true → self.old.channel.asks < seqs }
+        requires owner { owner ≡ owner_of self.old.channel.group.own (event_of_ref event) }
         requires member { owner < self.old.channel.group.members }
-        ensures grows { IfOk result (Grows self.old self.new (event_of event.entry)) }
+        ensures grows { IfOk result (Grows self.old self.new (event_of_ref event.entry)) }
         ensures err { OnErr result (IsSameLedger self.old self.new) }
     {
         lists_of_a_channel();
@@ -100,7 +101,7 @@ impl<I: Instance + Drop, B: Settle + Drop> Ledger<I, B> {
         self.channel.sent_len()
     }
 
-    /// Copies of the bodies that the member sent to all, from a place on: at most so many.
+    /// Copies of at most `most` bodies that the member sent to all, from a place on.
     pub fn fetch(&self, alloc: Global, from: usize, most: usize) -> Result<Vec<Body>, AllocError>
         ensures { IfOk result (λ bodies. bodies.items
             ≡ take most (drop from self.now.channel.sent)) }
@@ -116,16 +117,16 @@ impl<I: Instance + Drop, B: Settle + Drop> Ledger<I, B> {
     }
 
     /// How many values an account's list has.
-    pub fn listed(&self, account: u16) -> u32
-        ensures { result ≡ length (lists_of self.now.channel account) }
+    pub fn list_len(&self, account: u16) -> u32
+        ensures { result ≡ length (channel_lists self.now.channel account) }
     {
         self.channel.in_order(account)
     }
 
     /// The value at a place of an account's list.
     pub fn value(&self, account: u16, place: u32) -> &[u8]
-        requires { place < length (lists_of self.now.channel account) }
-        ensures { slice_get (lists_of self.now.channel account) place ≡ Some result.now }
+        requires { place < length (channel_lists self.now.channel account) }
+        ensures { slice_get (channel_lists self.now.channel account) place ≡ Some result.now }
     {
         self.channel.at(account, place)
     }
@@ -149,7 +150,8 @@ impl<I: Instance + Drop, B: Settle + Drop> Ledger<I, B> {
     /// How many entries are settled of each account.
     pub fn fronts(&self, alloc: Global, accounts: u16) -> Result<Vec<u32>, AllocError>
         requires { accounts ≡ length self.now.book.opening }
-        ensures { IfOk result (λ fronts. fronts.items ≡ self.now.book.front) }
+        ensures value { IfOk result (λ fronts. fronts.items ≡ self.now.book.front) }
+        ensures few { IfOk result (λ fronts. length fronts.items ≤ MOST_MEMBERS) }
     {
         let mut fronts = Vec::new(alloc);
         for account in 0..accounts {
@@ -176,7 +178,7 @@ impl<I: Instance + Drop, B: Settle + Drop> Ledger<I, B> {
         requires accounts { accounts ≡ length self.now.book.opening }
         requires account { account < accounts }
         ensures { IfOk result (λ lines. lines.items
-            ≡ statement_of accounts (lists_of self.now.channel)
+            ≡ statement_of accounts (channel_lists self.now.channel)
             (slice_index self.now.book.front) account) }
     {
         statement(alloc, &self.channel, &self.book, accounts, account)
@@ -192,7 +194,7 @@ impl<I: Instance + Drop, B: Settle + Drop> Ledger<I, B> {
         requires accounts { accounts ≡ length self.now.book.opening }
         requires account { account < accounts }
         ensures { IfOk result (λ excerpt. excerpt
-            ≡ settled_excerpt self.now.book (lists_of self.now.channel) account from) }
+            ≡ settled_excerpt self.now.book (channel_lists self.now.channel) account from) }
     {
         settled_excerpt(alloc, &self.channel, &self.book, accounts, account, from)
     }
@@ -205,7 +207,7 @@ impl<I: Instance + Drop, B: Settle + Drop> Ledger<I, B> {
         accounts: u16,
         account: u16,
     ) -> Result<Excerpt, AllocError>
-        requires grown { AllGrow (length self.now.book.opening) (lists_of self.now.channel)
+        requires grown { AllGrow (length self.now.book.opening) (channel_lists self.now.channel)
             (S.lists source.now) }
         requires accounts { accounts ≡ length self.now.book.opening }
         requires account { account < accounts }

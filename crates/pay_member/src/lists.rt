@@ -1,4 +1,4 @@
-//! A member's lists of values, as whoever reads a source sees them.
+//! A member's lists of values, as a source.
 
 ghost use Rattle.pay_channel.specs.History.{list_of};
 ghost use Rattle.pay_member.specs.Group.{group_in};
@@ -15,7 +15,7 @@ impl<I: Instance + Drop, B: Settle + Drop> Source for Member<I, B> {
 
     fn length(&self, owner: u16) -> u32 {
         a_channel_follows();
-        self.ledger.listed(owner)
+        self.ledger.list_len(owner)
     }
 
     fn at(&self, owner: u16, k: u32) -> &[u8] {

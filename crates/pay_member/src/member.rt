@@ -1,10 +1,11 @@
-ghost use Rattle.std.specs.Prelude.{◌≡◌, ◌≢◌, ◌<◌, ◌&&◌, ◌++◌, nat_lt, min, []};
+ghost use Rattle.std.specs.Prelude.{◌≡◌, ◌≢◌, ◌<◌, ◌≤◌, ◌&&◌, ◌++◌, nat_lt, min, []};
 ghost use Rattle.std.specs.Prelude.{length, slice_get, slice_index, Some, None};
 ghost use Rattle.std.specs.Prelude.{MatchOption, IfOk, IfSome, OnOk, OnErr, IsOkUnless};
 ghost use Rattle.std.specs.Option.{option_and_then, option_copied, option_map, option_to_list};
 ghost use Rattle.pay_link.specs.Keys.{IsKeysOf, IsPeer};
 ghost use Rattle.pay_link.specs.Opening.{judgement};
 ghost use Rattle.pay_frame.specs.Lent.{fields_of};
+ghost use Rattle.pay_frame.specs.declared.limits.TheConstants.{MOST_MEMBERS};
 ghost use Rattle.pay_link.specs.Checked.{IsFor, bytes_of, checked_fields};
 ghost use Rattle.pay_link.specs.Fronts.{turn};
 ghost use Rattle.pay_link.specs.Genesis.{IsGenesis};
@@ -16,12 +17,13 @@ ghost use Rattle.pay_member.specs.Events.{events};
 ghost use Rattle.pay_member.specs.Book.{book_after};
 ghost use Rattle.pay_member.specs.Reply.{took_by, told_of};
 ghost use Rattle.pay_member.specs.Refusal.{refusal};
-ghost use Rattle.pay_member.specs.Answer.{IsAnswer, asked, taken, told};
-ghost use Rattle.pay_member.specs.Reading.{entries_shown, fetched, state_of, values_known};
+ghost use Rattle.pay_member.specs.Answer.{IsAnswer, answer_of_ask, answer_of_take, answer_of_query};
+ghost use Rattle.pay_member.specs.Reading.{entries_shown, fetched_bodies, state_of, values_known};
 ghost use Rattle.pay_member.specs.Reading.{waiting_shown};
 ghost use Rattle.pay_member.specs.Legal.{Legal};
 ghost use Rattle.pay_member.specs.Member.{with_entry};
-ghost use Rattle.pay_member.specs.Bringing.{IsOutcome, answer_to, event_in, event_of, incoming_at};
+ghost use Rattle.pay_member.specs.Bringing.{IsOutcome, answer_to, event_in, event_of_frame};
+ghost use Rattle.pay_member.specs.Bringing.{incoming_at};
 ghost use Rattle.pay_member.specs.Bringing.{opened_in, outcome_to, unless_want, want_after};
 ghost use Rattle.pay_member.specs.Bringing.{with_brought, with_taken, with_want};
 ghost use Rattle.pay_member.specs.Serving.{after_frame, want_of};
@@ -106,13 +108,13 @@ impl<I: Instance + Drop, B: Settle + Drop> Member<I, B> {
 
     /// Broadcasts a value of the member's own, and returns the number that it got.
     ///
-    /// Refuses a value of more than 1,024 bytes (`TooLong`) and one behind 65,536 others (`Spent`).
+    /// Refuses a value of more than 1,024 bytes (`TooLong`) and one after 65,536 others (`Spent`).
     /// A refused value is dropped, and the member is unchanged.
     pub fn ask(&mut self, alloc: Global, stamp: u16, value: Bytes) -> Result<u32, AskFault>
         ensures refused { MatchOption
             (refusal self.old.genesis self.old.keys (events self.old.history) (Event.Ask value))
             (IsOkUnless result AskFault.Memory)
-            (λ fault. asked result ≡ Err fault) }
+            (λ fault. answer_of_ask result ≡ Err fault) }
         ensures asked { IfOk result (λ seq. seq ≡ asks (events self.old.history)) }
         ensures entry { IfOk result (λ seq. self.new ≡ with_entry self.old
             (record { stamp = stamp; event = Event.Ask value; reply = Reply.Asked seq })) }
@@ -150,7 +152,7 @@ impl<I: Instance + Drop, B: Settle + Drop> Member<I, B> {
         ensures refused { MatchOption
             (refusal self.old.genesis self.old.keys (events self.old.history) (Event.Taken checked))
             (IsOkUnless result TakeFault.Memory)
-            (λ fault. taken result ≡ Err fault) }
+            (λ fault. answer_of_take result ≡ Err fault) }
         ensures took { IfOk result (λ took. took
             ≡ took_by self.old.genesis self.old.keys.own (events self.old.history)
             (From checked.frame.from checked.frame.body)) }
@@ -227,7 +229,7 @@ impl<I: Instance + Drop, B: Settle + Drop> Member<I, B> {
         Ok(received.with_want(tagger, self.keys(), from))
     }
 
-    /// The same without the WANT, for whoever would send none: that spares its tag.
+    /// The same without the WANT, which spares its tag.
     pub fn bring_unanswered<T: Tagger>(
         &mut self,
         alloc: Global,
@@ -273,7 +275,7 @@ impl<I: Instance + Drop, B: Settle + Drop> Member<I, B> {
         ensures err { OnErr result (self.new ≡ self.old) }
     {
         one_frame_is();
-        laws::owned();
+        laws::owned_opens_again();
         taken_is_kept(&owned);
         self.take_mine(alloc, stamp, owned)
     }
@@ -304,12 +306,12 @@ impl<I: Instance + Drop, B: Settle + Drop> Member<I, B> {
             IsPeer self.old.keys (fields_of frame.entry).from)) }
         ensures after { OnOk result
             (self.new ≡ after_frame stamp self.old (fields_of frame.entry)) }
-        ensures memory { OnErr result (option_and_then (event_of (events self.old.history))
+        ensures memory { OnErr result (option_and_then (event_of_frame (events self.old.history))
             (unless_want (judgement self.old.keys (fields_of frame.entry))) ≢ None) }
         ensures err { OnErr result (self.new ≡ self.old) }
     {
-        laws::opened();
-        laws::owned();
+        laws::judgement_opens();
+        laws::owned_opens_again();
         match open_frame(tagger, self.keys(), frame) {
             Ok(Incoming::Message(opened)) => {
                 let from = opened.frame().from();
@@ -342,7 +344,7 @@ impl<I: Instance + Drop, B: Settle + Drop> Member<I, B> {
         ensures entry { IfOk result (λ outcome. self.new
             ≡ with_taken self.old stamp (checked_fields opened.now) outcome) }
         ensures memory { OnErr result
-            (event_of (events self.old.history) opened.now.frame ≢ None) }
+            (event_of_frame (events self.old.history) opened.now.frame ≢ None) }
         ensures err { OnErr result (self.new ≡ self.old) }
     {
         let frame = opened.frame();
@@ -366,7 +368,8 @@ impl<I: Instance + Drop, B: Settle + Drop> Member<I, B> {
             checked.frame) }
         ensures entry { IfOk result (λ outcome.
             self.new ≡ with_taken self.old stamp checked outcome) }
-        ensures memory { OnErr result (event_of (events self.old.history) checked.frame ≢ None) }
+        ensures memory { OnErr result
+            (event_of_frame (events self.old.history) checked.frame ≢ None) }
         ensures err { OnErr result (self.new ≡ self.old) }
     {
         match self.take(alloc, stamp, checked) {
@@ -384,7 +387,7 @@ impl<I: Instance + Drop, B: Settle + Drop> Member<I, B> {
         ensures refused { MatchOption
             (refusal self.old.genesis self.old.keys (events self.old.history) (Event.Query account))
             (IsOkUnless result QueryFault.Memory)
-            (λ fault. told result ≡ Err fault) }
+            (λ fault. answer_of_query result ≡ Err fault) }
         ensures told { IfOk result (λ told. told
             ≡ told_of self.old.genesis self.old.keys.own (events self.old.history) account) }
         ensures entry { IfOk result (λ told. self.new ≡ with_entry self.old
@@ -400,7 +403,7 @@ impl<I: Instance + Drop, B: Settle + Drop> Member<I, B> {
         let told = Told {
             balance: self.ledger.balance(account),
             front: self.ledger.front(account),
-            listed: self.ledger.listed(account),
+            listed: self.ledger.list_len(account),
         };
         self.history.push_reserved(HistoryEntry {
             stamp,
@@ -489,7 +492,7 @@ impl<I: Instance + Drop, B: Settle + Drop> Member<I, B> {
     /// most 16.
     pub fn fetch(&self, alloc: Global, from: usize, max: usize) -> Result<Vec<Body>, AllocError>
         ensures { IfOk result (λ bodies. bodies.items
-            ≡ fetched self.now.genesis self.now.keys.own (events self.now.history)
+            ≡ fetched_bodies self.now.genesis self.now.keys.own (events self.now.history)
             from (min max MOST_FETCHED)) }
     {
         self.ledger.fetch(alloc, from, max.min(MOST_FETCHED))
@@ -517,8 +520,9 @@ impl<I: Instance + Drop, B: Settle + Drop> Member<I, B> {
 
     /// How many entries are settled of each account.
     pub fn fronts(&self, alloc: Global) -> Result<Vec<u32>, AllocError>
-        ensures { IfOk result (λ fronts. fronts.items
+        ensures value { IfOk result (λ fronts. fronts.items
             ≡ (book_after self.now.genesis self.now.keys.own (events self.now.history)).front) }
+        ensures few { IfOk result (λ fronts. length fronts.items ≤ MOST_MEMBERS) }
     {
         a_channel_follows();
         settled_book_is_one();
@@ -547,7 +551,7 @@ impl<I: Instance + Drop, B: Settle + Drop> Member<I, B> {
         settled_book_is_one();
         if seq < self.ledger.place(owner).0 {
             PaymentState::Settled
-        } else if seq < self.ledger.listed(owner) {
+        } else if seq < self.ledger.list_len(owner) {
             PaymentState::Waiting
         } else if is_used(owner == self.keys.own(), seq, self.ledger.asks()) {
             PaymentState::Asked
@@ -603,7 +607,7 @@ impl<I: Instance + Drop, B: Settle + Drop> Member<I, B> {
     {
         a_channel_follows();
         sends_are_asks();
-        let listed = self.ledger.listed(account);
+        let listed = self.ledger.list_len(account);
         if account == self.keys.own() {
             listed.max(self.ledger.asks())
         } else {
@@ -620,7 +624,7 @@ impl<I: Instance + Drop, B: Settle + Drop> Member<I, B> {
     {
         a_channel_follows();
         sends_are_asks();
-        if seq < self.ledger.listed(account) {
+        if seq < self.ledger.list_len(account) {
             self.ledger.value(account, seq)
         } else {
             self.ledger.echoed(account, seq).unwrap()

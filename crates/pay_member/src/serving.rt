@@ -1,9 +1,10 @@
 //! How a member is fed from a peer's stream.
 
+ghost use Rattle.std.specs.Prelude.{◌≡◌, OnOk};
 ghost use Rattle.pay_io.specs.Counts.{KeepsCounts};
 ghost use Rattle.pay_engine.specs.EngineFault.{engine_of};
 ghost use Rattle.pay_link.specs.Keys.{IsPeer};
-ghost use Rattle.pay_engine.specs.Exact.{Takes, Writes, exactly};
+ghost use Rattle.pay_engine.specs.Exact.{TakesFrames, Writes, exactly};
 ghost use Rattle.pay_member.specs.Serving.{serve_start, serving};
 
 use crate::member::Member;
@@ -85,11 +86,13 @@ where
     ensures text { Writes (serving stamp)
         (serve_start member.old peer (R.remaining reader.old) (W.contents writer.old))
         member.new (R.remaining reader.new) (W.contents writer.new) result }
-    ensures took { Takes (serving stamp)
+    ensures took { TakesFrames (serving stamp)
         (serve_start member.old peer (R.remaining reader.old) (W.contents writer.old))
         member.new }
     ensures counts { KeepsCounts engine_of R.call_count R.failure_count R.remaining
         W.failure_count reader.old reader.new writer.old writer.new result }
+    ensures none_failed { OnOk result (R.failure_count reader.new ≡ R.failure_count reader.old) }
+    ensures all_written { OnOk result (W.failure_count writer.new ≡ W.failure_count writer.old) }
 {
     // a law that the proof stands on: the call does nothing
     exact_text::<Member<I, B>>();

@@ -1,4 +1,4 @@
--- The desk's seat was the fresh one with the last stamp, and is among those that the history bears out.
+-- The desk's seat was the fresh one with the last stamp, and is among those that the history is consistent with.
 use Rattle.std.proofs.Common.{◌≡◌, ◌≢◌, ℕ, ◌-◌, ◌==◌, Bool, true, false, nat_lt, Some, Option, Result, Ok, List, [], ◌∷◌, ◌++◌, length, slice_get, refl, sym, ap, ◌∙◌, subst, arith}
 use Rattle.std.proofs.lemmas.Bool.{eq-eqb, ltb-true, ltb-false}
 use Rattle.std.proofs.lemmas.List.{get_or_at, length_push}
@@ -6,7 +6,7 @@ use Rattle.std.proofs.lemmas.List.Elements.{All-get_or, filter-append}
 use Rattle.std.proofs.lemmas.Option.{slice_get-get_or}
 use Rattle.pay_io.specs.declared.stream_fault.StreamFault.{StreamFault}
 use Rattle.pay_member.specs.Member.{MemberFields}
-use Rattle.pay_node.specs.Closing.{AllSettled, seats_with}
+use Rattle.pay_node.specs.Closing.{AllReconciled, seats_with}
 use Rattle.pay_node.specs.Nodes.{AreFresh, NodeFields, fresh_seat}
 use Rattle.pay_node.specs.Seats.{Right, SeatFields}
 use Rattle.pay_net.specs.Running.{DeskStart, HasServed}
@@ -53,7 +53,7 @@ alone : (desk : SeatFields) → seats_with desk.stamp (desk ∷ []) ≡ desk ∷
 alone desk = rw (eq-eqb desk.stamp desk.stamp refl) refl
 
 by_stamp : (m : MemberFields) (base count : ℕ) (others : List SeatFields) (desk : SeatFields) (b : Bool) → nat_lt desk.stamp count ≡ b
-    → AllSettled m base count (others ++ desk ∷ []) → Right m base desk
+    → AllReconciled m base count (others ++ desk ∷ []) → Right m base desk
 by_stamp m base count others desk true below settled =
     let kept = (settled desk.stamp).own (ltb-true desk.stamp count below) in
     let parts = filter-append (λ (s : SeatFields). s.stamp == desk.stamp) others (desk ∷ []) in
@@ -67,7 +67,7 @@ by_stamp m base count others desk false above settled =
     absurd (strange (ap (λ (s : SeatFields). s.stamp) (get_or_at others desk [] desk (length others) refl)))
 
 pub right_at_end : (m : MemberFields) (base count : ℕ) (seats others : List SeatFields) (desk : SeatFields)
-    → seats ≡ others ++ desk ∷ [] → AllSettled m base count seats → Right m base desk
+    → seats ≡ others ++ desk ∷ [] → AllReconciled m base count seats → Right m base desk
 right_at_end m base count seats others desk is settled =
     by_stamp m base count others desk (nat_lt desk.stamp count) refl
-    (subst (λ (all : List SeatFields). AllSettled m base count all) is settled)
+    (subst (λ (all : List SeatFields). AllReconciled m base count all) is settled)

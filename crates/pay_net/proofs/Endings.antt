@@ -7,7 +7,7 @@ use Rattle.pay_member.specs.Legal.{Legal}
 use Rattle.pay_member.specs.Member.{MemberFields}
 use Rattle.pay_node.specs.declared.close_fault.CloseFault.{CloseFault}
 use Rattle.pay_node.specs.declared.close_fault.CloseFault.TheVariants as close
-use Rattle.pay_node.specs.Closing.{AllSettled, IsCount, IsFault}
+use Rattle.pay_node.specs.Closing.{AllReconciled, IsCount, IsCloseFault}
 use Rattle.pay_node.specs.Nodes.{IsOwn, NodeFields, StoppedFields, base_of}
 use Rattle.pay_node.specs.Seats.{SeatFields}
 use Rattle.pay_net.specs.declared.node_fault.NodeFault.{NodeFault}
@@ -21,8 +21,8 @@ ends_at :
     (found : Result MemberFields (CloseFault × StoppedFields)) (uncounted : Option ℕ)
     → Legal stopped.member.genesis stopped.member.keys stopped.member.history
     → IfOk found (λ m. m ≡ stopped.member) → IfOk found (λ _. IsOwn stopped.node stopped.member)
-    → IfOk found (λ _. AllSettled stopped.member (base_of stopped.node) stopped.node.seats seats)
-    → IfErr found (λ back. IsFault stopped.node stopped.member seats back.0) → IfErr found (λ back. back.1 ≡ stopped)
+    → IfOk found (λ _. AllReconciled stopped.member (base_of stopped.node) stopped.node.seats seats)
+    → IfErr found (λ back. IsCloseFault stopped.node stopped.member seats back.0) → IfErr found (λ back. back.1 ≡ stopped)
     → IsCount stopped.member (base_of stopped.node) stopped.node.seats seats uncounted → HasRun stopped.node start seats input left before after
     → HasEnded stopped.node start ports input left before after (as_fault (ended_by found uncounted))
 ends_at stopped start ports seats input left before after (Ok m) uncounted legal is own settled fault back count ran =
@@ -47,8 +47,8 @@ pub ends_so :
     (found : Result MemberFields (CloseFault × StoppedFields)) (uncounted : Option ℕ) (r : Result (MemberFields × Receipts) ℕ)
     → stopped.node ≡ n → r ≡ ended_by found uncounted → Legal stopped.member.genesis stopped.member.keys stopped.member.history
     → IfOk found (λ m. m ≡ stopped.member) → IfOk found (λ _. IsOwn stopped.node stopped.member)
-    → IfOk found (λ _. AllSettled stopped.member (base_of stopped.node) stopped.node.seats seats)
-    → IfErr found (λ back. IsFault stopped.node stopped.member seats back.0) → IfErr found (λ back. back.1 ≡ stopped)
+    → IfOk found (λ _. AllReconciled stopped.member (base_of stopped.node) stopped.node.seats seats)
+    → IfErr found (λ back. IsCloseFault stopped.node stopped.member seats back.0) → IfErr found (λ back. back.1 ≡ stopped)
     → IsCount stopped.member (base_of stopped.node) stopped.node.seats seats uncounted → HasRun n start seats input left before after
     → HasEnded n start ports input left before after (as_fault r)
 ends_so n stopped start ports seats input left before after found uncounted r same by legal is own settled fault back count ran =

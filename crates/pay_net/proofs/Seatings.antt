@@ -10,7 +10,7 @@ use Rattle.pay_link.specs.Keys.{KeyFields}
 use Rattle.pay_node.specs.Nodes.{AreFresh, NodeFields, fresh_seat}
 use Rattle.pay_node.specs.Seats.{SeatFields}
 use Rattle.pay_peers.specs.declared.asking.Asking.{Asking}
-use Rattle.pay_peers.specs.Growing.{EachGrows, Grows, HasGrown}
+use Rattle.pay_peers.specs.Growing.{EachGrows, SeatGrows, HasGrown}
 use Rattle.pay_net.specs.Running.{DeskStart, HasRun, HasServed, IsDeskFault, IsReader, others_below, peers_of}
 use Rattle.pay_net.specs.Seating.{AreSeated, IsFresh, SeatsOne}
 use Rattle.pay_net.proofs.Desks.{last_is_fresh, served_well}
@@ -127,8 +127,8 @@ reader_of : (x y : ℕ × Asking) → IsFresh x.1.seat → HasGrown x y → IsRe
 reader_of x y fresh grown =
     let stamp : y.1.seat.stamp ≡ x.1.seat.stamp = ap (λ (s : SeatFields). s.stamp) grown.1.is in
     let was : x.1.seat ≡ fresh_seat y.1.seat.stamp = fresh ∙ ap fresh_seat (sym stamp) in
-    subst (λ peer. Grows peer (fresh_seat y.1.seat.stamp) y.1.seat) (sym grown.0)
-    (subst (λ (s : SeatFields). Grows x.0 s y.1.seat) was grown.1)
+    subst (λ peer. SeatGrows peer (fresh_seat y.1.seat.stamp) y.1.seat) (sym grown.0)
+    (subst (λ (s : SeatFields). SeatGrows x.0 s y.1.seat) was grown.1)
 
 grown_readers : (old new : List (ℕ × Asking)) → EachGrows old new → All (λ (r : ℕ × Asking). IsFresh r.1.seat) old
     → All (λ (r : ℕ × Asking). IsReader (reader_from r)) new

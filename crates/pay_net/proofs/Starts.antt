@@ -4,7 +4,7 @@ use Rattle.std.specs.List.{filter_map}
 use Rattle.std.proofs.lemmas.List.{length_push, map_push, take_all, take_more}
 use Rattle.std.proofs.lemmas.List.Elements.{filter_map-append}
 use Rattle.std.proofs.lemmas.Option.{slice_get_within, get_or_from_slice_get}
-use Rattle.pay_channel.specs.Asked.{ask_of, asked}
+use Rattle.pay_channel.specs.Asked.{ask_of, asked_values}
 use Rattle.pay_desk.specs.declared.kept.Kept.{Kept}
 use Rattle.pay_desk.specs.Kept.{kept_under}
 use Rattle.pay_desk.specs.Laws.{AreUnderFreeIds}
@@ -17,22 +17,22 @@ use Rattle.pay_net.specs.Starting.{IsKeptOf, KeepsEntry, KeepsNext}
 
 -- ---- what an entry asked for
 
-asked_more : (h : List HistoryEntry) (e : HistoryEntry) → asked (events (h ++ e ∷ [])) ≡ asked (events h) ++ asked (events (e ∷ []))
-unfolding asked events
+asked_more : (h : List HistoryEntry) (e : HistoryEntry) → asked_values (events (h ++ e ∷ [])) ≡ asked_values (events h) ++ asked_values (events (e ∷ []))
+unfolding asked_values events
 asked_more h e =
     ap (filter_map ask_of) (filter_map-append (λ (x : HistoryEntry). channel_event x.event) h (e ∷ []))
     ∙ filter_map-append ask_of (events h) (events (e ∷ []))
 
-value_asked : (e : HistoryEntry) (value : List ℕ) → e.event ≡ Ask value → asked (events (e ∷ [])) ≡ value ∷ []
-unfolding asked events
+value_asked : (e : HistoryEntry) (value : List ℕ) → e.event ≡ Ask value → asked_values (events (e ∷ [])) ≡ value ∷ []
+unfolding asked_values events
 value_asked e value is = rw is refl
 
-frame_asked : (e : HistoryEntry) → (checked : CheckedFields) → e.event ≡ Taken checked → asked (events (e ∷ [])) ≡ []
-unfolding asked events
+frame_asked : (e : HistoryEntry) → (checked : CheckedFields) → e.event ≡ Taken checked → asked_values (events (e ∷ [])) ≡ []
+unfolding asked_values events
 frame_asked e checked is = rw is refl
 
-query_asked : (e : HistoryEntry) (account : ℕ) → e.event ≡ Query account → asked (events (e ∷ [])) ≡ []
-unfolding asked events
+query_asked : (e : HistoryEntry) (account : ℕ) → e.event ≡ Query account → asked_values (events (e ∷ [])) ≡ []
+unfolding asked_values events
 query_asked e account is = rw is refl
 
 -- ---- one value more
@@ -70,7 +70,7 @@ value_more h e ids value old new is so_far next =
     let count : length new ≡ length old + 1 = ap length next.is ∙ long in
     let kept : IsKeptOf (h ++ e ∷ []) (old ++ k ∷ []) = record {
       values = map_push (λ (x : Kept). x.value) old k ∙ ap (λ (vs : List (List ℕ)). vs ++ value ∷ []) so_far.0.values
-          ∙ ap (λ (vs : List (List ℕ)). asked (events h) ++ vs) (sym (value_asked e value is)) ∙ sym (asked_more h e);
+          ∙ ap (λ (vs : List (List ℕ)). asked_values (events h) ++ vs) (sym (value_asked e value is)) ∙ sym (asked_more h e);
       numbered = λ seq x at. (let here = numbered_more 0 old k (omega arith) (λ s z there. (let one = so_far.0.numbered s z there in omega arith)) seq x at in omega arith);
       free = free_more [] old k so_far.0.free next.free;
     } in
@@ -84,12 +84,12 @@ value_more h e ids value old new is so_far next =
       omega arith,
     )
 
-nothing_more : (h : List HistoryEntry) (e : HistoryEntry) (ids : List ℕ) (old new : List Kept) → asked (events (e ∷ [])) ≡ [] → AreKeptSoFar h ids old
+nothing_more : (h : List HistoryEntry) (e : HistoryEntry) (ids : List ℕ) (old new : List Kept) → asked_values (events (e ∷ [])) ≡ [] → AreKeptSoFar h ids old
     → new ≡ old → AreKeptSoFar (h ++ e ∷ []) ids new
 nothing_more h e ids old new none so_far same =
     subst (AreKeptSoFar (h ++ e ∷ []) ids) (sym same) (
       record {
-        values = so_far.0.values ∙ sym (append-nil (asked (events h))) ∙ ap (λ (vs : List (List ℕ)). asked (events h) ++ vs) (sym none) ∙ sym (asked_more h e);
+        values = so_far.0.values ∙ sym (append-nil (asked_values (events h))) ∙ ap (λ (vs : List (List ℕ)). asked_values (events h) ++ vs) (sym none) ∙ sym (asked_more h e);
         numbered = so_far.0.numbered;
         free = so_far.0.free;
       },
@@ -115,7 +115,7 @@ kept_on h i e ids old new below is so_far keeps =
 -- ---- a whole history
 
 pub nothing_kept : IsKeptOf [] []
-unfolding asked events
+unfolding asked_values events
 nothing_kept = record { values = refl; numbered = none_there; free = tt } where
   none_there : (seq : ℕ) (k : Kept) → slice_get [] seq ≡ Some k → k.seq ≡ seq
   none_there zero k is = cc

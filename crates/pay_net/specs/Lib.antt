@@ -1,8 +1,9 @@
+pub mod Contacts
 pub mod Faults
-pub mod Guests
-pub mod GuestLaws
+pub mod Figures
+pub mod Inbound
+pub mod InboundLaws
 pub mod Ports
-pub mod Starting
 pub mod Running
 pub mod Seating
-pub mod Contacts
+pub mod Starting

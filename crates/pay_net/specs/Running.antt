@@ -1,5 +1,7 @@
 -- What is left of a node once it has ended.
-use Rattle.std.specs.Prelude.{◌≡◌, ◌⊎◌, ℕ, ◌*◌, ◌-◌, ◌+◌, ◌≤◌, ◌==◌, zero, suc, if◌then◌else◌, Bool, true, false, is_some, List, [], ◌∷◌, ◌++◌, length, map, slice_get, Option, Some, None, Result, Ok, Err, IsErrOf, ⊤}
+use Rattle.std.specs.Prelude.{◌≡◌, ◌⊎◌, ℕ, ◌*◌, ◌-◌, ◌+◌, ◌≤◌, ◌==◌, zero, suc, if◌then◌else◌, Bool}
+use Rattle.std.specs.Prelude.{true, false, is_some, List, [], ◌∷◌, ◌++◌, length, map, slice_get}
+use Rattle.std.specs.Prelude.{Option, Some, None, Result, Ok, Err, IsErrOf, ⊤}
 use Rattle.std.specs.List.{All}
 use Rattle.pay_desk.specs.declared.desk.Desk.{Desk}
 use Rattle.pay_desk.specs.declared.kept.Kept.{Kept}
@@ -14,19 +16,26 @@ use Rattle.pay_member.specs.Legal.{Legal}
 use Rattle.pay_member.specs.Member.{MemberFields}
 use Rattle.pay_node.specs.declared.close_fault.CloseFault.{CloseFault}
 use Rattle.pay_node.specs.declared.close_fault.CloseFault.TheVariants as close
-use Rattle.pay_node.specs.Closing.{AllCounted, AllSettled, IsFault, IsLeastUncounted}
+use Rattle.pay_node.specs.Closing.{AllCounted, AllReconciled, IsCloseFault, IsLeastUncounted}
 use Rattle.pay_node.specs.Nodes.{IsOwn, NodeFields, StoppedFields, base_of, fresh_seat}
 use Rattle.pay_node.specs.Seats.{Right, SeatFields}
-use Rattle.pay_peers.specs.Growing.{Grows}
+use Rattle.pay_peers.specs.Growing.{SeatGrows}
 use Rattle.pay_peers.specs.Telling.{TellerFields, TellerSays}
 use Rattle.pay_net.specs.declared.node_fault.NodeFault.{NodeFault}
 use Rattle.pay_net.specs.declared.node_fault.NodeFault.TheVariants.{Close, Engine, Port}
 use Rattle.pay_net.specs.declared.receipts.Receipts.{Receipts}
-use Rattle.pay_net.specs.declared.receipts.Receipts.TheVariants.{BorneOut, Unjudged}
+use Rattle.pay_net.specs.declared.receipts.Receipts.TheVariants.{Consistent, Unjudged}
 
 -- the node of a member: two seats for each peer, and one for the desk
 abbrev pub node_of : MemberFields → NodeFields
-node_of m = record { genesis = m.genesis; keys = m.keys; seats = 2 * length m.keys.keys - 1; beginning = m.history }
+node_of m =
+    record {
+      genesis = m.genesis;
+      keys = m.keys;
+      seats = 2 * length m.keys.keys
+          - 1;
+      beginning = m.history;
+    }
 
 -- ---- the threads
 
@@ -48,37 +57,47 @@ pub record DeskStart : Type 0 where
 abbrev pub desk_start : {X : Type 0} → List Kept → Option X → DeskStart
 desk_start kept socket = record { kept = kept; shared = is_some socket }
 
--- What is written of the desk's input, by how it ended. Where no other client gives the desk lines: the answers of this
--- one desk to all of them. Where others do: to each line the answer of the desk as it stood then, and the desk is what
--- all answered lines, whoever gave them, made of the first one.
-abbrev pub WritesServed : Bool → Desk TellerFields → Desk TellerFields → Option (List ℕ) → Option (List ℕ) → Option (List ℕ) → Option (List ℕ) → Result Unit StreamFault → Type 0
-WritesServed false first last input left before after ended = WritesAnswers TellerSays first last input left before after ended
+-- What is written of the desk's input, by how it ended. Where no other client gives the desk lines:
+-- the answers of this one desk to all of them. Where others do: to each line the answer of the desk
+-- as it stood then, and the desk is what all answered lines, whoever gave them, made of the first
+-- one.
+abbrev pub WritesServed :
+    Bool → Desk TellerFields → Desk TellerFields → Option (List ℕ) → Option (List ℕ)
+    → Option (List ℕ) → Option (List ℕ) → Result Unit StreamFault → Type 0
+WritesServed false first last input left before after ended =
+    WritesAnswers TellerSays first last input left before after ended
 WritesServed true first last input left before after ended =
     IsServiceDesk TellerSays (λ desk. desk ≡ first) last
-    × WritesClientsAnswers TellerSays (IsServiceDesk TellerSays (λ desk. desk ≡ first)) input left before after ended
+    × WritesClientsAnswers TellerSays
+    (IsServiceDesk TellerSays (λ desk. desk ≡ first)) input left before after ended
 
--- What the node's desk wrote of its input, by how it ended: each answer is what the node told it, of which its seat has
--- the receipt.
-pub record HasServed (n : NodeFields) (start : DeskStart) (old new : SeatFields) (input left before after : Option (List ℕ)) (ended : Result Unit StreamFault) : Type 0 where
+-- What the node's desk wrote of its input, by how it ended: each answer is what the node told it,
+-- of which its seat has the receipt.
+pub record HasServed (n : NodeFields) (start : DeskStart) (old new : SeatFields)
+    (input left before after : Option (List ℕ)) (ended : Result Unit StreamFault) : Type 0 where
   pub desk : Desk TellerFields
   pub seat : desk.teller.seat ≡ new
-  pub wrote : WritesServed start.shared (desk_from n start.kept old) desk input left before after ended
+  pub wrote :
+      WritesServed start.shared (desk_from n start.kept old) desk input left before after ended
 
 -- the members below a number, but for this one
 abbrev pub others_below : ℕ → ℕ → List ℕ
 others_below own zero = []
-others_below own (suc peer) = if peer == own then others_below own peer else others_below own peer ++ peer ∷ []
+others_below own (suc peer) =
+    if peer == own then others_below own peer else others_below own peer ++ peer ∷ []
 
 abbrev pub peers_of : KeyFields → List ℕ
 peers_of k = others_below k.own (length k.keys)
 
 -- a peer, and a seat that was fresh and has receipts of that peer's frames alone
 abbrev pub IsReader : ℕ × SeatFields → Type 0
-IsReader reader = Grows reader.0 (fresh_seat reader.1.stamp) reader.1
+IsReader reader = SeatGrows reader.0 (fresh_seat reader.1.stamp) reader.1
 
--- The seats of a node whose desk came to the end of its input: those that its peers were read from, one for each in
--- order, those of which they were answered, and behind them the desk's, which was the fresh one with the last stamp.
-pub record HasRun (n : NodeFields) (start : DeskStart) (seats : List SeatFields) (input left before after : Option (List ℕ)) : Type 0 where
+-- The seats of a node whose desk came to the end of its input: those that its peers were read from,
+-- one for each in order, those of which they were answered, and behind them the desk's, which was
+-- the fresh one with the last stamp.
+pub record HasRun (n : NodeFields) (start : DeskStart) (seats : List SeatFields)
+    (input left before after : Option (List ℕ)) : Type 0 where
   pub readers : List (ℕ × SeatFields)
   pub writers : List SeatFields
   pub desk : SeatFields
@@ -89,18 +108,22 @@ pub record HasRun (n : NodeFields) (start : DeskStart) (seats : List SeatFields)
 
 -- ---- a member that is handed back
 
--- The node's own member. Its history begins with the one that the node began with, and a single thread could have made
--- it. From there on it bears out all that was told from the node's seats: so also each answer that its desk wrote.
-pub record IsClosed (n : NodeFields) (start : DeskStart) (m : MemberFields) (input left before after : Option (List ℕ)) : Type 0 where
+-- The node's own member. Its history begins with the one that the node began with, and a single
+-- thread could have made it. From there on it is consistent with all that was told from the node's
+-- seats: so also each answer that its desk wrote.
+pub record IsClosed (n : NodeFields) (start : DeskStart) (m : MemberFields)
+    (input left before after : Option (List ℕ)) : Type 0 where
   pub own : IsOwn n m
   pub legal : Legal m.genesis m.keys m.history
   pub seats : List SeatFields
-  pub settled : AllSettled m (base_of n) n.seats seats
+  pub settled : AllReconciled m (base_of n) n.seats seats
   pub ran : HasRun n start seats input left before after
   pub right : Right m (base_of n) ran.desk
 
--- The same, but that it is only known to have as many entries under each stamp as its seat was told of.
-pub record IsUnjudged (n : NodeFields) (start : DeskStart) (m : MemberFields) (input left before after : Option (List ℕ)) : Type 0 where
+-- The same, but that it is only known to have as many entries under each stamp as its seat was told
+-- of.
+pub record IsUnjudged (n : NodeFields) (start : DeskStart) (m : MemberFields)
+    (input left before after : Option (List ℕ)) : Type 0 where
   pub own : IsOwn n m
   pub legal : Legal m.genesis m.keys m.history
   pub seats : List SeatFields
@@ -109,57 +132,77 @@ pub record IsUnjudged (n : NodeFields) (start : DeskStart) (m : MemberFields) (i
 
 -- ---- why none is
 
--- The node ended with these seats, and its member, with some legal history, isn't closed with them. Where memory was
--- refused, the stamp is the least of those whose entries aren't as many as their seat was told of.
-pub record IsMismatch (n : NodeFields) (start : DeskStart) (stamp : ℕ) (input left before after : Option (List ℕ)) : Type 0 where
+-- The node ended with these seats, and its member, with some legal history, isn't closed with them.
+-- Where memory was refused, the stamp is the least of those whose entries aren't as many as their
+-- seat was told of.
+pub record IsMismatch (n : NodeFields) (start : DeskStart) (stamp : ℕ)
+    (input left before after : Option (List ℕ)) : Type 0 where
   pub member : MemberFields
   pub legal : Legal member.genesis member.keys member.history
   pub seats : List SeatFields
   pub ran : HasRun n start seats input left before after
   pub wrong :
-      IsFault n member seats (close.Mismatch stamp)
+      IsCloseFault n member seats (close.Mismatch stamp)
       ⊎ (IsOwn n member × IsLeastUncounted member (base_of n) n.seats seats stamp)
 
 -- the desk ended with this fault
-pub record IsDeskFault (n : NodeFields) (start : DeskStart) (fault : StreamFault) (input left before after : Option (List ℕ)) : Type 0 where
+pub record IsDeskFault (n : NodeFields) (start : DeskStart) (fault : StreamFault)
+    (input left before after : Option (List ℕ)) : Type 0 where
   pub desk : SeatFields
   pub served : HasServed n start (fresh_seat (n.seats - 1)) desk input left before after (Err fault)
 
--- Its own port of these can't be had. Or memory was refused. Or the desk ended with this fault; of writing, all may also
--- have come to its end, and the history couldn't be kept then. Or it isn't closed; that closing lacks memory is no fault.
-abbrev pub IsNodeFault : NodeFields → DeskStart → List ℕ → Option (List ℕ) → Option (List ℕ) → Option (List ℕ) → Option (List ℕ) → NodeFault → Type 0
-IsNodeFault n start ports input left before after (Port port) = slice_get ports n.keys.own ≡ Some port
+-- Its own port of these can't be had. Or memory was refused. Or the desk ended with this fault; of
+-- writing, all may also have come to its end, and the history couldn't be kept then. Or it isn't
+-- closed; that closing lacks memory is no fault.
+abbrev pub IsNodeFault :
+    NodeFields → DeskStart → List ℕ → Option (List ℕ) → Option (List ℕ) → Option (List ℕ)
+    → Option (List ℕ) → NodeFault → Type 0
+IsNodeFault n start ports input left before after (Port port) =
+    slice_get ports n.keys.own ≡ Some port
 IsNodeFault n start ports input left before after (Engine Memory) = ⊤
-IsNodeFault n start ports input left before after (Engine Read) = IsDeskFault n start Read input left before after
-IsNodeFault n start ports input left before after (Engine Bound) = IsDeskFault n start Bound input left before after
+IsNodeFault n start ports input left before after (Engine Read) =
+    IsDeskFault n start Read input left before after
+IsNodeFault n start ports input left before after (Engine Bound) =
+    IsDeskFault n start Bound input left before after
 IsNodeFault n start ports input left before after (Engine Write) =
     IsDeskFault n start Write input left before after
     ⊎ ((seats : List SeatFields) × HasRun n start seats input left before after)
 IsNodeFault n start ports input left before after (Close close.Memory) = ⊥
-IsNodeFault n start ports input left before after (Close (close.Mismatch stamp)) = IsMismatch n start stamp input left before after
+IsNodeFault n start ports input left before after (Close (close.Mismatch stamp)) =
+    IsMismatch n start stamp input left before after
 
 -- ---- how it ended
 
-abbrev pub HasEnded : NodeFields → DeskStart → List ℕ → Option (List ℕ) → Option (List ℕ) → Option (List ℕ) → Option (List ℕ) → Result (MemberFields × Receipts) NodeFault → Type 0
-HasEnded n start ports input left before after (Ok (m, BorneOut)) = IsClosed n start m input left before after
-HasEnded n start ports input left before after (Ok (m, Unjudged)) = IsUnjudged n start m input left before after
-HasEnded n start ports input left before after (Err fault) = IsNodeFault n start ports input left before after fault
+abbrev pub HasEnded :
+    NodeFields → DeskStart → List ℕ → Option (List ℕ) → Option (List ℕ) → Option (List ℕ)
+    → Option (List ℕ) → Result (MemberFields × Receipts) NodeFault → Type 0
+HasEnded n start ports input left before after (Ok (m, Consistent)) =
+    IsClosed n start m input left before after
+HasEnded n start ports input left before after (Ok (m, Unjudged)) =
+    IsUnjudged n start m input left before after
+HasEnded n start ports input left before after (Err fault) =
+    IsNodeFault n start ports input left before after fault
 
--- by what closing found, and the least stamp whose entries aren't as many as its seat was told of: a member, or a stamp
-abbrev pub ended_by : Result MemberFields (CloseFault × StoppedFields) → Option ℕ → Result (MemberFields × Receipts) ℕ
-ended_by (Ok m) uncounted = Ok (m, BorneOut)
+-- by what closing found, and the least stamp whose entries aren't as many as its seat was told of:
+-- a member, or a stamp
+abbrev pub ended_by :
+    Result MemberFields (CloseFault × StoppedFields) → Option ℕ → Result (MemberFields × Receipts) ℕ
+ended_by (Ok m) uncounted = Ok (m, Consistent)
 ended_by (Err (close.Mismatch stamp, stopped)) uncounted = Err stamp
 ended_by (Err (close.Memory, stopped)) None = Ok (stopped.member, Unjudged)
 ended_by (Err (close.Memory, stopped)) (Some stamp) = Err stamp
 
 -- the same, as the end of a node
-abbrev pub as_fault : Result (MemberFields × Receipts) ℕ → Result (MemberFields × Receipts) NodeFault
+abbrev pub as_fault :
+    Result (MemberFields × Receipts) ℕ → Result (MemberFields × Receipts) NodeFault
 as_fault (Ok ended) = Ok ended
 as_fault (Err stamp) = Err (Close (close.Mismatch stamp))
 
--- What the counts of the desk's input tell of a node, as of an engine: a fault of reading comes of a read that failed;
--- so many reads are made at most, and after a fault of the bound they were, each of which gave a byte.
-pub record CountsReads {T In : Type 0} (calls failures : In → ℕ) (remaining : In → Option (List ℕ)) (old new : In) (result : Result T NodeFault) : Type 0 where
+-- What the counts of the desk's input tell of a node, as of an engine: a fault of reading comes of
+-- a read that failed; so many reads are made at most, and after a fault of the bound they were,
+-- each of which gave a byte.
+pub record CountsReads {T In : Type 0} (calls failures : In → ℕ) (remaining : In → Option (List ℕ))
+    (old new : In) (result : Result T NodeFault) : Type 0 where
   pub read : IsErrOf result (Engine Read) → RoseBy 1 (failures old) (failures new)
   pub most : calls new ≤ calls old + MOST_READS
   pub bound : IsErrOf result (Engine Bound) → RoseBy MOST_READS (calls old) (calls new)

@@ -4,21 +4,24 @@ use Rattle.std.specs.List.{All}
 use Rattle.pay_node.specs.Nodes.{fresh_seat}
 use Rattle.pay_node.specs.Seats.{SeatFields}
 use Rattle.pay_peers.specs.declared.asking.Asking.{Asking}
-use Rattle.pay_peers.specs.Window.{first_window}
+use Rattle.pay_peers.specs.Window.{empty_window}
 use Rattle.pay_net.specs.Running.{others_below}
 
 abbrev pub IsFresh : SeatFields → Type 0
 IsFresh seat = seat ≡ fresh_seat seat.stamp
 
--- a peer has a reader more, with the last seat that was left, and the one before that is for the writers to it
-pub record SeatsOne (peer : ℕ) (old new : List (ℕ × Asking)) (had left : List SeatFields) : Type 0 where
+-- a peer has a reader more, with the last seat that was left, and the one before that is for the
+-- writers to it
+pub record SeatsOne (peer : ℕ) (old new : List (ℕ × Asking)) (had left : List SeatFields)
+    : Type 0 where
   pub reader : SeatFields
   pub writer : SeatFields
-  pub readers : new ≡ old ++ (peer, record { seat = reader; window = first_window }) ∷ []
+  pub readers : new ≡ old ++ (peer, record { seat = reader; window = empty_window }) ∷ []
   pub taken : had ≡ (left ++ writer ∷ []) ++ reader ∷ []
 
 -- the peers below a number have readers with fresh seats, and fresh ones are left
-pub record AreSeated (own next : ℕ) (readers : List (ℕ × Asking)) (seats : List SeatFields) : Type 0 where
+pub record AreSeated (own next : ℕ) (readers : List (ℕ × Asking)) (seats : List SeatFields)
+    : Type 0 where
   pub peers : map (λ r. r.0) readers ≡ others_below own next
   pub fresh : All (λ r. IsFresh r.1.seat) readers
   pub left : All IsFresh seats

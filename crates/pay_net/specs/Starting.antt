@@ -1,6 +1,6 @@
 -- What a node starts from: a member, and what its desk keeps of the values that it asked for.
 use Rattle.std.specs.Prelude.{◌≡◌, ℕ, List, [], ◌∷◌, ◌++◌, length, map, slice_get, Some, None}
-use Rattle.pay_channel.specs.Asked.{asked}
+use Rattle.pay_channel.specs.Asked.{asked_values}
 use Rattle.pay_desk.specs.declared.kept.Kept.{Kept}
 use Rattle.pay_desk.specs.Kept.{kept_under}
 use Rattle.pay_desk.specs.Laws.{AreUnderFreeIds}
@@ -14,9 +14,10 @@ pub record StartFields : Type 0 where
   pub member : MemberFields
   pub kept : List Kept
 
--- Kept is just what this history asked for, in order, each value with its number and under an id of its own.
+-- Kept is just what this history asked for, in order, each value with its number and under an id of
+-- its own.
 pub record IsKeptOf (history : List HistoryEntry) (kept : List Kept) : Type 0 where
-  pub values : map (λ k. k.value) kept ≡ asked (events history)
+  pub values : map (λ k. k.value) kept ≡ asked_values (events history)
   pub numbered : (seq : ℕ) (k : Kept) → slice_get kept seq ≡ Some k → k.seq ≡ seq
   pub free : AreUnderFreeIds [] kept
 

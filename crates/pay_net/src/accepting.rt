@@ -1,4 +1,4 @@
-use crate::guests::{Entry, Guests};
+use crate::inbound_connections::{Entry, InboundConnections};
 use pay_book::Settle;
 use pay_echo::Instance;
 use pay_hmac::Tagger;
@@ -13,8 +13,8 @@ use std::thread::Threads;
 use std::time::{Clock, Duration};
 use std::{io, thread};
 
-/// How many connections that others dialed may stand at once: of each peer of the largest group two, and two whose
-/// senders aren't known yet.
+/// How many connections that others dialed may stand at once: of each peer of the largest group
+/// two, and two whose senders aren't known yet.
 pub const MOST_CONNECTIONS: u16 = 256;
 
 /// How long an acceptor sleeps after a connection that it couldn't take.
@@ -31,8 +31,8 @@ pub(crate) trait Door {
 
 /// Who answers those that connect. Its threads know of it that it may be shared.
 pub(crate) trait Host {
-    /// The place of a connection among those that stand, if it may. Where all are taken, one is given up and its place
-    /// waited for.
+    /// The place of a connection among those that stand, if it may. Where all are taken, one is
+    /// given up and its place waited for.
     fn admit<R: Wait + Clock>(&self, rt: &R, stream: &TcpStream) -> Option<usize>;
 
     /// Answers a connection until it ends, and gives its place back.
@@ -42,14 +42,14 @@ pub(crate) trait Host {
     fn turn_away<R: Wait>(&self, rt: &R, place: usize);
 }
 
-/// What those share who answer WANTs: a seat for each peer, the connections that stand, and who has to have kept the
-/// history before a frame is written.
+/// What those share who answer WANTs: a seat for each peer, the connections that stand, and who has
+/// to have kept the history before a frame is written.
 #[derive(Drop)]
 pub(crate) struct Answering<'a, R, I: Instance + Drop, B: Settle + Drop, S: Beginning, T, K, O> {
     pub context: &'a NodeContext<'a, R, I, B, S, T>,
     pub keeper: &'a K,
     pub seats: &'a [(u16, Mutex<Seat>)],
-    pub guests: &'a Guests,
+    pub inbound: &'a InboundConnections,
     pub observer: &'a O,
     pub stop: &'a AtomicBool,
 }
@@ -58,7 +58,7 @@ pub(crate) struct Answering<'a, R, I: Instance + Drop, B: Settle + Drop, S: Begi
 #[derive(Drop)]
 struct Claiming<'a, I: Instance + Drop, B: Settle + Drop, S: Beginning, O> {
     node: &'a Node<I, B, S>,
-    guests: &'a Guests,
+    inbound: &'a InboundConnections,
     observer: &'a O,
     place: usize,
 }
@@ -71,7 +71,7 @@ where
     O: Observer<PeerEvent>,
 {
     fn admit<R: Wait>(&self, rt: &R, peer: u16) -> bool {
-        let stands = self.guests.claim(rt, self.node, self.place, peer);
+        let stands = self.inbound.claim(rt, self.node, self.place, peer);
         if stands {
             self.observer.observe(peer, PeerEvent::Heard);
         }
@@ -95,7 +95,7 @@ where
 {
     fn admit<R: Wait + Clock>(&self, rt: &R, stream: &TcpStream) -> Option<usize> {
         for _ in rt.forever() {
-            match self.guests.admit(rt, self.context.node, self.stop, stream) {
+            match self.inbound.admit(rt, self.context.node, self.stop, stream) {
                 Entry::At(place) => return Some(place),
                 Entry::Refused => return None,
                 Entry::Full => {}
@@ -106,13 +106,13 @@ where
     }
 
     fn attend<R: Wait>(&self, rt: &R, stream: &TcpStream, place: usize) {
-        if let Some(leave) = self.guests.leave(place) {
+        if let Some(leave) = self.inbound.leave(place) {
             let _ = stream.set_nodelay(true);
             let mut reader = Reader::new(stream);
             let mut writer = Behind::new(rt, self.keeper, self.context.node, Writer::new(stream));
             let claiming = Claiming {
                 node: self.context.node,
-                guests: self.guests,
+                inbound: self.inbound,
                 observer: self.observer,
                 place,
             };
@@ -125,16 +125,16 @@ where
                 &mut writer,
             );
         }
-        self.guests.shut(rt, place);
+        self.inbound.shut(rt, place);
     }
 
     fn turn_away<R: Wait>(&self, rt: &R, place: usize) {
-        self.guests.shut(rt, place);
+        self.inbound.shut(rt, place);
     }
 }
 
-/// Takes connections and has each answered, in a thread of its own, until the node stops and the listening socket is
-/// shut. Returns once all of these threads have ended.
+/// Takes connections and has each answered, in a thread of its own, until the node stops and the
+/// listening socket is shut. Returns once all of these threads have ended.
 pub(crate) fn accept_all<R, S, D>(rt: &R, host: &S, stop: &AtomicBool, door: &D)
 where
     R: Threads + Wait + Clock + Sync,
@@ -161,7 +161,8 @@ where
     });
 }
 
-// Waits for a connection. Where none can be had it pauses, unless the node stops: the next one may fail at once too.
+// Waits for a connection. Where none can be had it pauses, unless the node stops: the next one may
+// fail at once too.
 fn next_connection<R: Clock, D: Door>(rt: &R, stop: &AtomicBool, door: &D) -> Option<TcpStream> {
     match door.next() {
         Ok(stream) => Some(stream),

@@ -3,10 +3,11 @@ use std::net::{Shutdown, TcpStream};
 use std::sync::atomic::{AtomicBool, Ordering};
 use std::sync::{Mutex, Wait};
 
-/// Clones of the connections that stand, so that they can be shut while others read from them or write to them.
+/// Clones of the connections that stand, so that they can be shut while others read from them or
+/// write to them.
 ///
-/// There is a place for each connection that may stand at once. A clone holds its connection open, so whoever is done
-/// with one gives its place back.
+/// There is a place for each connection that may stand at once. A clone holds its connection open,
+/// so whoever is done with one gives its place back.
 #[derive(Drop)]
 pub(crate) struct Connections {
     places: Mutex<Vec<Option<TcpStream>>>,
@@ -24,10 +25,11 @@ impl Connections {
         })
     }
 
-    /// Keeps a clone of a connection. Answers its place, or none where all are taken, where all connections are or
-    /// will be shut, or where it can't be cloned.
+    /// Keeps a clone of a connection. Answers its place, or none where all are taken, where all
+    /// connections are or will be shut, or where it can't be cloned.
     ///
-    /// The flag is set before all are shut: so what is kept after it was looked at here is shut with them.
+    /// The flag is set before all are shut: so what is kept after it was looked at here is shut
+    /// with them.
     pub(crate) fn keep<R: Wait>(
         &self,
         rt: &R,

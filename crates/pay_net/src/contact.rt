@@ -11,8 +11,8 @@ pub(crate) const LOST_DIALS: u64 = 2;
 /// For how many milliseconds nothing of it came: so it is lost and met again once a second at most.
 pub(crate) const LOST_MILLIS: u64 = 1_000;
 
-/// How a peer is met by what was told last, how many dials brought nothing since it was heard, and whether it was told
-/// that a frame in its name doesn't open.
+/// How a peer is met by what was told last, how many dials brought nothing since it was heard, and
+/// whether it was told that a frame in its name doesn't open.
 #[derive(Drop)]
 pub(crate) struct Contact {
     last: Option<News>,
@@ -29,6 +29,13 @@ impl Contact {
             missed: 0,
             mistrusted: false,
         }
+    }
+
+    /// What was told last of the peer.
+    pub(crate) fn last(&self) -> Option<News>
+        ensures { result ≡ self.now.last }
+    {
+        self.last
     }
 
     /// The peer was heard. Answers what is to be told of it, if anything is.

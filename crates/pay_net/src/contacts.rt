@@ -1,4 +1,5 @@
 use crate::contact::Contact;
+use crate::figures::PeerCounts;
 use crate::news::News;
 use pay_peers::{Observer, PeerEvent};
 use std::alloc::{AllocError, Global};
@@ -6,7 +7,8 @@ use std::sync::atomic::{AtomicBool, Ordering};
 use std::sync::{Mutex, Wait};
 use std::time::{Clock, Instant};
 
-/// How a running node gets on with each of its peers, and who is told. Once the node stops nothing is told any more.
+/// How a running node gets on with each of its peers, and who is told. Once the node stops nothing
+/// is told any more.
 #[derive(Drop)]
 pub(crate) struct Contacts<'a, R, O> {
     rt: &'a R,
@@ -44,6 +46,20 @@ impl<'a, R: Wait + Clock, O: Observer<News>> Contacts<'a, R, O> {
             stop,
             peers,
         })
+    }
+
+    /// How many peers are met by now, and how many are lost or given up.
+    pub(crate) fn counts(&self) -> PeerCounts {
+        let mut counts = PeerCounts { met: 0, lost: 0 };
+        for heard in &self.peers {
+            let last = heard.lock(self.rt).contact.last();
+            match last {
+                Some(News::Met) => counts.met = counts.met.saturating_add(1),
+                Some(News::Lost | News::GivenUp) => counts.lost = counts.lost.saturating_add(1),
+                Some(News::Unopened) | None => {}
+            }
+        }
+        counts
     }
 
     // Tells what is to be told of a peer, under its lock: so no other news of it comes before.

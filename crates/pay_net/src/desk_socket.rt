@@ -1,33 +1,48 @@
 //! The socket on which clients of a node's desk call.
 
 use crate::accepting::Door;
-use std::fs::Permissions;
+use std::alloc::{AllocError, Global};
+use std::fs::{DirBuilder, Permissions};
 use std::io::ErrorKind;
 use std::net::{Net, Shutdown, TcpStream};
 use std::os::fd::OwnedFd;
-use std::os::unix::fs::{FileTypeExt, PermissionsExt};
+use std::os::unix::fs::{DirBuilderExt, FileTypeExt, PermissionsExt};
 use std::os::unix::net::{UnixListener, UnixStream};
 use std::rt::Files;
 use std::{fs, io};
 
+/// The greatest number of bytes of a socket's name. The system takes 107, and the name in the
+/// folder in which it is made is longer than its own.
+pub const MOST_SOCKET_NAME: usize = 101;
+
 /// For the owner alone.
 const SOCKET_MODE: u32 = 0o600;
+
+const FOLDER_MODE: u32 = 0o700;
+
+/// What the name of that folder has more than the socket's, and what the socket is called there.
+const NEW: &str = ".new";
+
+const IN_NEW: &str = "s";
 
 /// A Unix socket that listens for clients of a node's desk.
 #[derive(Drop)]
 pub struct DeskSocket {
     listener: UnixListener,
-    // The same socket under the type that can be shut: who waits for a client then gets an error, at once.
+    // The same socket under the type that can be shut: who waits for a client then gets an error,
+    // at once.
     same: TcpStream,
 }
 
 impl DeskSocket {
-    /// Listens on the socket of this name, which only the owner may open. A socket there on which nobody listens any
-    /// more, as after a kill, makes way; anything else there is an error.
-    pub fn bind<R: Files + Net>(rt: &R, path: &str) -> io::Result<DeskSocket> {
+    /// Listens on the socket of this name, which only the owner may open. A socket there on which
+    /// nobody listens any more, as after a kill, makes way; anything else there is an error.
+    pub fn bind<R: Files + Net>(rt: &R, alloc: Global, path: &str) -> io::Result<DeskSocket> {
         make_way(rt, path)?;
-        let listener = UnixListener::bind(rt, path)?;
-        fs::set_permissions(rt, path, Permissions::from_mode(SOCKET_MODE))?;
+        let Ok((folder, made)) = new_names(alloc, path) else {
+            return Err(io::Error::from(ErrorKind::OutOfMemory));
+        };
+        let listener = bind_within(rt, folder.as_str(), made.as_str(), path)?;
         let same = TcpStream::from(OwnedFd::from(listener.try_clone()?));
         Ok(DeskSocket { listener, same })
     }
@@ -43,6 +58,40 @@ impl Door for DeskSocket {
         let (stream, _) = self.listener.accept()?;
         Ok(TcpStream::from(OwnedFd::from(stream)))
     }
+}
+
+// The folder in which a socket is made, and its name there.
+fn new_names(alloc: Global, path: &str) -> Result<(String, String), AllocError> {
+    let folder = format!(in alloc; "{path}{NEW}")?;
+    let made = format!(in alloc; "{folder}/{IN_NEW}")?;
+    Ok((folder, made))
+}
+
+// Listens on a socket that has its name only once nobody else may open it. Until then it stands in
+// a new folder that nobody else may enter, of which a kill may have left one.
+fn bind_within<R: Files + Net>(
+    rt: &R,
+    folder: &str,
+    made: &str,
+    path: &str,
+) -> io::Result<UnixListener> {
+    remove_new(rt, folder, made);
+    DirBuilder::new().mode(FOLDER_MODE).create(rt, folder)?;
+    let bound = bind_named(rt, made, path);
+    remove_new(rt, folder, made);
+    bound
+}
+
+fn bind_named<R: Files + Net>(rt: &R, made: &str, path: &str) -> io::Result<UnixListener> {
+    let listener = UnixListener::bind(rt, made)?;
+    fs::set_permissions(rt, made, Permissions::from_mode(SOCKET_MODE))?;
+    fs::rename(rt, made, path)?;
+    Ok(listener)
+}
+
+fn remove_new<R: Files>(rt: &R, folder: &str, made: &str) {
+    let _ = fs::remove_file(rt, made);
+    let _ = fs::remove_dir(rt, folder);
 }
 
 // Removes a socket on which nobody listens.

@@ -12,6 +12,10 @@ use std::time::Duration;
 /// How long one attempt to connect may take, so that a node can stop.
 const DIAL_MILLIS: u64 = 1_000;
 
+/// How long a write of WANTs may wait. One waits only where the sockets between the two hold less
+/// than a window's WANTs: the peer may then wait to write, until this connection ends.
+const WRITE_MILLIS: u64 = 1_000;
+
 /// Connects to peers on this machine, until the node stops.
 #[derive(Drop)]
 pub(crate) struct Dialer<'a, R> {
@@ -74,6 +78,7 @@ impl<'a, R: Net<Listener = TcpListener, Stream = TcpStream> + Wait> Dialer<'a, R
             return None;
         }
         let _ = stream.set_nodelay(true);
+        let _ = stream.set_write_timeout(Some(Duration::from_millis(WRITE_MILLIS)));
         let writer = stream.try_clone().ok()?;
         let place = self.dialed.keep(self.rt, self.stop, &stream)?;
         let reader = DialedStream {

@@ -7,7 +7,8 @@ use std::os::fd::OwnedFd;
 #[derive(Drop)]
 pub(crate) struct Listening {
     listener: TcpListener,
-    // The same socket under the type that can be shut: who waits for a connection then gets an error, at once.
+    // The same socket under the type that can be shut: who waits for a connection then gets an
+    // error, at once.
     same: TcpStream,
 }
 

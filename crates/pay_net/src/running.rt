@@ -11,7 +11,8 @@ ghost use Rattle.pay_peers.specs.Growing.{EachGrows};
 ghost use Rattle.pay_peers.specs.Telling.{TellerSays};
 ghost use Rattle.pay_net.specs.declared.node_fault.NodeFault.TheVariants.{Engine};
 ghost use Rattle.pay_net.specs.Running.{CountsReads, HasEnded, HasRun, HasServed, IsNodeFault};
-ghost use Rattle.pay_net.specs.Running.{DeskStart, as_fault, desk_from, desk_start, ended_by, node_of};
+ghost use Rattle.pay_net.specs.Running.{DeskStart, as_fault, desk_from, desk_start, ended_by};
+ghost use Rattle.pay_net.specs.Running.{node_of};
 ghost use Rattle.pay_net.specs.Running.{others_below};
 ghost use Rattle.pay_net.specs.Seating.{IsFresh, SeatsOne};
 
@@ -22,12 +23,15 @@ use crate::connections::Connections;
 use crate::contacts::Contacts;
 use crate::desk_socket::DeskSocket;
 use crate::dialing::Dialer;
-use crate::guests::Guests;
+use crate::figures::Watcher;
+use crate::inbound_connections::InboundConnections;
 use crate::listening::Listening;
 use crate::news::News;
 use crate::node_fault::NodeFault;
+use crate::pause::Pause;
 use crate::receipts::Receipts;
 use crate::start::NodeStart;
+use crate::watching::Watching;
 use pay_book::Settle;
 use pay_desk::{Desk, KeptValues, Teller, run_desk};
 use pay_echo::Instance;
@@ -45,10 +49,11 @@ use std::sync::atomic::{AtomicBool, Ordering};
 use std::sync::{Mutex, Wait};
 use std::thread;
 use std::thread::Threads;
-use std::time::Clock;
+use std::time::{Clock, Duration};
 
-/// The seats of a node: each peer's reader has one of its own, the writers to each peer share one, and the desk has
-/// one. The list that they came in is kept, empty: so they go back to it without new memory.
+/// The seats of a node: each peer's reader has one of its own, the writers to each peer share one,
+/// and the desk has one. The list that they came in is kept, empty: so they go back to it without
+/// new memory.
 #[derive(Drop)]
 struct Seats {
     readers: Vec<(u16, Asking)>,
@@ -64,21 +69,24 @@ struct Running<'a, H, I: Instance + Drop, B: Settle + Drop, S: Beginning, T, O, 
     config: &'a NodeConfig<'a, O, K>,
     listening: &'a Listening,
     dialed: &'a Connections,
-    guests: &'a Guests,
+    inbound: &'a InboundConnections,
     clients: &'a Connections,
     contacts: &'a Contacts<'a, H, O>,
     stop: &'a AtomicBool,
+    pause: &'a Pause,
 }
 
-/// Runs a member as a node among its peers until the input of its desk ends, and hands the member back, with whether
-/// its history was held against all that was told from the seats: memory may be refused for that, and the member is
-/// not to be lost then. The desk goes on with what is kept of the member's payments. Where the config has a socket,
-/// clients there give it lines too, between those of the input.
+/// Runs a member as a node among its peers until the input of its desk ends, and hands the member
+/// back, with whether its history was held against all that was told from the seats: memory may be
+/// refused for that, and the member is not to be lost then. The desk goes on with what is kept of
+/// the member's payments. Where the config has a socket, clients there give it lines too, between
+/// those of the input.
 ///
-/// It listens on its own port, which the fault `Port` names where it can't be had, and dials those of all others. A
-/// fault of the desk ends it too, and is answered. Nothing that follows from the history leaves the node before its
-/// keeper has kept that: where it can't, writes fail, and so does the end. No clause names a keeper's refusal, so none
-/// says of the fault `Write` that a write failed.
+/// It listens on its own port, which the fault `Port` names where it can't be had, and dials those
+/// of all others. A fault of the desk ends it too, and is answered. Nothing that follows from the
+/// history leaves the node before its keeper has kept that: where it can't, writes fail, and so
+/// does the end. No clause names a keeper's refusal, so none says of the fault `Write` that a write
+/// failed.
 pub fn run_node<H, I, B, T, O, K, In, Out>(
     rt: &H,
     alloc: Global,
@@ -93,7 +101,7 @@ where
     I: Instance + Drop + Send,
     B: Settle + Drop + Send,
     T: Tagger + Sync,
-    O: Observer<News> + Sync,
+    O: Observer<News> + Watcher + Sync,
     K: Keeper + Sync,
     In: Input,
     Out: Output,
@@ -125,7 +133,7 @@ where
     B: Settle + Drop + Send,
     S: Beginning + Send + Sync,
     T: Tagger + Sync,
-    O: Observer<News> + Sync,
+    O: Observer<News> + Watcher + Sync,
     K: Keeper + Sync,
     In: Input,
     Out: Output,
@@ -163,7 +171,8 @@ where
     (ended, writer)
 }
 
-// What is left of a node whose threads ended so: its history is kept once more, and then held against its seats.
+// What is left of a node whose threads ended so: its history is kept once more, and then held
+// against its seats.
 fn finish<R, I, B, S, K>(
     rt: &R,
     alloc: Global,
@@ -189,7 +198,7 @@ where
     if !keeper.keep(rt, &node) {
         return Err(NodeFault::Engine(StreamFault::Write));
     }
-    match closed(alloc, node, seats.as_slice()) {
+    match close_stopped(alloc, node, seats.as_slice()) {
         Ok(ended) => Ok(ended),
         Err(stamp) => Err(NodeFault::Close(CloseFault::Mismatch(stamp))),
     }
@@ -211,7 +220,7 @@ where
     B: Settle + Drop + Send,
     S: Beginning + Send + Sync,
     T: Tagger + Sync,
-    O: Observer<News> + Sync,
+    O: Observer<News> + Watcher + Sync,
     K: Keeper + Sync,
     In: Input,
     Out: Output,
@@ -230,25 +239,27 @@ where
     let NodeContext { rt, alloc, .. } = *context;
     let members = context.node.keys().members();
     let dialed = Connections::new(alloc, members)?;
-    let guests = Guests::new(alloc, MOST_CONNECTIONS)?;
+    let inbound = InboundConnections::new(alloc, MOST_CONNECTIONS)?;
     let clients = Connections::new(alloc, MOST_CLIENTS)?;
     let stop = AtomicBool::new(false);
+    let pause = Pause::new();
     let contacts = Contacts::new(rt, alloc, config.observer, &stop, members)?;
     let running = Running {
         context,
         config,
         listening,
         dialed: &dialed,
-        guests: &guests,
+        inbound: &inbound,
         clients: &clients,
         contacts: &contacts,
         stop: &stop,
+        pause: &pause,
     };
     running.run_all(kept, seats, reader, writer)
 }
 
 // The member of a node that no thread calls any more, or the stamp for which it isn't closed.
-fn closed<I: Instance + Drop, B: Settle + Drop, S: Beginning>(
+fn close_stopped<I: Instance + Drop, B: Settle + Drop, S: Beginning>(
     alloc: Global,
     node: Node<I, B, S>,
     seats: &[Seat],
@@ -259,19 +270,19 @@ fn closed<I: Instance + Drop, B: Settle + Drop, S: Beginning>(
 {
     let stopped = node.stop();
     let uncounted = stopped.least_uncounted(seats);
-    ended(stopped.close(alloc, seats), uncounted)
+    answer_of_close(stopped.close(alloc, seats), uncounted)
 }
 
-// The same, by what closing found, and the stamp that is found without memory. A member that isn't known to be wrong is
-// handed back, judged or not.
-fn ended<I: Instance + Drop, B: Settle + Drop, S: Beginning>(
+// The same, by what closing found, and the stamp that is found without memory. A member that isn't
+// known to be wrong is handed back, judged or not.
+fn answer_of_close<I: Instance + Drop, B: Settle + Drop, S: Beginning>(
     found: Result<Member<I, B>, (CloseFault, Stopped<I, B, S>)>,
     uncounted: Option<u16>,
 ) -> Result<(Member<I, B>, Receipts), u16>
     ensures { result ≡ ended_by found uncounted }
 {
     match found {
-        Ok(member) => Ok((member, Receipts::BorneOut)),
+        Ok(member) => Ok((member, Receipts::Consistent)),
         Err((CloseFault::Mismatch(stamp), _)) => Err(stamp),
         Err((CloseFault::Memory, stopped)) => match uncounted {
             None => Ok((stopped.into_member(), Receipts::Unjudged)),
@@ -287,7 +298,7 @@ where
     B: Settle + Drop + Send,
     S: Beginning + Send + Sync,
     T: Tagger + Sync,
-    O: Observer<News> + Sync,
+    O: Observer<News> + Watcher + Sync,
     K: Keeper + Sync,
 {
     // Gives each thread its seats, runs them, and hands all seats back.
@@ -314,15 +325,16 @@ where
             In.remaining Out.failure_count reader.old reader.new writer.old writer.new result }
     {
         let keys = self.context.node.keys();
-        let seats = seated(self.context.alloc, keys.own(), keys.members(), seats)?;
+        let seats = seat_threads(self.context.alloc, keys.own(), keys.members(), seats)?;
         let (seats, ended) = self.run(kept, seats, reader, writer);
         match ended {
-            Ok(()) => Ok(gathered(seats)?),
+            Ok(()) => Ok(gather_seats(seats)?),
             Err(fault) => Err(NodeFault::Engine(fault)),
         }
     }
 
-    // Answers the lines of the desk while the workers run. Where no thread can be made they run last, and end at once.
+    // Answers the lines of the desk while the workers run. Where no thread can be made they run
+    // last, and end at once.
     fn run<In: Input, Out: Output>(
         &self,
         kept: KeptValues,
@@ -494,15 +506,57 @@ where
         accept_all(rt, &clients, self.stop, socket);
     }
 
-    // Reads from all peers and answers those who connect, until told to stop.
+    // Reads from all peers and answers those who connect, and shows the node's figures, until told
+    // to stop.
     fn work(&self, readers: &mut Vec<(u16, Asking)>, writers: &[(u16, Mutex<Seat>)])
         ensures { EachGrows readers.old.items readers.new.items }
     {
         thread::join_mut(
             self.context.rt,
             &mut || self.write(writers),
+            &mut || self.read_and_show(readers),
+        );
+    }
+
+    // Reads from all peers, and shows the node's figures if they are wanted.
+    fn read_and_show(&self, readers: &mut Vec<(u16, Asking)>)
+        ensures { EachGrows readers.old.items readers.new.items }
+    {
+        match self.config.shown_every {
+            None => self.read(readers),
+            Some(every) => self.read_beside_figures(every, readers),
+        }
+    }
+
+    // The same, where they are.
+    fn read_beside_figures(&self, every: Duration, readers: &mut Vec<(u16, Asking)>)
+        ensures { EachGrows readers.old.items readers.new.items }
+    {
+        thread::join_mut(
+            self.context.rt,
+            &mut || self.show(every),
             &mut || self.read(readers),
         );
+    }
+
+    // Shows the node's figures from time to time.
+    fn show(&self, every: Duration) {
+        let NodeContext {
+            rt,
+            alloc,
+            node,
+            ..
+        } = *self.context;
+        let watching = Watching {
+            rt,
+            alloc,
+            node,
+            keeper: self.config.keeper,
+            contacts: self.contacts,
+            observer: self.config.observer,
+            pause: self.pause,
+        };
+        watching.run(every);
     }
 
     // Reads from all peers, each in a thread of its own.
@@ -532,7 +586,7 @@ where
             context: self.context,
             keeper: self.config.keeper,
             seats,
-            guests: self.guests,
+            inbound: self.inbound,
             observer: self.contacts,
             stop: self.stop,
         };
@@ -540,7 +594,8 @@ where
     }
 }
 
-// The desk's thread is the caller's own, so nothing that it calls asks what another thread may have.
+// The desk's thread is the caller's own, so nothing that it calls asks what another thread may
+// have.
 impl<'a, H, I, B, S, T, O, K> Running<'a, H, I, B, S, T, O, K>
 where
     H: Wait,
@@ -598,25 +653,32 @@ where
         ended
     }
 
-    // Ends all that a worker can wait for. The flag is set first: who finds it unset is shut or woken here.
+    // Ends all that a worker can wait for. The flag is set first: who finds it unset is shut or
+    // woken here.
     fn stop_workers(&self) {
         self.stop.store(true, Ordering::SeqCst);
         self.listening.shut();
         let rt = self.context.rt;
+        self.pause.end(rt);
         self.dialed.shut_all(rt);
-        self.guests.shut_all(rt);
+        self.inbound.shut_all(rt);
         if let Some(socket) = self.config.socket {
             socket.shut();
         }
         self.clients.shut_all(rt);
-        for leave in self.guests.all_leave() {
+        for leave in self.inbound.all_leave() {
             self.context.node.stop_waiting(rt, leave);
         }
     }
 }
 
 // Gives the desk the last seat, and each worker one of the others.
-fn seated(alloc: Global, own: u16, members: u16, seats: Vec<Seat>) -> Result<Seats, AllocError>
+fn seat_threads(
+    alloc: Global,
+    own: u16,
+    members: u16,
+    seats: Vec<Seat>,
+) -> Result<Seats, AllocError>
     requires own { own < members }
     requires count { length seats.items + 1 ≡ 2 * members }
     requires fresh { All IsFresh seats.items }
@@ -672,7 +734,7 @@ fn last_of(left: &mut Vec<Seat>) -> Seat
 }
 
 // All seats in one list, the readers' first and the desk's at its end.
-fn gathered(seats: Seats) -> Result<Vec<Seat>, AllocError>
+fn gather_seats(seats: Seats) -> Result<Vec<Seat>, AllocError>
     requires { seats.left.items ≡ [] }
     ensures { IfOk result (λ all. (writers : List SeatFields)
         × (all.items ≡ (map (λ r. r.1.seat) seats.readers.items ++ writers) ++ seats.desk ∷ [])) }

@@ -8,7 +8,7 @@ use Rattle.pay_channel.specs.History as channel
 use Rattle.pay_channel.specs.Taken.{is_from, next}
 use Rattle.pay_channel.specs.TakenLaws.{NextIsCount}
 use Rattle.pay_link.specs.Checked.{CheckedFields}
-use Rattle.pay_member.specs.Answer.{IsAnswer, taken}
+use Rattle.pay_member.specs.Answer.{IsAnswer, answer_of_take}
 use Rattle.pay_member.specs.declared.entry.HistoryEntry.{HistoryEntry}
 use Rattle.pay_member.specs.declared.event.Event.TheVariants.{Taken}
 use Rattle.pay_member.specs.declared.reply.Reply.TheVariants as reply
@@ -16,7 +16,7 @@ use Rattle.pay_member.specs.declared.take_fault.TakeFault.{TakeFault}
 use Rattle.pay_member.specs.declared.took.Took.{Took}
 use Rattle.pay_member.specs.Events.{channel_event, events}
 use Rattle.pay_member.specs.Member.{MemberFields, with_entry}
-use Rattle.pay_member.specs.Refusal.{refusal, is_for, turn_refusal}
+use Rattle.pay_member.specs.Refusal.{refusal, is_for_member, turn_refusal}
 
 length-events : (history : List HistoryEntry) → length (events history) ≤ length history
 unfolding events
@@ -42,14 +42,14 @@ in_turn wanted number is = go (cases_Bool (ltb number wanted)) where
   go (inr past) = above (cases_Bool (ltb wanted number)) past
 
 taken_in_turn : (m : MemberFields) (c : CheckedFields) → refusal m.genesis m.keys (events m.history) (Taken c) ≡ None → c.frame.number ≤ next c.frame.from (events m.history)
-taken_in_turn m c is = go (cases_Bool (is_for m.keys c)) where
-  go : (is_for m.keys c ≡ true) ⊎ (is_for m.keys c ≡ false) → c.frame.number ≤ next c.frame.from (events m.history)
+taken_in_turn m c is = go (cases_Bool (is_for_member m.keys c)) where
+  go : (is_for_member m.keys c ≡ true) ⊎ (is_for_member m.keys c ≡ false) → c.frame.number ≤ next c.frame.from (events m.history)
   go (inl mine) = in_turn _ _ (sym (cond-true _ _ _ mine) ∙ is)
   go (inr other) = absurd (some_none _ (sym (cond-false _ _ _ other) ∙ is))
 
 pub has_next :
-    NextIsCount → (m now : MemberFields) (stamp : ℕ) (c : CheckedFields) (answer : Result Took TakeFault) → IsAnswer m (Taken c) (taken answer)
-    → IfOk (taken answer) (λ reply. now ≡ with_entry m (record { stamp = stamp; event = Taken c; reply = reply }))
+    NextIsCount → (m now : MemberFields) (stamp : ℕ) (c : CheckedFields) (answer : Result Took TakeFault) → IsAnswer m (Taken c) (answer_of_take answer)
+    → IfOk (answer_of_take answer) (λ reply. now ≡ with_entry m (record { stamp = stamp; event = Taken c; reply = reply }))
     → length now.history < 2 ^ 64 → IfOk answer (λ _. c.frame.number + 1 < 2 ^ 64)
 has_next count m now stamp c (Err fault) is entry few = tt
 has_next count m now stamp c (Ok took) is entry few =

@@ -8,10 +8,10 @@ use Rattle.std.proofs.lemmas.List.Elements.{All-nil, All-cons, All-head, All-tai
 use Rattle.pay_member.specs.declared.entry.HistoryEntry.{HistoryEntry}
 use Rattle.pay_member.specs.Member.{MemberFields}
 use Rattle.pay_node.specs.declared.receipt.Receipt.{Receipt}
-use Rattle.pay_node.specs.Receipts.{IsBorneOut, entries_after}
-use Rattle.pay_node.specs.Judging.{AreBorneOut, IsNextBorneOut}
+use Rattle.pay_node.specs.Receipts.{IsConsistent, entries_after}
+use Rattle.pay_node.specs.Judging.{AreConsistent, IsNextConsistent}
 use Rattle.pay_node.specs.Seats.{HasItsEntries, SeatFields, Right, entries_told, entries_under, since}
-use Rattle.pay_node.proofs.Rights.{borne_out_bound}
+use Rattle.pay_node.proofs.Rights.{consistent_bound}
 
 -- ---- pairs
 
@@ -72,13 +72,13 @@ since_on rs i base least after r far before below is left ahead =
           (cases_eq k i)),
     )
 
--- receipts that are borne out in order, the first behind so many entries
+-- receipts that are consistent in order, the first behind so many entries
 record AreInOrder (m : MemberFields) (stamp least : ℕ) (rs : List Receipt) : Type 0 where
   ahead : All (λ (r : Receipt). least ≤ r.seen) rs
-  each : All (λ (r : Receipt). IsBorneOut m stamp r.seen r.call) rs
+  each : All (λ (r : Receipt). IsConsistent m stamp r.seen r.call) rs
   ordered : AllPairs Follows rs
 
-in_order_from : (m : MemberFields) (stamp least : ℕ) (rs : List Receipt) → AreBorneOut m stamp least rs → AreInOrder m stamp least rs
+in_order_from : (m : MemberFields) (stamp least : ℕ) (rs : List Receipt) → AreConsistent m stamp least rs → AreInOrder m stamp least rs
 in_order_from m stamp least [] are = record { ahead = All-nil _; each = All-nil _; ordered = pairs_none Follows }
 in_order_from m stamp least (r ∷ rs) are =
     let rest = in_order_from m stamp (entries_after r) rs are.1 in
@@ -86,26 +86,26 @@ in_order_from m stamp least (r ∷ rs) are =
     record {
       ahead = All-cons (λ (x : Receipt). least ≤ x.seen) r rs are.0.ahead
           (All-weaker (λ (x : Receipt). entries_after r ≤ x.seen) (λ (x : Receipt). least ≤ x.seen) (λ x above. (let below = are.0.ahead in omega arith)) rs rest.ahead);
-      each = All-cons (λ (x : Receipt). IsBorneOut m stamp x.seen x.call) r rs are.0.is rest.each;
+      each = All-cons (λ (x : Receipt). IsConsistent m stamp x.seen x.call) r rs are.0.is rest.each;
       ordered = pairs_cons Follows r rs rest.ahead rest.ordered;
     }
 
-in_order_to : (m : MemberFields) (stamp least : ℕ) (rs : List Receipt) → AreInOrder m stamp least rs → AreBorneOut m stamp least rs
+in_order_to : (m : MemberFields) (stamp least : ℕ) (rs : List Receipt) → AreInOrder m stamp least rs → AreConsistent m stamp least rs
 in_order_to m stamp least [] are = tt
 in_order_to m stamp least (r ∷ rs) are = (
   record {
     ahead = All-head (λ (x : Receipt). least ≤ x.seen) r rs are.ahead;
-    is = All-head (λ (x : Receipt). IsBorneOut m stamp x.seen x.call) r rs are.each;
+    is = All-head (λ (x : Receipt). IsConsistent m stamp x.seen x.call) r rs are.each;
   },
   in_order_to m stamp (entries_after r) rs (record {
     ahead = pairs_first Follows r rs are.ordered;
-    each = All-tail (λ (x : Receipt). IsBorneOut m stamp x.seen x.call) r rs are.each;
+    each = All-tail (λ (x : Receipt). IsConsistent m stamp x.seen x.call) r rs are.each;
     ordered = pairs_rest Follows r rs are.ordered;
   }),
 )
 
 pub right_is : (m : MemberFields) (base : ℕ) (seat : SeatFields) → entries_under seat.stamp (since base m) ≡ entries_told seat
-    → AreBorneOut m seat.stamp base seat.receipts ↔ Right m base seat
+    → AreConsistent m seat.stamp base seat.receipts ↔ Right m base seat
 right_is m base seat counted = (
   (λ are. (let all = in_order_from m seat.stamp base seat.receipts are in
       record { counted = counted; each = λ k d within. (all.ahead k d within, all.each k d within); ordered = all.ordered })),
@@ -121,25 +121,25 @@ taken_to first h n = record first { history = take n h }
 pub judged_on :
     (first was now : MemberFields) (h : List HistoryEntry) (stamp least : ℕ) (rs : List Receipt) (i : ℕ) (r : Receipt)
     → was ≡ record first { history = take (length was.history) h }
-    → AreBorneOut (record first { history = h }) stamp least rs ↔ AreBorneOut (record first { history = h }) stamp (length was.history) (drop i rs)
+    → AreConsistent (record first { history = h }) stamp least rs ↔ AreConsistent (record first { history = h }) stamp (length was.history) (drop i rs)
     → i < length rs → r ≡ get_or rs i r
-    → IsNextBorneOut (record was { history = h }) stamp (length was.history) r → now ≡ record was { history = take (entries_after r) h }
+    → IsNextConsistent (record was { history = h }) stamp (length was.history) r → now ≡ record was { history = take (entries_after r) h }
     → (now ≡ record first { history = take (length now.history) h })
-    × (AreBorneOut (record first { history = h }) stamp least rs ↔ AreBorneOut (record first { history = h }) stamp (length now.history) (drop (i + 1) rs))
+    × (AreConsistent (record first { history = h }) stamp least rs ↔ AreConsistent (record first { history = h }) stamp (length now.history) (drop (i + 1) rs))
 judged_on first was now h stamp least rs i r at before below here next after =
     let m : MemberFields = record first { history = h } in
     let same : ◌≡◌ {A = MemberFields} (record was { history = h }) m = ap (λ (x : MemberFields). record x { history = h }) at in
-    let borne : IsNextBorneOut m stamp (length was.history) r = subst (λ x. IsNextBorneOut x stamp (length was.history) r) same next in
-    let bound : entries_after r ≤ length h = borne_out_bound m stamp r borne.is in
+    let consistent : IsNextConsistent m stamp (length was.history) r = subst (λ x. IsNextConsistent x stamp (length was.history) r) same next in
+    let bound : entries_after r ≤ length h = consistent_bound m stamp r consistent.is in
     let long : length now.history ≡ entries_after r = ap (λ (x : MemberFields). length x.history) after ∙ length-take-le (entries_after r) h bound in
     let place : now ≡ record first { history = take (entries_after r) h } = after ∙ ap (λ (x : MemberFields). record x { history = take (entries_after r) h }) at in
     let there : drop i rs ≡ r ∷ drop (i + 1) rs = drop_more rs i r below ∙ ap (λ x. x ∷ drop (i + 1) rs) (sym here) in
-    let step : AreBorneOut m stamp least rs ↔ AreBorneOut m stamp (entries_after r) (drop (i + 1) rs) = (
-      (λ all. (subst (AreBorneOut m stamp (length was.history)) there (before.0 all)).1),
-      (λ rest. before.1 (subst (AreBorneOut m stamp (length was.history)) (sym there) (borne, rest))),
+    let step : AreConsistent m stamp least rs ↔ AreConsistent m stamp (entries_after r) (drop (i + 1) rs) = (
+      (λ all. (subst (AreConsistent m stamp (length was.history)) there (before.0 all)).1),
+      (λ rest. before.1 (subst (AreConsistent m stamp (length was.history)) (sym there) (consistent, rest))),
     ) in (
       place ∙ ap (λ n. taken_to first h n) (sym long),
-      subst (λ n. AreBorneOut m stamp least rs ↔ AreBorneOut m stamp n (drop (i + 1) rs)) (sym long) step,
+      subst (λ n. AreConsistent m stamp least rs ↔ AreConsistent m stamp n (drop (i + 1) rs)) (sym long) step,
     )
 
 pub has_its :
@@ -160,14 +160,14 @@ not_counted m base seat says is failed = (
 
 -- in whichever order a seat is looked at
 pub known_right : (m : MemberFields) (base : ℕ) (seat : SeatFields) → HasItsEntries m base seat
-    → All (λ (r : Receipt). (base ≤ r.seen) × IsBorneOut m seat.stamp r.seen r.call) seat.receipts
+    → All (λ (r : Receipt). (base ≤ r.seen) × IsConsistent m seat.stamp r.seen r.call) seat.receipts
     → AllPairs (λ (r later : Receipt). entries_after r ≤ later.seen) seat.receipts → Right m base seat
 unfolding HasItsEntries
 known_right m base seat its each ordered = record { counted = its; each = each; ordered = ordered }
 
 pub judged_so :
     {E : Type 0} (m : MemberFields) (base : ℕ) (seat : SeatFields) (answer : Result Bool E) → HasItsEntries m base seat
-    → IfOk answer (λ says. IsTrue says ↔ AreBorneOut m seat.stamp base seat.receipts)
+    → IfOk answer (λ says. IsTrue says ↔ AreConsistent m seat.stamp base seat.receipts)
     → IfOk answer (λ says. IsTrue says ↔ Right m base seat)
 unfolding HasItsEntries
 judged_so m base seat (Ok says) counted is =
@@ -178,13 +178,13 @@ pub judged_there :
     {E : Type 0} (m fresh begun : MemberFields) (base : ℕ) (h : List HistoryEntry) (seat : SeatFields) (stamp : ℕ) (rs : List Receipt) (answer : Result Bool E)
     → fresh ≡ record m { history = [] } → begun ≡ record fresh { history = take base h } → base ≤ length h
     → h ≡ m.history → stamp ≡ seat.stamp → rs ≡ seat.receipts
-    → IfOk answer (λ says. IsTrue says ↔ AreBorneOut (record begun { history = h }) stamp (length begun.history) rs)
-    → IfOk answer (λ says. IsTrue says ↔ AreBorneOut m seat.stamp base seat.receipts)
+    → IfOk answer (λ says. IsTrue says ↔ AreConsistent (record begun { history = h }) stamp (length begun.history) rs)
+    → IfOk answer (λ says. IsTrue says ↔ AreConsistent m seat.stamp base seat.receipts)
 judged_there m fresh begun base h seat stamp rs answer none taken within at under of is =
     let whole : MemberFields → MemberFields = λ x. record x { history = h } in
     let same : whole begun ≡ m = ap whole taken ∙ ap whole none ∙ ap (λ (l : List HistoryEntry). record m { history = l }) at in
     let long : length begun.history ≡ base = ap (λ (x : MemberFields). length x.history) taken ∙ length-take-le base h within in
-    subst (λ x. IfOk answer (λ says. IsTrue says ↔ AreBorneOut x seat.stamp base seat.receipts)) same
-    (subst (λ n. IfOk answer (λ says. IsTrue says ↔ AreBorneOut (whole begun) n base seat.receipts)) under
-    (subst (λ n. IfOk answer (λ says. IsTrue says ↔ AreBorneOut (whole begun) stamp n seat.receipts)) long
-    (subst (λ l. IfOk answer (λ says. IsTrue says ↔ AreBorneOut (whole begun) stamp (length begun.history) l)) of is)))
+    subst (λ x. IfOk answer (λ says. IsTrue says ↔ AreConsistent x seat.stamp base seat.receipts)) same
+    (subst (λ n. IfOk answer (λ says. IsTrue says ↔ AreConsistent (whole begun) n base seat.receipts)) under
+    (subst (λ n. IfOk answer (λ says. IsTrue says ↔ AreConsistent (whole begun) stamp n seat.receipts)) long
+    (subst (λ l. IfOk answer (λ says. IsTrue says ↔ AreConsistent (whole begun) stamp (length begun.history) l)) of is)))

@@ -1,14 +1,17 @@
 -- A number's body is shown on one receipt, which is kept.
-use Rattle.std.proofs.Common.{◌≡◌, ◌≢◌, ℕ, ◌+◌, zero, suc, max, inl, inr, List, [], ◌∷◌, ◌++◌, length, take, drop, slice_get, Some, None, refl, sym, ap, ◌∙◌, subst, arith}
+use Rattle.std.proofs.Common.{◌≡◌, ◌≢◌, ℕ, ◌+◌, zero, suc, max, inl, inr, List, [], ◌∷◌, ◌++◌, length, take, drop, slice_get, Option, Some, None, Result, Ok, Err, refl, sym, ap, ◌∙◌, subst, arith}
 use Rattle.std.proofs.lemmas.Option.{slice_get_within}
+use Rattle.std.specs.Prelude.{IfOk}
+use Rattle.std.specs.declared.alloc.AllocError.{AllocError}
 use Rattle.pay_frame.specs.Frame.{BodyFields}
 use Rattle.pay_member.specs.Member.{MemberFields}
-use Rattle.pay_member.specs.Reading.{fetched}
+use Rattle.pay_member.specs.Reading.{fetched_bodies}
 use Rattle.pay_node.specs.declared.question.Question.TheVariants as question
 use Rattle.pay_node.specs.declared.receipt.Call.TheVariants.{Read}
 use Rattle.pay_node.specs.declared.receipt.Receipt.{Receipt}
 use Rattle.pay_node.specs.declared.shown.Shown.TheVariants as shown
-use Rattle.pay_node.specs.Keeping.{IsKeptFor, IsKeptOnce, mark_of}
+use Rattle.pay_node.specs.Keeping.{HasFetched, IsFetched, IsKeptFor, IsKeptOnce, mark_of}
+use Rattle.pay_node.specs.Nodes.{NodeFields}
 use Rattle.pay_node.specs.Receipts.{reading_receipt, shown_of}
 use Rattle.pay_node.specs.Seats.{Right, SeatFields, StaysRight, with_receipts}
 use Rattle.pay_node.specs.Sending.{sent_by}
@@ -32,12 +35,19 @@ none_at (y ∷ ys) zero is = cc
 none_at (y ∷ ys) (suc n) is = none_at ys n is
 
 pub one_shown : (m : MemberFields) (n : ℕ) (x : BodyFields) → slice_get (sent_by m) n ≡ Some x → shown.Sent (x ∷ []) ≡ shown_of m (question.Sent n 1)
-unfolding fetched
+unfolding fetched_bodies
 one_shown m n x is = ap shown.Sent (sym (one_at (sent_by m) n x is))
 
 pub none_shown : (m : MemberFields) (n : ℕ) → slice_get (sent_by m) n ≡ None → shown.Sent [] ≡ shown_of m (question.Sent n 1)
-unfolding fetched
+unfolding fetched_bodies
 none_shown m n is = ap shown.Sent (sym (none_at (sent_by m) n is))
+
+-- ---- what is fetched
+
+pub has_fetched : (n : NodeFields) (before after : SeatFields) (number : ℕ) (r : Result (Option BodyFields) AllocError)
+    → IfOk r (λ found. IsFetched n before after number found) → IfOk r (λ found. HasFetched n number found)
+has_fetched n before after number (Ok found) is = record { before = before; after = after; is = is }
+has_fetched n before after number (Err error) is = tt
 
 -- ---- marks
 

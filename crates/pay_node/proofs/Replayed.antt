@@ -6,16 +6,16 @@ use Rattle.std.proofs.lemmas.Option.{slice_get-get_or}
 use Rattle.pay_member.specs.declared.entry.HistoryEntry.{HistoryEntry}
 use Rattle.pay_member.specs.Member.{MemberFields}
 use Rattle.pay_node.specs.declared.receipt.Receipt.{Receipt}
-use Rattle.pay_node.specs.Receipts.{IsBorneOut}
-use Rattle.pay_node.specs.Judging.{AreAllCounted, CountedBorneOut, EachBorneOut}
+use Rattle.pay_node.specs.Receipts.{IsConsistent}
+use Rattle.pay_node.specs.Judging.{AreAllCounted, CountedConsistent, EachConsistent}
 use Rattle.pay_node.specs.Seats.{SeatFields}
 
 pub replayed_on :
     (m was now after : MemberFields) (h : List HistoryEntry) (place : ℕ) (seats : List SeatFields) (counts : List ℕ)
     → h ≡ m.history → was ≡ record m { history = take (length was.history) m.history }
     → now ≡ record was { history = take place h } → place ≤ length h → after ≡ now
-    → CountedBorneOut (record now { history = h }) seats counts
-    → CountedBorneOut m seats counts
+    → CountedConsistent (record now { history = h }) seats counts
+    → CountedConsistent m seats counts
     × (after ≡ record m { history = take (length after.history) m.history }) × (length after.history ≤ place + 1)
 replayed_on m was now after h place seats counts whole begun taken within same counted =
     let of_h : now ≡ record m { history = take place h } = taken ∙ ap (λ (x : MemberFields). record x { history = take place h }) begun in
@@ -24,14 +24,14 @@ replayed_on m was now after h place seats counts whole begun taken within same c
     ap (λ (x : MemberFields). record x { history = h }) of_h ∙ ap (λ (l : List HistoryEntry). record m { history = l }) whole
     in
     let count : length after.history ≡ place = ap (λ (x : MemberFields). length x.history) (same ∙ of_h) ∙ length-take-le place h within in (
-      subst (λ x. CountedBorneOut x seats counts) here counted,
+      subst (λ x. CountedConsistent x seats counts) here counted,
       same ∙ at ∙ ap (λ k. record m { history = take k m.history }) (sym count),
       omega arith,
     )
 
-pub all_counted : (m : MemberFields) (seats : List SeatFields) (counts : List ℕ) → CountedBorneOut m seats counts → AreAllCounted seats counts → All (λ s. EachBorneOut m s) seats
+pub all_counted : (m : MemberFields) (seats : List SeatFields) (counts : List ℕ) → CountedConsistent m seats counts → AreAllCounted seats counts → All (λ s. EachConsistent m s) seats
 all_counted m seats counts are all k d below =
     let seat : SeatFields = get_or seats k d in
     let there = slice_get-get_or seats k d below in
-    subst (All (λ (r : Receipt). IsBorneOut m seat.stamp r.seen r.call))
+    subst (All (λ (r : Receipt). IsConsistent m seat.stamp r.seen r.call))
     (ap (λ n. take n seat.receipts) (all k seat there) ∙ take_all (length seat.receipts) seat.receipts (omega arith)) (are k seat there)

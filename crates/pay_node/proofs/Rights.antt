@@ -1,4 +1,4 @@
--- What a history bears out it still does with one entry more, and the call that made it is borne out too.
+-- What a history is consistent with it still does with one entry more, and the call that made it is consistent too.
 use Rattle.std.proofs.Common.{◌≡◌, ◌≢◌, ℕ, ◌+◌, ◌<◌, ◌≤◌, Bool, false, cond, eqb, Some, Result, Ok, Err, IfOk, OnErr, List, [], ◌∷◌, ◌++◌, length, drop, get_or, slice_get, refl, sym, ap, ◌∙◌, subst, arith, append-nil}
 use Rattle.std.specs.List.{All}
 use Rattle.std.proofs.lemmas.List.{take_all, take-append-le, drop-append-le, get_or_append_left, get_or_at, length_push, length-append}
@@ -21,7 +21,7 @@ use Rattle.pay_node.specs.declared.shown.Shown.{Shown}
 use Rattle.pay_node.specs.declared.receipt.Call.{Call}
 use Rattle.pay_node.specs.declared.receipt.Call.TheVariants.{Handed, Read}
 use Rattle.pay_node.specs.declared.receipt.Receipt.{Receipt}
-use Rattle.pay_node.specs.Receipts.{shown_of, IsBorneOut, has_entry, entries_after, receipts_of, reading_receipt}
+use Rattle.pay_node.specs.Receipts.{shown_of, IsConsistent, has_entry, entries_after, receipts_of, reading_receipt}
 use Rattle.pay_node.specs.Seats.{SeatFields, with_receipts, entries_told, entries_under, since, Right, StaysRight}
 
 -- ---- longer histories
@@ -38,23 +38,23 @@ slice_get-last xs x =
     let n = length_push xs x in
     slice_get-get_or (xs ++ x ∷ []) (length xs) x (omega arith) ∙ ap Some (get_or_at xs x [] x (length xs) refl)
 
-borne_out_more : (m : MemberFields) (e : HistoryEntry) (stamp seen : ℕ) (call : Call) → IsBorneOut m stamp seen call → IsBorneOut (with_entry m e) stamp seen call
-borne_out_more m e stamp seen (Handed event (Ok reply)) is = slice_get-longer m.history (e ∷ []) seen _ is
-borne_out_more m e stamp seen (Handed event (Err fault)) is =
+consistent_more : (m : MemberFields) (e : HistoryEntry) (stamp seen : ℕ) (call : Call) → IsConsistent m stamp seen call → IsConsistent (with_entry m e) stamp seen call
+consistent_more m e stamp seen (Handed event (Ok reply)) is = slice_get-longer m.history (e ∷ []) seen _ is
+consistent_more m e stamp seen (Handed event (Err fault)) is =
     let n = length_push m.history e in (
       omega (arith, is.0),
       subst (λ h. refusal m.genesis m.keys (events h) event ≡ Some fault) (sym (take-append-le seen m.history (e ∷ []) is.0)) is.1,
     )
-borne_out_more m e stamp seen (Read question shown) is =
+consistent_more m e stamp seen (Read question shown) is =
     let n = length_push m.history e in (
       omega (arith, is.0),
       subst (λ h. shown ≡ shown_of (record m { history = h }) question) (sym (take-append-le seen m.history (e ∷ []) is.0)) is.1,
     )
 
--- what a receipt saw and made is in the history that bears it out
-pub borne_out_bound : (m : MemberFields) (stamp : ℕ) (r : Receipt) → IsBorneOut m stamp r.seen r.call → entries_after r ≤ length m.history
-borne_out_bound m stamp r is = go r.call refl is where
-  go : (call : Call) → r.call ≡ call → IsBorneOut m stamp r.seen call → entries_after r ≤ length m.history
+-- what a receipt saw and made is in the history that is consistent with it
+pub consistent_bound : (m : MemberFields) (stamp : ℕ) (r : Receipt) → IsConsistent m stamp r.seen r.call → entries_after r ≤ length m.history
+consistent_bound m stamp r is = go r.call refl is where
+  go : (call : Call) → r.call ≡ call → IsConsistent m stamp r.seen call → entries_after r ≤ length m.history
   go (Handed event (Ok reply)) at is = rw at (let within = slice_get_within m.history r.seen _ is in omega arith)
   go (Handed event (Err fault)) at is = rw at is.0
   go (Read question shown) at is = rw at is.0
@@ -74,17 +74,17 @@ under_more m base stamp e within =
     ap (λ (h : List HistoryEntry). entries_under stamp (record m { history = h })) (drop-append-le base m.history (e ∷ []) within)
     ∙ sum_by_push (λ (x : HistoryEntry). one (eqb x.stamp stamp)) (drop base m.history) e
 
--- a receipt that saw all before a base, and is borne out
+-- a receipt that saw all before a base, and is consistent
 abbrev IsSince : MemberFields → ℕ → ℕ → Receipt → Type 0
-IsSince m base stamp r = (base ≤ r.seen) × IsBorneOut m stamp r.seen r.call
+IsSince m base stamp r = (base ≤ r.seen) × IsConsistent m stamp r.seen r.call
 
 since_more : (m : MemberFields) (e : HistoryEntry) (base stamp : ℕ) (rs : List Receipt) → All (IsSince m base stamp) rs → All (IsSince (with_entry m e) base stamp) rs
 since_more m e base stamp rs all =
-    All-weaker (IsSince m base stamp) (IsSince (with_entry m e) base stamp) (λ x is. (is.0, borne_out_more m e stamp x.seen x.call is.1)) rs all
+    All-weaker (IsSince m base stamp) (IsSince (with_entry m e) base stamp) (λ x is. (is.0, consistent_more m e stamp x.seen x.call is.1)) rs all
 
 -- of a call that left no entry
 right_told : (m : MemberFields) (base : ℕ) (seat : SeatFields) (call : Call) → base ≤ length m.history → has_entry call ≡ false
-    → IsBorneOut m seat.stamp (length m.history) call
+    → IsConsistent m seat.stamp (length m.history) call
     → Right m base seat → Right m base (with_receipts seat (record { seen = length m.history; call = call } ∷ []))
 right_told m base seat call within none is right =
     let r : Receipt = record { seen = length m.history; call = call } in
@@ -93,7 +93,7 @@ right_told m base seat call within none is right =
       counted = right.counted ∙ sym (told ∙ ap (λ b. entries_told seat + one b) none ∙ plus_none (entries_told seat));
       each = All-push (IsSince m base seat.stamp) seat.receipts r right.each (within, is);
       ordered = all_pairs_push (λ (x later : Receipt). entries_after x ≤ later.seen) seat.receipts r right.ordered
-          (λ k d below. borne_out_bound m seat.stamp (get_or seat.receipts k d) (right.each k d below).1);
+          (λ k d below. consistent_bound m seat.stamp (get_or seat.receipts k d) (right.each k d below).1);
     }
 
 -- of one that left an entry
@@ -111,7 +111,7 @@ right_entered m base seat event reply within right =
       each = All-push (IsSince now base seat.stamp) seat.receipts r
           (since_more m e base seat.stamp seat.receipts right.each) (within, slice_get-last m.history e);
       ordered = all_pairs_push (λ (x later : Receipt). entries_after x ≤ later.seen) seat.receipts r right.ordered
-          (λ k d below. borne_out_bound m seat.stamp (get_or seat.receipts k d) (right.each k d below).1);
+          (λ k d below. consistent_bound m seat.stamp (get_or seat.receipts k d) (right.each k d below).1);
     }
 
 -- an entry under another stamp

@@ -1,7 +1,5 @@
--- The answer to a frame tells whether the sent list has grown by it, and a body that is found, that it is in the list.
-use Rattle.std.specs.Option.{is_some, option_copied}
-use Rattle.std.proofs.lemmas.Option.{slice_get_within}
-use Rattle.std.proofs.Common.{Bor, slice_get, ◌≡◌, ◌↔◌, ℕ, ◌+◌, ◌<◌, Bool, true, false, ◌||◌, IsTrue, Option, Some, None, Result, Ok, Err, List, [], ◌∷◌, ◌++◌, length, refl, sym, ap, ap₂, ◌∙◌, arith, length-append}
+-- The answer to a frame tells whether the sent list has grown by it.
+use Rattle.std.proofs.Common.{◌≡◌, ◌↔◌, ℕ, ◌+◌, ◌<◌, Bool, true, false, ◌||◌, IsTrue, Option, Some, None, Result, Ok, Err, List, [], ◌∷◌, ◌++◌, length, refl, sym, ap, ap₂, ◌∙◌, arith, length-append}
 use Rattle.pay_frame.specs.declared.kind.Kind.{Kind}
 use Rattle.pay_frame.specs.declared.kind.Kind.TheVariants.{Echo, Ready}
 use Rattle.pay_frame.specs.Frame.{BodyFields}
@@ -21,11 +19,9 @@ use Rattle.pay_member.specs.Answer.{IsAnswer}
 use Rattle.pay_member.specs.EventLaws.{EventsByOneMore}
 use Rattle.pay_member.specs.Events.{events}
 use Rattle.pay_member.specs.Group.{group_in}
-use Rattle.pay_member.specs.Legal.{Legal}
 use Rattle.pay_member.specs.Member.{MemberFields}
 use Rattle.pay_member.specs.Reply.{took_by}
-use Rattle.pay_node.specs.Nodes.{IsOwn, NodeFields}
-use Rattle.pay_node.specs.Sending.{HasSent, IsSentAt, behind, sent_by}
+use Rattle.pay_node.specs.Sending.{HasSent, behind, sent_by}
 
 abbrev counted : Bool → ℕ
 counted true = 1
@@ -80,8 +76,3 @@ tells out_more events_more (Ok took) grown same m stamp c is =
     let one = either took.echo took.ready in
     (λ grew. (let some = one.0 (sym same ∙ grew) in omega arith), λ longer. same ∙ one.1 (omega arith))
 tells out_more events_more (Err fault) grown same m stamp c is = (λ grew. absurd (cc (same, grew)), λ longer. absurd (omega arith))
-
-pub found_at : (n : NodeFields) (m : MemberFields) (place : ℕ) (found : Option (Bor BodyFields)) → IsOwn n m
-    → Legal m.genesis m.keys m.history → option_copied found ≡ slice_get (sent_by m) place → IsTrue (is_some found) → IsSentAt n place
-found_at n m place (Some body) own legal is some = record { member = m; own = own; legal = legal; is = slice_get_within (sent_by m) place body.now (sym is) }
-found_at n m place None own legal is some = absurd (cc)

@@ -15,15 +15,15 @@ use Rattle.pay_member.specs.declared.take_fault.TakeFault.{TakeFault}
 use Rattle.pay_member.specs.declared.take_fault.TakeFault.TheVariants.{Memory}
 use Rattle.pay_member.specs.declared.took.Took.{Took}
 use Rattle.pay_member.specs.declared.outcome.Outcome.TheVariants as outcome
-use Rattle.pay_member.specs.Answer.{taken}
+use Rattle.pay_member.specs.Answer.{answer_of_take}
 use Rattle.pay_member.specs.Bringing.{answered_at_once, with_want}
-use Rattle.pay_node.specs.Nodes.{NodeFields, IsAnswered, IsAnsweredAs, IsBrought, IsReceived, IsTaken, next_of, outcome_of}
+use Rattle.pay_node.specs.Nodes.{NodeFields, IsAnswered, IsAnsweredAs, IsBrought, IsReceived, IsTaken, next_of, outcome_of_take}
 use Rattle.pay_node.specs.Seats.{SeatFields}
 
 pub taken_so :
     (n : NodeFields) (before after : SeatFields) (opened : OpenedFields) (number : ℕ) (answer : Result Took TakeFault) (r : Received)
-    → r.outcome ≡ outcome_of answer → answer ≢ Err Memory → number ≡ opened.frame.number → r.next ≡ next_of number answer
-    → (answer ≢ Err Memory → IsAnswered n before after (Taken (checked_fields opened)) (taken answer))
+    → r.outcome ≡ outcome_of_take answer → answer ≢ Err Memory → number ≡ opened.frame.number → r.next ≡ next_of number answer
+    → (answer ≢ Err Memory → IsAnswered n before after (Taken (checked_fields opened)) (answer_of_take answer))
     → IsTaken n before after opened r
 taken_so n before after opened number answer r outcome memory is next answered =
     record { answer = answer; memory = memory; answered = answered memory; outcome = outcome; next = next ∙ ap (λ m. next_of m answer) is }

@@ -1,5 +1,6 @@
 -- When all seats of a node agree with its member's history.
-use Rattle.std.specs.Prelude.{◌≡◌, ◌≢◌, ◌⊎◌, ℕ, ◌<◌, ◌≤◌, ◌==◌, ◌&&◌, nat_le, nat_lt, Bool, true, false, if◌then◌else◌, List, [], ◌∷◌, Option, Some, None}
+use Rattle.std.specs.Prelude.{◌≡◌, ◌≢◌, ◌⊎◌, ℕ, ◌<◌, ◌≤◌, ◌==◌, ◌&&◌, nat_le, nat_lt, Bool, true}
+use Rattle.std.specs.Prelude.{false, if◌then◌else◌, List, [], ◌∷◌, Option, Some, None}
 use Rattle.std.specs.List.{All, filter}
 use Rattle.pay_member.specs.Member.{MemberFields}
 use Rattle.pay_node.specs.declared.close_fault.CloseFault.{CloseFault}
@@ -10,8 +11,9 @@ use Rattle.pay_node.specs.Seats.{HasItsEntries, SeatFields, Right, since}
 abbrev pub seats_with : ℕ → List SeatFields → List SeatFields
 seats_with stamp seats = filter (λ s. s.stamp == stamp) seats
 
--- one seat has the stamp, and the history from the base on bears it out
-pub record IsKept (m : MemberFields) (base stamp : ℕ) (seats : List SeatFields) : Type 0 where
+-- one seat has the stamp, and the history from the base on is consistent with it
+pub record HasConsistentSeat (m : MemberFields) (base stamp : ℕ) (seats : List SeatFields)
+    : Type 0 where
   pub seat : SeatFields
   pub one : seats_with stamp seats ≡ seat ∷ []
   pub right : Right m base seat
@@ -21,7 +23,8 @@ pub record IsUnused (m : MemberFields) (base stamp : ℕ) (seats : List SeatFiel
   pub unseated : All (λ s. s.stamp ≢ stamp) seats
   pub nowhere : All (λ e. e.stamp ≢ stamp) (since base m).history
 
--- one seat has the stamp, and was told of as many entries as the history has under it from the base on
+-- one seat has the stamp, and was told of as many entries as the history has under it from the base
+-- on
 pub record IsCounted (m : MemberFields) (base stamp : ℕ) (seats : List SeatFields) : Type 0 where
   pub seat : SeatFields
   pub one : seats_with stamp seats ≡ seat ∷ []
@@ -30,53 +33,63 @@ pub record IsCounted (m : MemberFields) (base stamp : ℕ) (seats : List SeatFie
 -- ---- all stamps
 
 -- Of a stamp below the number of seats this holds. Any other is nobody's.
-pub record IsSettledBy (holds : ℕ → Type 0) (m : MemberFields) (base count : ℕ) (seats : List SeatFields) (stamp : ℕ) : Type 0 where
+pub record IsReconciledBy (holds : ℕ → Type 0) (m : MemberFields) (base count : ℕ)
+    (seats : List SeatFields) (stamp : ℕ) : Type 0 where
   pub own : stamp < count → holds stamp
   pub other : count ≤ stamp → IsUnused m base stamp seats
 
--- the least stamp that isn't settled so
-pub record IsLeastBy (holds : ℕ → Type 0) (m : MemberFields) (base count : ℕ) (seats : List SeatFields) (stamp : ℕ) : Type 0 where
-  pub wrong : ¬ (IsSettledBy holds m base count seats stamp)
-  pub least : (lower : ℕ) → lower < stamp → IsSettledBy holds m base count seats lower
+-- the least stamp that isn't reconciled so
+pub record IsLeastBy (holds : ℕ → Type 0) (m : MemberFields) (base count : ℕ)
+    (seats : List SeatFields) (stamp : ℕ) : Type 0 where
+  pub wrong : ¬ (IsReconciledBy holds m base count seats stamp)
+  pub least : (lower : ℕ) → lower < stamp → IsReconciledBy holds m base count seats lower
 
 -- what a judge of all stamps finds
 abbrev pub IsVerdictBy : (ℕ → Type 0) → MemberFields → ℕ → ℕ → List SeatFields → Option ℕ → Type 0
-IsVerdictBy holds m base count seats None = (stamp : ℕ) → IsSettledBy holds m base count seats stamp
+IsVerdictBy holds m base count seats None =
+    (stamp : ℕ) → IsReconciledBy holds m base count seats stamp
 IsVerdictBy holds m base count seats (Some stamp) = IsLeastBy holds m base count seats stamp
 
 -- each seat's is one seat's, which is right
-abbrev pub AllSettled : MemberFields → ℕ → ℕ → List SeatFields → Type 0
-AllSettled m base count seats = (stamp : ℕ) → IsSettledBy (λ s. IsKept m base s seats) m base count seats stamp
+abbrev pub AllReconciled : MemberFields → ℕ → ℕ → List SeatFields → Type 0
+AllReconciled m base count seats =
+    (stamp : ℕ) → IsReconciledBy (λ s. HasConsistentSeat m base s seats) m base count seats stamp
 
 abbrev pub IsLeastWrong : MemberFields → ℕ → ℕ → List SeatFields → ℕ → Type 0
-IsLeastWrong m base count seats stamp = IsLeastBy (λ s. IsKept m base s seats) m base count seats stamp
+IsLeastWrong m base count seats stamp =
+    IsLeastBy (λ s. HasConsistentSeat m base s seats) m base count seats stamp
 
 abbrev pub IsVerdict : MemberFields → ℕ → ℕ → List SeatFields → Option ℕ → Type 0
-IsVerdict m base count seats found = IsVerdictBy (λ s. IsKept m base s seats) m base count seats found
+IsVerdict m base count seats found =
+    IsVerdictBy (λ s. HasConsistentSeat m base s seats) m base count seats found
 
 -- each seat's is one seat's, which counts its entries
 abbrev pub AllCounted : MemberFields → ℕ → ℕ → List SeatFields → Type 0
-AllCounted m base count seats = (stamp : ℕ) → IsSettledBy (λ s. IsCounted m base s seats) m base count seats stamp
+AllCounted m base count seats =
+    (stamp : ℕ) → IsReconciledBy (λ s. IsCounted m base s seats) m base count seats stamp
 
 abbrev pub IsLeastUncounted : MemberFields → ℕ → ℕ → List SeatFields → ℕ → Type 0
-IsLeastUncounted m base count seats stamp = IsLeastBy (λ s. IsCounted m base s seats) m base count seats stamp
+IsLeastUncounted m base count seats stamp =
+    IsLeastBy (λ s. IsCounted m base s seats) m base count seats stamp
 
 abbrev pub IsCount : MemberFields → ℕ → ℕ → List SeatFields → Option ℕ → Type 0
-IsCount m base count seats found = IsVerdictBy (λ s. IsCounted m base s seats) m base count seats found
+IsCount m base count seats found =
+    IsVerdictBy (λ s. IsCounted m base s seats) m base count seats found
 
--- Why a node isn't closed: the member isn't its own, so that the very first stamp is wrong; or it is, and this stamp is
--- the least that isn't settled. Where memory was refused, no more is known of the receipts.
-abbrev pub IsFault : NodeFields → MemberFields → List SeatFields → CloseFault → Type 0
-IsFault n m seats Memory = IsOwn n m
-IsFault n m seats (Mismatch stamp) =
+-- Why a node isn't closed: the member isn't its own, so that the very first stamp is wrong; or it
+-- is, and this stamp is the least that isn't reconciled. Where memory was refused, no more is known
+-- of the receipts.
+abbrev pub IsCloseFault : NodeFields → MemberFields → List SeatFields → CloseFault → Type 0
+IsCloseFault n m seats Memory = IsOwn n m
+IsCloseFault n m seats (Mismatch stamp) =
     (¬ (IsOwn n m) × (stamp ≡ 0)) ⊎ (IsOwn n m × IsLeastWrong m (base_of n) n.seats seats stamp)
 
 -- ---- how the judge finds it
 
 -- with the stamp met or not before these seats: it is kept by just one
-abbrev pub IsKeptFrom : MemberFields → ℕ → ℕ → Bool → List SeatFields → Type 0
-IsKeptFrom m base stamp true seats = seats_with stamp seats ≡ []
-IsKeptFrom m base stamp false seats = IsKept m base stamp seats
+abbrev pub HasConsistentSeatFrom : MemberFields → ℕ → ℕ → Bool → List SeatFields → Type 0
+HasConsistentSeatFrom m base stamp true seats = seats_with stamp seats ≡ []
+HasConsistentSeatFrom m base stamp false seats = HasConsistentSeat m base stamp seats
 
 -- the same of its entries alone
 abbrev pub IsCountedFrom : MemberFields → ℕ → ℕ → Bool → List SeatFields → Type 0
@@ -86,4 +99,5 @@ IsCountedFrom m base stamp false seats = IsCounted m base stamp seats
 -- the least stamp from a number on, so far, and with one more
 abbrev pub lesser : ℕ → Option ℕ → ℕ → Option ℕ
 lesser count None stamp = if nat_le count stamp then Some stamp else None
-lesser count (Some least) stamp = if nat_le count stamp && nat_lt stamp least then Some stamp else Some least
+lesser count (Some least) stamp =
+    if nat_le count stamp && nat_lt stamp least then Some stamp else Some least

@@ -1,5 +1,7 @@
--- Bodies whose receipts are kept, so that each is fetched from a seat as often as is liked and shown on one receipt.
-use Rattle.std.specs.Prelude.{◌≡◌, ◌≢◌, ◌⊎◌, ℕ, ◌≤◌, max, List, [], ◌∷◌, ◌++◌, length, slice_get, slice_index_or, Option, Some, None}
+-- Bodies whose receipts are kept, so that each is fetched from a seat as often as is liked and
+-- shown on one receipt.
+use Rattle.std.specs.Prelude.{◌≡◌, ◌≢◌, ◌⊎◌, ℕ, ◌≤◌, max, List, [], ◌∷◌, ◌++◌, length, slice_get}
+use Rattle.std.specs.Prelude.{slice_index_or, Option, Some, None}
 use Rattle.pay_frame.specs.Frame.{BodyFields}
 use Rattle.pay_member.specs.Legal.{Legal}
 use Rattle.pay_member.specs.Member.{MemberFields}
@@ -23,18 +25,22 @@ pub record IsKeptFor (seat : SeatFields) (number : ℕ) (body : BodyFields) : Ty
   pub there : slice_get seat.receipts place ≡ Some receipt
   pub shows : ShowsAlone receipt number body
 
--- The member sent this body at the number, and the seat keeps a receipt that shows it. If it did so before, nothing
--- changes; else it has a receipt more, if any. What is kept of other numbers stays. There are no more marks than bodies
--- that were sent, if there weren't before.
-pub record IsKeptOnce (m : MemberFields) (before after : SeatFields) (number : ℕ) (body : BodyFields) : Type 0 where
+-- The member sent this body at the number, and the seat keeps a receipt that shows it. If it did so
+-- before, nothing changes; else it has a receipt more, if any. What is kept of other numbers stays.
+-- There are no more marks than bodies that were sent, if there weren't before.
+pub record IsKeptOnce (m : MemberFields) (before after : SeatFields) (number : ℕ)
+    (body : BodyFields) : Type 0 where
   pub sent : slice_get (sent_by m) number ≡ Some body
   pub kept : IsKeptFor after number body
   pub once : IsKeptFor before number body → after ≡ before
   pub stamp : after.stamp ≡ before.stamp
   pub receipts :
       (after.receipts ≡ before.receipts)
-      ⊎ (after.receipts ≡ before.receipts ++ reading_receipt (length m.history) (question.Sent number 1) (shown.Sent (body ∷ [])))
-  pub others : (k : ℕ) (other : BodyFields) → k ≢ number → IsKeptFor before k other → IsKeptFor after k other
+      ⊎ (after.receipts
+      ≡ before.receipts
+      ++ reading_receipt (length m.history) (question.Sent number 1) (shown.Sent (body ∷ [])))
+  pub others :
+      (k : ℕ) (other : BodyFields) → k ≢ number → IsKeptFor before k other → IsKeptFor after k other
   pub few : length after.marks ≤ max (length before.marks) (length (sent_by m))
 
 -- The same, or the member sent no such body, and a receipt says so.
@@ -42,10 +48,13 @@ abbrev pub IsNoted : MemberFields → SeatFields → SeatFields → ℕ → Opti
 IsNoted m before after number (Some body) = IsKeptOnce m before after number body
 IsNoted m before after number None =
     (shown.Sent [] ≡ shown_of m (question.Sent number 1))
-    × KeepsReceipt before after (reading (length m.history) (question.Sent number 1) (shown.Sent []))
+    × KeepsReceipt before after
+    (reading (length m.history) (question.Sent number 1) (shown.Sent []))
 
--- The node's member, with some legal history, sent this body at the number, and the seat keeps its receipt.
-pub record IsShownOnce (n : NodeFields) (before after : SeatFields) (number : ℕ) (body : BodyFields) : Type 0 where
+-- The node's member, with some legal history, sent this body at the number, and the seat keeps its
+-- receipt.
+pub record IsShownOnce (n : NodeFields) (before after : SeatFields) (number : ℕ) (body : BodyFields)
+    : Type 0 where
   pub member : MemberFields
   pub own : IsOwn n member
   pub legal : Legal member.genesis member.keys member.history
@@ -54,4 +63,11 @@ pub record IsShownOnce (n : NodeFields) (before after : SeatFields) (number : �
 -- what is fetched of a number
 abbrev pub IsFetched : NodeFields → SeatFields → SeatFields → ℕ → Option BodyFields → Type 0
 IsFetched n before after number (Some body) = IsShownOnce n before after number body
-IsFetched n before after number None = IsShown n before after (question.Sent number 1) (shown.Sent [])
+IsFetched n before after number None =
+    IsShown n before after (question.Sent number 1) (shown.Sent [])
+
+-- so from some seat
+pub record HasFetched (n : NodeFields) (number : ℕ) (found : Option BodyFields) : Type 0 where
+  pub before : SeatFields
+  pub after : SeatFields
+  pub is : IsFetched n before after number found

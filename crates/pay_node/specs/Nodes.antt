@@ -1,5 +1,6 @@
 -- What a node's calls answer, and what they leave at their seat.
-use Rattle.std.specs.Prelude.{◌≡◌, ◌≢◌, ℕ, ◌+◌, ◌<◌, List, [], length, slice_get, Option, Some, None, Result, Ok, Err}
+use Rattle.std.specs.Prelude.{◌≡◌, ◌≢◌, ℕ, ◌+◌, ◌<◌, List, [], length, slice_get, Option, Some}
+use Rattle.std.specs.Prelude.{None, Result, Ok, Err}
 use Rattle.pay_frame.specs.declared.fault.FrameFault.{FrameFault}
 use Rattle.pay_frame.specs.Frame.{FrameFields}
 use Rattle.pay_frame.specs.OneFrame.{IsOneReading}
@@ -22,9 +23,10 @@ use Rattle.pay_member.specs.declared.outcome.Outcome.TheVariants as outcome
 use Rattle.pay_member.specs.declared.received.Received.{Received}
 use Rattle.pay_member.specs.declared.reply.Reply.{Reply}
 use Rattle.pay_member.specs.declared.take_fault.TakeFault.{TakeFault}
-use Rattle.pay_member.specs.declared.take_fault.TakeFault.TheVariants.{Memory, WrongKey, Repeat, Gap}
+use Rattle.pay_member.specs.declared.take_fault.TakeFault.TheVariants.{Memory, WrongKey, Repeat}
+use Rattle.pay_member.specs.declared.take_fault.TakeFault.TheVariants.{Gap}
 use Rattle.pay_member.specs.declared.took.Took.{Took}
-use Rattle.pay_member.specs.Answer.{IsAnswer, taken}
+use Rattle.pay_member.specs.Answer.{IsAnswer, answer_of_take}
 use Rattle.pay_member.specs.Bringing.{answered_at_once, incoming_at, with_want}
 use Rattle.pay_member.specs.Legal.{Legal}
 use Rattle.pay_member.specs.Member.{MemberFields}
@@ -33,8 +35,8 @@ use Rattle.pay_node.specs.declared.shown.Shown.{Shown}
 use Rattle.pay_node.specs.Receipts.{shown_of, receipts_of, reading}
 use Rattle.pay_node.specs.Seats.{KeepsReceipt, SeatFields, with_receipts}
 
--- What is known of a node without its lock: its group's genesis, the keys with which it opens frames, how many seats
--- it has, and the history that its member began with.
+-- What is known of a node without its lock: its group's genesis, the keys with which it opens
+-- frames, how many seats it has, and the history that its member began with.
 pub record NodeFields : Type 0 where
   pub genesis : GenesisFields
   pub keys : KeyFields
@@ -50,7 +52,8 @@ pub record StoppedFields : Type 0 where
   pub member : MemberFields
   pub node : NodeFields
 
--- A member of the node's group, with the node's keys, whose history begins with the node's: nothing was taken back.
+-- A member of the node's group, with the node's keys, whose history begins with the node's: nothing
+-- was taken back.
 pub record IsOwn (n : NodeFields) (m : MemberFields) : Type 0 where
   pub genesis : m.genesis ≡ n.genesis
   pub keys : m.keys ≡ n.keys
@@ -67,8 +70,10 @@ pub record AreFresh (count : ℕ) (seats : List SeatFields) : Type 0 where
 
 -- ---- answers
 
--- The node's member, with some legal history, answers so to the event, and the seat has the receipt.
-pub record IsAnswered (n : NodeFields) (before after : SeatFields) (event : Event) (answer : Result Reply MemberFault) : Type 0 where
+-- The node's member, with some legal history, answers so to the event, and the seat has the
+-- receipt.
+pub record IsAnswered (n : NodeFields) (before after : SeatFields) (event : Event)
+    (answer : Result Reply MemberFault) : Type 0 where
   pub member : MemberFields
   pub own : IsOwn n member
   pub legal : Legal member.genesis member.keys member.history
@@ -76,7 +81,8 @@ pub record IsAnswered (n : NodeFields) (before after : SeatFields) (event : Even
   pub receipt : after ≡ with_receipts before (receipts_of (length member.history) event answer)
 
 -- The node's member, with some legal history, shows this, and the seat keeps the receipt.
-pub record IsShown (n : NodeFields) (before after : SeatFields) (question : Question) (shown : Shown) : Type 0 where
+pub record IsShown (n : NodeFields) (before after : SeatFields) (question : Question)
+    (shown : Shown) : Type 0 where
   pub member : MemberFields
   pub own : IsOwn n member
   pub legal : Legal member.genesis member.keys member.history
@@ -86,12 +92,12 @@ pub record IsShown (n : NodeFields) (before after : SeatFields) (question : Ques
 -- ---- what is brought
 
 -- what is answered of a frame that opened
-abbrev pub outcome_of : Result Took TakeFault → Outcome
-outcome_of (Ok took) = outcome.Took took
-outcome_of (Err (Repeat next)) = outcome.Link (link.Repeat next)
-outcome_of (Err (Gap next)) = outcome.Link (link.Gap next)
-outcome_of (Err WrongKey) = outcome.WrongKey
-outcome_of (Err Memory) = outcome.WrongKey
+abbrev pub outcome_of_take : Result Took TakeFault → Outcome
+outcome_of_take (Ok took) = outcome.Took took
+outcome_of_take (Err (Repeat next)) = outcome.Link (link.Repeat next)
+outcome_of_take (Err (Gap next)) = outcome.Link (link.Gap next)
+outcome_of_take (Err WrongKey) = outcome.WrongKey
+outcome_of_take (Err Memory) = outcome.WrongKey
 
 -- the number that is next from its sender: the one behind the frame's, or the one that was next
 abbrev pub next_of : ℕ → Result Took TakeFault → Option ℕ
@@ -101,20 +107,24 @@ next_of number (Err (Gap next)) = Some next
 next_of number (Err WrongKey) = None
 next_of number (Err Memory) = None
 
--- A frame that opened was handed to the member, whose answer this is; that memory was refused is no answer.
-pub record IsTaken (n : NodeFields) (before after : SeatFields) (opened : OpenedFields) (r : Received) : Type 0 where
+-- A frame that opened was handed to the member, whose answer this is; that memory was refused is no
+-- answer.
+pub record IsTaken (n : NodeFields) (before after : SeatFields) (opened : OpenedFields)
+    (r : Received) : Type 0 where
   pub answer : Result Took TakeFault
   pub memory : answer ≢ Err Memory
-  pub answered : IsAnswered n before after (Taken (checked_fields opened)) (taken answer)
-  pub outcome : r.outcome ≡ outcome_of answer
+  pub answered : IsAnswered n before after (Taken (checked_fields opened)) (answer_of_take answer)
+  pub outcome : r.outcome ≡ outcome_of_take answer
   pub next : r.next ≡ next_of opened.frame.number answer
 
 -- what doesn't open, or is a WANT, is answered at once and leaves no receipt
-abbrev pub IsAnsweredAs : NodeFields → SeatFields → SeatFields → Result Incoming LinkFault → Received → Type 0
+abbrev pub IsAnsweredAs :
+    NodeFields → SeatFields → SeatFields → Result Incoming LinkFault → Received → Type 0
 IsAnsweredAs n before after (Ok (Message opened)) r = IsTaken n before after opened r
 IsAnsweredAs n before after (Ok (Want from number)) r =
     (r ≡ answered_at_once (outcome.Wanted from number)) × (after ≡ before)
-IsAnsweredAs n before after (Err fault) r = (r ≡ answered_at_once (outcome.Link fault)) × (after ≡ before)
+IsAnsweredAs n before after (Err fault) r =
+    (r ≡ answered_at_once (outcome.Link fault)) × (after ≡ before)
 
 -- a frame was received from a seat, and this is the answer
 abbrev pub IsReceived : NodeFields → SeatFields → SeatFields → FrameFields → Received → Type 0
@@ -124,15 +134,18 @@ IsReceived n before after f r = IsAnsweredAs n before after (incoming_at n.keys 
 abbrev pub IsMessage : KeyFields → FrameFields → Type 0
 IsMessage k f = (opened : OpenedFields) × (incoming_at k f ≡ Ok (Message opened))
 
--- what is answered of bytes that read so, with the WANT to the sender of a frame for the number that is next
-abbrev pub IsBroughtAs : NodeFields → SeatFields → SeatFields → Result FrameFields FrameFault → Brought → Type 0
+-- what is answered of bytes that read so, with the WANT to the sender of a frame for the number
+-- that is next
+abbrev pub IsBroughtAs :
+    NodeFields → SeatFields → SeatFields → Result FrameFields FrameFault → Brought → Type 0
 IsBroughtAs n before after (Ok f) b =
     (r : Received) × IsReceived n before after f r × (b ≡ with_want n.keys f.from r)
 IsBroughtAs n before after (Err fault) b =
     (b ≡ record { outcome = outcome.Frame fault; want = None }) × (after ≡ before)
 
 -- bytes by the one reading that they have
-pub record IsBrought (n : NodeFields) (bytes : List ℕ) (before after : SeatFields) (b : Brought) : Type 0 where
+pub record IsBrought (n : NodeFields) (bytes : List ℕ) (before after : SeatFields) (b : Brought)
+    : Type 0 where
   pub reading : Result FrameFields FrameFault
   pub reads : IsOneReading bytes reading
   pub is : IsBroughtAs n before after reading b

@@ -1,5 +1,6 @@
--- Receipts of a node's calls, and when a history bears one out.
-use Rattle.std.specs.Prelude.{◌≡◌, ℕ, ◌+◌, ◌≤◌, nat_lt, min, Bool, true, false, if◌then◌else◌, List, [], ◌∷◌, take, length, slice_get, slice_index, Some, Result, Ok, Err}
+-- Receipts of a node's calls, and when a history is consistent with one.
+use Rattle.std.specs.Prelude.{◌≡◌, ℕ, ◌+◌, ◌≤◌, nat_lt, min, Bool, true, false, if◌then◌else◌, List}
+use Rattle.std.specs.Prelude.{[], ◌∷◌, take, length, slice_get, slice_index, Some, Result, Ok, Err}
 use Rattle.pay_frame.specs.Frame.{BodyFields}
 use Rattle.pay_channel.specs.History.{list_of}
 use Rattle.pay_book.specs.Excerpt.{ExcerptFields}
@@ -7,14 +8,15 @@ use Rattle.pay_book.specs.Statement.{StatementFields, statement_of}
 use Rattle.pay_member.specs.declared.event.Event.{Event}
 use Rattle.pay_member.specs.declared.reply.Reply.{Reply}
 use Rattle.pay_member.specs.declared.fault.MemberFault.{MemberFault}
-use Rattle.pay_member.specs.declared.fault.MemberFault.TheVariants.{Memory, Spent, TooLong, Repeat, Gap, WrongKey, NoAccount}
+use Rattle.pay_member.specs.declared.fault.MemberFault.TheVariants.{Memory, Spent, TooLong, Repeat}
+use Rattle.pay_member.specs.declared.fault.MemberFault.TheVariants.{Gap, WrongKey, NoAccount}
 use Rattle.pay_member.specs.declared.query_fault.QueryFault.{QueryFault}
 use Rattle.pay_member.specs.declared.query_fault.QueryFault.TheVariants as query
 use Rattle.pay_member.specs.declared.standing.PaymentState.{PaymentState}
 use Rattle.pay_member.specs.Group.{group_in}
 use Rattle.pay_member.specs.Events.{events}
 use Rattle.pay_member.specs.Book.{book_after}
-use Rattle.pay_member.specs.Reading.{state_of, fetched, entries_shown, waiting_shown}
+use Rattle.pay_member.specs.Reading.{state_of, fetched_bodies, entries_shown, waiting_shown}
 use Rattle.pay_member.specs.Refusal.{refusal}
 use Rattle.pay_member.specs.Member.{MemberFields}
 use Rattle.pay_node.specs.declared.question.Question.{Question}
@@ -29,19 +31,23 @@ use Rattle.pay_node.specs.declared.receipt.Receipt.{Receipt}
 
 abbrev pub state_shown : MemberFields → ℕ → ℕ → Result PaymentState QueryFault
 state_shown m owner seq =
-    if nat_lt owner m.genesis.members then Ok (state_of m.genesis m.keys.own (events m.history) owner seq) else Err query.NoAccount
+    if nat_lt owner m.genesis.members
+    then Ok (state_of m.genesis m.keys.own (events m.history) owner seq) else Err query.NoAccount
 
 -- an account's lines and its balance
-abbrev pub statement_in : MemberFields → ℕ → StatementFields
-statement_in m account =
+abbrev pub member_statement : MemberFields → ℕ → StatementFields
+member_statement m account =
     record {
-      lines = statement_of m.genesis.members (list_of (group_in m.genesis m.keys.own) (events m.history))
+      lines = statement_of m.genesis.members
+          (list_of (group_in m.genesis m.keys.own) (events m.history))
           (slice_index (book_after m.genesis m.keys.own (events m.history)).front) account;
       balance = slice_index (book_after m.genesis m.keys.own (events m.history)).balances account;
     }
 
 abbrev pub statement_shown : MemberFields → ℕ → Result StatementFields QueryFault
-statement_shown m account = if nat_lt account m.genesis.members then Ok (statement_in m account) else Err query.NoAccount
+statement_shown m account =
+    if nat_lt account m.genesis.members then Ok (member_statement m account)
+    else Err query.NoAccount
 
 -- what settled of an account from a number on
 abbrev pub entries_answer : MemberFields → ℕ → ℕ → Result ExcerptFields QueryFault
@@ -60,7 +66,7 @@ waiting_answer m account =
 -- the answer to a question; 16 bodies at most are shown at once
 abbrev pub shown_of : MemberFields → Question → Shown
 shown_of m (question.Sent from max) =
-    shown.Sent (fetched m.genesis m.keys.own (events m.history) from (min max 16))
+    shown.Sent (fetched_bodies m.genesis m.keys.own (events m.history) from (min max 16))
 shown_of m (question.State owner seq) = shown.State (state_shown m owner seq)
 shown_of m (question.Statement account) = shown.Statement (statement_shown m account)
 shown_of m (question.Entries account from) = shown.Entries (entries_answer m account from)
@@ -73,14 +79,16 @@ shown_of m question.Fronts = shown.Fronts (book_after m.genesis m.keys.own (even
 abbrev pub back_at : MemberFields → ℕ → MemberFields
 back_at m count = record m { history = take count m.history }
 
--- A call was answered so under a stamp when the history had so many entries. A reply stands there as an entry, with
--- what was handed in; a refusal is the one that the entries before call for, and what was read is what they show.
-abbrev pub IsBorneOut : MemberFields → ℕ → ℕ → Call → Type 0
-IsBorneOut m stamp seen (Handed event (Ok reply)) =
+-- A call was answered so under a stamp when the history had so many entries. A reply stands there
+-- as an entry, with what was handed in; a refusal is the one that the entries before call for, and
+-- what was read is what they show.
+abbrev pub IsConsistent : MemberFields → ℕ → ℕ → Call → Type 0
+IsConsistent m stamp seen (Handed event (Ok reply)) =
     slice_get m.history seen ≡ Some (record { stamp = stamp; event = event; reply = reply })
-IsBorneOut m stamp seen (Handed event (Err fault)) =
-    (seen ≤ length m.history) × (refusal m.genesis m.keys (events (take seen m.history)) event ≡ Some fault)
-IsBorneOut m stamp seen (Read question shown) =
+IsConsistent m stamp seen (Handed event (Err fault)) =
+    (seen ≤ length m.history)
+    × (refusal m.genesis m.keys (events (take seen m.history)) event ≡ Some fault)
+IsConsistent m stamp seen (Read question shown) =
     (seen ≤ length m.history) × (shown ≡ shown_of (back_at m seen) question)
 
 abbrev pub has_entry : Call → Bool
@@ -97,11 +105,16 @@ abbrev pub receipts_of : ℕ → Event → Result Reply MemberFault → List Rec
 receipts_of seen event (Ok reply) = record { seen = seen; call = Handed event (Ok reply) } ∷ []
 receipts_of seen event (Err Memory) = []
 receipts_of seen event (Err Spent) = record { seen = seen; call = Handed event (Err Spent) } ∷ []
-receipts_of seen event (Err TooLong) = record { seen = seen; call = Handed event (Err TooLong) } ∷ []
-receipts_of seen event (Err (Repeat next)) = record { seen = seen; call = Handed event (Err (Repeat next)) } ∷ []
-receipts_of seen event (Err (Gap next)) = record { seen = seen; call = Handed event (Err (Gap next)) } ∷ []
-receipts_of seen event (Err WrongKey) = record { seen = seen; call = Handed event (Err WrongKey) } ∷ []
-receipts_of seen event (Err NoAccount) = record { seen = seen; call = Handed event (Err NoAccount) } ∷ []
+receipts_of seen event (Err TooLong) =
+    record { seen = seen; call = Handed event (Err TooLong) } ∷ []
+receipts_of seen event (Err (Repeat next)) =
+    record { seen = seen; call = Handed event (Err (Repeat next)) } ∷ []
+receipts_of seen event (Err (Gap next)) =
+    record { seen = seen; call = Handed event (Err (Gap next)) } ∷ []
+receipts_of seen event (Err WrongKey) =
+    record { seen = seen; call = Handed event (Err WrongKey) } ∷ []
+receipts_of seen event (Err NoAccount) =
+    record { seen = seen; call = Handed event (Err NoAccount) } ∷ []
 
 -- of what was read
 abbrev pub reading : ℕ → Question → Shown → Receipt

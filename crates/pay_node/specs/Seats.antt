@@ -1,13 +1,14 @@
--- Seats, and when a history bears out all that a seat was told.
-use Rattle.std.specs.Prelude.{◌≡◌, ◌⊎◌, ℕ, ◌≤◌, ◌-◌, ◌==◌, List, [], ◌∷◌, ◌++◌, Option, drop, length}
+-- Seats, and when a history is consistent with all that a seat was told.
+use Rattle.std.specs.Prelude.{◌≡◌, ◌⊎◌, ℕ, ◌≤◌, ◌-◌, ◌==◌, List, [], ◌∷◌, ◌++◌, Option, drop}
+use Rattle.std.specs.Prelude.{length}
 use Rattle.std.specs.List.{All, AllPairs, Contains, count_by}
 use Rattle.pay_member.specs.Member.{MemberFields}
 use Rattle.pay_node.specs.declared.receipt.Receipt.{Receipt}
 use Rattle.pay_node.specs.declared.seat.TheConstants.{LATEST}
-use Rattle.pay_node.specs.Receipts.{IsBorneOut, has_entry, entries_after}
+use Rattle.pay_node.specs.Receipts.{IsConsistent, has_entry, entries_after}
 
--- A stamp, the receipts of the calls that were made under it, oldest first, and the marks: at which place among them is
--- that of a number's body, if it is kept.
+-- A stamp, the receipts of the calls that were made under it, oldest first, and the marks: at which
+-- place among them is that of a number's body, if it is kept.
 pub record SeatFields : Type 0 where
   pub stamp : ℕ
   pub receipts : List Receipt
@@ -20,7 +21,8 @@ with_receipts seat more = record seat { receipts = seat.receipts ++ more }
 abbrev pub latest : SeatFields → List Receipt
 latest seat = drop (length seat.receipts - LATEST) seat.receipts
 
--- The seat keeps this receipt. If it was among the latest, nothing changes; else the seat has a receipt more, if any.
+-- The seat keeps this receipt. If it was among the latest, nothing changes; else the seat has a
+-- receipt more, if any.
 pub record KeepsReceipt (before after : SeatFields) (r : Receipt) : Type 0 where
   pub kept : Contains after.receipts r
   pub once : Contains (latest before) r → after ≡ before
@@ -42,14 +44,15 @@ since base m = record m { history = drop base m.history }
 unfoldable pub HasItsEntries : MemberFields → ℕ → SeatFields → Type 0
 HasItsEntries m base seat = entries_under seat.stamp (since base m) ≡ entries_told seat
 
--- From the base on, the history has as many entries under the seat's stamp as the seat was told of. Each receipt saw
--- those before the base and is borne out by the history, and none saw fewer entries than there were when one before it
--- was answered.
+-- From the base on, the history has as many entries under the seat's stamp as the seat was told of.
+-- Each receipt saw those before the base and is consistent with the history, and none saw fewer
+-- entries than there were when one before it was answered.
 pub record Right (m : MemberFields) (base : ℕ) (seat : SeatFields) : Type 0 where
   pub counted : entries_under seat.stamp (since base m) ≡ entries_told seat
-  pub each : All (λ r. (base ≤ r.seen) × IsBorneOut m seat.stamp r.seen r.call) seat.receipts
+  pub each : All (λ r. (base ≤ r.seen) × IsConsistent m seat.stamp r.seen r.call) seat.receipts
   pub ordered : AllPairs (λ r later. entries_after r ≤ later.seen) seat.receipts
 
 -- If this seat was right by this member, from whatever base, that one is by that member.
 abbrev pub StaysRight : MemberFields → SeatFields → MemberFields → SeatFields → Type 0
-StaysRight m seat now after = (base : ℕ) → base ≤ length m.history → Right m base seat → Right now base after
+StaysRight m seat now after =
+    (base : ℕ) → base ≤ length m.history → Right m base seat → Right now base after

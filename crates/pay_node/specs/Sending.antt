@@ -1,5 +1,4 @@
--- What a member sent to all, how many that are, whether there is one at a place, and whether an answer tells that it
--- sent more.
+-- What a member sent to all, and whether an answer tells that it sent more.
 use Rattle.std.specs.Prelude.{◌≡◌, ℕ, ◌<◌, ◌↔◌, Bool, IsTrue, List, length, Result, Ok, Err}
 use Rattle.pay_frame.specs.Frame.{BodyFields}
 use Rattle.pay_channel.specs.History.{out}
@@ -10,29 +9,13 @@ use Rattle.pay_member.specs.declared.fault.MemberFault.{MemberFault}
 use Rattle.pay_member.specs.declared.reply.Reply.{Reply}
 use Rattle.pay_member.specs.declared.take_fault.TakeFault.{TakeFault}
 use Rattle.pay_member.specs.declared.took.Took.{Took}
-use Rattle.pay_member.specs.Answer.{IsAnswer, taken}
+use Rattle.pay_member.specs.Answer.{IsAnswer, answer_of_take}
 use Rattle.pay_member.specs.Events.{events}
 use Rattle.pay_member.specs.Group.{group_in}
-use Rattle.pay_member.specs.Legal.{Legal}
 use Rattle.pay_member.specs.Member.{MemberFields, with_entry}
-use Rattle.pay_node.specs.Nodes.{IsOwn, NodeFields}
 
 abbrev pub sent_by : MemberFields → List BodyFields
 sent_by m = out (group_in m.genesis m.keys.own) (events m.history)
-
--- The node's member, with some legal history, sent so many bodies to all.
-pub record IsCountSent (n : NodeFields) (count : ℕ) : Type 0 where
-  pub member : MemberFields
-  pub own : IsOwn n member
-  pub legal : Legal member.genesis member.keys member.history
-  pub is : count ≡ length (sent_by member)
-
--- The node's member, with some legal history, sent a body at this place of all.
-pub record IsSentAt (n : NodeFields) (place : ℕ) : Type 0 where
-  pub member : MemberFields
-  pub own : IsOwn n member
-  pub legal : Legal member.genesis member.keys member.history
-  pub is : place < length (sent_by member)
 
 -- the member behind an event, which is unchanged where it refused that
 abbrev pub behind : MemberFields → ℕ → Event → Result Reply MemberFault → MemberFields
@@ -43,6 +26,7 @@ behind m stamp event (Err fault) = m
 -- Whichever member answered a frame so: its sent list has grown by it, or it hasn't.
 abbrev pub HasSent : Result Took TakeFault → Bool → Type 0
 HasSent answer grown =
-    (m : MemberFields) (stamp : ℕ) (frame : CheckedFields) → IsAnswer m (Taken frame) (taken answer)
+    (m : MemberFields) (stamp : ℕ) (frame : CheckedFields)
+    → IsAnswer m (Taken frame) (answer_of_take answer)
     → IsTrue grown
-    ↔ (length (sent_by m) < length (sent_by (behind m stamp (Taken frame) (taken answer))))
+    ↔ (length (sent_by m) < length (sent_by (behind m stamp (Taken frame) (answer_of_take answer))))

@@ -3,8 +3,8 @@ ghost use Rattle.pay_member.specs.declared.entry.HistoryEntry.{HistoryEntry};
 
 use std::marker::Brand;
 
-/// The history that a node begins with. Who starts a node picks it, so that the type of what lies under its lock can
-/// name it.
+/// The history that a node begins with. Who starts a node picks it, so that the type of what lies
+/// under its lock can name it.
 pub trait Beginning {
     ghost beginning: { List HistoryEntry };
 }

@@ -15,7 +15,8 @@ use pay_member::Member;
 use std::alloc::Global;
 use std::marker::{Model, PhantomData};
 
-/// What lies under a node's lock: a member whose history begins with the one that the node began with.
+/// What lies under a node's lock: a member whose history begins with the one that the node began
+/// with.
 #[derive(Drop)]
 pub(crate) struct Begun<I: Instance + Drop, B: Settle + Drop, S: Beginning> {
     member: Member<I, B>,

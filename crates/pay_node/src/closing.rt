@@ -2,8 +2,8 @@
 
 ghost use Rattle.std.specs.Prelude.{◌≡◌, ◌↔◌, ◌≢◌, ◌≤◌, None, IfOk, IsTrue, length};
 ghost use Rattle.std.specs.List.{All, fold};
-ghost use Rattle.pay_node.specs.Closing.{IsCount, IsCounted, IsKept, IsVerdict, lesser};
-ghost use Rattle.pay_node.specs.Judging.{EachBorneOut};
+ghost use Rattle.pay_node.specs.Closing.{IsCount, IsCounted, HasConsistentSeat, IsVerdict, lesser};
+ghost use Rattle.pay_node.specs.Judging.{EachConsistent};
 
 use crate::judging::{entries_since, has_its_entries, is_right};
 use crate::once::bears_out_each;
@@ -13,7 +13,7 @@ use pay_echo::Instance;
 use pay_member::{HistoryEntry, Member};
 use std::alloc::{AllocError, Global};
 
-/// The least stamp that isn't settled from a base on, if there is one.
+/// The least stamp that isn't reconciled from a base on, if there is one.
 pub(crate) fn least_wrong<I: Instance + Drop, B: Settle + Drop>(
     alloc: Global,
     member: &Member<I, B>,
@@ -35,8 +35,8 @@ pub(crate) fn least_wrong<I: Instance + Drop, B: Settle + Drop>(
     Ok(least_of_entries(of_seats, since, count))
 }
 
-/// The least stamp that isn't even one seat's with as many entries as that was told of, if there is one. It takes no
-/// memory.
+/// The least stamp that isn't even one seat's with as many entries as that was told of, if there is
+/// one. It takes no memory.
 pub(crate) fn least_uncounted<I: Instance + Drop, B: Settle + Drop>(
     member: &Member<I, B>,
     base: usize,
@@ -66,8 +66,9 @@ fn is_kept<I: Instance + Drop, B: Settle + Drop>(
     is_each_known: bool,
 ) -> Result<bool, AllocError>
     requires within { base ≤ length member.now.history }
-    requires known { IsTrue is_each_known → All (λ s. EachBorneOut member.now s) seats.now }
-    ensures { IfOk result (λ says. IsTrue says ↔ IsKept member.now base stamp seats.now) }
+    requires known { IsTrue is_each_known → All (λ s. EachConsistent member.now s) seats.now }
+    ensures { IfOk result (λ says. IsTrue says
+        ↔ HasConsistentSeat member.now base stamp seats.now) }
 {
     let mut met = false;
     for seat in seats {

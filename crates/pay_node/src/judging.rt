@@ -1,13 +1,14 @@
-//! Whether a history bears out what a seat was told.
+//! Whether a history is consistent with what a seat was told.
 
-ghost use Rattle.std.specs.Prelude.{◌≡◌, ◌↔◌, ◌≤◌, ◌==◌, drop, length, take, slice_get, IfOk, IfSome};
+ghost use Rattle.std.specs.Prelude.{◌≡◌, ◌↔◌, ◌≤◌, ◌==◌, drop, length, take, slice_get, IfOk};
+ghost use Rattle.std.specs.Prelude.{IfSome};
 ghost use Rattle.std.specs.Prelude.{IsTrue};
 ghost use Rattle.std.specs.List.{All, AllPairs, count_by};
 ghost use Rattle.pay_member.specs.Events.{events};
 ghost use Rattle.pay_member.specs.Legal.{Legal};
 ghost use Rattle.pay_member.specs.Refusal.{refusal};
-ghost use Rattle.pay_node.specs.Judging.{AreBorneOut, EachBorneOut, IsNextBorneOut};
-ghost use Rattle.pay_node.specs.Receipts.{IsBorneOut, entries_after, has_entry, shown_of};
+ghost use Rattle.pay_node.specs.Judging.{AreConsistent, EachConsistent, IsNextConsistent};
+ghost use Rattle.pay_node.specs.Receipts.{IsConsistent, entries_after, has_entry, shown_of};
 ghost use Rattle.pay_node.specs.Seats.{HasItsEntries, Right};
 
 use crate::question::Question;
@@ -22,8 +23,8 @@ use pay_echo::Instance;
 use pay_member::{Event, HistoryEntry, Member, MemberFault, Reply};
 use std::alloc::{AllocError, Global};
 
-/// Whether a member's history bears out all that a seat was told, from a base on. It is replayed where nobody knows yet
-/// that it bears out each receipt.
+/// Whether a member's history is consistent with all that a seat was told, from a base on. It is
+/// replayed where nobody knows yet that it is consistent with each receipt.
 pub(crate) fn is_right<I: Instance + Drop, B: Settle + Drop>(
     alloc: Global,
     member: &Member<I, B>,
@@ -32,7 +33,7 @@ pub(crate) fn is_right<I: Instance + Drop, B: Settle + Drop>(
     is_each_known: bool,
 ) -> Result<bool, AllocError>
     requires within { base ≤ length member.now.history }
-    requires known { IsTrue is_each_known → EachBorneOut member.now seat.now }
+    requires known { IsTrue is_each_known → EachConsistent member.now seat.now }
     ensures { IfOk result (λ says. IsTrue says ↔ Right member.now base seat.now) }
 {
     if !has_its_entries(member, base, seat) {
@@ -46,10 +47,11 @@ pub(crate) fn is_right<I: Instance + Drop, B: Settle + Drop>(
     }
     let mut fresh = anew(alloc, member)?;
     replay_to(alloc, &mut fresh, history, base)?;
-    are_borne_out(alloc, &mut fresh, history, stamp, receipts)
+    are_consistent(alloc, &mut fresh, history, stamp, receipts)
 }
 
-/// Whether a history has as many entries under a seat's stamp, from a base on, as the seat was told of.
+/// Whether a history has as many entries under a seat's stamp, from a base on, as the seat was told
+/// of.
 pub(crate) fn has_its_entries<I: Instance + Drop, B: Settle + Drop>(
     member: &Member<I, B>,
     base: usize,
@@ -96,8 +98,8 @@ fn entries_told(receipts: &[Receipt]) -> usize
     count
 }
 
-// Whether none saw less than there was once the one before it was answered, and the first no less than a base. Where it
-// says no, nothing is known.
+// Whether none saw less than there was once the one before it was answered, and the first no less
+// than a base. Where it says no, nothing is known.
 fn are_in_order(base: usize, receipts: &[Receipt]) -> bool
     ensures since { IsTrue result → All (λ r. base ≤ r.seen) receipts.now }
     ensures ordered { IsTrue result
@@ -136,9 +138,9 @@ fn is_of_entry(call: &Call) -> bool
     }
 }
 
-// Whether a legal history bears out receipts, one after the other, and none saw less than there was before it, nor the
-// first less than the member took. That is brought up to each.
-fn are_borne_out<I: Instance + Drop, B: Settle + Drop>(
+// Whether a legal history is consistent with receipts, one after the other, and none saw less than
+// there was before it, nor the first less than the member took. That is brought up to each.
+fn are_consistent<I: Instance + Drop, B: Settle + Drop>(
     alloc: Global,
     member: &mut Member<I, B>,
     history: &[HistoryEntry],
@@ -148,20 +150,20 @@ fn are_borne_out<I: Instance + Drop, B: Settle + Drop>(
     requires legal { Legal member.old.genesis member.old.keys history.now }
     requires begun { member.old.history ≡ take (length member.old.history) history.now }
     ensures { IfOk result (λ says. IsTrue says
-        ↔ AreBorneOut (record member.old { history = history.now }) stamp
+        ↔ AreConsistent (record member.old { history = history.now }) stamp
         (length member.old.history) receipts.now) }
 {
     for receipt in receipts {
-        if !is_next_borne_out(alloc, member, history, stamp, receipt)? {
+        if !is_next_consistent(alloc, member, history, stamp, receipt)? {
             return Ok(false);
         }
     }
     Ok(true)
 }
 
-// Whether a legal history bears out a receipt, and it saw no less than what the member took. If so, the member is
-// brought up to the call's end.
-fn is_next_borne_out<I: Instance + Drop, B: Settle + Drop>(
+// Whether a legal history is consistent with a receipt, and it saw no less than what the member
+// took. If so, the member is brought up to the call's end.
+fn is_next_consistent<I: Instance + Drop, B: Settle + Drop>(
     alloc: Global,
     member: &mut Member<I, B>,
     history: &[HistoryEntry],
@@ -171,7 +173,7 @@ fn is_next_borne_out<I: Instance + Drop, B: Settle + Drop>(
     requires legal { Legal member.old.genesis member.old.keys history.now }
     requires begun { member.old.history ≡ take (length member.old.history) history.now }
     ensures says { IfOk result (λ says. IsTrue says
-        ↔ IsNextBorneOut (record member.old { history = history.now }) stamp
+        ↔ IsNextConsistent (record member.old { history = history.now }) stamp
         (length member.old.history) receipt.now) }
     ensures taken { IfOk result (λ says. IsTrue says → member.new
         ≡ record member.old { history = take (entries_after receipt.now) history.now }) }
@@ -181,7 +183,7 @@ fn is_next_borne_out<I: Instance + Drop, B: Settle + Drop>(
         return Ok(false);
     }
     replay_to(alloc, member, history, seen)?;
-    if !is_borne_out_here(alloc, member, history, stamp, receipt)? {
+    if !is_consistent_here(alloc, member, history, stamp, receipt)? {
         return Ok(false);
     }
     if is_of_entry(&receipt.call) {
@@ -190,9 +192,9 @@ fn is_next_borne_out<I: Instance + Drop, B: Settle + Drop>(
     Ok(true)
 }
 
-/// Whether a legal history bears out a receipt that saw as many entries as the member took. If so, the member is as
-/// it was.
-pub(crate) fn is_borne_out_here<I: Instance + Drop, B: Settle + Drop>(
+/// Whether a legal history is consistent with a receipt that saw as many entries as the member
+/// took. If so, the member is as it was.
+pub(crate) fn is_consistent_here<I: Instance + Drop, B: Settle + Drop>(
     alloc: Global,
     member: &mut Member<I, B>,
     history: &[HistoryEntry],
@@ -202,7 +204,7 @@ pub(crate) fn is_borne_out_here<I: Instance + Drop, B: Settle + Drop>(
     requires here { member.old.history ≡ take receipt.now.seen history.now }
     requires within { receipt.now.seen ≤ length history.now }
     ensures says { IfOk result (λ says. IsTrue says
-        ↔ IsBorneOut (record member.old { history = history.now }) stamp
+        ↔ IsConsistent (record member.old { history = history.now }) stamp
         receipt.now.seen receipt.now.call) }
     ensures same { IfOk result (λ says. IsTrue says → member.new ≡ member.old) }
 {

@@ -1,19 +1,22 @@
-ghost use Rattle.std.specs.Prelude.{◌≡◌, ◌≢◌, ◌↔◌, ◌+◌, ◌<◌, ◌≤◌, ◌^◌, Ok, Err, IfOk, IfErr, IfSome};
-ghost use Rattle.std.specs.Prelude.{IsTrue, OnErr, OnOk, false};
+ghost use Rattle.std.specs.Prelude.{◌≡◌, ◌≢◌, ◌↔◌, ◌+◌, ◌<◌, ◌≤◌, ◌^◌, Ok, Err, IfOk, IfErr};
+ghost use Rattle.std.specs.Prelude.{IfSome};
+ghost use Rattle.std.specs.Prelude.{IsTrue, OnErr, OnOk, false, length};
+ghost use Rattle.pay_frame.specs.declared.limits.TheConstants.{MOST_MEMBERS};
 ghost use Rattle.pay_frame.specs.Frame.{FrameFields};
 ghost use Rattle.pay_frame.specs.Lent.{fields_of};
 ghost use Rattle.pay_frame.specs.OneFrame.{IsOneFrame};
 ghost use Rattle.pay_link.specs.Keys.{IsPeer};
 ghost use Rattle.pay_member.specs.declared.event.Event.TheVariants.{Ask, Query, Taken};
-ghost use Rattle.pay_member.specs.Answer.{asked, taken, told};
+ghost use Rattle.pay_member.specs.Answer.{answer_of_ask, answer_of_take, answer_of_query};
 ghost use Rattle.pay_member.specs.Legal.{Legal};
 ghost use Rattle.std.specs.Sync.Mutex.{mutex_guard_value};
-ghost use Rattle.pay_node.specs.Closing.{AllSettled, IsFault};
+ghost use Rattle.pay_node.specs.Closing.{AllReconciled, IsCloseFault};
 ghost use Rattle.pay_node.specs.Gathering.{IsGathered};
-ghost use Rattle.pay_node.specs.Keeping.{IsFetched};
-ghost use Rattle.pay_node.specs.Sending.{HasSent, IsCountSent, IsSentAt};
+ghost use Rattle.pay_node.specs.Keeping.{HasFetched, IsFetched};
+ghost use Rattle.pay_node.specs.Sending.{HasSent};
 ghost use Rattle.pay_node.specs.Nodes.{AreFresh, IsAnswered, IsBrought, IsMessage, IsOwn};
-ghost use Rattle.pay_node.specs.Nodes.{IsReceived, IsShown, IsTaken, base_of, next_of, outcome_of};
+ghost use Rattle.pay_node.specs.Nodes.{IsReceived, IsShown, IsTaken, base_of, next_of};
+ghost use Rattle.pay_node.specs.Nodes.{outcome_of_take};
 
 use crate::beginning::Beginning;
 use crate::begun::Begun;
@@ -40,7 +43,7 @@ use pay_member::{
 };
 use std::alloc::{AllocError, Global};
 use std::marker::Model;
-use std::sync::atomic::{AtomicBool, Ordering};
+use std::sync::atomic::{AtomicBool, AtomicU64, Ordering};
 use std::sync::{Condvar, Mutex, MutexGuard, Wait};
 
 /// How many seats a node has at most.
@@ -48,12 +51,15 @@ pub const MOST_SEATS: u16 = 256;
 
 /// One member that many threads call, each from a seat of its own.
 ///
-/// A call locks the member for one event or one reading. Bytes are read, opened and answered outside of the lock,
-/// with the node's own keys. Whatever is answered is answered by a member of the node's own group that has its keys.
+/// A call locks the member for one event or one reading. Bytes are read, opened and answered
+/// outside of the lock, with the node's own keys. Whatever is answered is answered by a member of
+/// the node's own group that has its keys.
 #[derive(Drop)]
 pub struct Node<I: Instance + Drop, B: Settle + Drop, S: Beginning> {
     member: Mutex<Begun<I, B, S>>,
     changed: Condvar,
+    // how many bodies the member sent, as whoever had the lock last left it
+    sent: AtomicU64,
     genesis: Genesis,
     keys: Keys,
     seats: u16,
@@ -61,7 +67,7 @@ pub struct Node<I: Instance + Drop, B: Settle + Drop, S: Beginning> {
 
 impl<I: Instance + Drop, B: Settle + Drop, S: Beginning> Model for Node<I, B, S> {
     ghost use Rattle.pay_member.specs.Legal.{Legal};
-    ghost use Rattle.pay_node.specs.Closing.{AllSettled, IsFault};
+    ghost use Rattle.pay_node.specs.Closing.{AllReconciled, IsCloseFault};
     ghost use Rattle.pay_node.specs.Keeping.{IsFetched};
     ghost use Rattle.pay_node.specs.Nodes.{NodeFields};
 
@@ -76,8 +82,8 @@ impl<I: Instance + Drop, B: Settle + Drop, S: Beginning> Model for Node<I, B, S>
 }
 
 impl<I: Instance + Drop, B: Settle + Drop, S: Beginning> Node<I, B, S> {
-    /// A node of a member, which goes on from the history that it has, and the node's seats. Where memory is refused, the
-    /// member comes back.
+    /// A node of a member, which goes on from the history that it has, and the node's seats. Where
+    /// memory is refused, the member comes back.
     pub fn new(
         alloc: Global,
         member: Member<I, B>,
@@ -103,7 +109,8 @@ impl<I: Instance + Drop, B: Settle + Drop, S: Beginning> Node<I, B, S> {
         }
     }
 
-    /// A node whose lock holds this member. No call answers where the genesis or the keys aren't the member's.
+    /// A node whose lock holds this member. No call answers where the genesis or the keys aren't
+    /// the member's.
     pub(crate) fn of_parts(
         begun: Begun<I, B, S>,
         genesis: Genesis,
@@ -117,9 +124,11 @@ impl<I: Instance + Drop, B: Settle + Drop, S: Beginning> Node<I, B, S> {
           beginning = S.beginning;
         } }
     {
+        let sent = begun.member().sent_len();
         Node {
             member: Mutex::new(begun),
             changed: Condvar::new(),
+            sent: AtomicU64::new(sent),
             genesis,
             keys,
             seats,
@@ -133,11 +142,11 @@ impl<I: Instance + Drop, B: Settle + Drop, S: Beginning> Node<I, B, S> {
         &self.keys
     }
 
-    /// Reads and opens bytes, and hands the frame that they are to the member. A frame that opens and is no WANT is
-    /// answered with the WANT for what is next from its sender.
+    /// Reads and opens bytes, and hands the frame that they are to the member. A frame that opens
+    /// and is no WANT is answered with the WANT for what is next from its sender.
     ///
-    /// Bytes that don't open, and a WANT, are answered at once, whatever memory there is: no lock is taken, and no
-    /// receipt is left.
+    /// Bytes that don't open, and a WANT, are answered at once, whatever memory there is: no lock
+    /// is taken, and no receipt is left.
     #[tactic(auto, using(crate::proofs::Taking::brought_frame, crate::proofs::Taking::brought_fault))]
     pub fn bring<R: Wait, T: Tagger, G: Gate>(
         &self,
@@ -163,7 +172,8 @@ impl<I: Instance + Drop, B: Settle + Drop, S: Beginning> Node<I, B, S> {
         Ok(received.with_want(tagger, &self.keys, from))
     }
 
-    /// The same of a frame that was read already, without the WANT: the answer has the number that it would ask for.
+    /// The same of a frame that was read already, without the WANT: the answer has the number that
+    /// it would ask for.
     #[tactic(auto, using(crate::proofs::Taking::is_message, crate::proofs::Taking::is_want, crate::proofs::Taking::is_fault))]
     pub fn bring_frame<R: Wait, T: Tagger, G: Gate>(
         &self,
@@ -199,13 +209,14 @@ impl<I: Instance + Drop, B: Settle + Drop, S: Beginning> Node<I, B, S> {
         value: Bytes,
     ) -> Result<u32, AskFault>
         ensures answered { result ≢ Err AskFault.Memory
-            → IsAnswered self.now seat.old seat.new (Ask value) (asked result) }
+            → IsAnswered self.now seat.old seat.new (Ask value) (answer_of_ask result) }
         ensures memory { result ≡ Err AskFault.Memory → seat.new ≡ seat.old }
     {
         let copy = value.copy(alloc)?;
         seat.make_room()?;
-        let mut begun = self.locked(rt);
+        let mut begun = self.lock_member(rt);
         let answer = begun.hand_in(alloc, seat, value, copy);
+        self.count_sent(&begun);
         drop(begun);
         // what is asked for is sent
         if answer.is_ok() {
@@ -223,16 +234,17 @@ impl<I: Instance + Drop, B: Settle + Drop, S: Beginning> Node<I, B, S> {
         account: u16,
     ) -> Result<Told, QueryFault>
         ensures answered { result ≢ Err QueryFault.Memory
-            → IsAnswered self.now seat.old seat.new (Query account) (told result) }
+            → IsAnswered self.now seat.old seat.new (Query account) (answer_of_query result) }
         ensures memory { result ≡ Err QueryFault.Memory → seat.new ≡ seat.old }
     {
         seat.make_room()?;
-        let mut begun = self.locked(rt);
+        let mut begun = self.lock_member(rt);
         let account = Account(account);
         begun.hand_in(alloc, seat, account, account)
     }
 
-    /// Reads of the member what a question asks for. Where the seat's latest receipts say just that, none is left.
+    /// Reads of the member what a question asks for. Where the seat's latest receipts say just
+    /// that, none is left.
     fn read<R: Wait>(
         &self,
         rt: &R,
@@ -245,14 +257,15 @@ impl<I: Instance + Drop, B: Settle + Drop, S: Beginning> Node<I, B, S> {
         ensures err { OnErr result (seat.new ≡ seat.old) }
     {
         seat.make_room()?;
-        let begun = self.locked(rt);
+        let begun = self.lock_member(rt);
         let member = begun.member();
         let shown = show(alloc, member, question)?;
         seat.note(alloc, member, question, &shown)?;
         Ok(shown)
     }
 
-    /// Copies of the bodies that the member sent to all, from a place on: at most `max`, and at most 16.
+    /// Copies of the bodies that the member sent to all, from a place on: at most `max`, and at
+    /// most 16.
     pub fn fetch<R: Wait>(
         &self,
         rt: &R,
@@ -266,7 +279,7 @@ impl<I: Instance + Drop, B: Settle + Drop, S: Beginning> Node<I, B, S> {
         ensures err { OnErr result (seat.new ≡ seat.old) }
     {
         seat.make_room()?;
-        let begun = self.locked(rt);
+        let begun = self.lock_member(rt);
         let member = begun.member();
         let bodies = member.fetch(alloc, from, max)?;
         let shown = Shown::Sent(Bodies::from_slice(alloc, bodies.as_slice())?);
@@ -274,8 +287,8 @@ impl<I: Instance + Drop, B: Settle + Drop, S: Beginning> Node<I, B, S> {
         Ok(bodies)
     }
 
-    /// A copy of the body that the member sent at a place of all, if it is there. However often it is fetched from a
-    /// seat, one receipt is kept of it.
+    /// A copy of the body that the member sent at a place of all, if it is there. However often it
+    /// is fetched from a seat, one receipt is kept of it.
     pub fn fetch_once<R: Wait>(
         &self,
         rt: &R,
@@ -288,8 +301,49 @@ impl<I: Instance + Drop, B: Settle + Drop, S: Beginning> Node<I, B, S> {
         ensures err { OnErr result (seat.new ≡ seat.old) }
     {
         seat.make_room()?;
-        let begun = self.locked(rt);
+        let begun = self.lock_member(rt);
+        self.note_body(alloc, &begun, seat, number)
+    }
+
+    // Fetches a body while the member is locked.
+    fn note_body(
+        &self,
+        alloc: Global,
+        begun: &Begun<I, B, S>,
+        seat: &mut Seat,
+        number: usize,
+    ) -> Result<Option<Body>, AllocError>
+        requires { IsOwn self.now begun.now }
+        ensures fetched { IfOk result (λ found.
+            IsFetched self.now seat.old seat.new number found) }
+        ensures err { OnErr result (seat.new ≡ seat.old) }
+    {
         seat.note_once(alloc, begun.member(), number)
+    }
+
+    /// Waits until the member sent a body at a place of all, or until told to stop, and fetches it
+    /// as [`fetch_once`](Node::fetch_once) does, in one hold of the lock. The seat is locked once
+    /// the wait is over.
+    ///
+    /// How long it waits no clause can say, for none names the flag; it is tested.
+    pub fn fetch_when_sent<R: Wait>(
+        &self,
+        rt: &R,
+        alloc: Global,
+        seat: &Mutex<Seat>,
+        number: u64,
+        stop: &AtomicBool,
+    ) -> Result<Option<Body>, AllocError>
+        ensures { IfOk result (λ found. HasFetched self.now number found) }
+    {
+        seat.lock(rt).make_room()?;
+        let begun = self.changed.wait_while(
+            rt,
+            self.member.lock(rt),
+            |begun| self.has_to_wait(begun, number, stop),
+        );
+        let mut seat = seat.lock(rt);
+        self.note_body(alloc, &begun, &mut seat, number as usize)
     }
 
     /// How far the payment under a number of an account has come.
@@ -378,6 +432,7 @@ impl<I: Instance + Drop, B: Settle + Drop, S: Beginning> Node<I, B, S> {
     ) -> Result<Vec<u32>, AllocError>
         ensures shown { IfOk result (λ fronts. IsShown self.now seat.old seat.new
             Question.Fronts (Shown.Fronts fronts.items)) }
+        ensures few { IfOk result (λ fronts. length fronts.items ≤ MOST_MEMBERS) }
         ensures err { OnErr result (seat.new ≡ seat.old) }
     {
         match self.read(rt, alloc, seat, Question::Fronts)? {
@@ -386,48 +441,31 @@ impl<I: Instance + Drop, B: Settle + Drop, S: Beginning> Node<I, B, S> {
         }
     }
 
-    /// Lends the member to a gatherer, with all that it took by now. No receipt is left. After refused memory nothing
-    /// is known of the gatherer.
+    /// Lends the member to a gatherer, with all that it took by now. No receipt is left. After
+    /// refused memory nothing is known of the gatherer.
     pub fn lend<R: Wait, G: Gatherer>(&self, rt: &R, gatherer: &mut G) -> Result<(), AllocError>
         ensures { OnOk result (IsGathered G.gathers self.now gatherer.old gatherer.new) }
     {
-        let begun = self.locked(rt);
+        let begun = self.lock_member(rt);
         let member = begun.member();
         // for its clause alone: the history is legal
         let _history = member.history();
         gatherer.gather(member)
     }
 
-    /// How many bodies the member sent to all by now. No receipt is left, so closing doesn't judge this answer.
-    pub fn sent_len<R: Wait>(&self, rt: &R) -> u64
-        ensures { IsCountSent self.now result }
-    {
-        let begun = self.locked(rt);
-        let member = begun.member();
-        // for its clause alone: the history is legal
-        let _history = member.history();
-        member.sent_len()
+    /// How many bodies the member sent to all by now. It takes no lock and leaves no receipt. No
+    /// clause says so, for none names what an atomic holds; it is tested.
+    pub fn sent_len(&self) -> u64 {
+        self.sent.load(Ordering::SeqCst)
     }
 
-    /// Waits until the member sent a body at a place, or until told to stop. Answers whether it did.
-    /// How long it waits no clause can say, for none names the flag; it is tested.
-    #[tactic(auto, using(crate::proofs::Sent::found_at))]
-    pub fn wait_until_sent<R: Wait>(&self, rt: &R, place: u64, stop: &AtomicBool) -> bool
-        ensures { IsTrue result → IsSentAt self.now place }
-    {
-        let begun = self.changed.wait_while(
-            rt,
-            self.member.lock(rt),
-            |begun| self.has_to_wait(begun, place, stop),
-        );
-        let member = begun.member();
-        // for its clause alone: the history is legal
-        let _history = member.history();
-        member.sent(place).is_some()
+    // Notes how many bodies the member sent, while it is locked.
+    fn count_sent(&self, begun: &Begun<I, B, S>) {
+        self.sent.store(begun.member().sent_len(), Ordering::SeqCst);
     }
 
-    // Whether a body at a place has still to be waited for. Whose member it is is looked at last, which
-    // no wake-up in vain comes to.
+    // Whether a body at a place has still to be waited for. Whose member it is is looked at last,
+    // which no wake-up in vain comes to.
     fn has_to_wait(&self, begun: &Begun<I, B, S>, place: u64, stop: &AtomicBool) -> bool
         ensures { result ≡ false → IsOwn self.now begun.now }
     {
@@ -445,7 +483,7 @@ impl<I: Instance + Drop, B: Settle + Drop, S: Beginning> Node<I, B, S> {
     }
 
     // Locks the member, which is the node's own: whoever found another one there would wait for it.
-    fn locked<R: Wait>(&self, rt: &R) -> MutexGuard<'_, Begun<I, B, S>>
+    fn lock_member<R: Wait>(&self, rt: &R) -> MutexGuard<'_, Begun<I, B, S>>
         ensures { IsOwn self.now (mutex_guard_value result) }
     {
         self.changed
@@ -484,8 +522,8 @@ impl<I: Instance + Drop, B: Settle + Drop, S: Beginning> Node<I, B, S> {
     ) -> Result<Member<I, B>, (CloseFault, Stopped<I, B, S>)>
         ensures own { IfOk result (IsOwn self) }
         ensures closed { IfOk result (λ member.
-            AllSettled member (base_of self) self.seats seats.now) }
-        ensures fault { IfErr result (λ back. IsFault self back.1.member seats.now back.0) }
+            AllReconciled member (base_of self) self.seats seats.now) }
+        ensures fault { IfErr result (λ back. IsCloseFault self back.1.member seats.now back.0) }
         ensures back { IfErr result (λ back. back.1.node ≡ self) }
     {
         self.stop().close(alloc, seats)
@@ -521,7 +559,7 @@ impl<I: Instance + Drop, B: Settle + Drop, S: Beginning> Node<I, B, S> {
         checked: Checked,
     ) -> Result<Took, TakeFault>
         ensures answered { result ≢ Err TakeFault.Memory
-            → IsAnswered self.now seat.old seat.new (Taken checked) (taken result) }
+            → IsAnswered self.now seat.old seat.new (Taken checked) (answer_of_take result) }
         ensures next { IfOk result (λ _. checked.frame.number + 1 < 2 ^ 64) }
         ensures memory { result ≡ Err TakeFault.Memory → seat.new ≡ seat.old }
     {
@@ -547,16 +585,18 @@ impl<I: Instance + Drop, B: Settle + Drop, S: Beginning> Node<I, B, S> {
     ) -> Result<Took, TakeFault>
         requires copy { copy ≡ checked }
         ensures answered { result ≢ Err TakeFault.Memory
-            → IsAnswered self.now seat.old seat.new (Taken checked) (taken result) }
+            → IsAnswered self.now seat.old seat.new (Taken checked) (answer_of_take result) }
         ensures next { IfOk result (λ _. checked.frame.number + 1 < 2 ^ 64) }
         ensures memory { result ≡ Err TakeFault.Memory → seat.new ≡ seat.old }
     {
         taken_in_order();
-        let mut begun = self.locked(rt);
+        let mut begun = self.lock_member(rt);
         let answer = begun.hand_in(alloc, seat, checked, copy);
-        // as many frames came from one member as there are entries at most, and these can be counted
+        // as many frames came from one member as there are entries at most, and these can be
+        // counted
         let entries = begun.member().history().len();
         prove!(entries < usize::MAX);
+        self.count_sent(&begun);
         answer
     }
 }
@@ -598,7 +638,7 @@ fn parts<I: Instance + Drop, B: Settle + Drop>(
 fn received_of(number: u64, answer: Result<Took, TakeFault>) -> Result<Received, AllocError>
     requires { IfOk answer (λ _. number + 1 < 2 ^ 64) }
     ensures memory { IfOk result (λ _. answer ≢ Err TakeFault.Memory) }
-    ensures outcome { IfOk result (λ received. received.outcome ≡ outcome_of answer) }
+    ensures outcome { IfOk result (λ received. received.outcome ≡ outcome_of_take answer) }
     ensures next { IfOk result (λ received. received.next ≡ next_of number answer) }
     ensures err { OnErr result (answer ≡ Err TakeFault.Memory) }
 {

@@ -2,10 +2,10 @@
 
 ghost use Rattle.std.specs.Prelude.{◌≡◌, ◌≤◌, [], IfOk, IfSome, IsTrue, length, take};
 ghost use Rattle.std.specs.List.{All};
-ghost use Rattle.pay_node.specs.Judging.{AreAllCounted, CountedBorneOut, EachBorneOut};
-ghost use Rattle.pay_node.specs.Judging.{FirstBorneOut};
+ghost use Rattle.pay_node.specs.Judging.{AreAllCounted, CountedConsistent, EachConsistent};
+ghost use Rattle.pay_node.specs.Judging.{FirstConsistent};
 
-use crate::judging::is_borne_out_here;
+use crate::judging::is_consistent_here;
 use crate::replaying::{anew, replay_to};
 use crate::seat::Seat;
 use pay_book::Settle;
@@ -13,15 +13,16 @@ use pay_echo::Instance;
 use pay_member::{HistoryEntry, Member};
 use std::alloc::{AllocError, Global};
 
-/// Whether a member's history bears out each receipt of all seats, which saw all entries before a base. Where it says no,
-/// nothing is known: one may be wrong, or stand out of its seat's order.
+/// Whether a member's history is consistent with each receipt of all seats, which saw all entries
+/// before a base. Where it says no, nothing is known: one may be wrong, or stand out of its seat's
+/// order.
 pub(crate) fn bears_out_each<I: Instance + Drop, B: Settle + Drop>(
     alloc: Global,
     member: &Member<I, B>,
     base: usize,
     seats: &[Seat],
 ) -> Result<bool, AllocError>
-    ensures { IfOk result (λ says. IsTrue says → All (λ s. EachBorneOut member.now s) seats.now) }
+    ensures { IfOk result (λ says. IsTrue says → All (λ s. EachConsistent member.now s) seats.now) }
 {
     let mut fresh = anew(alloc, member)?;
     let mut counts = vec![in alloc; 0; seats.len()]?;
@@ -46,8 +47,8 @@ fn count_all<I: Instance + Drop, B: Settle + Drop>(
 ) -> Result<bool, AllocError>
     requires fresh { fresh.old ≡ record member.now { history = [] } }
     requires same { length counts.old ≡ length seats.now }
-    requires counted { CountedBorneOut member.now seats.now counts.old }
-    ensures { IfOk result (λ says. IsTrue says → All (λ s. EachBorneOut member.now s) seats.now) }
+    requires counted { CountedConsistent member.now seats.now counts.old }
+    ensures { IfOk result (λ says. IsTrue says → All (λ s. EachConsistent member.now s) seats.now) }
 {
     let history = member.history();
     for place in base..history.len() + 1 {
@@ -59,7 +60,8 @@ fn count_all<I: Instance + Drop, B: Settle + Drop>(
     Ok(are_all_counted(seats, counts))
 }
 
-// Counts, of each seat, the receipts that saw as many entries as the member took, if the history bears them out.
+// Counts, of each seat, the receipts that saw as many entries as the member took, if the history is
+// consistent with them.
 fn count_here<I: Instance + Drop, B: Settle + Drop>(
     alloc: Global,
     member: &mut Member<I, B>,
@@ -70,10 +72,10 @@ fn count_here<I: Instance + Drop, B: Settle + Drop>(
     requires here { member.old.history ≡ take (length member.old.history) history.now }
     requires within { length member.old.history ≤ length history.now }
     requires same { length counts.old ≡ length seats.now }
-    requires counted { CountedBorneOut (record member.old { history = history.now })
+    requires counted { CountedConsistent (record member.old { history = history.now })
         seats.now counts.old }
     ensures counted { IfOk result (λ says. IsTrue says
-        → CountedBorneOut (record member.old { history = history.now }) seats.now counts.new) }
+        → CountedConsistent (record member.old { history = history.now }) seats.now counts.new) }
     ensures same { length counts.new ≡ length seats.now }
     ensures kept { IfOk result (λ says. IsTrue says → member.new ≡ member.old) }
 {
@@ -86,8 +88,8 @@ fn count_here<I: Instance + Drop, B: Settle + Drop>(
     Ok(true)
 }
 
-// How many receipts of a seat are borne out, from some on, up to the first that saw another number of entries than the
-// member took; none where one isn't.
+// How many receipts of a seat are consistent, from some on, up to the first that saw another number
+// of entries than the member took; none where one isn't.
 fn count_from<I: Instance + Drop, B: Settle + Drop>(
     alloc: Global,
     member: &mut Member<I, B>,
@@ -97,9 +99,9 @@ fn count_from<I: Instance + Drop, B: Settle + Drop>(
 ) -> Result<Option<usize>, AllocError>
     requires here { member.old.history ≡ take (length member.old.history) history.now }
     requires within { length member.old.history ≤ length history.now }
-    requires first { FirstBorneOut (record member.old { history = history.now }) seat.now first }
+    requires first { FirstConsistent (record member.old { history = history.now }) seat.now first }
     ensures count { IfOk result (λ count. IfSome count (λ n.
-        FirstBorneOut (record member.old { history = history.now }) seat.now n)) }
+        FirstConsistent (record member.old { history = history.now }) seat.now n)) }
     ensures kept { IfOk result (λ count. IfSome count (λ n. member.new ≡ member.old)) }
 {
     let receipts = seat.receipts();
@@ -108,7 +110,7 @@ fn count_from<I: Instance + Drop, B: Settle + Drop>(
         if receipt.seen != member.history().len() {
             return Ok(Some(k));
         }
-        if !is_borne_out_here(alloc, member, history, seat.stamp(), receipt)? {
+        if !is_consistent_here(alloc, member, history, seat.stamp(), receipt)? {
             return Ok(None);
         }
     }

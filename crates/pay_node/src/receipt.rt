@@ -25,7 +25,8 @@ pub enum Call {
 /// One answered call of a seat.
 #[derive(Drop)]
 pub struct Receipt {
-    /// How many entries the history had before the call. It is the place of the call's own entry, if it has one.
+    /// How many entries the history had before the call. It is the place of the call's own entry,
+    /// if it has one.
     pub seen: usize,
     /// What the call was, with its answer.
     pub call: Call,

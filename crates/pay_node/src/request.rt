@@ -3,7 +3,7 @@
 ghost use Rattle.std.specs.Prelude.{◌≡◌, Err, IfOk, OnErr, Result};
 ghost use Rattle.pay_member.specs.declared.event.Event.TheVariants.{Ask, Query, Taken};
 ghost use Rattle.pay_member.specs.declared.fault.MemberFault.TheVariants.{Memory};
-ghost use Rattle.pay_member.specs.Answer.{IsAnswer, asked, taken, told};
+ghost use Rattle.pay_member.specs.Answer.{IsAnswer, answer_of_ask, answer_of_take, answer_of_query};
 ghost use Rattle.pay_member.specs.Member.{with_entry};
 ghost use Rattle.pay_node.specs.Requests.{EventAnswer, MemberEvent};
 
@@ -43,7 +43,7 @@ pub(crate) trait Request: Sized {
         ensures { result ≡ event self };
 
     /// What a receipt keeps of the answer.
-    fn told(reply: Result<Self::Reply, Self::Fault>) -> Result<Reply, MemberFault>
+    fn answer_of(reply: Result<Self::Reply, Self::Fault>) -> Result<Reply, MemberFault>
         ensures { result ≡ answer reply };
 
     /// The fault that memory was refused.
@@ -59,7 +59,7 @@ impl Request for Bytes {
 
     ghost event = { λ value. Ask value };
 
-    ghost answer = { asked };
+    ghost answer = { answer_of_ask };
 
     fn hand_in<I: Instance + Drop, B: Settle + Drop>(
         self,
@@ -74,8 +74,8 @@ impl Request for Bytes {
         Event::Ask(self)
     }
 
-    fn told(reply: Result<u32, AskFault>) -> Result<Reply, MemberFault>
-        ensures { result ≡ asked reply }
+    fn answer_of(reply: Result<u32, AskFault>) -> Result<Reply, MemberFault>
+        ensures { result ≡ answer_of_ask reply }
     {
         Ok(Reply::Asked(reply?))
     }
@@ -93,7 +93,7 @@ impl Request for Checked {
 
     ghost event = { λ checked. Taken checked };
 
-    ghost answer = { taken };
+    ghost answer = { answer_of_take };
 
     fn hand_in<I: Instance + Drop, B: Settle + Drop>(
         self,
@@ -108,8 +108,8 @@ impl Request for Checked {
         Event::Taken(self)
     }
 
-    fn told(reply: Result<Took, TakeFault>) -> Result<Reply, MemberFault>
-        ensures { result ≡ taken reply }
+    fn answer_of(reply: Result<Took, TakeFault>) -> Result<Reply, MemberFault>
+        ensures { result ≡ answer_of_take reply }
     {
         Ok(Reply::Took(reply?))
     }
@@ -130,7 +130,7 @@ impl Request for Account {
 
     ghost event = { λ account. Query account.0 };
 
-    ghost answer = { told };
+    ghost answer = { answer_of_query };
 
     fn hand_in<I: Instance + Drop, B: Settle + Drop>(
         self,
@@ -145,8 +145,8 @@ impl Request for Account {
         Event::Query(self.0)
     }
 
-    fn told(reply: Result<Told, QueryFault>) -> Result<Reply, MemberFault>
-        ensures { result ≡ told reply }
+    fn answer_of(reply: Result<Told, QueryFault>) -> Result<Reply, MemberFault>
+        ensures { result ≡ answer_of_query reply }
     {
         Ok(Reply::Told(reply?))
     }

@@ -25,8 +25,8 @@ use std::marker::Model;
 /// In how many of its last receipts a seat looks for one that says the same.
 pub const LATEST: usize = 256;
 
-/// From where calls are made, one at a time: a stamp, a receipt of each call that was answered, and which of them is
-/// of a body that was fetched once.
+/// From where calls are made, one at a time: a stamp, a receipt of each call that was answered, and
+/// which of them is of a body that was fetched once.
 #[derive(Drop)]
 pub struct Seat {
     stamp: u16,
@@ -58,7 +58,8 @@ impl Seat {
         }
     }
 
-    /// The seat's number among its node's, under which the history keeps what is handed in from here.
+    /// The seat's number among its node's, under which the history keeps what is handed in from
+    /// here.
     pub fn stamp(&self) -> u16
         ensures { result ≡ self.now.stamp }
     {
@@ -106,12 +107,17 @@ impl Seat {
             return Err(Q::memory());
         }
         let answer = request.hand_in(alloc, self.stamp, member);
-        keep(&mut self.receipts, seen, copy.into_event(), Q::told(answer));
+        keep(
+            &mut self.receipts,
+            seen,
+            copy.into_event(),
+            Q::answer_of(answer),
+        );
         answer
     }
 
-    /// Keeps the receipt of what a member shows to a question. Where it is among the latest, no second one is left. What
-    /// was right stays so.
+    /// Keeps the receipt of what a member shows to a question. Where it is among the latest, no
+    /// second one is left. What was right stays so.
     pub(crate) fn note<I: Instance + Drop, B: Settle + Drop>(
         &mut self,
         alloc: Global,
@@ -147,8 +153,8 @@ impl Seat {
         &self.receipts[first..]
     }
 
-    /// A copy of the body that a member sent at a place of all, if it is there. Where a receipt is kept that shows this
-    /// body, no second one is left. What was right stays so.
+    /// A copy of the body that a member sent at a place of all, if it is there. Where a receipt is
+    /// kept that shows this body, no second one is left. What was right stays so.
     pub(crate) fn note_once<I: Instance + Drop, B: Settle + Drop>(
         &mut self,
         alloc: Global,
@@ -228,7 +234,8 @@ impl Seat {
     }
 }
 
-// Whether one of these receipts is of this question with this answer, at a history of so many entries.
+// Whether one of these receipts is of this question with this answer, at a history of so many
+// entries.
 fn has_reading(receipts: &[Receipt], seen: usize, question: Question, shown: &Shown) -> bool
     ensures { IsTrue result ↔ Contains receipts.now (reading seen question shown.now) }
 {
@@ -240,7 +247,8 @@ fn has_reading(receipts: &[Receipt], seen: usize, question: Question, shown: &Sh
     false
 }
 
-// Keeps the receipt of an event that was handed in, for which there is room; refused memory has none.
+// Keeps the receipt of an event that was handed in, for which there is room; refused memory has
+// none.
 fn keep(receipts: &mut Vec<Receipt>, seen: usize, event: Event, answer: Result<Reply, MemberFault>)
     requires { vec_len receipts.old < vec_capacity receipts.old }
     ensures { receipts.new.items ≡ receipts.old.items ++ receipts_of seen event answer }

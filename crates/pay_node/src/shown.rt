@@ -1,4 +1,5 @@
-ghost use Rattle.std.specs.Prelude.{◌≡◌, IfOk};
+ghost use Rattle.std.specs.Prelude.{◌≡◌, ◌≤◌, IfOk, length};
+ghost use Rattle.pay_frame.specs.declared.limits.TheConstants.{MOST_MEMBERS};
 
 use crate::bodies::Bodies;
 use pay_book::{Excerpt, Statement};
@@ -38,23 +39,28 @@ impl Shown {
     }
 }
 
-/// How many entries are settled of each account. Contracts see it as a list.
+/// How many entries are settled of each account, of 128 accounts at most. Contracts see it as a
+/// list.
 #[derive(Drop)]
 pub struct SettledCounts {
     counts: Vec<u32>,
 }
 
 impl Model for SettledCounts {
-    ghost use Rattle.std.specs.Prelude.{ℕ, List};
+    ghost use Rattle.std.specs.Prelude.{◌≤◌, ℕ, List, length};
+    ghost use Rattle.pay_frame.specs.declared.limits.TheConstants.{MOST_MEMBERS};
 
     ghost Value = { List ℕ };
 
     ghost view = { λ c. c.counts.items };
+
+    ghost invariant = { λ c. length c.counts.items ≤ MOST_MEMBERS };
 }
 
 impl SettledCounts {
     /// One count for each account, from account 0 on.
     pub fn new(counts: Vec<u32>) -> SettledCounts
+        requires { length counts.items ≤ MOST_MEMBERS }
         ensures { result ≡ counts.items }
     {
         SettledCounts { counts }
@@ -69,7 +75,8 @@ impl SettledCounts {
 
     /// The same counts, given out.
     pub fn into_vec(self) -> Vec<u32>
-        ensures { result.items ≡ self }
+        ensures value { result.items ≡ self }
+        ensures few { length result.items ≤ MOST_MEMBERS }
     {
         self.counts
     }

@@ -1,5 +1,5 @@
 ghost use Rattle.std.specs.Prelude.{◌≡◌, ◌↔◌, IfErr, IfOk, IsTrue};
-ghost use Rattle.pay_node.specs.Closing.{AllSettled, IsCount, IsFault};
+ghost use Rattle.pay_node.specs.Closing.{AllReconciled, IsCount, IsCloseFault};
 ghost use Rattle.pay_node.specs.Nodes.{IsOwn, base_of};
 
 use crate::beginning::Beginning;
@@ -15,8 +15,8 @@ use pay_member::Member;
 use std::alloc::Global;
 use std::marker::Model;
 
-/// A node that no thread calls any more, with its member out of the lock. So what is said of its member is about
-/// the very one that is handed out or started again.
+/// A node that no thread calls any more, with its member out of the lock. So what is said of its
+/// member is about the very one that is handed out or started again.
 #[derive(Drop)]
 pub struct Stopped<I: Instance + Drop, B: Settle + Drop, S: Beginning> {
     pub(crate) member: Begun<I, B, S>,
@@ -63,10 +63,12 @@ impl<I: Instance + Drop, B: Settle + Drop, S: Beginning> Stopped<I, B, S> {
         Node::of_parts(self.member, self.genesis, self.keys, self.seats)
     }
 
-    /// Holds the receipts of all seats against the history, and gives the member out where they agree.
+    /// Holds the receipts of all seats against the history, and gives the member out where they
+    /// agree.
     ///
-    /// Where they don't, the least stamp that is missing, doubled, not of this node or wrong is named, and the node
-    /// comes back as it was. A member of another group, or with other keys, bears out no seat.
+    /// Where they don't, the least stamp that is missing, doubled, not of this node or wrong is
+    /// named, and the node comes back as it was. A member of another group, or with other keys, is
+    /// consistent with no seat.
     pub fn close(
         self,
         alloc: Global,
@@ -74,9 +76,9 @@ impl<I: Instance + Drop, B: Settle + Drop, S: Beginning> Stopped<I, B, S> {
     ) -> Result<Member<I, B>, (CloseFault, Stopped<I, B, S>)>
         ensures member { IfOk result (λ member. member ≡ self.member) }
         ensures own { IfOk result (λ _. IsOwn self.node self.member) }
-        ensures closed { IfOk result (λ _. AllSettled self.member (base_of self.node)
+        ensures closed { IfOk result (λ _. AllReconciled self.member (base_of self.node)
             self.node.seats seats.now) }
-        ensures fault { IfErr result (λ back. IsFault self.node self.member seats.now back.0) }
+        ensures fault { IfErr result (λ back. IsCloseFault self.node self.member seats.now back.0) }
         ensures back { IfErr result (λ back. back.1 ≡ self) }
     {
         if !self.has_own() {
@@ -90,8 +92,8 @@ impl<I: Instance + Drop, B: Settle + Drop, S: Beginning> Stopped<I, B, S> {
         }
     }
 
-    /// The least stamp that closing finds without memory, if it finds one: one that is missing, doubled or not of this
-    /// node, or has another number of entries than its seat was told of.
+    /// The least stamp that closing finds without memory, if it finds one: one that is missing,
+    /// doubled or not of this node, or has another number of entries than its seat was told of.
     pub fn least_uncounted(&self, seats: &[Seat]) -> Option<u16>
         ensures { IsCount self.now.member (base_of self.now.node) self.now.node.seats seats.now
             result }

@@ -5,7 +5,7 @@ use Rattle.std.specs.List.{All, AllPairs, Contains}
 use Rattle.std.proofs.lemmas.Bool.{cases_Bool, leb-true, leb-false, ltb-true, ltb-false}
 use Rattle.pay_peers.specs.declared.window.Window.{Window}
 use Rattle.pay_peers.specs.AheadLaws.{AsksEachOnce, IsUnderWay}
-use Rattle.pay_peers.specs.Window.{asked_behind, count_behind, due_behind, from_behind, moved, row_of}
+use Rattle.pay_peers.specs.Window.{asked_behind, count_behind, due_behind, from_behind, moved_window, row_of}
 
 -- ---- numbers in a row
 
@@ -96,8 +96,8 @@ bounds ahead w next due from count some under few numbers is (inr (last, at)) (i
 bounds ahead w next due from count some under few numbers is (inr (last, at)) (inr (short, none)) = absurd (omega arith)
 
 pub asks_each_once :
-    (ahead : ℕ) (w : Window) (next : ℕ) → 0 < ahead → IsUnderWay ahead w → (moved ahead w next).asked < 2 ^ 64 - 1
-    → AsksEachOnce ahead w (moved ahead w next) (asked_behind ahead w (Some next))
+    (ahead : ℕ) (w : Window) (next : ℕ) → 0 < ahead → IsUnderWay ahead w → (moved_window ahead w next).asked < 2 ^ 64 - 1
+    → AsksEachOnce ahead w (moved_window ahead w next) (asked_behind ahead w (Some next))
 asks_each_once ahead w next some under numbers =
     let due = due_behind w next in
     let from = from_behind w next in
@@ -115,11 +115,11 @@ asks_each_once ahead w next some under numbers =
 
 -- the one behind is asked for
 pub one_behind : (w : Window) (next : ℕ) → w.asked ≡ w.due + 1 → w.asked ≤ next → next < 2 ^ 64 - 1
-    → (asked_behind 1 w (Some next) ≡ next ∷ []) × ((moved 1 w next).asked ≡ (moved 1 w next).due + 1)
+    → (asked_behind 1 w (Some next) ≡ next ∷ []) × ((moved_window 1 w next).asked ≡ (moved_window 1 w next).due + 1)
 one_behind w next one above numbers = go (due_cases w next) (count_cases 1 w next) where
   go : ((w.due + 1 < w.asked) × (due_behind w next ≡ w.due + 1)) ⊎ ((w.asked ≤ w.due + 1) × (due_behind w next ≡ max w.asked next))
       → ((next ≤ from_behind w next) × (count_behind 1 w next ≡ room 1 w next)) ⊎ ((from_behind w next < next) × (count_behind 1 w next ≡ 0))
-      → (asked_behind 1 w (Some next) ≡ next ∷ []) × ((moved 1 w next).asked ≡ (moved 1 w next).due + 1)
+      → (asked_behind 1 w (Some next) ≡ next ∷ []) × ((moved_window 1 w next).asked ≡ (moved_window 1 w next).due + 1)
   go (inl (more, at)) counted = absurd (omega arith)
   go (inr (last, at)) (inr (short, none)) = absurd (omega arith)
   go (inr (last, at)) (inl (enough, many)) =

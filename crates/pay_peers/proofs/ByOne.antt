@@ -7,7 +7,7 @@ use Rattle.std.specs.Prelude.{◌==◌, nat_lt}
 use Rattle.pay_frame.specs.Frame.{FrameFields, frame_bytes}
 use Rattle.pay_link.specs.Keys.{KeyFields, is_peer, key_for}
 use Rattle.pay_link.specs.Opening.{OpenedFields, judgement, opened_fields, right_tag}
-use Rattle.pay_link.specs.Sealing.{wanted}
+use Rattle.pay_link.specs.Sealing.{want_frame}
 use Rattle.pay_link.specs.declared.link_fault.LinkFault.{LinkFault}
 use Rattle.pay_link.specs.declared.link_fault.LinkFault.TheVariants.{NotForMe, UnknownSender, UnknownOwner, BadTag}
 use Rattle.pay_member.specs.declared.incoming.Incoming.{Incoming}
@@ -18,12 +18,12 @@ use Rattle.pay_member.specs.declared.take_fault.TakeFault.{TakeFault}
 use Rattle.pay_member.specs.declared.take_fault.TakeFault.TheVariants as fault
 use Rattle.pay_member.specs.declared.took.Took.{Took as Reply}
 use Rattle.pay_member.specs.Bringing.{incoming_at, incoming_of, is_want}
-use Rattle.pay_member.specs.Serving.{bytes_of}
-use Rattle.pay_node.specs.Nodes.{IsAnsweredAs, NodeFields, next_of, outcome_of}
+use Rattle.pay_member.specs.Serving.{bytes_if_any}
+use Rattle.pay_node.specs.Nodes.{IsAnsweredAs, NodeFields, next_of, outcome_of_take}
 use Rattle.pay_node.specs.Seats.{SeatFields}
 use Rattle.pay_peers.specs.declared.window.Window.{Window}
 use Rattle.pay_peers.specs.Ahead.{next_told, wants}
-use Rattle.pay_peers.specs.AheadLaws.{AheadByOne, IsInOrder}
+use Rattle.pay_peers.specs.AheadLaws.{AheadByOne, CameInOrder}
 use Rattle.pay_peers.specs.Window.{asked_behind, window_behind}
 use Rattle.pay_peers.proofs.Behind.{one_behind}
 use Rattle.pay_peers.proofs.Wants.{OpenedIs}
@@ -76,15 +76,15 @@ tells_none k f =
 
 -- the WANT to a peer for a number, if there is one
 abbrev want_to : KeyFields → ℕ → Option ℕ → Option (List ℕ)
-want_to k from next = option_map (λ number. frame_bytes (wanted k from number)) next
+want_to k from next = option_map (λ number. frame_bytes (want_frame k from number)) next
 
 -- the WANT of a number, and no more
-alone : (k : KeyFields) (peer number : ℕ) (numbers : List ℕ) → numbers ≡ number ∷ [] → wants k peer numbers ≡ frame_bytes (wanted k peer number)
-alone k peer number numbers is = ap (wants k peer) is ∙ append-nil (frame_bytes (wanted k peer number))
+alone : (k : KeyFields) (peer number : ℕ) (numbers : List ℕ) → numbers ≡ number ∷ [] → wants k peer numbers ≡ frame_bytes (want_frame k peer number)
+alone k peer number numbers is = ap (wants k peer) is ∙ append-nil (frame_bytes (want_frame k peer number))
 
 -- both ways the same WANT, and one frame is under way
 record IsSame (k : KeyFields) (peer : ℕ) (w : Window) (next : Option ℕ) (want : Option (List ℕ)) : Type 0 where
-  text : wants k peer (asked_behind 1 w next) ≡ bytes_of want
+  text : wants k peer (asked_behind 1 w next) ≡ bytes_if_any want
   one : (window_behind 1 w next).asked ≡ (window_behind 1 w next).due + 1
 
 same_none : (k : KeyFields) (peer : ℕ) (w : Window) (next : Option ℕ) (want : Option (List ℕ)) → w.asked ≡ w.due + 1 → next ≡ None → want ≡ None → IsSame k peer w next want
@@ -92,11 +92,11 @@ same_none k peer w next want one no_next no_want =
     subst (λ x. IsSame k peer w x want) (sym no_next) (subst (λ x. IsSame k peer w None x) (sym no_want) (record { text = refl; one = one }))
 
 same_some : (k : KeyFields) (peer : ℕ) (w : Window) (number : ℕ) (next : Option ℕ) (want : Option (List ℕ)) → w.asked ≡ w.due + 1 → w.asked ≤ number → number < 2 ^ 64 - 1
-    → next ≡ Some number → want ≡ Some (frame_bytes (wanted k peer number)) → IsSame k peer w next want
+    → next ≡ Some number → want ≡ Some (frame_bytes (want_frame k peer number)) → IsSame k peer w next want
 same_some k peer w number next want one above numbers told is =
     let behind = one_behind w number one above numbers in
     subst (λ x. IsSame k peer w x want) (sym told) (record {
-      text = alone k peer number (asked_behind 1 w (Some number)) behind.0 ∙ sym (ap bytes_of is);
+      text = alone k peer number (asked_behind 1 w (Some number)) behind.0 ∙ sym (ap bytes_if_any is);
       one = behind.1;
     })
 
@@ -107,11 +107,11 @@ next_is number below = ap (λ b. cond b (Some (number + 1)) None) (lt-ltb number
 -- of a frame that was handed in
 of_answer :
     (k : KeyFields) (peer : ℕ) (w : Window) (f : FrameFields) (answer : Result Reply TakeFault) → w.asked ≡ w.due + 1 → f.from ≡ peer → f.number ≡ w.due
-    → IsInOrder w (outcome_of answer) → IsSame k peer w (next_told (outcome_of answer) f.number) (want_to k f.from (next_of f.number answer))
+    → CameInOrder w (outcome_of_take answer) → IsSame k peer w (next_told (outcome_of_take answer) f.number) (want_to k f.from (next_of f.number answer))
 of_answer k peer w f (Ok took) one sender due order =
-    same_some k peer w (f.number + 1) _ _ one (omega arith) (omega arith) (next_is f.number (omega arith)) (ap (λ p. Some (frame_bytes (wanted k p (f.number + 1)))) sender)
+    same_some k peer w (f.number + 1) _ _ one (omega arith) (omega arith) (next_is f.number (omega arith)) (ap (λ p. Some (frame_bytes (want_frame k p (f.number + 1)))) sender)
 of_answer k peer w f (Err (fault.Repeat next)) one sender due order =
-    same_some k peer w next _ _ one order.0 order.1 refl (ap (λ p. Some (frame_bytes (wanted k p next))) sender)
+    same_some k peer w next _ _ one order.0 order.1 refl (ap (λ p. Some (frame_bytes (want_frame k p next))) sender)
 of_answer k peer w f (Err (fault.Gap next)) one sender due order = absurd order
 of_answer k peer w f (Err fault.WrongKey) one sender due order = same_none k peer w None None one refl refl
 of_answer k peer w f (Err fault.Memory) one sender due order = same_none k peer w None None one refl refl
@@ -144,16 +144,16 @@ frame_is law k f o is = at (judgement k f) refl is where
 same_ways :
     OpenedIs → (n : NodeFields) (peer : ℕ) (before : SeatFields) (after : SeatFields) (w : Window) (f : FrameFields) (r : Received) (i : Result Incoming LinkFault)
     → incoming_at n.keys f ≡ i → NoNext i → IsAnsweredAs n before after i r → w.asked ≡ w.due + 1 → f.from ≡ peer → f.number ≡ w.due
-    → IsInOrder w r.outcome → IsSame n.keys peer w (next_told r.outcome f.number) (want_to n.keys f.from r.next)
+    → CameInOrder w r.outcome → IsSame n.keys peer w (next_told r.outcome f.number) (want_to n.keys f.from r.next)
 unfolding NoNext
 same_ways law n peer before after w f r (Ok (Message o)) at none is one sender due order =
     let frame : o.frame ≡ f = frame_is law n.keys f o at in
-    let in_order : IsInOrder w (outcome_of is.answer) = subst (IsInOrder w) is.outcome order in
+    let in_order : CameInOrder w (outcome_of_take is.answer) = subst (CameInOrder w) is.outcome order in
     let same = of_answer n.keys peer w f is.answer one sender due in_order in
     let want : want_to n.keys f.from r.next ≡ want_to n.keys f.from (next_of f.number is.answer) =
     ap (want_to n.keys f.from) (is.next ∙ ap (λ (x : FrameFields). next_of x.number is.answer) frame) in
     subst (λ o. IsSame n.keys peer w (next_told o f.number) (want_to n.keys f.from r.next)) (sym is.outcome)
-    (subst (λ x. IsSame n.keys peer w (next_told (outcome_of is.answer) f.number) x) (sym want) same)
+    (subst (λ x. IsSame n.keys peer w (next_told (outcome_of_take is.answer) f.number) x) (sym want) same)
 same_ways law n peer before after w f r (Ok (Want from number)) at none is one sender due order =
     same_none n.keys peer w (next_told r.outcome f.number) (want_to n.keys f.from r.next) one
     (ap (λ (x : Received). next_told x.outcome f.number) is.0) (ap (λ (x : Received). want_to n.keys f.from x.next) is.0)

@@ -1,19 +1,24 @@
--- A frame that was due and brought, and the WANTs behind its answer.
-use Rattle.std.proofs.Common.{◌≡◌, ℕ, [], Some, None, refl, ap, ◌∙◌}
+-- A frame that was due and brought, and the WANTs behind its answer; and a stream of which nothing was read yet.
+use Rattle.std.proofs.Common.{◌≡◌, ℕ, List, [], Some, None, Err, refl, ap, ◌∙◌, arith}
+use Rattle.std.proofs.KnownBytes.{Appends-nil, Consumes-nil}
+use Rattle.pay_engine.specs.declared.engine_fault.EngineFault.TheVariants.{Memory}
+use Rattle.pay_engine.specs.Handling.{Open, Start}
 use Rattle.pay_frame.specs.Frame.{FrameFields}
+use Rattle.pay_frame.specs.Stream.{IsFramesThen}
+use Rattle.pay_link.specs.Keys.{KeyFields}
 use Rattle.pay_member.specs.declared.received.Received.{Received}
 use Rattle.pay_node.specs.Nodes.{IsReceived, NodeFields}
 use Rattle.pay_node.specs.Seats.{SeatFields}
 use Rattle.pay_peers.specs.declared.asking.Asking.{Asking}
 use Rattle.pay_peers.specs.declared.window.Window.{Window}
-use Rattle.pay_peers.specs.Ahead.{IsDue, IsFedAhead, next_told, wants}
-use Rattle.pay_peers.specs.Window.{asked_behind, moved, window_behind}
+use Rattle.pay_peers.specs.Ahead.{HasFedAhead, IsDue, IsFedAhead, next_told, wants}
+use Rattle.pay_peers.specs.Window.{asked_behind, first_count, first_window, moved_window, row_of, window_behind}
 
 -- where a next frame is told
 pub fed_on :
     (n : NodeFields) (peer ahead : ℕ) (before : Asking) (seat : SeatFields) (window : Window) (f : FrameFields) (r : Received) (number next : ℕ)
     → IsDue peer before f → IsReceived n before.seat seat f r
-    → number ≡ f.number → Some next ≡ next_told r.outcome number → window ≡ moved ahead before.window next
+    → number ≡ f.number → Some next ≡ next_told r.outcome number → window ≡ moved_window ahead before.window next
     → IsFedAhead n peer ahead before (record { seat = seat; window = window }) f
     (wants n.keys peer (asked_behind ahead before.window (next_told r.outcome f.number)))
 fed_on n peer ahead before seat window f r number next due is of told moves = record {
@@ -39,3 +44,25 @@ fed_not n peer ahead before seat f r number due is of told =
       window = ap (window_behind ahead before.window) none;
       asks = ap (λ next. wants n.keys peer (asked_behind ahead before.window next)) none;
     }
+
+-- what is written first
+pub first_is :
+    (k own : KeyFields) (peer ahead : ℕ) (window : Window) (text : List ℕ) → own ≡ k → window ≡ first_window ahead
+    → text ≡ wants own peer (row_of 0 window.asked) → text ≡ wants k peer (row_of 0 (first_count ahead))
+first_is k own peer ahead window text same begun is =
+    is ∙ ap (λ (w : Window). wants own peer (row_of 0 w.asked)) begun ∙ ap (λ (x : KeyFields). wants x peer (row_of 0 (first_count ahead))) same
+
+-- where memory is refused before anything is read or written
+pub nothing_fed :
+    (n : NodeFields) (peer ahead : ℕ) (start : Start Asking) → IsFramesThen [] [] []
+    → HasFedAhead n peer ahead start start.state start.input start.before (Err Memory)
+nothing_fed n peer ahead start nothing = record {
+  read = [];
+  consumed = Consumes-nil start.input;
+  frames = [];
+  text = [];
+  tail = [];
+  follows = Open [] nothing;
+  handled = (refl, refl);
+  written = record { count = 0; within = omega arith; written = Appends-nil start.before };
+}

@@ -15,7 +15,7 @@ use Rattle.pay_member.specs.declared.incoming.Incoming.{Incoming}
 use Rattle.pay_member.specs.declared.incoming.Incoming.TheVariants.{Message, Want}
 use Rattle.pay_member.specs.declared.received.Received.{Received}
 use Rattle.pay_member.specs.declared.reply.Reply.{Reply}
-use Rattle.pay_member.specs.Answer.{taken}
+use Rattle.pay_member.specs.Answer.{answer_of_take}
 use Rattle.pay_member.specs.Bringing.{incoming_at}
 use Rattle.pay_link.specs.Checked.{checked_fields}
 use Rattle.pay_node.specs.declared.receipt.Call.{Call}
@@ -27,18 +27,18 @@ use Rattle.pay_node.specs.Seats.{SeatFields, with_receipts}
 use Rattle.pay_engine.specs.Handling.{Steps, Start}
 use Rattle.pay_peers.specs.declared.asking.Asking.{Asking}
 use Rattle.pay_peers.specs.Ahead.{HasFedAhead, feeding_ahead}
-use Rattle.pay_peers.specs.Growing.{Grows, HandsFrameOf}
+use Rattle.pay_peers.specs.Growing.{SeatGrows, HandsFrameOf}
 use Rattle.pay_peers.proofs.ByOne.{frame_is}
 use Rattle.pay_peers.proofs.Wants.{OpenedIs}
 
-pub grows_on : (peer : ℕ) (a b c : SeatFields) → Grows peer a b → Grows peer b c → Grows peer a c
+pub grows_on : (peer : ℕ) (a b c : SeatFields) → SeatGrows peer a b → SeatGrows peer b c → SeatGrows peer a c
 grows_on peer a b c one two = record {
   more = one.more ++ two.more;
   is = two.is ∙ ap (λ (s : SeatFields). with_receipts s two.more) one.is ∙ ap (λ (l : List Receipt). record a { receipts = l }) (append_assoc a.receipts one.more two.more);
   each = All-append (λ (r : Receipt). HandsFrameOf peer r.call) one.more two.more one.each two.each;
 }
 
-pub same_grows : (peer : ℕ) (a b : SeatFields) → b ≡ a → Grows peer a b
+pub same_grows : (peer : ℕ) (a b : SeatFields) → b ≡ a → SeatGrows peer a b
 same_grows peer a b same = record {
   more = [];
   is = same ∙ ap (λ (l : List Receipt). record a { receipts = l }) (sym (append-nil a.receipts));
@@ -59,20 +59,20 @@ all_of P seen event (Err fault.NoAccount) each = All-cons (λ (r : Receipt). P r
 
 answered_grows :
     OpenedIs → (n : NodeFields) (peer : ℕ) (before after : SeatFields) (f : FrameFields) (i : Result Incoming LinkFault) (r : Received)
-    → incoming_at n.keys f ≡ i → f.from ≡ peer → IsAnsweredAs n before after i r → Grows peer before after
+    → incoming_at n.keys f ≡ i → f.from ≡ peer → IsAnsweredAs n before after i r → SeatGrows peer before after
 answered_grows law n peer before after f (Ok (Message opened)) r at sender is =
     let from : opened.frame.from ≡ peer = ap (λ (x : FrameFields). x.from) (frame_is law n.keys f opened at) ∙ sender in
     record {
-      more = receipts_of _ (Taken (checked_fields opened)) (taken is.answer);
+      more = receipts_of _ (Taken (checked_fields opened)) (answer_of_take is.answer);
       is = is.answered.receipt;
-      each = all_of (HandsFrameOf peer) _ (Taken (checked_fields opened)) (taken is.answer) (λ a. from);
+      each = all_of (HandsFrameOf peer) _ (Taken (checked_fields opened)) (answer_of_take is.answer) (λ a. from);
     }
 answered_grows law n peer before after f (Ok (Want from number)) r at sender is = same_grows peer before after is.1
 answered_grows law n peer before after f (Err fault) r at sender is = same_grows peer before after is.1
 
 fed_grows :
     OpenedIs → (n : NodeFields) (peer ahead : ℕ) (before after : Asking) (fs : List FrameFields) (text : List ℕ)
-    → Steps (feeding_ahead n peer ahead) before after fs text → Grows peer before.seat after.seat
+    → Steps (feeding_ahead n peer ahead) before after fs text → SeatGrows peer before.seat after.seat
 fed_grows law n peer ahead before after [] text are = same_grows peer before.seat after.seat (ap (λ (s : Asking). s.seat) are.0)
 fed_grows law n peer ahead before after (f ∷ fs) text are =
     grows_on peer before.seat are.0.seat after.seat
@@ -81,7 +81,7 @@ fed_grows law n peer ahead before after (f ∷ fs) text are =
 
 pub run_grows :
     OpenedIs → (n : NodeFields) (peer ahead : ℕ) (start : Start Asking) (asking : Asking) (left after : Option (List ℕ)) (r : Result ⊤ EngineFault)
-    → HasFedAhead n peer ahead start asking left after r → Grows peer start.state.seat asking.seat
+    → HasFedAhead n peer ahead start asking left after r → SeatGrows peer start.state.seat asking.seat
 run_grows law n peer ahead start asking left after (Ok _) (inl is) = fed_grows law n peer ahead start.state asking is.0.frames is.0.text is.0.handled
 run_grows law n peer ahead start asking left after (Ok _) (inr is) = fed_grows law n peer ahead start.state asking is.frames is.text is.handled
 run_grows law n peer ahead start asking left after (Err (Frame fault)) is = fed_grows law n peer ahead start.state asking is.frames is.text is.handled

@@ -1,4 +1,5 @@
 pub mod Asks
+pub mod AsksAll
 pub mod Behind
 pub mod ByOne
 pub mod Fed

@@ -1,14 +1,18 @@
 -- How a node is fed from a peer's stream, frames of which are asked for ahead.
-use Rattle.std.specs.Prelude.{◌≡◌, ℕ, ◌+◌, ◌-◌, ◌^◌, nat_lt, if◌then◌else◌, List, [], Option, Some, None, Result, ⊤}
+use Rattle.std.specs.Prelude.{◌≡◌, ℕ, ◌+◌, ◌-◌, ◌^◌, nat_lt, if◌then◌else◌, List, [], Option, Some}
+use Rattle.std.specs.Prelude.{None, Result, ⊤}
 use Rattle.std.specs.List.{flat_map}
 use Rattle.pay_engine.specs.declared.engine_fault.EngineFault.{EngineFault}
 use Rattle.pay_frame.specs.Frame.{FrameFields, frame_bytes}
 use Rattle.pay_link.specs.Keys.{KeyFields}
-use Rattle.pay_link.specs.Sealing.{wanted}
-use Rattle.pay_link.specs.declared.link_fault.LinkFault.TheVariants.{NotForMe, UnknownSender, UnknownOwner, BadTag, Repeat, Gap}
+use Rattle.pay_link.specs.Sealing.{want_frame}
+use Rattle.pay_link.specs.declared.link_fault.LinkFault.TheVariants.{NotForMe, UnknownSender}
+use Rattle.pay_link.specs.declared.link_fault.LinkFault.TheVariants.{UnknownOwner, BadTag, Repeat}
+use Rattle.pay_link.specs.declared.link_fault.LinkFault.TheVariants.{Gap}
 use Rattle.pay_member.specs.declared.received.Received.{Received}
 use Rattle.pay_member.specs.declared.outcome.Outcome.{Outcome}
-use Rattle.pay_member.specs.declared.outcome.Outcome.TheVariants.{Took, Wanted, Frame, Link, WrongKey}
+use Rattle.pay_member.specs.declared.outcome.Outcome.TheVariants.{Took, Wanted, Frame, Link}
+use Rattle.pay_member.specs.declared.outcome.Outcome.TheVariants.{WrongKey}
 use Rattle.pay_engine.specs.Handling.{Handling, HasHandled, Start}
 use Rattle.pay_node.specs.Nodes.{IsReceived, NodeFields}
 use Rattle.pay_peers.specs.declared.asking.Asking.{Asking}
@@ -16,7 +20,7 @@ use Rattle.pay_peers.specs.Window.{asked_behind, window_behind}
 
 -- the WANTs of these numbers to a peer
 abbrev pub wants : KeyFields → ℕ → List ℕ → List ℕ
-wants k peer numbers = flat_map (λ number. frame_bytes (wanted k peer number)) numbers
+wants k peer numbers = flat_map (λ number. frame_bytes (want_frame k peer number)) numbers
 
 -- the number that is next behind a frame of this number, by what came of it, if there is one
 abbrev pub next_told : Outcome → ℕ → Option ℕ
@@ -36,17 +40,22 @@ pub record IsDue (peer : ℕ) (s : Asking) (f : FrameFields) : Type 0 where
   pub sender : f.from ≡ peer
   pub number : f.number ≡ s.window.due
 
--- The frame that was due was brought from the seat, and the WANTs of the numbers that are asked for behind the answer
--- are these.
-pub record IsFedAhead (n : NodeFields) (peer ahead : ℕ) (before after : Asking) (f : FrameFields) (text : List ℕ)
+-- The frame that was due was brought from the seat, and the WANTs of the numbers that are asked for
+-- behind the answer are these.
+pub record IsFedAhead (n : NodeFields) (peer ahead : ℕ) (before after : Asking) (f : FrameFields)
+    (text : List ℕ)
     : Type 0 where
   pub due : IsDue peer before f
   pub received : Received
   pub is : IsReceived n before.seat after.seat f received
-  pub window : after.window ≡ window_behind ahead before.window (next_told received.outcome f.number)
-  pub asks : text ≡ wants n.keys peer (asked_behind ahead before.window (next_told received.outcome f.number))
+  pub window :
+      after.window ≡ window_behind ahead before.window (next_told received.outcome f.number)
+  pub asks :
+      text ≡ wants n.keys peer
+      (asked_behind ahead before.window (next_told received.outcome f.number))
 
--- Each frame that is due is brought, and more are asked for; the stream is left behind any other frame.
+-- Each frame that is due is brought, and more are asked for; the stream is left behind any other
+-- frame.
 abbrev pub feeding_ahead : NodeFields → ℕ → ℕ → Handling Asking
 feeding_ahead n peer ahead = record {
   step = IsFedAhead n peer ahead;

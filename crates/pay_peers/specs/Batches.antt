@@ -9,7 +9,8 @@ use Rattle.pay_frame.specs.Stream.{IsFramesThen}
 abbrev pub NeedsNoWait : ℕ → FrameFields → Type 0
 NeedsNoWait sent f = f.body.kind ≡ Want → f.number < sent
 
--- So many of the frames that are held in front, at least one, are such that none behind the first is waited for.
+-- So many of the frames that are held in front, at least one, are such that none behind the first
+-- is waited for.
 pub record GoTogether (held : List ℕ) (sent count : ℕ) : Type 0 where
   pub frames : List FrameFields
   pub rest : List ℕ

@@ -1,25 +1,27 @@
--- How a node is fed from a peer's stream: each frame is brought to it, and the WANTs of its answers go out.
+-- How a node is fed from a peer's stream: each frame is brought to it, and the WANTs of its answers
+-- go out.
 use Rattle.std.specs.Prelude.{◌≡◌, ℕ, List, [], Option, Result, ⊤}
 use Rattle.pay_engine.specs.declared.engine_fault.EngineFault.{EngineFault}
 use Rattle.pay_frame.specs.Frame.{FrameFields, frame_bytes}
 use Rattle.pay_link.specs.Keys.{KeyFields}
-use Rattle.pay_link.specs.Sealing.{wanted}
+use Rattle.pay_link.specs.Sealing.{want_frame}
 use Rattle.pay_member.specs.declared.received.Received.{Received}
 use Rattle.pay_member.specs.Bringing.{with_want}
-use Rattle.pay_member.specs.Serving.{bytes_of}
+use Rattle.pay_member.specs.Serving.{bytes_if_any}
 use Rattle.pay_engine.specs.Handling.{Handling, HasHandled, Start, never}
 use Rattle.pay_node.specs.Nodes.{IsReceived, NodeFields}
 use Rattle.pay_node.specs.Seats.{SeatFields}
 
 -- the WANT to a peer for all that it sent
 unfoldable pub want_for_all : KeyFields → ℕ → List ℕ
-want_for_all k peer = frame_bytes (wanted k peer 0)
+want_for_all k peer = frame_bytes (want_frame k peer 0)
 
 -- a frame was brought from a seat, and this is the WANT for the number that is next, if one is
-pub record IsFed (n : NodeFields) (before after : SeatFields) (f : FrameFields) (text : List ℕ) : Type 0 where
+pub record IsFed (n : NodeFields) (before after : SeatFields) (f : FrameFields) (text : List ℕ)
+    : Type 0 where
   pub received : Received
   pub is : IsReceived n before after f received
-  pub want : text ≡ bytes_of (with_want n.keys f.from received).want
+  pub want : text ≡ bytes_if_any (with_want n.keys f.from received).want
 
 -- each frame is brought, and its WANT written; no frame ends it, and a fault has no text
 abbrev pub feeding : NodeFields → Handling SeatFields

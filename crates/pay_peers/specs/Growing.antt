@@ -16,16 +16,18 @@ HandsFrameOf peer (Handed (Query account) answer) = ⊥
 HandsFrameOf peer (Read question shown) = ⊥
 
 -- the same seat, with some receipts more, each of a frame of this peer
-pub record Grows (peer : ℕ) (old new : SeatFields) : Type 0 where
+pub record SeatGrows (peer : ℕ) (old new : SeatFields) : Type 0 where
   pub more : List Receipt
   pub is : new ≡ with_receipts old more
   pub each : All (λ r. HandsFrameOf peer r.call) more
 
 -- a peer and the seat that it is read from
 abbrev pub HasGrown : ℕ × Asking → ℕ × Asking → Type 0
-HasGrown old new = (new.0 ≡ old.0) × Grows old.0 old.1.seat new.1.seat
+HasGrown old new = (new.0 ≡ old.0) × SeatGrows old.0 old.1.seat new.1.seat
 
 -- at each place
 pub record EachGrows (old new : List (ℕ × Asking)) : Type 0 where
   pub many : length new ≡ length old
-  pub each : (k : ℕ) (d : ℕ × Asking) → k < length old → HasGrown (slice_index_or old k d) (slice_index_or new k d)
+  pub each :
+      (k : ℕ) (d : ℕ × Asking) → k < length old
+      → HasGrown (slice_index_or old k d) (slice_index_or new k d)

@@ -3,7 +3,7 @@ use Rattle.std.specs.Prelude.{◌≡◌, ◌⊎◌, ℕ, List, [], ◌∷◌, �
 use Rattle.std.proofs.Common.{inl, inr, ap, sym, refl, ◌∙◌, append-nil}
 use Rattle.std.proofs.lemmas.List.Elements.{filter_map-append}
 use Rattle.pay_desk.specs.Calls as desk
-use Rattle.pay_desk.specs.Calls.{asked_by}
+use Rattle.pay_desk.specs.Calls.{values_asked_by}
 use Rattle.pay_desk.specs.declared.teller_fault.TellerFault.TheVariants as teller
 use Rattle.pay_node.specs.declared.question.Question.{Question}
 use Rattle.pay_node.specs.declared.receipt.Receipt.{Receipt}
@@ -19,37 +19,55 @@ unfolding values_told
 more_told seat more = filter_map-append (λ r. value_told r.call) seat.receipts more
 
 -- a seat with some receipts more
-told_after : (old new : SeatFields) (more : List Receipt) (values : List (List ℕ)) → new ≡ with_receipts old more
+told_after : (old new : SeatFields) (more : List Receipt) (values : List (List ℕ))
+    → new ≡ with_receipts old more
     → values_told more ≡ values → values_told new.receipts ≡ values_told old.receipts ++ values
 told_after old new more values is told =
     ap (λ (s : SeatFields). values_told s.receipts) is ∙ more_told old more
     ∙ ap (λ (vs : List (List ℕ)). values_told old.receipts ++ vs) told
 
 -- a seat that keeps a reading's receipt
-told_read : (old new : SeatFields) (seen : ℕ) (question : Question) (shown : Shown) → KeepsReceipt old new (reading seen question shown)
+told_read : (old new : SeatFields) (seen : ℕ) (question : Question) (shown : Shown)
+    → KeepsReceipt old new (reading seen question shown)
     → values_told new.receipts ≡ values_told old.receipts ++ []
 unfolding values_told
 told_read old new seen question shown keeps = go keeps.more where
-  go : (new ≡ old) ⊎ (new ≡ with_receipts old (reading seen question shown ∷ [])) → values_told new.receipts ≡ values_told old.receipts ++ []
-  go (inl same) = ap (λ (s : SeatFields). values_told s.receipts) same ∙ sym (append-nil (values_told old.receipts))
+  go : (new ≡ old) ⊎ (new ≡ with_receipts old (reading seen question shown ∷ []))
+      → values_told new.receipts ≡ values_told old.receipts ++ []
+  go (inl same) = ap (λ (s : SeatFields). values_told s.receipts) same
+      ∙ sym (append-nil (values_told old.receipts))
   go (inr is) = told_after old new (reading seen question shown ∷ []) [] is refl
 
 -- nothing is broadcast but what is asked for and gets a number
-pub seat_asks : (n : NodeFields) (old new : SeatFields) (called : desk.Call) (reply : desk.TellerReply) → SeatSays n old called reply new
-    → values_told new.receipts ≡ values_told old.receipts ++ asked_by called reply
+pub seat_asks :
+    (n : NodeFields) (old new : SeatFields) (called : desk.Call) (reply : desk.TellerReply)
+    → SeatSays n old called reply new
+    → values_told new.receipts ≡ values_told old.receipts ++ values_asked_by called reply
 unfolding values_told
-seat_asks n old new (desk.Ask value) (desk.Asked seq) said = told_after old new _ (value ∷ []) said.receipt refl
-seat_asks n old new (desk.Ask value) (desk.Refused teller.Spent) said = told_after old new _ [] said.receipt refl
-seat_asks n old new (desk.Query account) (desk.Queried told) said = told_after old new _ [] said.receipt refl
-seat_asks n old new (desk.Query account) (desk.Refused teller.NoAccount) said = told_after old new _ [] said.receipt refl
-seat_asks n old new (desk.State owner seq) (desk.Stood state) said = told_read old new _ _ _ said.receipt
-seat_asks n old new (desk.State owner seq) (desk.Refused teller.NoAccount) said = told_read old new _ _ _ said.receipt
-seat_asks n old new (desk.Statement account) (desk.Stated statement) said = told_read old new _ _ _ said.receipt
-seat_asks n old new (desk.Statement account) (desk.Refused teller.NoAccount) said = told_read old new _ _ _ said.receipt
-seat_asks n old new (desk.Entries account from) (desk.Listed excerpt) said = told_read old new _ _ _ said.receipt
-seat_asks n old new (desk.Entries account from) (desk.Refused teller.NoAccount) said = told_read old new _ _ _ said.receipt
-seat_asks n old new (desk.Waiting account) (desk.Listed excerpt) said = told_read old new _ _ _ said.receipt
-seat_asks n old new (desk.Waiting account) (desk.Refused teller.NoAccount) said = told_read old new _ _ _ said.receipt
+seat_asks n old new (desk.Ask value) (desk.Asked seq) said =
+    told_after old new _ (value ∷ []) said.receipt refl
+seat_asks n old new (desk.Ask value) (desk.Refused teller.Spent) said =
+    told_after old new _ [] said.receipt refl
+seat_asks n old new (desk.Query account) (desk.Queried told) said =
+    told_after old new _ [] said.receipt refl
+seat_asks n old new (desk.Query account) (desk.Refused teller.NoAccount) said =
+    told_after old new _ [] said.receipt refl
+seat_asks n old new (desk.State owner seq) (desk.Stood state) said =
+    told_read old new _ _ _ said.receipt
+seat_asks n old new (desk.State owner seq) (desk.Refused teller.NoAccount) said =
+    told_read old new _ _ _ said.receipt
+seat_asks n old new (desk.Statement account) (desk.Stated statement) said =
+    told_read old new _ _ _ said.receipt
+seat_asks n old new (desk.Statement account) (desk.Refused teller.NoAccount) said =
+    told_read old new _ _ _ said.receipt
+seat_asks n old new (desk.Entries account from) (desk.Listed excerpt) said =
+    told_read old new _ _ _ said.receipt
+seat_asks n old new (desk.Entries account from) (desk.Refused teller.NoAccount) said =
+    told_read old new _ _ _ said.receipt
+seat_asks n old new (desk.Waiting account) (desk.Listed excerpt) said =
+    told_read old new _ _ _ said.receipt
+seat_asks n old new (desk.Waiting account) (desk.Refused teller.NoAccount) said =
+    told_read old new _ _ _ said.receipt
 seat_asks n old new desk.Fronts (desk.Settled fronts) said = told_read old new _ _ _ said.receipt
 seat_asks n old new (desk.Ask value) (desk.Queried told) said = elim said [ ]
 seat_asks n old new (desk.Ask value) (desk.Stood state) said = elim said [ ]

@@ -15,11 +15,13 @@ use Rattle.pay_node.specs.declared.shown.Shown.TheVariants as shown
 use Rattle.pay_node.specs.Nodes.{IsAnswered, IsShown, NodeFields}
 use Rattle.pay_node.specs.Seats.{SeatFields}
 
--- What a seat is told of a desk's call: the node's member, with some legal history, answers so, and the seat keeps the
--- receipt.
+-- What a seat is told of a desk's call: the node's member, with some legal history, answers so, and
+-- the seat keeps the receipt.
 abbrev pub SeatSays : NodeFields → SeatFields → desk.Call → desk.TellerReply → SeatFields → Type 0
-SeatSays n old (desk.Ask value) (desk.Asked seq) new = IsAnswered n old new (event.Ask value) (Ok (reply.Asked seq))
-SeatSays n old (desk.Ask value) (desk.Refused teller.Spent) new = IsAnswered n old new (event.Ask value) (Err fault.Spent)
+SeatSays n old (desk.Ask value) (desk.Asked seq) new =
+    IsAnswered n old new (event.Ask value) (Ok (reply.Asked seq))
+SeatSays n old (desk.Ask value) (desk.Refused teller.Spent) new =
+    IsAnswered n old new (event.Ask value) (Err fault.Spent)
 SeatSays n old (desk.Ask value) (desk.Refused teller.Memory) new = ⊥
 SeatSays n old (desk.Ask value) (desk.Refused teller.NoAccount) new = ⊥
 SeatSays n old (desk.Ask value) (desk.Queried told) new = ⊥
@@ -27,7 +29,8 @@ SeatSays n old (desk.Ask value) (desk.Stood state) new = ⊥
 SeatSays n old (desk.Ask value) (desk.Stated statement) new = ⊥
 SeatSays n old (desk.Ask value) (desk.Listed excerpt) new = ⊥
 SeatSays n old (desk.Ask value) (desk.Settled fronts) new = ⊥
-SeatSays n old (desk.Query account) (desk.Queried told) new = IsAnswered n old new (event.Query account) (Ok (reply.Told told))
+SeatSays n old (desk.Query account) (desk.Queried told) new =
+    IsAnswered n old new (event.Query account) (Ok (reply.Told told))
 SeatSays n old (desk.Query account) (desk.Refused teller.NoAccount) new =
     IsAnswered n old new (event.Query account) (Err fault.NoAccount)
 SeatSays n old (desk.Query account) (desk.Refused teller.Memory) new = ⊥
@@ -82,7 +85,8 @@ SeatSays n old (desk.Waiting account) (desk.Queried told) new = ⊥
 SeatSays n old (desk.Waiting account) (desk.Stood state) new = ⊥
 SeatSays n old (desk.Waiting account) (desk.Stated statement) new = ⊥
 SeatSays n old (desk.Waiting account) (desk.Settled fronts) new = ⊥
-SeatSays n old desk.Fronts (desk.Settled fronts) new = IsShown n old new question.Fronts (shown.Fronts fronts)
+SeatSays n old desk.Fronts (desk.Settled fronts) new =
+    IsShown n old new question.Fronts (shown.Fronts fronts)
 SeatSays n old desk.Fronts (desk.Refused fault) new = ⊥
 SeatSays n old desk.Fronts (desk.Asked seq) new = ⊥
 SeatSays n old desk.Fronts (desk.Queried told) new = ⊥
@@ -96,7 +100,8 @@ pub record TellerFields : Type 0 where
   pub seat : SeatFields
 
 -- what becomes of such a teller by a desk's call
-pub record TellerSays (old : TellerFields) (called : desk.Call) (reply : desk.TellerReply) (new : TellerFields) : Type 0 where
+pub record TellerSays (old : TellerFields) (called : desk.Call) (reply : desk.TellerReply)
+    (new : TellerFields) : Type 0 where
   pub same : new.node ≡ old.node
   pub told : SeatSays old.node old.seat called reply new.seat
 

@@ -5,7 +5,7 @@
 //! keeps its receipt.
 //!
 //! ```
-//! read_ahead(&context, &gate, peer, Ahead::most(), &mut asking, &mut reader, &mut writer)?;
+//! read_ahead(&context, &gate, peer, Ahead::usual(), &mut asking, &mut reader, &mut writer)?;
 //! write_peer(&context, &seats, &stop, &admission, &mut reader, &mut writer)?;
 //! ```
 #![tactic(auto)]
@@ -13,12 +13,12 @@
 mod admission;
 mod answering;
 mod asking;
+mod backoff;
 mod batches;
 mod context;
 mod feeding;
 pub mod laws;
 mod observer;
-mod patience;
 mod readers;
 mod reading_ahead;
 mod teller;
@@ -28,10 +28,10 @@ mod writing;
 
 pub use admission::Admission;
 pub use asking::Asking;
+pub use backoff::{Dials, MOST_IDLE};
 pub use context::NodeContext;
 pub use feeding::read_peer;
 pub use observer::{Observer, PeerEvent};
-pub use patience::{Dials, MOST_IDLE};
 pub use readers::{Dial, Dialed, run_readers};
 pub use reading_ahead::read_ahead;
 pub use teller::NodeTeller;

@@ -1,19 +1,19 @@
 //! Workers that read from peers, each in a thread of its own.
 
 ghost use Rattle.std.specs.Prelude.{◌≡◌, ◌↔◌, ◌<◌, IsTrue, length};
-ghost use Rattle.pay_peers.specs.Growing.{EachGrows, Grows, HasGrown};
+ghost use Rattle.pay_peers.specs.Growing.{EachGrows, SeatGrows, HasGrown};
 
 use crate::asking::Asking;
+use crate::backoff::{Backoff, Dials};
 use crate::context::NodeContext;
 use crate::observer::{Hearing, Observer, PeerEvent};
-use crate::patience::{Dials, Patience};
 use crate::reading_ahead::read_ahead;
 use crate::window::Ahead;
 use pay_book::Settle;
 use pay_echo::Instance;
 use pay_hmac::Tagger;
 use pay_io::{Input, Output};
-use pay_link::laws::opened;
+use pay_link::laws::judgement_opens;
 use pay_node::{Beginning, Gate};
 use std::sync::Wait;
 use std::thread;
@@ -109,11 +109,11 @@ where
         D: Dial<In, Out>,
         In: Input + Drop,
         Out: Output + Drop,
-        ensures { Grows peer asking.old.seat asking.new.seat }
+        ensures { SeatGrows peer asking.old.seat asking.new.seat }
     {
-        let mut patience = Patience::new(self.dials);
+        let mut backoff = Backoff::new(self.dials);
         for _ in self.context.rt.forever() {
-            if patience.is_over() {
+            if backoff.is_over() {
                 self.observer.observe(peer, PeerEvent::GaveUp);
                 return;
             }
@@ -125,7 +125,7 @@ where
             if !met {
                 self.observer.observe(peer, PeerEvent::Missed);
             }
-            thread::sleep(self.context.rt, Duration::from_millis(patience.note(met)));
+            thread::sleep(self.context.rt, Duration::from_millis(backoff.note(met)));
         }
     }
 
@@ -134,12 +134,12 @@ where
     where
         In: Input + Drop,
         Out: Output + Drop,
-        ensures seat { Grows peer asking.old.seat asking.new.seat }
+        ensures seat { SeatGrows peer asking.old.seat asking.new.seat }
         ensures met { IsTrue result
             ↔ (length asking.old.seat.receipts < length asking.new.seat.receipts) }
     {
         // a law that the proof stands on: the call does nothing
-        opened();
+        judgement_opens();
         if !self.context.node.keys().is_peer(peer) {
             return false;
         }

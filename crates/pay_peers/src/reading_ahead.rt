@@ -5,8 +5,7 @@ ghost use Rattle.pay_io.specs.Counts.{KeepsCounts};
 ghost use Rattle.pay_engine.specs.EngineFault.{engine_of};
 ghost use Rattle.pay_link.specs.Keys.{IsPeer};
 ghost use Rattle.pay_peers.specs.Ahead.{HasFedAhead, feeding_ahead, next_told, wants};
-ghost use Rattle.pay_peers.specs.Feeding.{want_for_all};
-ghost use Rattle.pay_peers.specs.Window.{first_window, row_of};
+ghost use Rattle.pay_peers.specs.Window.{first_count, first_window, row_of};
 
 use crate::asking::Asking;
 use crate::batches::MOST_AT_ONCE;
@@ -15,7 +14,7 @@ use crate::window::{Ahead, Asks};
 use pay_book::Settle;
 use pay_echo::Instance;
 use pay_engine::{EngineFault, FrameHandler, handle_stream};
-use pay_frame::{FrameFault, FrameRef};
+use pay_frame::{FrameFault, FrameRef, stream_grows};
 use pay_hmac::Tagger;
 use pay_io::{Input, Output};
 use pay_link::{Keys, LinkFault, want};
@@ -130,7 +129,7 @@ fn ask_for<T: Tagger>(
     Ok(())
 }
 
-/// Feeds a node from a peer's stream: asks for the first frame, brings each frame that is due, and
+/// Feeds a node from a peer's stream: asks for the first frames, brings each frame that is due, and
 /// asks for more, so that as many as `ahead` are asked for and under way.
 ///
 /// A frame that isn't due ends it: one out of the order in which frames were asked for, or in the
@@ -158,8 +157,8 @@ where
     requires { IsPeer context.now.node.now.keys peer }
     ensures fed { HasFedAhead context.now.node.now peer ahead.count
         (record {
-          first = want_for_all context.now.node.now.keys peer;
-          state = record { seat = asking.old.seat; window = first_window };
+          first = wants context.now.node.now.keys peer (row_of 0 (first_count ahead.count));
+          state = record { seat = asking.old.seat; window = first_window ahead.count };
           input = In.remaining reader.old;
           before = Out.contents writer.old;
         })
@@ -173,7 +172,14 @@ where
         peer,
         ahead,
     };
-    asking.begin();
-    let first = want(context.tagger, context.node.keys(), peer, 0);
+    // a law that the proof stands on: the call does nothing
+    stream_grows();
+    asking.begin(ahead);
+    let asks = Asks {
+        from: 0,
+        count: asking.window.asked,
+    };
+    let mut first = Vec::new(context.alloc);
+    ask_for(context.tagger, context.node.keys(), peer, asks, &mut first)?;
     handle_stream(context.alloc, &from_peer, asking, &first, reader, writer)
 }

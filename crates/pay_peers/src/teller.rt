@@ -12,8 +12,8 @@ use std::alloc::Global;
 use std::marker::Model;
 use std::sync::Wait;
 
-/// A node as a desk's teller, which calls it from a seat of its own. The node's keeper takes the id of each value before
-/// that is asked for.
+/// A node as a desk's teller, which calls it from a seat of its own. The node's keeper takes the id
+/// of each value before that is asked for.
 #[derive(Drop)]
 pub struct NodeTeller<'a, R, I: Instance + Drop, B: Settle + Drop, S: Beginning, K> {
     rt: &'a R,
@@ -33,8 +33,8 @@ impl<'a, R, I: Instance + Drop, B: Settle + Drop, S: Beginning, K> Model
 }
 
 impl<'a, R, I: Instance + Drop, B: Settle + Drop, S: Beginning, K> NodeTeller<'a, R, I, B, S, K> {
-    /// A teller that keeps the receipts of its calls at this seat of the node, whose member asked for as many values as
-    /// the number `next` says.
+    /// A teller that keeps the receipts of its calls at this seat of the node, whose member asked
+    /// for as many values as the number `next` says.
     pub fn new(
         rt: &'a R,
         node: &'a Node<I, B, S>,
@@ -136,5 +136,6 @@ where
 
     ghost use Rattle.pay_peers.specs.SeatAsks.{seat_asks};
 
-    ghost only_asks = { λ old new called reply said. seat_asks old.node old.seat new.seat called reply said.told };
+    ghost only_asks = { λ old new called reply said.
+        seat_asks old.node old.seat new.seat called reply said.told };
 }

@@ -20,8 +20,8 @@ pub(crate) struct Wanted<'a> {
     pub(crate) number: u64,
 }
 
-/// Opens a WANT whose sender has a seat among those lent. Of a frame that is none it tells in whose name it came, if
-/// that peer's key is another than its tag was made with.
+/// Opens a WANT whose sender has a seat among those lent. Of a frame that is none it tells in whose
+/// name it came, if that peer's key is another than its tag was made with.
 pub(crate) fn open_want<'a, T: Tagger>(
     tagger: &T,
     keys: &Keys,

@@ -1,9 +1,23 @@
 ghost use Rattle.std.specs.Prelude.{◌≡◌, ◌+◌, ◌<◌, ◌≤◌, ◌^◌, IfNone, IfSome};
 ghost use Rattle.pay_peers.specs.Window.{CanAskAhead, count_behind, first_window, from_behind};
-ghost use Rattle.pay_peers.specs.Window.{moved};
+ghost use Rattle.pay_peers.specs.Window.{moved_window, empty_window};
 
 /// How many frames may be asked for and not come yet, at most.
-pub const MOST_AHEAD: u64 = 64;
+///
+/// So many WANTs, of 56 bytes each, may be on their way while who is asked waits, or writes to who
+/// asks: a window of 1,024 has 57,344 bytes of them. Where the two sockets hold less between them,
+/// whoever asks waits in a write, and so reads nothing; who answers may then wait to write. A
+/// writer of WANTs therefore has to give up a write that takes too long, as a node's does: its next
+/// connection begins with a small window, and what came before it stays.
+pub const MOST_AHEAD: u64 = 1_024;
+
+/// How many, where nobody says: 14,336 bytes of WANTs, which the send buffer alone holds that Linux
+/// gives a connection.
+const USUAL_AHEAD: u64 = 256;
+
+/// How many are asked for as a connection begins: as many as a member says about one payment, and
+/// one more. Where they came before, they come once more for nothing.
+const FIRST_AHEAD: u64 = 4;
 
 /// How many WANTs an answer brings at most, so that a window opens by one a frame.
 const MOST_WANTS: u64 = 2;
@@ -28,16 +42,16 @@ impl Ahead {
         }
     }
 
-    /// As many as may be.
-    pub fn most() -> Ahead
-        ensures { result.count ≡ 64 }
+    /// As many as are usual.
+    pub fn usual() -> Ahead
+        ensures { result.count ≡ 256 }
     {
-        Ahead { count: MOST_AHEAD }
+        Ahead { count: USUAL_AHEAD }
     }
 }
 
-/// Which frames of a peer are asked for on a connection and didn't come yet: those from the one that is due on, before
-/// the next one to ask for.
+/// Which frames of a peer are asked for on a connection and didn't come yet: those from the one
+/// that is due on, before the next one to ask for.
 #[derive(Clone, Copy, Debug, PartialEq, Eq)]
 pub struct Window {
     /// The number of the frame that comes next.
@@ -54,16 +68,27 @@ pub(crate) struct Asks {
 }
 
 impl Window {
-    /// The first frame alone was asked for.
+    /// Nothing was asked for.
     pub fn new() -> Window
-        ensures { result ≡ first_window }
+        ensures { result ≡ empty_window }
     {
-        Window { due: 0, asked: 1 }
+        Window { due: 0, asked: 0 }
     }
 
-    /// Moves behind the frame that was due, where the one that is next is told. Returns what is to be asked for then.
+    /// The first frames were asked for, as many as a connection begins with.
+    pub fn first(ahead: Ahead) -> Window
+        ensures { result ≡ first_window ahead.count }
+    {
+        Window {
+            due: 0,
+            asked: ahead.count.min(FIRST_AHEAD),
+        }
+    }
+
+    /// Moves behind the frame that was due, where the one that is next is told. Returns what is to
+    /// be asked for then.
     pub(crate) fn move_to(&mut self, next: u64, ahead: Ahead) -> Asks
-        ensures moved { self.new ≡ moved ahead.count self.old next }
+        ensures moved { self.new ≡ moved_window ahead.count self.old next }
         ensures from { result.from ≡ from_behind self.old next }
         ensures count { result.count ≡ count_behind ahead.count self.old next }
         ensures fits { result.from + result.count < 2 ^ 64 }

@@ -49,18 +49,18 @@ where
 
     ghost keeps_room = { λ _ _ _ _ _ _ _ _. tt };
 
-    // No reply is held back while another frame is waited for: that one is the first of its batch. So
-    // is the WANT by which the connection is admitted, alone.
+    // No reply is held back while another frame is waited for: that one is the first of its batch.
+    // So is the WANT by which the connection is admitted, alone.
     fn at_once(&self, held: &[u8]) -> usize {
         if held.len() < TWO_FRAMES || !self.is_admitted.load(Ordering::SeqCst) {
             1
         } else {
-            without_waiting(held, self.context.node.sent_len(self.context.rt))
+            without_waiting(held, self.context.node.sent_len())
         }
     }
 
-    // Writes the reply to a frame that asks for one. The connection ends where it may not go on, and
-    // where there is no reply, which comes of being told to stop.
+    // Writes the reply to a frame that asks for one. The connection ends where it may not go on,
+    // and where there is no reply, which comes of being told to stop.
     fn handle(
         &self,
         _alloc: Global,
@@ -121,9 +121,9 @@ impl<R: Wait, I: Instance + Drop, B: Settle + Drop, S: Beginning, T, A: Admissio
 ///
 /// A frame that doesn't open, is no WANT, or is one of a sender without a seat, is answered by
 /// nothing, and the connection goes on. At the first other WANT the connection is admitted as its
-/// sender's, or ends. It ends well at the input's end, and behind a WANT that waits as it is told to
-/// stop. A fault in the frames ends it, and is returned.
-/// After another fault a prefix of the replies is written.
+/// sender's, or ends. It ends well at the input's end, and behind a WANT that waits as it is told
+/// to stop. A fault in the frames ends it, and is returned. After another fault a prefix of the
+/// replies is written.
 pub fn write_peer<I, B, S, R, T, A, In, Out>(
     context: &NodeContext<'_, R, I, B, S, T>,
     seats: &[(u16, Mutex<Seat>)],

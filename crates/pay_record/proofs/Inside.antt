@@ -11,7 +11,7 @@ use Rattle.pay_member.specs.declared.event.Event.TheVariants.{Ask, Taken, Query}
 use Rattle.pay_member.specs.declared.reply.Reply.{Reply}
 use Rattle.pay_member.specs.declared.reply.Reply.TheVariants.{Asked, Took, Told}
 use Rattle.pay_resume.specs.Resuming.{LoggedFields}
-use Rattle.pay_record.specs.Records.{code_of, fields_of, known_bits, record_of}
+use Rattle.pay_record.specs.Records.{kind_code, record_fields, known_bits, record_of}
 use Rattle.pay_record.specs.Loggable.{FitsEvent, FitsReply, FrameStandsIn, StandsIn}
 use Rattle.pay_record.proofs.Fronts.{two_same, bits_small}
 
@@ -19,7 +19,7 @@ use Rattle.pay_record.proofs.Fronts.{two_same, bits_small}
 
 pub same_code :
     (k : KeyFields) (code stamp : ℕ) (fields : List ℕ) (l : LoggedFields)
-    → StandsIn k ((code ∷ to_be_bytes w16 stamp) ++ fields) l → code ≡ code_of l.entry.event
+    → StandsIn k ((code ∷ to_be_bytes w16 stamp) ++ fields) l → code ≡ kind_code l.entry.event
 unfolding record_of
 same_code k code stamp fields l stands = ap (λ (x : List ℕ). get_or x 0 0) stands.is
 
@@ -35,7 +35,7 @@ same_stamp k code stamp fields l small stands =
 pub same_fields :
     (k : KeyFields) (code stamp : ℕ) (fields : List ℕ) (l : LoggedFields)
     → (stands : StandsIn k ((code ∷ to_be_bytes w16 stamp) ++ fields) l)
-    → fields ≡ fields_of l.entry.event l.id l.entry.reply ++ stands.rest
+    → fields ≡ record_fields l.entry.event l.id l.entry.reply ++ stands.rest
 unfolding record_of
 same_fields k code stamp fields l stands = ap (λ (x : List ℕ). drop 3 x) stands.is
 
@@ -46,7 +46,7 @@ size_of (Ask v) = 14 + length v
 size_of (Taken c) = 5 + length (frame_bytes c.frame)
 size_of (Query a) = 18
 
-pub length-fields : (e : Event) (id : ℕ) (reply : Reply) → FitsReply e id reply → length (fields_of e id reply) ≡ size_of e
+pub length-fields : (e : Event) (id : ℕ) (reply : Reply) → FitsReply e id reply → length (record_fields e id reply) ≡ size_of e
 length-fields (Ask v) id (Asked seq) fits = omega arith
 length-fields (Ask v) id (Took t) fits = absurd fits
 length-fields (Ask v) id (Told t) fits = absurd fits
@@ -63,22 +63,22 @@ pub size_is :
     → length fields ≡ size_of l.entry.event + length stands.rest
 size_is k code stamp fields l stands =
     ap (λ (x : List ℕ). length x) (same_fields k code stamp fields l stands)
-    ∙ length-append (fields_of l.entry.event l.id l.entry.reply) stands.rest
+    ∙ length-append (record_fields l.entry.event l.id l.entry.reply) stands.rest
     ∙ ap (λ (n : ℕ). n + length stands.rest) (length-fields l.entry.event l.id l.entry.reply stands.loggable.reply)
 
 -- ---- records that aren't there, since too few bytes are
 
-no_ask : (e : Event) (size more : ℕ) → 1 ≡ code_of e → size ≡ size_of e + more → size < 14 → ⊥
+no_ask : (e : Event) (size more : ℕ) → 1 ≡ kind_code e → size ≡ size_of e + more → size < 14 → ⊥
 no_ask (Ask v) size more code is few = absurd (omega (arith, is, few))
 no_ask (Taken c) size more code is few = absurd (omega (arith, code))
 no_ask (Query a) size more code is few = absurd (omega (arith, code))
 
-no_frame : (e : Event) (size more : ℕ) → 2 ≡ code_of e → size ≡ size_of e + more → size < 5 → ⊥
+no_frame : (e : Event) (size more : ℕ) → 2 ≡ kind_code e → size ≡ size_of e + more → size < 5 → ⊥
 no_frame (Ask v) size more code is few = absurd (omega (arith, code))
 no_frame (Taken c) size more code is few = absurd (omega (arith, is, few))
 no_frame (Query a) size more code is few = absurd (omega (arith, code))
 
-no_query : (e : Event) (size more : ℕ) → 3 ≡ code_of e → size ≡ size_of e + more → size < 18 → ⊥
+no_query : (e : Event) (size more : ℕ) → 3 ≡ kind_code e → size ≡ size_of e + more → size < 18 → ⊥
 no_query (Ask v) size more code is few = absurd (omega (arith, code))
 no_query (Taken c) size more code is few = absurd (omega (arith, code))
 no_query (Query a) size more code is few = absurd (omega (arith, is, few))
@@ -99,8 +99,8 @@ short_query k stamp fields few l stands =
 
 value_wrong :
     (k : KeyFields) (e : Event) (i : ℕ) (reply : Reply) (id seq len : ℕ) (rest more : List ℕ)
-    → 1 ≡ code_of e → FitsEvent k e → FitsReply e i reply → len < 2 ^ 16
-    → to_be_bytes w64 id ++ to_be_bytes w32 seq ++ to_be_bytes w16 len ++ rest ≡ fields_of e i reply ++ more
+    → 1 ≡ kind_code e → FitsEvent k e → FitsReply e i reply → len < 2 ^ 16
+    → to_be_bytes w64 id ++ to_be_bytes w32 seq ++ to_be_bytes w16 len ++ rest ≡ record_fields e i reply ++ more
     → (GREATEST_VALUE < len) ⊎ (length rest < len) → ⊥
 value_wrong k (Ask v) i (Asked s) id seq len rest more code fits reply small is wrong =
     let behind : to_be_bytes w16 len ++ rest ≡ to_be_bytes w16 (length v) ++ (v ++ more) = ap (λ (x : List ℕ). drop 12 x) is in
@@ -126,8 +126,8 @@ no_value k stamp id seq len rest small wrong l stands =
 -- ---- a frame that isn't there
 
 bits_wrong :
-    (e : Event) (i : ℕ) (reply : Reply) (bits : ℕ) (rest more : List ℕ) → 2 ≡ code_of e → FitsReply e i reply
-    → bits ∷ rest ≡ fields_of e i reply ++ more → 7 < bits → ⊥
+    (e : Event) (i : ℕ) (reply : Reply) (bits : ℕ) (rest more : List ℕ) → 2 ≡ kind_code e → FitsReply e i reply
+    → bits ∷ rest ≡ record_fields e i reply ++ more → 7 < bits → ⊥
 bits_wrong (Ask v) i reply bits rest more code fit is wrong = absurd (omega (arith, code))
 bits_wrong (Taken c) i (Asked s) bits rest more code fit is wrong = fit
 bits_wrong (Taken c) i (Took t) bits rest more code fit is wrong =
@@ -143,8 +143,8 @@ no_bits k stamp bits rest wrong l stands =
     stands.loggable.reply (same_fields k 2 stamp (bits ∷ rest) l stands) wrong
 
 frame_wrong :
-    (k : KeyFields) (e : Event) (i : ℕ) (reply : Reply) (bits settled : ℕ) (rest more : List ℕ) → 2 ≡ code_of e → FitsEvent k e → FitsReply e i reply
-    → bits ∷ (to_be_bytes w32 settled ++ rest) ≡ fields_of e i reply ++ more → ((c : CheckedFields) → FrameStandsIn k rest c → ⊥) → ⊥
+    (k : KeyFields) (e : Event) (i : ℕ) (reply : Reply) (bits settled : ℕ) (rest more : List ℕ) → 2 ≡ kind_code e → FitsEvent k e → FitsReply e i reply
+    → bits ∷ (to_be_bytes w32 settled ++ rest) ≡ record_fields e i reply ++ more → ((c : CheckedFields) → FrameStandsIn k rest c → ⊥) → ⊥
 frame_wrong k (Ask v) i reply bits settled rest more code fits fit is none = absurd (omega (arith, code))
 frame_wrong k (Taken c) i (Asked s) bits settled rest more code fits fit is none = fit
 frame_wrong k (Taken c) i (Took t) bits settled rest more code fits fit is none =
@@ -162,7 +162,7 @@ no_frame_behind k stamp bits settled rest none l stands =
 
 -- ---- no record at all
 
-no_kind : (e : Event) (code : ℕ) → code ≡ code_of e → (1 ≡ code → ⊥) → (2 ≡ code → ⊥) → (3 ≡ code → ⊥) → ⊥
+no_kind : (e : Event) (code : ℕ) → code ≡ kind_code e → (1 ≡ code → ⊥) → (2 ≡ code → ⊥) → (3 ≡ code → ⊥) → ⊥
 no_kind (Ask v) code is ask frame query = ask (sym is)
 no_kind (Taken c) code is ask frame query = frame (sym is)
 no_kind (Query a) code is ask frame query = query (sym is)

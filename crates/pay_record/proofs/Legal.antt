@@ -15,12 +15,12 @@ use Rattle.pay_member.specs.declared.event.Event.TheVariants.{Ask, Taken, Query}
 use Rattle.pay_member.specs.declared.fault.MemberFault.{MemberFault}
 use Rattle.pay_member.specs.declared.fault.MemberFault.TheVariants.{WrongKey}
 use Rattle.pay_member.specs.declared.reply.Reply.{Reply}
-use Rattle.pay_member.specs.Legal.{IsKept}
-use Rattle.pay_member.specs.Refusal.{is_for, refusal, turn_refusal}
+use Rattle.pay_member.specs.Legal.{IsStorable}
+use Rattle.pay_member.specs.Refusal.{is_for_member, refusal, turn_refusal}
 use Rattle.pay_member.specs.Reply.{reply_to}
-use Rattle.pay_record.specs.Loggable.{FitsEvent, FitsReply, HasRoom, IsIdOf, IsNumbered}
+use Rattle.pay_record.specs.Loggable.{FitsEvent, FitsReply, FitsRecord, IsIdOf, IsNumbered}
 
-pub unrefused : (g : GenesisFields) (k : KeyFields) (before : List channel.Event) (e : Event) → refusal g k before e ≡ None → HasRoom e
+pub unrefused : (g : GenesisFields) (k : KeyFields) (before : List channel.Event) (e : Event) → refusal g k before e ≡ None → FitsRecord e
 unrefused g k before (Ask v) none = grind (arith, nat_tests, none)
 unrefused g k before (Taken c) none = tt
 unrefused g k before (Query a) none = tt
@@ -32,7 +32,7 @@ passed false o none = absurd cc
 other : (n m : ℕ) → not (n == m) ≡ true → n ≡ m → ⊥
 other n m differ same = grind (arith, nat_tests, differ, same)
 
-for_member : (k : KeyFields) (c : CheckedFields) → is_for k c ≡ true → IsFor k c
+for_member : (k : KeyFields) (c : CheckedFields) → is_for_member k c ≡ true → IsFor k c
 for_member k c mine =
     let to = c.frame.to == k.own in
     let peer = is_peer k c.frame.from in
@@ -49,10 +49,10 @@ for_member k c mine =
       key = (bytes_eq-Decides c.key (key_for k c.frame.from)).0 three.1;
     }
 
-pub fits_event : (g : GenesisFields) (k : KeyFields) (before : List channel.Event) (e : Event) → IsGenesis g → IsKept e → refusal g k before e ≡ None → FitsEvent k e
+pub fits_event : (g : GenesisFields) (k : KeyFields) (before : List channel.Event) (e : Event) → IsGenesis g → IsStorable e → refusal g k before e ≡ None → FitsEvent k e
 fits_event g k before (Ask v) genesis kept none = unrefused g k before (Ask v) none
 fits_event g k before (Taken c) genesis kept none =
-    (kept.0, for_member k c (passed (is_for k c) (turn_refusal (next c.frame.from before) c.frame.number) none))
+    (kept.0, for_member k c (passed (is_for_member k c) (turn_refusal (next c.frame.from before) c.frame.number) none))
 fits_event g k before (Query a) genesis kept none =
     let small : a < g.members = grind (arith, nat_tests, none) in
     omega (arith, small, genesis.few)

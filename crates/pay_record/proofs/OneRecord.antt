@@ -14,7 +14,7 @@ use Rattle.pay_member.specs.declared.reply.Reply.TheVariants as reply
 use Rattle.pay_member.specs.declared.told.Told.{Told}
 use Rattle.pay_member.specs.declared.took.Took.{Took}
 use Rattle.pay_resume.specs.Resuming.{LoggedFields}
-use Rattle.pay_record.specs.Records.{code_of, fields_of, record_of}
+use Rattle.pay_record.specs.Records.{kind_code, record_fields, record_of}
 use Rattle.pay_record.specs.Loggable.{FitsEvent, FitsReply, IsLoggable, StandsIn}
 use Rattle.pay_record.proofs.Fronts.{bits_same, eight_same, four_same, two_same}
 use Rattle.pay_record.proofs.Opened.{OneFront}
@@ -29,7 +29,7 @@ record Same (e other : Event) (i j : ℕ) (r o : Reply) (x y : List ℕ) : Type 
 
 same_asks :
     (i j s t : ℕ) (v w rest more : List ℕ) → i < 2 ^ 64 → j < 2 ^ 64 → s < 2 ^ 32 → t < 2 ^ 32 → length v ≤ GREATEST_VALUE → length w ≤ GREATEST_VALUE
-    → fields_of (Ask v) i (reply.Asked s) ++ rest ≡ fields_of (Ask w) j (reply.Asked t) ++ more
+    → record_fields (Ask v) i (reply.Asked s) ++ rest ≡ record_fields (Ask w) j (reply.Asked t) ++ more
     → Same (Ask v) (Ask w) i j (reply.Asked s) (reply.Asked t) rest more
 same_asks i j s t v w rest more small_i small_j small_s small_t short_v short_w is =
     let behind_id : to_be_bytes w32 s ++ (to_be_bytes w16 (length v) ++ (v ++ rest)) ≡ to_be_bytes w32 t ++ (to_be_bytes w16 (length w) ++ (w ++ more)) =
@@ -64,7 +64,7 @@ checked_by_parts c d frame key =
 same_frames :
     OneFront → (k : KeyFields) (i j : ℕ) (c d : CheckedFields) (t u : Took) (rest more : List ℕ) → FitsEvent k (Taken c) → FitsEvent k (Taken d)
     → FitsReply (Taken c) i (reply.Took t) → FitsReply (Taken d) j (reply.Took u)
-    → fields_of (Taken c) i (reply.Took t) ++ rest ≡ fields_of (Taken d) j (reply.Took u) ++ more
+    → record_fields (Taken c) i (reply.Took t) ++ rest ≡ record_fields (Taken d) j (reply.Took u) ++ more
     → Same (Taken c) (Taken d) i j (reply.Took t) (reply.Took u) rest more
 same_frames law k i j c d t u rest more mine others fits fit is =
     let known = bits_same t.echo t.ready t.deliver u.echo u.ready u.deliver (ap (λ (l : List ℕ). get_or l 0 0) is) in
@@ -89,7 +89,7 @@ told_by_parts t u balance front listed =
 
 same_queries :
     (i j a b : ℕ) (t u : Told) (rest more : List ℕ) → a < 2 ^ 16 → b < 2 ^ 16 → FitsReply (Query a) i (reply.Told t) → FitsReply (Query b) j (reply.Told u)
-    → fields_of (Query a) i (reply.Told t) ++ rest ≡ fields_of (Query b) j (reply.Told u) ++ more
+    → record_fields (Query a) i (reply.Told t) ++ rest ≡ record_fields (Query b) j (reply.Told u) ++ more
     → Same (Query a) (Query b) i j (reply.Told t) (reply.Told u) rest more
 same_queries i j a b t u rest more small_a small_b fits fit is =
     let told : to_be_bytes w64 t.balance ++ (to_be_bytes w32 t.front ++ (to_be_bytes w32 t.listed ++ rest))
@@ -110,7 +110,7 @@ same_queries i j a b t u rest more small_a small_b fits fit is =
 
 same_fields :
     OneFront → (k : KeyFields) (e other : Event) (i j : ℕ) (r o : Reply) (rest more : List ℕ) → FitsEvent k e → FitsEvent k other → FitsReply e i r → FitsReply other j o
-    → code_of e ≡ code_of other → fields_of e i r ++ rest ≡ fields_of other j o ++ more → Same e other i j r o rest more
+    → kind_code e ≡ kind_code other → record_fields e i r ++ rest ≡ record_fields other j o ++ more → Same e other i j r o rest more
 same_fields law k (Ask v) (Ask w) i j (reply.Asked s) (reply.Asked t) rest more room rooms fits fit code is =
     same_asks i j s t v w rest more fits.0 fit.0 fits.1 fit.1 room rooms is
 same_fields law k (Ask v) (Ask w) i j (reply.Asked s) (reply.Took t) rest more room rooms fits fit code is = absurd fit
@@ -155,7 +155,7 @@ one_record law k bytes l other stands others =
     let its = others.loggable in
     let same = same_fields law k l.entry.event other.entry.event l.id other.id l.entry.reply other.entry.reply stands.rest others.rest
     mine.event its.event mine.reply its.reply (ap (λ (x : List ℕ). get_or x 0 0) is) (ap (λ (x : List ℕ). drop 3 x) is) in
-    let stamp = two_same l.entry.stamp other.entry.stamp (fields_of l.entry.event l.id l.entry.reply ++ stands.rest) (fields_of other.entry.event other.id other.entry.reply ++ others.rest)
+    let stamp = two_same l.entry.stamp other.entry.stamp (record_fields l.entry.event l.id l.entry.reply ++ stands.rest) (record_fields other.entry.event other.id other.entry.reply ++ others.rest)
     mine.stamp its.stamp (ap (λ (x : List ℕ). drop 1 x) is) in
     (logged_by_parts l other stamp same.event same.reply same.id, same.rest)
 

@@ -29,7 +29,12 @@ frame_example =
     record {
       entry = record {
         stamp = 513;
-        event = Taken (record { frame = frame_of_parts 1 2 3 (body_of_parts Send 1 4 (codes "!")) (replicate 32 170); key = no_key });
+        event = Taken
+            (record {
+              frame = frame_of_parts 1 2 3 (body_of_parts Send 1 4 (codes "!"))
+                  (replicate 32 170);
+              key = no_key;
+            });
         reply = reply.Took (record { echo = true; ready = false; deliver = true; settled = 1 });
       };
       id = 0;
@@ -49,7 +54,12 @@ frame_example_bytes =
 abbrev pub query_example : LoggedFields
 query_example =
     record {
-      entry = record { stamp = 5; event = Query 2; reply = reply.Told (record { balance = 1000; front = 4; listed = 6 }) };
+      entry = record {
+        stamp = 5;
+        event = Query 2;
+        reply = reply.Told
+            (record { balance = 1000; front = 4; listed = 6 });
+      };
       id = 0;
     }
 

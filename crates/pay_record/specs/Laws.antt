@@ -8,7 +8,7 @@ use Rattle.pay_member.specs.Legal.{Legal}
 use Rattle.pay_resume.specs.Resuming.{LoggedFields}
 use Rattle.pay_resume.specs.declared.records.RecordFault.{RecordFault}
 use Rattle.pay_resume.specs.declared.records.RecordFault.TheVariants.{Memory}
-use Rattle.pay_record.specs.Loggable.{HasRoom, IsLoggable, IsTyped, IsReadAs, StandsIn}
+use Rattle.pay_record.specs.Loggable.{FitsRecord, IsLoggable, IsTyped, IsReadAs, StandsIn}
 use Rattle.pay_record.specs.Records.{record_of}
 
 -- One record at most stands at the front of bytes, and it is said what stands after.
@@ -21,15 +21,17 @@ OneRecord =
 -- What was written is read again, whatever stands after it, but for refused memory.
 abbrev pub WrittenIsRead : Type 0
 WrittenIsRead =
-    (k : KeyFields) (l : LoggedFields) (rest : List ℕ) (answer : Result (HistoryEntry × ℕ × ℕ) RecordFault)
+    (k : KeyFields) (l : LoggedFields) (rest : List ℕ)
+    (answer : Result (HistoryEntry × ℕ × ℕ) RecordFault)
     → IsLoggable k l → IsReadAs k (record_of l ++ rest) answer
     → (answer ≡ Ok (l.entry, l.id, length (record_of l))) ⊎ (answer ≡ Err Memory)
 
 -- A record has room for each entry of a history that a member can have.
 abbrev pub LegalHasRoom : Type 0
 LegalHasRoom =
-    (g : GenesisFields) (k : KeyFields) (before : List HistoryEntry) (e : HistoryEntry) (after : List HistoryEntry)
-    → Legal g k (before ++ e ∷ after) → HasRoom e.event
+    (g : GenesisFields) (k : KeyFields) (before : List HistoryEntry) (e : HistoryEntry)
+    (after : List HistoryEntry)
+    → Legal g k (before ++ e ∷ after) → FitsRecord e.event
 
 -- Lists of entries that have the same records are the same.
 abbrev pub OneList : Type 0
@@ -41,7 +43,8 @@ OneList =
 -- Each entry of a history that a member can have tells all of itself to that member.
 abbrev pub LegalIsLoggable : Type 0
 LegalIsLoggable =
-    (g : GenesisFields) (k : KeyFields) (before : List HistoryEntry) (e : HistoryEntry) (after : List HistoryEntry)
+    (g : GenesisFields) (k : KeyFields) (before : List HistoryEntry) (e : HistoryEntry)
+    (after : List HistoryEntry)
     (id : ℕ) → IsGenesis g → Legal g k (before ++ e ∷ after)
     → IsTyped (record { entry = e; id = id })
     → IsLoggable k (record { entry = e; id = id })

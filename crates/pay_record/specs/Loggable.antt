@@ -15,16 +15,16 @@ use Rattle.pay_resume.specs.declared.records.RecordFault.TheVariants.{Memory, No
 use Rattle.pay_record.specs.Records.{record_of}
 
 -- its value has a length that a record has room for
-abbrev pub HasRoom : Event → Type 0
-HasRoom (Ask v) = length v ≤ GREATEST_VALUE
-HasRoom (Taken c) = ⊤
-HasRoom (Query a) = ⊤
+abbrev pub FitsRecord : Event → Type 0
+FitsRecord (Ask v) = length v ≤ GREATEST_VALUE
+FitsRecord (Taken c) = ⊤
+FitsRecord (Query a) = ⊤
 
 -- a frame is within its limits, as each that was opened
-abbrev pub IsSound : Event → Type 0
-IsSound (Ask v) = ⊤
-IsSound (Taken c) = IsChecked c
-IsSound (Query a) = ⊤
+abbrev pub IsWithinLimits : Event → Type 0
+IsWithinLimits (Ask v) = ⊤
+IsWithinLimits (Taken c) = IsChecked c
+IsWithinLimits (Query a) = ⊤
 
 -- a value that a frame has room for, a frame that is for the member and rightly tagged, any account
 abbrev pub FitsEvent : KeyFields → Event → Type 0

@@ -9,10 +9,10 @@ use Rattle.pay_member.specs.declared.reply.Reply.TheVariants.{Asked, Took, Told}
 use Rattle.pay_member.specs.declared.took.Took as took
 use Rattle.pay_resume.specs.Resuming.{LoggedFields}
 
-abbrev pub code_of : Event → ℕ
-code_of (Ask v) = 1
-code_of (Taken c) = 2
-code_of (Query a) = 3
+abbrev pub kind_code : Event → ℕ
+kind_code (Ask v) = 1
+kind_code (Taken c) = 2
+kind_code (Query a) = 3
 
 abbrev pub bit_of : Bool → ℕ
 bit_of false = 0
@@ -30,14 +30,14 @@ reply_bytes (Told t) =
 
 -- What stands after the stamp: of an ask its id, its reply, its value's length and its value; of a
 -- frame its reply and all its bytes; of a query its account and its reply.
-abbrev pub fields_of : Event → ℕ → Reply → List ℕ
-fields_of (Ask v) id reply =
+abbrev pub record_fields : Event → ℕ → Reply → List ℕ
+record_fields (Ask v) id reply =
     to_be_bytes w64 id ++ reply_bytes reply ++ to_be_bytes w16 (length v) ++ v
-fields_of (Taken c) id reply = reply_bytes reply ++ frame_bytes c.frame
-fields_of (Query a) id reply = to_be_bytes w16 a ++ reply_bytes reply
+record_fields (Taken c) id reply = reply_bytes reply ++ frame_bytes c.frame
+record_fields (Query a) id reply = to_be_bytes w16 a ++ reply_bytes reply
 
 -- what it is, its stamp, and its fields
 unfoldable pub record_of : LoggedFields → List ℕ
 record_of l =
-    (code_of l.entry.event ∷ to_be_bytes w16 l.entry.stamp)
-    ++ fields_of l.entry.event l.id l.entry.reply
+    (kind_code l.entry.event ∷ to_be_bytes w16 l.entry.stamp)
+    ++ record_fields l.entry.event l.id l.entry.reply

@@ -4,12 +4,12 @@ use Rattle.std.specs.Prelude.{◌≡◌, ◌⊎◌, ℕ, List, ◌++◌}
 use Rattle.pay_link.specs.Keys.{KeyFields}
 use Rattle.pay_log.specs.Logs.{IsLog, IsStray, IsWithOrWithout}
 use Rattle.pay_member.specs.Member.{MemberFields}
-use Rattle.pay_resume.specs.Resuming.{IsOfRecords, LoggedFields, entries_of, ids_of}
+use Rattle.pay_resume.specs.Resuming.{IsOfRecords, LoggedFields, entries_of_logged, ids_of}
 use Rattle.pay_record.specs.Loggable.{IsLoggable}
 use Rattle.pay_record.specs.Records.{record_of}
 
--- A log had acknowledged payloads with the records of some entries, and was appending one with those
--- of further ones, when a crash left this file.
+-- A log had acknowledged payloads with the records of some entries, and was appending one with
+-- those of further ones, when a crash left this file.
 pub record WasWriting (k : KeyFields) (key header file : List ℕ)
     (kept further : List LoggedFields) : Type 0 where
   pub loggable : All (IsLoggable k) kept
@@ -20,7 +20,7 @@ pub record WasWriting (k : KeyFields) (key header file : List ℕ)
 
 -- A member's history is these entries, and the ids are those of the asks among them.
 pub record HasLogged (logged : List LoggedFields) (m : MemberFields) (ids : List ℕ) : Type 0 where
-  pub history : m.history ≡ entries_of logged
+  pub history : m.history ≡ entries_of_logged logged
   pub ids_are : ids ≡ ids_of logged
 
 -- A member that starts again from what a crash left has all entries that were acknowledged, and

@@ -116,7 +116,7 @@ fn read_ask(
     Ok((entry, id, ASK_LEN + usize::from(len)))
 }
 
-// A value of so many bytes.
+// A value of `len` bytes.
 fn value_in_front(alloc: Global, len: u16, bytes: &[u8]) -> Result<Bytes, RecordFault>
     ensures value { IfOk result (λ value. (length value ≡ len) × (len ≤ GREATEST_VALUE)
         × (bytes.now ≡ value ++ drop len bytes.now)) }
@@ -189,8 +189,8 @@ fn frame_in_front<T: Tagger>(
     ensures { IsFrameRead keys.now bytes.now result }
 {
     one_front();
-    laws::opened();
-    laws::owned();
+    laws::judgement_opens();
+    laws::owned_opens_again();
     let Some((frame, size)) = front(bytes) else {
         return Err(RecordFault::NoRecord);
     };
@@ -203,7 +203,7 @@ fn frame_in_front<T: Tagger>(
     }
 }
 
-// The frame in front, whoever it is for, and how many bytes it has.
+// The frame in front, to any receiver, and its length.
 fn front(bytes: &[u8]) -> Option<(FrameRef<'_>, usize)>
     ensures some { IfSome result (λ found. HasFrame bytes.now (fields_of found.0)
         × (found.1 ≡ length (frame_bytes (fields_of found.0)))) }

@@ -5,8 +5,9 @@ ghost use Rattle.std.specs.Prelude.{◌≤◌, length};
 ghost use Rattle.std.specs.Int.{w16, to_be_bytes};
 ghost use Rattle.pay_frame.specs.declared.limits.TheConstants.{GREATEST_VALUE};
 ghost use Rattle.pay_frame.specs.Frame.{frame_bytes};
-ghost use Rattle.pay_record.specs.Loggable.{HasRoom, IsSound};
-ghost use Rattle.pay_record.specs.Records.{code_of, fields_of, known_bits, record_of, reply_bytes};
+ghost use Rattle.pay_record.specs.Loggable.{FitsRecord, IsWithinLimits};
+ghost use Rattle.pay_record.specs.Records.{kind_code, record_fields, known_bits, record_of};
+ghost use Rattle.pay_record.specs.Records.{reply_bytes};
 
 use crate::limits::{ASK, FRAME, MOST_RECORD, QUERY};
 use pay_frame::{HEAD_LEN, head_into};
@@ -21,7 +22,7 @@ pub fn push_record(
     entry: &HistoryEntry,
     id: u64,
 ) -> Result<(), AllocError>
-    requires { HasRoom entry.now.event }
+    requires { FitsRecord entry.now.event }
     ensures appended { OnOk result (out.new.items
         ≡ out.old.items ++ record_of (record { entry = entry.now; id = id })) }
     ensures err { OnErr result (out.new.items ≡ out.old.items) }
@@ -34,7 +35,7 @@ pub fn push_record(
 
 #[tactic(auto, unfolding(crate::specs::Records::record_of))]
 fn encode(alloc: Global, entry: &HistoryEntry, id: u64) -> Result<Vec<u8>, AllocError>
-    requires { HasRoom entry.now.event }
+    requires { FitsRecord entry.now.event }
     ensures { IfOk result (λ bytes.
         bytes.items ≡ record_of (record { entry = entry.now; id = id })) }
 {
@@ -47,7 +48,7 @@ fn encode(alloc: Global, entry: &HistoryEntry, id: u64) -> Result<Vec<u8>, Alloc
 
 // What is for its clause alone: a frame that was opened is within its limits.
 fn is_sound(event: &Event)
-    ensures { IsSound event.now }
+    ensures { IsWithinLimits event.now }
 {
     match event {
         Event::Ask(_) | Event::Query(_) => {}
@@ -58,7 +59,7 @@ fn is_sound(event: &Event)
 }
 
 fn code_of(event: &Event) -> u8
-    ensures { result ≡ code_of event.now }
+    ensures { result ≡ kind_code event.now }
 {
     match event {
         Event::Ask(_) => ASK,
@@ -68,8 +69,8 @@ fn code_of(event: &Event) -> u8
 }
 
 fn push_fields(out: &mut Vec<u8>, event: &Event, id: u64, reply: Reply) -> Result<(), AllocError>
-    requires { HasRoom event.now }
-    ensures { OnOk result (out.new.items ≡ out.old.items ++ fields_of event.now id reply) }
+    requires { FitsRecord event.now }
+    ensures { OnOk result (out.new.items ≡ out.old.items ++ record_fields event.now id reply) }
 {
     match event {
         Event::Ask(value) => {

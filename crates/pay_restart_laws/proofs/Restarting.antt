@@ -1,4 +1,4 @@
--- Deeds that make the same histories as steps with restarts.
+-- Actions that make the same histories as steps with restarts.
 use Rattle.std.proofs.Common.{◌≡◌, ◌≢◌, inl, inr, ℕ, Bool, true, not, cond, eqb, List, [], ◌∷◌, ◌++◌, length, take, refl, sym, ap, ◌∙◌, subst, arith, append_assoc, ne_eqb}
 use Rattle.std.specs.List.{All}
 use Rattle.std.proofs.lemmas.Bool.{cases_eq}
@@ -6,12 +6,12 @@ use Rattle.std.proofs.lemmas.List.{take_at}
 use Rattle.std.proofs.lemmas.List.Elements.{All-append, All-cons, All-filter, All-nil}
 use Rattle.pay_channel.specs.History.{Event}
 use Rattle.pay_world.specs.Setting.{Setting, IsCorrect}
-use Rattle.pay_world.specs.Deeds.{Deed, member_of, adds, history_by}
-use Rattle.pay_world.specs.DeedLaws.{NoHistoryAtFirst, HistoryByOneMore, HistoriesGrow, NoDeedIsGenuine, GenuineByOneMore}
+use Rattle.pay_world.specs.Actions.{Action, member_of, adds, history_by}
+use Rattle.pay_world.specs.ActionLaws.{NoHistoryAtFirst, HistoryByOneMore, HistoriesGrow, NoActionIsGenuine, GenuineByOneMore}
 use Rattle.pay_world.specs.Genuine.{IsGenuineIn, AreGenuine}
 use Rattle.pay_world.specs.HeadlineLaws.{HeadlineHolds}
 use Rattle.pay_restart_laws.specs.Forgetting.{elsewhere, IsAmong, ForgettingIsNoLie}
-use Rattle.pay_restart_laws.specs.Restarts.{Step, Happens, Restarts, history_behind, history_through, history_by_steps, IsStepAmong, IsFair, AreFair, RestartIsNoLie, HeadlineOfRestarts}
+use Rattle.pay_restart_laws.specs.Restarts.{Step, Happens, Restarts, history_with, history_through, history_by_steps, IsStepAmong, IsFair, AreFair, RestartIsNoLie, HeadlineOfRestarts}
 use Rattle.pay_restart_laws.proofs.Forgetting.{by_push, all_front, all_back, all_last, split}
 
 -- ---- histories by steps
@@ -20,22 +20,22 @@ through_more :
     (w : Setting) (i : ℕ) (history : List Event) (steps more : List Step)
     → history_through w i history (steps ++ more) ≡ history_through w i (history_through w i history steps) more
 through_more w i history [] more = refl
-through_more w i history (s ∷ steps) more = through_more w i (history_behind w i history s) steps more
+through_more w i history (s ∷ steps) more = through_more w i (history_with w i history s) steps more
 
 steps_none : (w : Setting) (i : ℕ) → history_by_steps w [] i ≡ []
 unfolding history_by_steps
 steps_none w i = refl
 
-steps_more : (w : Setting) (steps : List Step) (s : Step) (i : ℕ) → history_by_steps w (steps ++ s ∷ []) i ≡ history_behind w i (history_by_steps w steps i) s
+steps_more : (w : Setting) (steps : List Step) (s : Step) (i : ℕ) → history_by_steps w (steps ++ s ∷ []) i ≡ history_with w i (history_by_steps w steps i) s
 unfolding history_by_steps
 steps_more w steps s i = through_more w i [] steps (s ∷ [])
 
-restart_here : (w : Setting) (k i kept : ℕ) (history : List Event) → k ≡ i → history_behind w i history (Restarts k kept) ≡ take kept history
+restart_here : (w : Setting) (k i kept : ℕ) (history : List Event) → k ≡ i → history_with w i history (Restarts k kept) ≡ take kept history
 restart_here w k i kept history is = ap (λ (b : Bool). cond b (take kept history) history) (eq_eqb is) where
   eq_eqb : k ≡ i → eqb k i ≡ true
   eq_eqb same = grind arith
 
-restart_elsewhere : (w : Setting) (k i kept : ℕ) (history : List Event) → k ≢ i → history_behind w i history (Restarts k kept) ≡ history
+restart_elsewhere : (w : Setting) (k i kept : ℕ) (history : List Event) → k ≢ i → history_with w i history (Restarts k kept) ≡ history
 restart_elsewhere w k i kept history other = ap (λ (b : Bool). cond b (take kept history) history) (ne_eqb k i other)
 
 -- ---- fair steps
@@ -46,32 +46,32 @@ fair_front w steps more are = record {
       are.each before s (after ++ more) (ap (λ (l : List Step). l ++ more) is ∙ append_assoc before (s ∷ after) more);
 }
 
--- ---- deeds that tell of steps
+-- ---- actions that tell of steps
 
 pub record Told (w : Setting) (steps : List Step) : Type 0 where
-  pub deeds : List Deed
-  pub genuine : AreGenuine w deeds
-  pub same : (i : ℕ) → history_by w deeds i ≡ history_by_steps w steps i
-  pub among : (k : ℕ) (history : List Event) → All (IsStepAmong w k history) steps → All (IsAmong w k history) deeds
+  pub actions : List Action
+  pub genuine : AreGenuine w actions
+  pub same : (i : ℕ) → history_by w actions i ≡ history_by_steps w steps i
+  pub among : (k : ℕ) (history : List Event) → All (IsStepAmong w k history) steps → All (IsAmong w k history) actions
 
-module _ (no_history : NoHistoryAtFirst) (one_more : HistoryByOneMore) (grow : HistoriesGrow) (none_genuine : NoDeedIsGenuine)
+module _ (no_history : NoHistoryAtFirst) (one_more : HistoryByOneMore) (grow : HistoriesGrow) (none_genuine : NoActionIsGenuine)
     (genuine_more : GenuineByOneMore) (forgets : ForgettingIsNoLie) (w : Setting) where
   told_none : Told w []
   told_none = record {
-    deeds = [];
+    actions = [];
     genuine = none_genuine w;
     same = λ i. no_history w i ∙ sym (steps_none w i);
     among = λ k history all. All-nil (IsAmong w k history);
   }
 
-  told_deed : (steps : List Step) (d : Deed) → IsGenuineIn w (history_by_steps w steps) d → Told w steps → Told w (steps ++ Happens d ∷ [])
-  told_deed steps d genuine t = record {
-    deeds = t.deeds ++ d ∷ [];
-    genuine = genuine_more w t.deeds d t.genuine (subst (λ (h : ℕ → List Event). IsGenuineIn w h d) (λ j i. sym (t.same i) j) genuine);
+  told_action : (steps : List Step) (d : Action) → IsGenuineIn w (history_by_steps w steps) d → Told w steps → Told w (steps ++ Happens d ∷ [])
+  told_action steps d genuine t = record {
+    actions = t.actions ++ d ∷ [];
+    genuine = genuine_more w t.actions d t.genuine (subst (λ (h : ℕ → List Event). IsGenuineIn w h d) (λ j i. sym (t.same i) j) genuine);
     same = λ i.
-        one_more w t.deeds d i ∙ ap (λ (h : List Event). h ++ adds w i h d) (t.same i) ∙ sym (steps_more w steps (Happens d) i);
+        one_more w t.actions d i ∙ ap (λ (h : List Event). h ++ adds w i h d) (t.same i) ∙ sym (steps_more w steps (Happens d) i);
     among = λ k history all.
-        All-append (IsAmong w k history) t.deeds (d ∷ [])
+        All-append (IsAmong w k history) t.actions (d ∷ [])
         (t.among k history (all_front (IsStepAmong w k history) steps (Happens d ∷ []) all))
         (All-cons (IsAmong w k history) d [] (all_last (IsStepAmong w k history) steps (Happens d) all) (All-nil (IsAmong w k history)));
   }
@@ -80,36 +80,36 @@ module _ (no_history : NoHistoryAtFirst) (one_more : HistoryByOneMore) (grow : H
       (steps : List Step) (k kept : ℕ) → (IsCorrect w k → All (IsStepAmong w k (take kept (history_by_steps w steps k))) steps)
       → Told w steps → Told w (steps ++ Restarts k kept ∷ [])
   told_restart steps k kept known t =
-      let s = split no_history one_more grow w k kept t.deeds in
+      let s = split no_history one_more grow w k kept t.actions in
       let kept_is : history_by w s.first k ≡ take kept (history_by_steps w steps k) = s.history ∙ ap (take kept) (t.same k) in
       let are : AreGenuine w (s.first ++ s.later) = subst (AreGenuine w) s.is t.genuine in
       let later_known : IsCorrect w k → All (IsAmong w k (history_by w s.first k)) s.later =
       λ ck.
       subst (λ (h : List Event). All (IsAmong w k h) s.later) (sym kept_is)
       (all_back (IsAmong w k (take kept (history_by_steps w steps k))) s.first s.later
-      (subst (λ (l : List Deed). All (IsAmong w k (take kept (history_by_steps w steps k))) l) s.is
+      (subst (λ (l : List Action). All (IsAmong w k (take kept (history_by_steps w steps k))) l) s.is
       (t.among k (take kept (history_by_steps w steps k)) (known ck)))) in
       let forgot = forgets w s.first s.later k are later_known in
       record {
-        deeds = s.first ++ elsewhere k s.later;
+        actions = s.first ++ elsewhere k s.later;
         genuine = forgot.0;
         same = λ i. elim (cases_eq k i) [
           | inl here ↦
               let P : ℕ → Type 0 = λ p. history_by w (s.first ++ elsewhere k s.later) p ≡ take kept (history_by_steps w steps p) in
               subst P here (forgot.1 ∙ kept_is) ∙ sym (restart_here w k i kept (history_by_steps w steps i) here) ∙ sym (steps_more w steps (Restarts k kept) i)
           | inr other ↦
-              forgot.2 i (λ is. other (sym is)) ∙ ap (λ (l : List Deed). history_by w l i) (sym s.is) ∙ t.same i
+              forgot.2 i (λ is. other (sym is)) ∙ ap (λ (l : List Action). history_by w l i) (sym s.is) ∙ t.same i
               ∙ sym (restart_elsewhere w k i kept (history_by_steps w steps i) other) ∙ sym (steps_more w steps (Restarts k kept) i)
         ];
         among = λ j history all.
             let P = IsAmong w j history in
             let every : All P (s.first ++ s.later) = subst (All P) s.is (t.among j history (all_front (IsStepAmong w j history) steps (Restarts k kept ∷ []) all)) in
             All-append P s.first (elsewhere k s.later) (all_front P s.first s.later every)
-            (All-filter (λ (d : Deed). not (eqb (member_of d) k)) P s.later (all_back P s.first s.later every));
+            (All-filter (λ (d : Action). not (eqb (member_of d) k)) P s.later (all_back P s.first s.later every));
       }
 
   told_step : (steps : List Step) (s : Step) → IsFair w steps s → Told w steps → Told w (steps ++ s ∷ [])
-  told_step steps (Happens d) fair t = told_deed steps d fair t
+  told_step steps (Happens d) fair t = told_action steps d fair t
   told_step steps (Restarts k kept) fair t = told_restart steps k kept fair t
 
   IsTold : List Step → Type 0
@@ -121,9 +121,9 @@ module _ (no_history : NoHistoryAtFirst) (one_more : HistoryByOneMore) (grow : H
     step : (steps : List Step) (s : Step) → IsTold steps → IsTold (steps ++ s ∷ [])
     step steps s before are = told_step steps s (are.each steps s [] refl) (before (fair_front w steps (s ∷ []) are))
 
-pub restarting : NoHistoryAtFirst → HistoryByOneMore → HistoriesGrow → NoDeedIsGenuine → GenuineByOneMore → ForgettingIsNoLie → RestartIsNoLie
+pub restarting : NoHistoryAtFirst → HistoryByOneMore → HistoriesGrow → NoActionIsGenuine → GenuineByOneMore → ForgettingIsNoLie → RestartIsNoLie
 restarting none more grow none_genuine genuine_more forgets w steps are =
-    let t = told none more grow none_genuine genuine_more forgets w steps are in (t.deeds, t.genuine, t.same)
+    let t = told none more grow none_genuine genuine_more forgets w steps are in (t.actions, t.genuine, t.same)
 
 -- ---- the headline
 

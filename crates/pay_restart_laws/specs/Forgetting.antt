@@ -3,27 +3,28 @@ use Rattle.std.specs.Prelude.{◌≡◌, ◌≢◌, ℕ, ◌<◌, ◌==◌, not,
 use Rattle.std.specs.List.{All, filter}
 use Rattle.pay_channel.specs.History.{Event, out}
 use Rattle.pay_world.specs.Setting.{Setting, group_at, IsCorrect}
-use Rattle.pay_world.specs.Deeds.{Deed, Asks, Brings, member_of, history_by}
+use Rattle.pay_world.specs.Actions.{Action, Asks, Brings, member_of, history_by}
 use Rattle.pay_world.specs.Genuine.{AreGenuine}
 
--- the deeds that happen to others than member k
-abbrev pub elsewhere : ℕ → List Deed → List Deed
-elsewhere k deeds = filter (λ d. not (member_of d == k)) deeds
+-- the actions that happen to others than member k
+abbrev pub elsewhere : ℕ → List Action → List Action
+elsewhere k actions = filter (λ d. not (member_of d == k)) actions
 
 -- If it is a frame of member k, brought to a correct member, it is among all that k sent by this
 -- history.
-abbrev pub IsAmong : Setting → ℕ → List Event → Deed → Type 0
+abbrev pub IsAmong : Setting → ℕ → List Event → Action → Type 0
 IsAmong w k history (Asks j v) = ⊤
 IsAmong w k history (Brings j from number body) =
     from ≡ k → IsCorrect w j → number < length (out (group_at w k) history)
 
--- Member k has what it took by the first deeds, and lost what it took by the later ones. The deeds
--- without those that it lost have no forged frame if there was none before, nobody else has another
--- history by them, and k has what it kept.
+-- Member k has what it took by the first actions, and lost what it took by the later ones. The
+-- actions without those that it lost have no forged frame if there was none before, nobody else has
+-- another history by them, and k has what it kept.
 abbrev pub ForgettingIsNoLie : Type 0
 ForgettingIsNoLie =
-    (w : Setting) (first later : List Deed) (k : ℕ) → AreGenuine w (first ++ later)
+    (w : Setting) (first later : List Action) (k : ℕ) → AreGenuine w (first ++ later)
     → (IsCorrect w k → All (IsAmong w k (history_by w first k)) later)
     → AreGenuine w (first ++ elsewhere k later)
     × (history_by w (first ++ elsewhere k later) k ≡ history_by w first k)
-    × ((i : ℕ) → i ≢ k → history_by w (first ++ elsewhere k later) i ≡ history_by w (first ++ later) i)
+    × ((i : ℕ) → i ≢ k
+    → history_by w (first ++ elsewhere k later) i ≡ history_by w (first ++ later) i)

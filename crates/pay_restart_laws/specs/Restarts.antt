@@ -5,24 +5,24 @@ use Rattle.std.specs.List.{All}
 use Rattle.pay_channel.specs.Prefix.{IsPrefix}
 use Rattle.pay_channel.specs.History.{Event}
 use Rattle.pay_world.specs.Setting.{Setting, IsCorrect, HasFewFaulty}
-use Rattle.pay_world.specs.Deeds.{Deed, adds, history_by}
+use Rattle.pay_world.specs.Actions.{Action, adds, history_by}
 use Rattle.pay_world.specs.Genuine.{IsGenuineIn, AreGenuine}
 use Rattle.pay_world.specs.Headline.{Headline}
 use Rattle.pay_restart_laws.specs.Forgetting.{IsAmong}
 
--- A deed happens, or a member starts again with so many of its events, and lost the later ones.
+-- An action happens, or a member starts again with so many of its events, and lost the later ones.
 pub data Step : Type 0 where
-  Happens : Deed → Step
+  Happens : Action → Step
   Restarts : ℕ → ℕ → Step
 
 -- the history of member i after a step
-abbrev pub history_behind : Setting → ℕ → List Event → Step → List Event
-history_behind w i history (Happens d) = history ++ adds w i history d
-history_behind w i history (Restarts k kept) = if k == i then take kept history else history
+abbrev pub history_with : Setting → ℕ → List Event → Step → List Event
+history_with w i history (Happens d) = history ++ adds w i history d
+history_with w i history (Restarts k kept) = if k == i then take kept history else history
 
 abbrev pub history_through : Setting → ℕ → List Event → List Step → List Event
 history_through w i history [] = history
-history_through w i history (s ∷ steps) = history_through w i (history_behind w i history s) steps
+history_through w i history (s ∷ steps) = history_through w i (history_with w i history s) steps
 
 -- The history of each member by these steps.
 unfoldable pub history_by_steps : Setting → List Step → ℕ → List Event
@@ -32,8 +32,8 @@ abbrev pub IsStepAmong : Setting → ℕ → List Event → Step → Type 0
 IsStepAmong w k history (Happens d) = IsAmong w k history d
 IsStepAmong w k history (Restarts j kept) = ⊤
 
--- A deed is genuine. A correct member that starts again has all that it sent to correct members, as
--- far as that came.
+-- An action is genuine. A correct member that starts again has all that it sent to correct members,
+-- as far as that came.
 abbrev pub IsFair : Setting → List Step → Step → Type 0
 IsFair w before (Happens d) = IsGenuineIn w (history_by_steps w before) d
 IsFair w before (Restarts k kept) =
@@ -45,20 +45,20 @@ pub record AreFair (w : Setting) (steps : List Step) : Type 0 where
       (before : List Step) (s : Step) (after : List Step) → steps ≡ before ++ s ∷ after
       → IsFair w before s
 
--- There are deeds, none of them a forged frame, by which each member has the history that it has by
--- these steps.
+-- There are actions, none of them a forged frame, by which each member has the history that it has
+-- by these steps.
 abbrev pub RestartIsNoLie : Type 0
 RestartIsNoLie =
     (w : Setting) (steps : List Step) → AreFair w steps
-    → (deeds : List Deed) × AreGenuine w deeds
-    × ((i : ℕ) → history_by w deeds i ≡ history_by_steps w steps i)
+    → (actions : List Action) × AreGenuine w actions
+    × ((i : ℕ) → history_by w actions i ≡ history_by_steps w steps i)
 
--- The headline holds of such deeds, and each beginning of a history that nobody lost is the one by
--- a beginning of them.
+-- The headline holds of such actions, and each beginning of a history that nobody lost is the one
+-- by a beginning of them.
 abbrev pub HeadlineOfRestarts : Type 0
 HeadlineOfRestarts =
     (w : Setting) (opening : List ℕ) (steps : List Step) → HasFewFaulty w → AreFair w steps
-    → (deeds : List Deed) × Headline w opening deeds
-    × ((i : ℕ) → history_by w deeds i ≡ history_by_steps w steps i)
+    → (actions : List Action) × Headline w opening actions
+    × ((i : ℕ) → history_by w actions i ≡ history_by_steps w steps i)
     × ((i : ℕ) (history : List Event) → IsPrefix history (history_by_steps w steps i)
-    → (one : List Deed) × IsPrefix one deeds × (history_by w one i ≡ history))
+    → (one : List Action) × IsPrefix one actions × (history_by w one i ≡ history))

@@ -4,24 +4,26 @@
 ghost use Rattle.std.specs.Prelude.{◌≡◌, [], ◌∷◌, ◌++◌};
 ghost use Rattle.pay_frame.specs.declared.kind.Kind.TheVariants.{Send};
 ghost use Rattle.pay_channel.specs.History.{From, body_of};
-ghost use Rattle.pay_world.specs.Examples.{A, B, four};
+ghost use Rattle.pay_world.specs.Examples.{A, B, setting_of_four};
 ghost use Rattle.pay_restart_laws.specs.Restarts.{Restarts, IsFair, history_by_steps};
-ghost use Rattle.pay_restart_laws.specs.Examples.{asked, told, asked_again};
+ghost use Rattle.pay_restart_laws.specs.Examples.{ask_steps, told_steps, asked_again};
 
 /// Member 0 was asked for a value of which nobody was told. It may lose that.
 pub fn nothing_was_told()
-    ensures fair { IsFair four asked (Restarts 0 0) }
-    ensures lost { history_by_steps four (asked ++ Restarts 0 0 ∷ []) 0 ≡ [] }
+    ensures fair { IsFair setting_of_four ask_steps (Restarts 0 0) }
+    ensures lost { history_by_steps setting_of_four (ask_steps ++ Restarts 0 0 ∷ []) 0 ≡ [] }
 {}
 
 /// Once member 1 was told of it, member 0 may start again with its ask, and not without it.
 pub fn one_was_told()
-    ensures kept { IsFair four told (Restarts 0 1) }
-    ensures lost { IsFair four told (Restarts 0 0) → ⊥ }
+    ensures kept { IsFair setting_of_four told_steps (Restarts 0 1) }
+    ensures lost { IsFair setting_of_four told_steps (Restarts 0 0) → ⊥ }
 {}
 
 /// Without it two correct members are told two values under one number.
 pub fn two_values_of_one_member()
-    ensures one { history_by_steps four (told ++ asked_again) 1 ≡ From 0 (body_of Send 0 0 A) ∷ [] }
-    ensures two { history_by_steps four (told ++ asked_again) 2 ≡ From 0 (body_of Send 0 0 B) ∷ [] }
+    ensures one { history_by_steps setting_of_four (told_steps ++ asked_again) 1
+        ≡ From 0 (body_of Send 0 0 A) ∷ [] }
+    ensures two { history_by_steps setting_of_four (told_steps ++ asked_again) 2
+        ≡ From 0 (body_of Send 0 0 B) ∷ [] }
 {}

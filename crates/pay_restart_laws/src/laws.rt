@@ -5,26 +5,26 @@ ghost use Rattle.pay_restart_laws.specs.Forgetting.{ForgettingIsNoLie};
 ghost use Rattle.pay_restart_laws.specs.Restarts.{RestartIsNoLie, HeadlineOfRestarts};
 
 use pay_channel::laws::grow_at_the_end;
-use pay_world::laws::{genuine_deeds, headline, histories_by_deeds};
+use pay_world::laws::{genuine_actions, headline, histories_by_actions};
 
 /// A member loses what it took after a beginning of its history. Where no frame of it beyond that
-/// was brought to a correct member, the deeds without those that it lost are deeds in which no
+/// was brought to a correct member, the actions without those that it lost are actions in which no
 /// frame is forged, and nobody else's history is another.
 pub fn forgetting_is_no_lie()
     ensures { ForgettingIsNoLie }
 {
-    histories_by_deeds();
-    genuine_deeds();
+    histories_by_actions();
+    genuine_actions();
     grow_at_the_end();
 }
 
-/// So it is however often and whichever members start again: there are deeds without a restart,
+/// So it is however often and whichever members start again: there are actions without a restart,
 /// none of them a forged frame, by which each member has the history that it has.
 pub fn restart_is_no_lie()
     ensures { RestartIsNoLie }
 {
-    histories_by_deeds();
-    genuine_deeds();
+    histories_by_actions();
+    genuine_actions();
     forgetting_is_no_lie();
 }
 
@@ -32,7 +32,7 @@ pub fn restart_is_no_lie()
 pub fn headline_of_restarts()
     ensures { HeadlineOfRestarts }
 {
-    histories_by_deeds();
+    histories_by_actions();
     restart_is_no_lie();
     headline();
 }

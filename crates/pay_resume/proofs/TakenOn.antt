@@ -7,14 +7,14 @@ use Rattle.std.proofs.lemmas.List.Elements.{All-append, All-cons, All-nil, filte
 use Rattle.pay_member.specs.declared.entry.HistoryEntry.{HistoryEntry}
 use Rattle.pay_member.specs.Member.{MemberFields, with_entry}
 use Rattle.pay_log.specs.Sinks.{TakesAll}
-use Rattle.pay_resume.specs.Resuming.{HasTaken, IsOfRecords, IsRefusedAt, IsTaking, LoggedFields, entries_of, id_by, ids_of}
+use Rattle.pay_resume.specs.Resuming.{HasResumed, IsOfRecords, IsRefusedAt, IsTaking, LoggedFields, entries_of_logged, id_by, ids_of}
 
 one_or_none : (o : Option ℕ) → filter_map (λ (x : Option ℕ). x) (o ∷ []) ≡ option_to_list o
 one_or_none None = refl
 one_or_none (Some y) = refl
 
 module _ (record_of : LoggedFields → List ℕ) (IsLoggable : LoggedFields → Type 0) where
-  pub nothing_taken : (m : MemberFields) (ids : List ℕ) → HasTaken record_of IsLoggable m m ids ids []
+  pub nothing_taken : (m : MemberFields) (ids : List ℕ) → HasResumed record_of IsLoggable m m ids ids []
   nothing_taken m ids = record {
     more = [];
     loggable = All-nil IsLoggable;
@@ -24,14 +24,14 @@ module _ (record_of : LoggedFields → List ℕ) (IsLoggable : LoggedFields → 
   }
 
   pub taken_on :
-      (old mid new : MemberFields) (a b c : List ℕ) (bytes more : List ℕ) → HasTaken record_of IsLoggable old mid a b bytes → HasTaken record_of IsLoggable mid new b c more
-      → HasTaken record_of IsLoggable old new a c (bytes ++ more)
+      (old mid new : MemberFields) (a b c : List ℕ) (bytes more : List ℕ) → HasResumed record_of IsLoggable old mid a b bytes → HasResumed record_of IsLoggable mid new b c more
+      → HasResumed record_of IsLoggable old new a c (bytes ++ more)
   taken_on old mid new a b c bytes more one two = record {
     more = one.more ++ two.more;
     loggable = All-append IsLoggable one.more two.more one.loggable two.loggable;
-    grown = two.grown ∙ ap (λ (m : MemberFields). record m { history = m.history ++ entries_of two.more }) one.grown
+    grown = two.grown ∙ ap (λ (m : MemberFields). record m { history = m.history ++ entries_of_logged two.more }) one.grown
         ∙ ap (λ (h : List HistoryEntry). record old { history = h })
-        (append_assoc old.history (entries_of one.more) (entries_of two.more) ∙ ap (λ (h : List HistoryEntry). old.history ++ h) (sym (map-append (λ (l : LoggedFields). l.entry) one.more two.more)));
+        (append_assoc old.history (entries_of_logged one.more) (entries_of_logged two.more) ∙ ap (λ (h : List HistoryEntry). old.history ++ h) (sym (map-append (λ (l : LoggedFields). l.entry) one.more two.more)));
     ids = two.ids ∙ ap (λ (l : List ℕ). l ++ ids_of two.more) one.ids ∙ append_assoc a (ids_of one.more) (ids_of two.more)
         ∙ ap (λ (l : List ℕ). a ++ l) (sym (filter_map-append (λ (l : LoggedFields). id_by l.entry.event l.id) one.more two.more));
     records = flat_map-append record_of one.more two.more ∙ ap (λ (l : List ℕ). l ++ flat_map record_of two.more) one.records ∙ ap (λ (l : List ℕ). bytes ++ l) two.records;
@@ -39,7 +39,7 @@ module _ (record_of : LoggedFields → List ℕ) (IsLoggable : LoggedFields → 
 
   pub one_taken :
       (old new : MemberFields) (a b : List ℕ) (l : LoggedFields) → new ≡ with_entry old l.entry → b ≡ a ++ option_to_list (id_by l.entry.event l.id) → IsLoggable l
-      → HasTaken record_of IsLoggable old new a b (record_of l)
+      → HasResumed record_of IsLoggable old new a b (record_of l)
   one_taken old new a b l is ids loggable = record {
     more = l ∷ [];
     loggable = All-cons IsLoggable l [] loggable (All-nil IsLoggable);
@@ -57,28 +57,28 @@ pub all_taken :
     (record_of : R → LoggedFields → List ℕ) (IsLoggable : R → LoggedFields → Type 0)
     → ((a b : S) (p : List ℕ) → takes a b p → records b ≡ records a)
     → ((a b : S) (p : List ℕ) → takes a b p
-    → HasTaken (record_of (records a)) (IsLoggable (records a)) (member a) (member b) (ids a) (ids b) p)
+    → HasResumed (record_of (records a)) (IsLoggable (records a)) (member a) (member b) (ids a) (ids b) p)
     → TakesAll takes old new ps
-    → HasTaken (record_of (records old)) (IsLoggable (records old)) (member old) (member new) (ids old) (ids new) (flat_map (λ p. p) ps)
+    → HasResumed (record_of (records old)) (IsLoggable (records old)) (member old) (member new) (ids old) (ids new) (flat_map (λ p. p) ps)
 all_taken new old [] takes member ids records record_of IsLoggable stay one same =
-    subst (λ s. HasTaken (record_of (records old)) (IsLoggable (records old)) (member old) (member s) (ids old) (ids s) []) (sym same)
+    subst (λ s. HasResumed (record_of (records old)) (IsLoggable (records old)) (member old) (member s) (ids old) (ids s) []) (sym same)
     (nothing_taken (record_of (records old)) (IsLoggable (records old)) (member old) (ids old))
 all_taken new old (p ∷ ps) takes member ids records record_of IsLoggable stay one all =
     let mid = all.0 in
     let rest = all_taken new mid ps takes member ids records record_of IsLoggable stay one all.2 in
     taken_on (record_of (records old)) (IsLoggable (records old)) (member old) (member mid) (member new) (ids old) (ids mid) (ids new) p (flat_map (λ q. q) ps)
     (one old mid p all.1)
-    (subst (λ r. HasTaken (record_of r) (IsLoggable r) (member mid) (member new) (ids mid) (ids new) (flat_map (λ q. q) ps)) (stay old mid p all.1) rest)
+    (subst (λ r. HasResumed (record_of r) (IsLoggable r) (member mid) (member new) (ids mid) (ids new) (flat_map (λ q. q) ps)) (stay old mid p all.1) rest)
 
 -- of a member that had taken nothing
 pub of_records :
     (record_of : LoggedFields → List ℕ) (IsLoggable : LoggedFields → Type 0) (old new : MemberFields) (ids : List ℕ) (ps : List (List ℕ))
-    → old.history ≡ [] → HasTaken record_of IsLoggable old new [] ids (flat_map (λ p. p) ps)
+    → old.history ≡ [] → HasResumed record_of IsLoggable old new [] ids (flat_map (λ p. p) ps)
     → IsOfRecords record_of IsLoggable new ids ps
 of_records record_of IsLoggable old new ids ps fresh taken = record {
   logged = taken.more;
   loggable = taken.loggable;
-  history = ap (λ (m : MemberFields). m.history) taken.grown ∙ ap (λ (h : List HistoryEntry). h ++ entries_of taken.more) fresh;
+  history = ap (λ (m : MemberFields). m.history) taken.grown ∙ ap (λ (h : List HistoryEntry). h ++ entries_of_logged taken.more) fresh;
   ids_are = taken.ids;
   records = taken.records;
 }
@@ -95,7 +95,7 @@ refused_at record_of IsLoggable old mid a b bytes rest number taking counted = r
     arith,
     counted,
     ap (λ (m : MemberFields). length m.history) taking.taken.grown,
-    length-append old.history (entries_of taking.taken.more),
+    length-append old.history (entries_of_logged taking.taken.more),
     length-map taking.taken.more (λ (l : LoggedFields). l.entry),
   );
 }

@@ -6,7 +6,7 @@ use Rattle.pay_member.specs.declared.event.Event.TheVariants.{Ask, Taken, Query}
 use Rattle.pay_member.specs.declared.entry.HistoryEntry.{HistoryEntry}
 use Rattle.pay_member.specs.Member.{MemberFields}
 use Rattle.pay_log.specs.declared.log.Log.{Log}
-use Rattle.pay_log.specs.Logs.{IsLog, IsSettled}
+use Rattle.pay_log.specs.Logs.{IsLog, IsSynced}
 
 -- an entry as it stands in a log: with the id under which its owner asked for it, if it is an ask
 pub record LoggedFields : Type 0 where
@@ -23,16 +23,16 @@ id_by (Query a) id = None
 abbrev pub ids_of : List LoggedFields → List ℕ
 ids_of logged = filter_map (λ l. id_by l.entry.event l.id) logged
 
-abbrev pub entries_of : List LoggedFields → List HistoryEntry
-entries_of logged = map (λ l. l.entry) logged
+abbrev pub entries_of_logged : List LoggedFields → List HistoryEntry
+entries_of_logged logged = map (λ l. l.entry) logged
 
 -- The member's history has grown by the entries whose records these bytes are, and the ids by those
 -- of the asks.
-pub record HasTaken (record_of : LoggedFields → List ℕ) (IsLoggable : LoggedFields → Type 0)
+pub record HasResumed (record_of : LoggedFields → List ℕ) (IsLoggable : LoggedFields → Type 0)
     (old new : MemberFields) (old_ids new_ids : List ℕ) (bytes : List ℕ) : Type 0 where
   pub more : List LoggedFields
   pub loggable : All IsLoggable more
-  pub grown : new ≡ record old { history = old.history ++ entries_of more }
+  pub grown : new ≡ record old { history = old.history ++ entries_of_logged more }
   pub ids : new_ids ≡ old_ids ++ ids_of more
   pub records : flat_map record_of more ≡ bytes
 
@@ -40,7 +40,7 @@ pub record HasTaken (record_of : LoggedFields → List ℕ) (IsLoggable : Logged
 pub record IsTaking (record_of : LoggedFields → List ℕ) (IsLoggable : LoggedFields → Type 0)
     (old new : MemberFields) (old_ids new_ids bytes rest : List ℕ) : Type 0 where
   pub done : List ℕ
-  pub taken : HasTaken record_of IsLoggable old new old_ids new_ids done
+  pub taken : HasResumed record_of IsLoggable old new old_ids new_ids done
   pub is : bytes ≡ done ++ rest
 
 -- A record isn't what the member has there: so many entries were taken before it.
@@ -51,13 +51,13 @@ pub record IsRefusedAt (record_of : LoggedFields → List ℕ) (old : MemberFiel
   pub is : bytes ≡ flat_map record_of before ++ rest
   pub counted : length old.history + length before ≡ number
 
--- A member and the ids of its asks are those of the records in these payloads, each of an entry that
--- a record tells all of.
+-- A member and the ids of its asks are those of the records in these payloads, each of an entry
+-- that a record tells all of.
 pub record IsOfRecords (record_of : LoggedFields → List ℕ) (IsLoggable : LoggedFields → Type 0)
     (m : MemberFields) (ids : List ℕ) (ps : List (List ℕ)) : Type 0 where
   pub logged : List LoggedFields
   pub loggable : All IsLoggable logged
-  pub history : m.history ≡ entries_of logged
+  pub history : m.history ≡ entries_of_logged logged
   pub ids_are : ids ≡ ids_of logged
   pub records : flat_map record_of logged ≡ flat_map (λ p. p) ps
 
@@ -69,4 +69,4 @@ pub record IsResumed {D : Type 0} (is_known : D → Type 0) (seen : D → List �
   pub ps : List (List ℕ)
   pub was : IsLog log.key header file ps
   pub records : IsOfRecords record_of IsLoggable m ids ps
-  pub settled : IsSettled is_known seen may_leave log header ps
+  pub settled : IsSynced is_known seen may_leave log header ps

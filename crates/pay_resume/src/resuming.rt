@@ -4,7 +4,7 @@ ghost use Rattle.std.specs.Prelude.{◌≡◌, ℕ, List, IfOk};
 ghost use Rattle.pay_link.specs.Keys.{IsKeysOf};
 ghost use Rattle.pay_log.specs.Headers.{header_bytes};
 ghost use Rattle.pay_log.specs.Recovery.{opened_log};
-ghost use Rattle.pay_resume.specs.Resuming.{HasTaken, IsOfRecords, IsResumed};
+ghost use Rattle.pay_resume.specs.Resuming.{HasResumed, IsOfRecords, IsResumed};
 
 use crate::records::Records;
 use crate::taking::take_payload;
@@ -25,7 +25,7 @@ struct Resuming<'a, I: Instance + Drop, B: Settle + Drop, R> {
 
 impl<I: Instance + Drop, B: Settle + Drop, R: Records> Sink for Resuming<'_, I, B, R> {
     ghost takes = { λ old new payload. (new.records ≡ old.records)
-        × HasTaken (R.record_of old.records.now) (R.is_loggable old.records.now)
+        × HasResumed (R.record_of old.records.now) (R.is_loggable old.records.now)
         old.member new.member old.ids.items new.ids.items payload };
 
     fn take(&mut self, alloc: Global, payload: &[u8]) -> Result<(), Refused> {

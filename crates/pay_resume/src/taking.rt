@@ -4,7 +4,7 @@ ghost use Rattle.std.specs.Prelude.{◌≡◌, ◌++◌, ◌≤◌, ℕ, IfOk, O
 ghost use Rattle.std.specs.Bool.{OnTrue};
 ghost use Rattle.std.specs.Option.{option_to_list};
 ghost use Rattle.pay_member.specs.Member.{with_entry};
-ghost use Rattle.pay_resume.specs.Resuming.{HasTaken, IsRefusedAt, id_by};
+ghost use Rattle.pay_resume.specs.Resuming.{HasResumed, IsRefusedAt, id_by};
 
 use crate::records::{RecordFault, Records};
 use pay_book::Settle;
@@ -22,7 +22,7 @@ pub(crate) fn take_payload<I: Instance + Drop, B: Settle + Drop, R: Records>(
     ids: &mut Vec<u64>,
     payload: &[u8],
 ) -> Result<(), Refused>
-    ensures taken { OnOk result (HasTaken (R.record_of records.now) (R.is_loggable records.now)
+    ensures taken { OnOk result (HasResumed (R.record_of records.now) (R.is_loggable records.now)
         member.old member.new ids.old.items ids.new.items payload.now) }
     ensures refused { (number : ℕ) → result ≡ Err (Refused.Record number) →
         IsRefusedAt (R.record_of records.now) member.old payload.now number }
@@ -55,7 +55,7 @@ fn note(ids: &mut Vec<u64>, entry: &HistoryEntry, id: u64) -> Result<(), AllocEr
     }
 }
 
-// What stands after so many bytes.
+// The bytes after the first `len`.
 fn behind(bytes: &[u8], len: usize) -> &[u8]
     requires { len ≤ length bytes.now }
     ensures { result.now ≡ drop len bytes.now }

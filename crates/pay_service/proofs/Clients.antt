@@ -4,8 +4,8 @@ use Rattle.std.specs.Prelude.{Option, Result, IfOk}
 use Rattle.std.specs.Io.KnownBytes.{IsAtEnd}
 use Rattle.pay_io.specs.declared.stream_fault.StreamFault.{StreamFault}
 use Rattle.pay_text.specs.declared.answerer.Answer.{Answer}
-use Rattle.pay_text.specs.Answers.{Answers, Either, bytes_of}
-use Rattle.pay_text.specs.Engine.{Writes}
+use Rattle.pay_text.specs.Answers.{Answers, Either, text_bytes}
+use Rattle.pay_text.specs.Engine.{WritesByEnd}
 use Rattle.pay_text.specs.Lines.{lines_within}
 use Rattle.pay_desk.specs.declared.command.TheConstants.{MOST_LINE}
 use Rattle.pay_desk.specs.declared.desk.Desk.{Desk}
@@ -15,8 +15,8 @@ use Rattle.pay_service.specs.Service.{Someone, SomeoneSays, ClientSays, WritesCl
 
 -- a line answered by a desk of the service
 pub client_said : {T E : Type 0} (says : T → Call → TellerReply → T → Type 0) (IsDesk : Desk T → Type 0) (result : Result Answer E) (old new : Desk T) (line : Option (List ℕ))
-    → IsDesk old → IfOk result (λ a. DeskSays says old line (bytes_of a.text) a.goes_on new) → IsDesk new
-    → IfOk result (λ a. ClientSays says IsDesk line (bytes_of a.text) a.goes_on)
+    → IsDesk old → IfOk result (λ a. DeskSays says old line (text_bytes a.text) a.goes_on new) → IsDesk new
+    → IfOk result (λ a. ClientSays says IsDesk line (text_bytes a.text) a.goes_on)
 client_said says IsDesk (Ok a) old new line was answer is = record { old = old; new = new; was = was; answer = answer; is = is }
 client_said says IsDesk (Err e) old new line was answer is = tt
 
@@ -37,7 +37,7 @@ module _ {T C : Type 0} (says : T → Call → TellerReply → T → Type 0) (Is
   goes_on (line ∷ lines) a last text on (first, rest, false, mid, said, parts, after) = absurd (let bad : false ≡ true = said.answer.on in cc)
 
   -- an engine that ended well came to the input's end
-  pub served : (gives_up : C → C → Type 0) (old new : C) (input left before after : Option (List ℕ)) (on : Bool) → Writes by_client gives_up MOST_LINE old new input left before after (Ok on)
+  pub served : (gives_up : C → C → Type 0) (old new : C) (input left before after : Option (List ℕ)) (on : Bool) → WritesByEnd by_client gives_up MOST_LINE old new input left before after (Ok on)
       → WritesClientsAnswers says IsDesk input left before after (Ok tt)
   served gives_up old new None left before after on (all, end) = tt
   served gives_up old new (Some bytes) left before after on (all, end) =
@@ -47,7 +47,7 @@ module _ {T C : Type 0} (says : T → Call → TellerReply → T → Type 0) (Is
         subst (λ (b : Bool). Either b (IsAtEnd left) Unit) e end,
       )
 
-  pub broken_off : (gives_up : C → C → Type 0) (old new : C) (input left before after : Option (List ℕ)) (fault : StreamFault) → Writes by_client gives_up MOST_LINE old new input left before after (Err fault)
+  pub broken_off : (gives_up : C → C → Type 0) (old new : C) (input left before after : Option (List ℕ)) (fault : StreamFault) → WritesByEnd by_client gives_up MOST_LINE old new input left before after (Err fault)
       → WritesClientsAnswers says IsDesk input left before after (Err fault)
   broken_off gives_up old new None left before after fault nothing = tt
   broken_off gives_up old new (Some bytes) left before after fault w =

@@ -2,7 +2,7 @@
 use Rattle.std.proofs.Common.{◌≡◌, ℕ, Bool, true, false, List, [], ◌∷◌, ◌++◌, append-nil, append_assoc, refl, sym, ap, ◌∙◌, subst, Ok, Err}
 use Rattle.std.specs.Prelude.{Option, Result, IfOk, OnErr}
 use Rattle.pay_text.specs.declared.answerer.Answer.{Answer}
-use Rattle.pay_text.specs.Answers.{Answers, bytes_of}
+use Rattle.pay_text.specs.Answers.{Answers, text_bytes}
 use Rattle.pay_desk.specs.declared.desk.Desk.{Desk}
 use Rattle.pay_desk.specs.Calls.{Call, TellerReply}
 use Rattle.pay_desk.specs.Desk.{DeskSays}
@@ -36,6 +36,6 @@ module _ {T : Type 0} (says : T → Call → TellerReply → T → Type 0) (Begi
 
   -- the same by its outcome: where memory is refused the desk is as it was
   pub stays_so : {E : Type 0} (result : Result Answer E) (old new : Desk T) (line : Option (List ℕ))
-      → IfOk result (λ a. DeskSays says old line (bytes_of a.text) a.goes_on new) → OnErr result (new ≡ old) → IsServiceDesk says Begins old → IsServiceDesk says Begins new
-  stays_so (Ok a) old new line answer same is = stays_one old new line (bytes_of a.text) a.goes_on answer is
+      → IfOk result (λ a. DeskSays says old line (text_bytes a.text) a.goes_on new) → OnErr result (new ≡ old) → IsServiceDesk says Begins old → IsServiceDesk says Begins new
+  stays_so (Ok a) old new line answer same is = stays_one old new line (text_bytes a.text) a.goes_on answer is
   stays_so (Err e) old new line answer same is = subst (IsServiceDesk says Begins) (sym same) is

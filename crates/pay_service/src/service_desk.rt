@@ -1,6 +1,6 @@
 ghost use Rattle.std.specs.Prelude.{◌≡◌, IfOk, OnErr};
 ghost use Rattle.std.specs.Option.{option_copied};
-ghost use Rattle.pay_text.specs.Answers.{bytes_of};
+ghost use Rattle.pay_text.specs.Answers.{text_bytes};
 ghost use Rattle.pay_desk.specs.Desk.{DeskSays};
 ghost use Rattle.pay_service.specs.Service.{IsServiceDesk};
 
@@ -54,7 +54,7 @@ impl<T: Teller + Drop, S: Service<T>> ServiceDesk<T, S> {
     ) -> Result<Answer, AllocError>
         ensures was { IsServiceDesk T.says S.begins self.old }
         ensures answer { IfOk result (λ answer. DeskSays T.says self.old
-            (option_copied line.entry) (bytes_of answer.text) answer.goes_on self.new) }
+            (option_copied line.entry) (text_bytes answer.text) answer.goes_on self.new) }
         ensures err { OnErr result (self.new ≡ self.old) }
         ensures is { IsServiceDesk T.says S.begins self.new }
     {

@@ -24,9 +24,9 @@ use Rattle.pay_world.specs.declared.event.WorldEvent.{WorldEvent}
 use Rattle.pay_world.specs.declared.event.WorldEvent.TheVariants.{Bring}
 use Rattle.pay_world.specs.declared.reply.WorldReply.{WorldReply}
 use Rattle.pay_world.specs.declared.reply.WorldReply.TheVariants.{Asked, Refused, Brought, Ignored}
-use Rattle.pay_world.specs.Answer.{brought_to, deed_with}
-use Rattle.pay_world.specs.DeedLaws.{ForgedIsTold}
-use Rattle.pay_world.specs.Deeds.{Brings}
+use Rattle.pay_world.specs.Answer.{brought_to, action_with}
+use Rattle.pay_world.specs.ActionLaws.{ForgedIsTold}
+use Rattle.pay_world.specs.Actions.{Brings}
 use Rattle.pay_world.specs.Genuine.{is_forged_in}
 use Rattle.pay_world.specs.GroupKeys.{group_test_keys}
 use Rattle.pay_world.specs.Liars.{is_listed, setting_of}
@@ -35,8 +35,8 @@ use Rattle.pay_sim.specs.declared.game.TheConstants.{MOST_EVENTS}
 use Rattle.pay_sim.specs.declared.group.ScriptGroup.{ScriptGroup}
 use Rattle.pay_sim.specs.declared.stop.RunStop.{RunStop}
 use Rattle.pay_sim.specs.declared.stop.RunStop.TheVariants.{BadLine, Forged, Limit}
-use Rattle.pay_sim.specs.All.{BringsAll, Draws, Enough, Again, Feeds, Further, Halted, InTurn, Nothing, Passes, Stopped}
-use Rattle.pay_sim.specs.Made.{IsBroughtTo, IsReplyBehind, Makes, history_at, is_forged_by, is_there, keys_at, next_number, sent_frame, untaken}
+use Rattle.pay_sim.specs.All.{BringsAll, Draws, Enough, Again, FeedsMember, Further, Halted, InTurn, Nothing, MakesPass, Stopped}
+use Rattle.pay_sim.specs.Made.{IsBroughtTo, IsReplyAfter, Makes, history_at, is_forged_by, is_there, keys_at, next_number, sent_frame, next_untaken}
 use Rattle.pay_sim.specs.RunLaws.{AreTaken, IsGroup}
 use Rattle.pay_sim.specs.TestFrames.{test_frame}
 use Rattle.pay_sim.proofs.Limits.{IsSent, Votes, each_at, made_fits, next_within, out_sent, Fits}
@@ -142,9 +142,9 @@ module _ (laws : Laws) (c : ScriptGroup) (group : IsGroup c) where
       let apart : eqb from to ≡ false = search (rules, tests) in
       takes _ _ _ (all_three (nat_lt from c.genesis.members) (eqb from to) (is_there c to) less apart there)
 
-  pub untaken_by : (es : List WorldEvent) (from to : ℕ) (frame : List ℕ) → untaken c es from to ≡ Some frame
+  pub untaken_by : (es : List WorldEvent) (from to : ℕ) (frame : List ℕ) → next_untaken c es from to ≡ Some frame
       → (is_there c to ≡ true) × (sent_frame c es from to (next_number c es from to) ≡ Some frame)
-  unfolding untaken
+  unfolding next_untaken
   untaken_by es from to frame is = some_under (is_there c to) _ frame is
 
   small_next : (es : List WorldEvent) (from to : ℕ) → length es < MOST_EVENTS → next from (history_at c es to) < 2 ^ 64
@@ -169,7 +169,7 @@ module _ (laws : Laws) (c : ScriptGroup) (group : IsGroup c) where
       let w = setting_of c.liars in
       let sent = sent_fits es from to number frame body s in
       let opened = opened_is laws.links n from to number body (member from s.there) (member to there) s.other (frame_fits es from to number frame body s there small) sent.owner sent.kind in
-      ap (λ o. option_map_or (is_forged_in w (history_at c es)) (option_and_then (λ (k : KeyFields). deed_with k (Bring to frame)) o) false) (keys_is to there)
+      ap (λ o. option_map_or (is_forged_in w (history_at c es)) (option_and_then (λ (k : KeyFields). action_with k (Bring to frame)) o) false) (keys_is to there)
       ∙ ap (λ bytes. option_map_or (is_forged_in w (history_at c es)) (option_map (brought_to to) (opened_in (test_keys_of n to) bytes)) false) s.is
       ∙ ap (λ o. option_map_or (is_forged_in w (history_at c es)) (option_map (brought_to to) o) false) opened
       ∙ (laws.forged w (history_at c es) (Brings to from number body)).1
@@ -177,11 +177,11 @@ module _ (laws : Laws) (c : ScriptGroup) (group : IsGroup c) where
 
   brought_took : (es : List WorldEvent) (from to : ℕ) (bytes : List ℕ) (body : BodyFields) (reply : WorldReply) → (o : Option KeyFields) → o ≡ Some (test_keys_of c.genesis.members to)
       → ((outcome : Outcome) → IsOutcome c.genesis (test_keys_of c.genesis.members to) (history_at c es to) bytes outcome → (t : took.Took) × (outcome ≡ Took t))
-      → MatchOption o (reply ≡ Ignored) (λ k. IsReplyBehind c.genesis k (history_at c es to) (Bring to bytes) reply) → (t : took.Took) × (reply ≡ Brought (Took t))
+      → MatchOption o (reply ≡ Ignored) (λ k. IsReplyAfter c.genesis k (history_at c es to) (Bring to bytes) reply) → (t : took.Took) × (reply ≡ Brought (Took t))
   brought_took es from to bytes body reply None is taken said = absurd cc
   brought_took es from to bytes body reply (Some k) is taken said =
       let same : k ≡ test_keys_of c.genesis.members to = cc in
-      go reply (subst (λ x. IsReplyBehind c.genesis x (history_at c es to) (Bring to bytes) reply) same said) where
+      go reply (subst (λ x. IsReplyAfter c.genesis x (history_at c es to) (Bring to bytes) reply) same said) where
         go : (r : WorldReply) → IsBroughtTo c.genesis (test_keys_of c.genesis.members to) (history_at c es to) bytes r → (t : took.Took) × (r ≡ Brought (Took t))
         go (Brought outcome) x = let t = taken outcome x in (t.0, ap Brought t.1)
         go (Asked number) x = absurd x
@@ -189,7 +189,7 @@ module _ (laws : Laws) (c : ScriptGroup) (group : IsGroup c) where
         go Ignored x = absurd x
 
   -- it is taken
-  frame_is_taken : (es : List WorldEvent) (from to : ℕ) (frame : List ℕ) (reply : WorldReply) → untaken c es from to ≡ Some frame → Makes c es (Bring to frame) (Ok reply)
+  frame_is_taken : (es : List WorldEvent) (from to : ℕ) (frame : List ℕ) (reply : WorldReply) → next_untaken c es from to ≡ Some frame → Makes c es (Bring to frame) (Ok reply)
       → (t : took.Took) × (reply ≡ Brought (Took t))
   frame_is_taken es from to frame reply is (room, unforged, said) =
       let n = c.genesis.members in
@@ -210,7 +210,7 @@ module _ (laws : Laws) (c : ScriptGroup) (group : IsGroup c) where
       )) said
 
   -- and stopped by the limit alone
-  frame_is_stopped : (es : List WorldEvent) (from to : ℕ) (frame : List ℕ) (stop : RunStop) → untaken c es from to ≡ Some frame → Makes c es (Bring to frame) (Err stop) → stop ≡ Limit
+  frame_is_stopped : (es : List WorldEvent) (from to : ℕ) (frame : List ℕ) (stop : RunStop) → next_untaken c es from to ≡ Some frame → Makes c es (Bring to frame) (Err stop) → stop ≡ Limit
   frame_is_stopped es from to frame Limit is made = refl
   frame_is_stopped es from to frame BadLine is made = absurd made
   frame_is_stopped es from to frame (Forged k) is (room, forged, place) =
@@ -273,9 +273,9 @@ module _ (laws : Laws) (c : ScriptGroup) (group : IsGroup c) where
     go None (chain, ends) on x = let more = on x in (chained chain more.0, more.1)
     go (Some s) (chain, ends) on x = (subst (λ l. Chain es l) (sym x.0) chain, subst Ends (sym x.1) ends)
 
-  passes_take : (es last : List WorldEvent) (stop : Option RunStop) → Passes c es last stop → Chain es last × Ends stop
+  passes_take : (es last : List WorldEvent) (stop : Option RunStop) → MakesPass c es last stop → Chain es last × Ends stop
   passes_take =
-      in_turn_take (Feeds c) (λ to. in_turn_take (λ from. Draws c from to) (λ from es last stop x. draws_take from to x) (range_with_len 0 c.genesis.members))
+      in_turn_take (FeedsMember c) (λ to. in_turn_take (λ from. Draws c from to) (λ from es last stop x. draws_take from to x) (range_with_len 0 c.genesis.members))
       (range_with_len 0 c.genesis.members)
 
   all_takes : {es last : List WorldEvent} {stop : Option RunStop} → BringsAll c es last stop → Chain es last × Ends stop

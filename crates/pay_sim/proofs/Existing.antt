@@ -22,7 +22,7 @@ use Rattle.pay_world.specs.declared.reply.WorldReply.{WorldReply}
 use Rattle.pay_world.specs.declared.reply.WorldReply.TheVariants.{Brought, Ignored}
 use Rattle.pay_world.specs.Answer.{one_more, receiver}
 use Rattle.pay_world.specs.Convergence.{AllTaken, HasTaken}
-use Rattle.pay_world.specs.DeedLaws.{CorrectIsTold}
+use Rattle.pay_world.specs.ActionLaws.{CorrectIsTold}
 use Rattle.pay_world.specs.Liars.{setting_of}
 use Rattle.pay_world.specs.Setting.{Setting, group_at, is_correct}
 use Rattle.pay_sim.specs.declared.command.ScriptCommand.{ScriptCommand}
@@ -35,12 +35,12 @@ use Rattle.pay_sim.specs.declared.sim_end.SimEnd.{SimEnd}
 use Rattle.pay_sim.specs.declared.sim_end.SimEnd.TheVariants as end
 use Rattle.pay_sim.specs.declared.stop.RunStop.{RunStop}
 use Rattle.pay_sim.specs.declared.stop.RunStop.TheVariants.{BadLine, Forged, Limit}
-use Rattle.pay_sim.specs.All.{BringsAll, Draws, Enough, Again, Feeds, Further, Halted, InTurn, Nothing, Passes, Stopped}
-use Rattle.pay_sim.specs.Commands.{command_in}
-use Rattle.pay_sim.specs.Group.{group_in}
-use Rattle.pay_sim.specs.Made.{IsReplyBehind, IsReplyTo, Makes, frame_for, history_at, is_forged_by, is_there, keys_at, next_number, sent_frame, untaken}
+use Rattle.pay_sim.specs.All.{BringsAll, Draws, Enough, Again, FeedsMember, Further, Halted, InTurn, Nothing, MakesPass, Stopped}
+use Rattle.pay_sim.specs.Commands.{script_command_in}
+use Rattle.pay_sim.specs.Group.{script_group_in}
+use Rattle.pay_sim.specs.Made.{IsReplyAfter, IsReplyTo, Makes, frame_for, history_at, is_forged_by, is_there, keys_at, next_number, sent_frame, next_untaken}
 use Rattle.pay_sim.specs.RunLaws.{IsGroup}
-use Rattle.pay_sim.specs.Script.{Told, Prints, Stops, CommandTells, Does, Follows, Founds, IsConverged, IsRun, LineTells, Moment, Obeys, Reads, Tells, TellsAll, TellsBring, TellsSent, end_of, last_words, lie_frame, lie_number, no_line, show_text, start, with_feed}
+use Rattle.pay_sim.specs.Script.{Told, Prints, Stops, CommandTells, Does, Continues, Founds, IsConverged, IsRun, LineTells, Moment, Obeys, PlaysLine, Tells, TellsAll, TellsBring, TellsSent, end_of, last_words, lie_frame, lie_number, no_line, show_text, start, with_feed}
 use Rattle.pay_sim.specs.TestFrames.{test_frame, test_tag}
 use Rattle.pay_sim.specs.Words.{reply_line}
 use Rattle.pay_sim.proofs.AllTaken.{Laws, frame_fits, member, next_below, sent_by, untaken_by}
@@ -52,7 +52,7 @@ pub record Ground : Type 0 where
   pub laws : Laws
   pub reads : (bytes : List ℕ) → IsBytes bytes → (answer : Result FrameFields FrameFault) × IsOneReading bytes answer
   pub correct : CorrectIsTold
-  pub groups : (line : List ℕ) (c : ScriptGroup) → group_in line ≡ Some c → IsGroup c
+  pub groups : (line : List ℕ) (c : ScriptGroup) → script_group_in line ≡ Some c → IsGroup c
 
 -- ---- what can be decided
 
@@ -95,7 +95,7 @@ abbrev CanRead : List WorldEvent → WorldEvent → Type 0
 CanRead es (event.Ask i v) = Unit {0}
 CanRead es (event.Bring i bytes) = length es < MOST_EVENTS → (answer : Result FrameFields FrameFault) × IsOneReading bytes answer
 
-behind_exists : (g : GenesisFields) (k : KeyFields) (before : List Event) (es : List WorldEvent) (e : WorldEvent) → CanRead es e → length es < MOST_EVENTS → (reply : WorldReply) × IsReplyBehind g k before e reply
+behind_exists : (g : GenesisFields) (k : KeyFields) (before : List Event) (es : List WorldEvent) (e : WorldEvent) → CanRead es e → length es < MOST_EVENTS → (reply : WorldReply) × IsReplyAfter g k before e reply
 behind_exists g k before es (event.Ask i v) can room = (_, refl)
 behind_exists g k before es (event.Bring i bytes) can room =
     let read = can room in
@@ -104,7 +104,7 @@ behind_exists g k before es (event.Bring i bytes) can room =
 module _ (c : ScriptGroup) where
   reply_exists : (es : List WorldEvent) (e : WorldEvent) → CanRead es e → length es < MOST_EVENTS → (reply : WorldReply) × IsReplyTo c es e reply
   reply_exists es e can room = go (keys_at c (receiver e)) where
-    go : (o : Option KeyFields) → (reply : WorldReply) × MatchOption o (reply ≡ Ignored) (λ k. IsReplyBehind c.genesis k (history_at c es (receiver e)) e reply)
+    go : (o : Option KeyFields) → (reply : WorldReply) × MatchOption o (reply ≡ Ignored) (λ k. IsReplyAfter c.genesis k (history_at c es (receiver e)) e reply)
     go None = (Ignored, refl)
     go (Some k) = behind_exists c.genesis k (history_at c es (receiver e)) es e can room
 
@@ -161,15 +161,15 @@ module _ (on : Ground) (c : ScriptGroup) (group : IsGroup c) where
             (frame_fits on.laws c group es from to number frame found.0 s there small)),
       )
 
-  untaken_reads : (es : List WorldEvent) (from to : ℕ) (frame : List ℕ) → untaken c es from to ≡ Some frame → CanRead es (event.Bring to frame)
+  untaken_reads : (es : List WorldEvent) (from to : ℕ) (frame : List ℕ) → next_untaken c es from to ≡ Some frame → CanRead es (event.Bring to frame)
   untaken_reads es from to frame is room =
       let first = untaken_by on.laws c group es from to frame is in
       sent_reads es from to (next_number c es from to) frame first.1 first.0 (next_below on.laws c group es from to room)
 
   draw_step : (from to : ℕ) (es : List WorldEvent)
       → ((frame : List ℕ) → length es < MOST_EVENTS → LeadsOn (Draws c from to) (es ++ event.Bring to frame ∷ [])) → LeadsOn (Draws c from to) es
-  draw_step from to es further = go (untaken c es from to) refl where
-    made : (frame : List ℕ) → untaken c es from to ≡ Some frame → ((r : Result WorldReply RunStop) × Makes c es (event.Bring to frame) r) → LeadsOn (Draws c from to) es
+  draw_step from to es further = go (next_untaken c es from to) refl where
+    made : (frame : List ℕ) → next_untaken c es from to ≡ Some frame → ((r : Result WorldReply RunStop) × Makes c es (event.Bring to frame) r) → LeadsOn (Draws c from to) es
     made frame is (Err stop, stopped) = (es, Some stop, Stopped frame stop is stopped, inl refl)
     made frame is (Ok reply, brought) =
         let rest = further frame brought.0 in
@@ -181,7 +181,7 @@ module _ (on : Ground) (c : ScriptGroup) (group : IsGroup c) where
           grows_on es (es ++ event.Bring to frame ∷ []) rest.0 (inr ((omega arith), (omega arith))) rest.3,
         )
 
-    go : (o : Option (List ℕ)) → untaken c es from to ≡ o → LeadsOn (Draws c from to) es
+    go : (o : Option (List ℕ)) → next_untaken c es from to ≡ o → LeadsOn (Draws c from to) es
     go None is = (es, None, Nothing is, inl refl)
     go (Some frame) is = made frame is (makes_exists c es (event.Bring to frame) (untaken_reads es from to frame is))
 
@@ -190,9 +190,9 @@ module _ (on : Ground) (c : ScriptGroup) (group : IsGroup c) where
   draws_within from to (suc n) es full =
       draw_step from to es (λ frame room. draws_within from to n (es ++ event.Bring to frame ∷ []) (let long = length-append es (event.Bring to frame ∷ []) in omega arith))
 
-  passes_exist : (es : List WorldEvent) → LeadsOn (Passes c) es
+  passes_exist : (es : List WorldEvent) → LeadsOn (MakesPass c) es
   passes_exist =
-      in_turn_exists (Feeds c)
+      in_turn_exists (FeedsMember c)
       (λ to. in_turn_exists (λ from. Draws c from to) (λ from es. draws_within from to MOST_EVENTS es (omega arith)) (range_with_len 0 c.genesis.members))
       (range_with_len 0 c.genesis.members)
 
@@ -201,7 +201,7 @@ module _ (on : Ground) (c : ScriptGroup) (group : IsGroup c) where
 
   all_step : (es : List WorldEvent) → ((mid : List WorldEvent) → length es < length mid → length mid ≤ MOST_EVENTS → AllFrom mid) → AllFrom es
   all_step es again = let one = passes_exist es in go one.0 one.1 one.2 one.3 where
-    go : (mid : List WorldEvent) (stop : Option RunStop) → Passes c es mid stop → Grows es mid → AllFrom es
+    go : (mid : List WorldEvent) (stop : Option RunStop) → MakesPass c es mid stop → Grows es mid → AllFrom es
     go mid (Some s) passes grown = (mid, Some s, Halted s passes)
     go mid None passes (inl same) = (mid, None, Enough passes same)
     go mid None passes (inr more) = let rest = again mid more.0 more.1 in (rest.0, rest.1, Again passes more.0 rest.2)
@@ -265,7 +265,7 @@ module _ (on : Ground) (c : ScriptGroup) (group : IsGroup c) where
 
   line_exists : (es : List WorldEvent) (line : List ℕ) → (told : Told) × LineTells c es line told
   line_exists es [] = (Prints [] es, refl)
-  line_exists es (b ∷ line) = command_exists es (command_in (b ∷ line)) (asked_fits (b ∷ line))
+  line_exists es (b ∷ line) = command_exists es (script_command_in (b ∷ line)) (asked_fits (b ∷ line))
 
 -- ---- line by line
 
@@ -276,28 +276,28 @@ IsSound (Some c) = IsGroup c
 does_exists : Ground → (group : Option ScriptGroup) (es : List WorldEvent) (line : Option (List ℕ)) → IsSound group → (then : Option ScriptGroup) × (told : Told) × Does group es line then told × IsSound then
 does_exists on group es None sound = (group, Stops BadLine, (refl, refl), sound)
 does_exists on (Some c) es (Some line) sound = let told = line_exists on c sound es line in (Some c, told.0, (told.1, refl), sound)
-does_exists on None es (Some line) sound = go (group_in line) refl where
-  go : (o : Option ScriptGroup) → group_in line ≡ o → (then : Option ScriptGroup) × (told : Told) × Founds es o then told × IsSound then
+does_exists on None es (Some line) sound = go (script_group_in line) refl where
+  go : (o : Option ScriptGroup) → script_group_in line ≡ o → (then : Option ScriptGroup) × (told : Told) × Founds es o then told × IsSound then
   go None is = (None, Stops BadLine, (refl, refl), tt)
   go (Some c) is = (Some c, Prints [] es, (refl, refl), on.groups line c is)
 
-follows_exists : (m : Moment) (group : Option ScriptGroup) (told : Told) → (text : List ℕ) × (goes : Bool) × (n : Moment) × Follows m group told text goes n × (n.group ≡ group)
+follows_exists : (m : Moment) (group : Option ScriptGroup) (told : Told) → (text : List ℕ) × (goes : Bool) × (n : Moment) × Continues m group told text goes n × (n.group ≡ group)
 follows_exists m group (Prints words last) = (words, true, record m { lines = one_more m.lines; group = group; events = last }, (refl, refl, refl), refl)
 follows_exists m group (Stops stop) = (with_feed (last_words stop (one_more m.lines)), false, record m { lines = one_more m.lines; group = group; stopped = Some stop }, (refl, refl, refl), refl)
 
-reads_exists : Ground → (m : Moment) (line : Option (List ℕ)) → IsSound m.group → (text : List ℕ) × (goes : Bool) × (n : Moment) × Reads m line text goes n × IsSound n.group
+reads_exists : Ground → (m : Moment) (line : Option (List ℕ)) → IsSound m.group → (text : List ℕ) × (goes : Bool) × (n : Moment) × PlaysLine m line text goes n × IsSound n.group
 reads_exists on m line sound =
     let done = does_exists on m.group m.events line sound in
     let then = follows_exists m done.0 done.1 in
     (then.0, then.1, then.2, (done.0, done.1, done.2, then.3), subst IsSound (sym then.4) done.3)
 
-answers_exist : Ground → (lines : List (Option (List ℕ))) (m : Moment) → IsSound m.group → (text : List ℕ) × (goes : Bool) × (n : Moment) × Answers Reads m lines text goes n
+answers_exist : Ground → (lines : List (Option (List ℕ))) (m : Moment) → IsSound m.group → (text : List ℕ) × (goes : Bool) × (n : Moment) × Answers PlaysLine m lines text goes n
 answers_exist on [] m sound = ([], true, m, (refl, refl, refl))
 answers_exist on (line ∷ lines) m sound =
     let first = reads_exists on m line sound in
     go first.0 first.1 first.2 first.3 (answers_exist on lines first.2 first.4) where
-      go : (text : List ℕ) (goes : Bool) (mid : Moment) → Reads m line text goes mid → ((rest : List ℕ) × (more : Bool) × (n : Moment) × Answers Reads mid lines rest more n)
-          → (all : List ℕ) × (more : Bool) × (n : Moment) × Answers Reads m (line ∷ lines) all more n
+      go : (text : List ℕ) (goes : Bool) (mid : Moment) → PlaysLine m line text goes mid → ((rest : List ℕ) × (more : Bool) × (n : Moment) × Answers PlaysLine mid lines rest more n)
+          → (all : List ℕ) × (more : Bool) × (n : Moment) × Answers PlaysLine m (line ∷ lines) all more n
       go text true mid said rest = (text ++ rest.0, rest.1, rest.2, (text, rest.0, true, mid, said, refl, rest.3))
       go text false mid said rest = (text ++ [], false, mid, (text, [], false, mid, said, refl, record { silent = refl; over = refl; same = refl }))
 

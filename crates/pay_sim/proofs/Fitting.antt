@@ -20,7 +20,7 @@ use Rattle.pay_sim.specs.declared.command.ScriptCommand.{ScriptCommand}
 use Rattle.pay_book.specs.Payment.{payment_value}
 use Rattle.pay_sim.specs.declared.command.ScriptCommand.TheVariants.{Ask, Bring, Lie, Raw, All, Show}
 use Rattle.pay_sim.specs.declared.command.TheConstants.{MEMBERS, ACCOUNTS}
-use Rattle.pay_sim.specs.Commands.{alone_in, ask_in, asks_in, below, body_in, bring_in, bringing_in, bytes_of, command_in, command_of, decoded, first_bytes, first_kind, first_turn, if_below, if_body, if_last, lie_in, raw_in, several_in, turn_of}
+use Rattle.pay_sim.specs.Commands.{alone_in, ask_in, asks_in, below, body_in, bring_in, bringing_in, bytes_in_word, script_command_in, command_of, decoded_bytes, first_bytes, first_kind, first_turn, if_below, if_body, if_last, lie_in, raw_in, several_in, turn_in_word}
 
 -- the number that a lie says, if it says one, has 64 bits
 abbrev pub IsTurn : Option ℕ → Type 0
@@ -76,8 +76,8 @@ below_is bound words n is =
     let parts = if_is (nat_lt found.0 bound) found.0 n found.2 in
     subst (λ k. k < bound) parts.1 (is_less found.0 bound parts.0)
 
-turn_word : (word : List ℕ) (turn : Option ℕ) → turn_of word ≡ Some turn → IsTurn turn
-unfolding turn_of
+turn_word : (word : List ℕ) (turn : Option ℕ) → turn_in_word word ≡ Some turn → IsTurn turn
+unfolding turn_in_word
 turn_word word turn is = go (bytes_eq word _) (number_of word) refl is where
   go : (b : Bool) (o : Option ℕ) → number_of word ≡ o → cond b (Some None) (option_map Some o) ≡ Some turn → IsTurn turn
   go true o at is = let same : ◌≡◌ {A = Option ℕ} None turn = cc in subst IsTurn same tt
@@ -85,7 +85,7 @@ turn_word word turn is = go (bytes_eq word _) (number_of word) refl is where
   go false (Some n) at is = let same : Some n ≡ turn = cc in subst IsTurn same (number_small word n at)
 
 turn_is : (words : List (List ℕ)) (turn : Option ℕ) → first_turn words ≡ Some turn → IsTurn turn
-turn_is words turn is = let found = then_is turn_of (first_word words) turn is in turn_word found.0 turn found.2
+turn_is words turn is = let found = then_is turn_in_word (first_word words) turn is in turn_word found.0 turn found.2
 
 -- ---- bytes in hexadecimal digits
 
@@ -146,10 +146,10 @@ pairs_are i (high ∷ low ∷ rest) bytes is = go (pair_value high low i) (decod
   go (Ok byte) (Err e) one two rest_are is = absurd cc
   go (Err e) b one two rest_are is = absurd cc
 
-bytes_are : (word bytes : List ℕ) → bytes_of word ≡ Some bytes → IsBytes bytes
-unfolding bytes_of
+bytes_are : (word bytes : List ℕ) → bytes_in_word word ≡ Some bytes → IsBytes bytes
+unfolding bytes_in_word
 bytes_are word bytes is = go (bytes_eq word _) (length word == 0) (length word % 2 == 1) (decode_pairs 0 word) refl is where
-  go : (a b d : Bool) (r : Result (List ℕ) FromHexError) → decode_pairs 0 word ≡ r → cond a (Some []) (cond b None (decoded (cond d (Err OddLength) r))) ≡ Some bytes → IsBytes bytes
+  go : (a b d : Bool) (r : Result (List ℕ) FromHexError) → decode_pairs 0 word ≡ r → cond a (Some []) (cond b None (decoded_bytes (cond d (Err OddLength) r))) ≡ Some bytes → IsBytes bytes
   go true b d r at is = let same : ◌≡◌ {A = List ℕ} [] bytes = cc in subst IsBytes same no_bytes
   go false true d r at is = absurd cc
   go false false true r at is = absurd cc
@@ -157,7 +157,7 @@ bytes_are word bytes is = go (bytes_eq word _) (length word == 0) (length word %
   go false false false (Err e) at is = absurd cc
 
 first_bytes_are : (words : List (List ℕ)) (bytes : List ℕ) → first_bytes words ≡ Some bytes → IsBytes bytes
-first_bytes_are words bytes is = let found = then_is bytes_of (first_word words) bytes is in bytes_are found.0 bytes found.2
+first_bytes_are words bytes is = let found = then_is bytes_in_word (first_word words) bytes is in bytes_are found.0 bytes found.2
 
 -- ---- a body
 
@@ -271,14 +271,14 @@ named_fits words name command is = go (bytes_eq name _) (bytes_eq name _) is whe
   go false true is = asks_fits words command is
   go false false is = bringing_fits name words command is
 
-command_fits : (line : List ℕ) (command : ScriptCommand) → command_in line ≡ Some command → FitsFrame command
-unfolding command_in
+command_fits : (line : List ℕ) (command : ScriptCommand) → script_command_in line ≡ Some command → FitsFrame command
+unfolding script_command_in
 command_fits line command is =
     let found = then_is (command_of (drop 1 (words_of line))) (first_word (words_of line)) command is in
     named_fits (drop 1 (words_of line)) found.0 command found.2
 
-pub asked_fits : (line : List ℕ) → AskedFits (command_in line)
-asked_fits line = go (command_in line) refl where
-  go : (o : Option ScriptCommand) → command_in line ≡ o → AskedFits o
+pub asked_fits : (line : List ℕ) → AskedFits (script_command_in line)
+asked_fits line = go (script_command_in line) refl where
+  go : (o : Option ScriptCommand) → script_command_in line ≡ o → AskedFits o
   go None is = tt
   go (Some command) is = command_fits line command is

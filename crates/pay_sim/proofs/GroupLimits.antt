@@ -10,7 +10,7 @@ use Rattle.pay_link.specs.Genesis.{GenesisFields, IsGenesis, genesis_fault}
 use Rattle.pay_world.specs.declared.liar_fault.LiarFault.{LiarFault}
 use Rattle.pay_world.specs.Liars.{AreLiars, LiarFields, liar_fault, liars_in}
 use Rattle.pay_sim.specs.declared.group.ScriptGroup.{ScriptGroup}
-use Rattle.pay_sim.specs.Group.{fitting, group_in, liars_said, with_liars}
+use Rattle.pay_sim.specs.Group.{fitting, script_group_in, liars_said, with_liars}
 use Rattle.pay_sim.specs.RunLaws.{IsGroup}
 use Rattle.std.specs.Prelude.{ok_or}
 
@@ -38,8 +38,8 @@ some_ok (Ok y) x is = cc
 some_ok (Err e) x is = absurd cc
 
 pub said_group : ((g : GenesisFields) → (genesis_fault g ≡ None) ↔ IsGenesis g) → ((l : LiarFields) → (liar_fault l ≡ None) ↔ AreLiars l)
-    → (line : List ℕ) (c : ScriptGroup) → group_in line ≡ Some c → IsGroup c
-unfolding group_in with_liars
+    → (line : List ℕ) (c : ScriptGroup) → script_group_in line ≡ Some c → IsGroup c
+unfolding script_group_in with_liars
 said_group limits lying line c is =
     let first = some_and_then (λ g. option_and_then (with_liars g) (fitting (liars_said line))) (result_ok (genesis_in line)) c is in
     let g = first.0 in

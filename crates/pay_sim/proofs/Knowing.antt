@@ -14,8 +14,8 @@ use Rattle.pay_world.specs.Liars.{LiarFields, setting_of}
 use Rattle.pay_world.specs.World.{IsWorld, member_in}
 use Rattle.pay_sim.specs.declared.group.ScriptGroup.{ScriptGroup}
 use Rattle.pay_sim.specs.TestFrames.{test_frame}
-use Rattle.pay_sim.specs.Made.{frame_for, history_at, is_there, next_number, sent_frame, untaken}
-use Rattle.pay_sim.specs.Playing.{GameFields, IsBehind}
+use Rattle.pay_sim.specs.Made.{frame_for, history_at, is_there, next_number, sent_frame, next_untaken}
+use Rattle.pay_sim.specs.Playing.{GameFields, IsAfter}
 
 -- ---- tests
 
@@ -54,8 +54,8 @@ pub sent_to_itself : (c : ScriptGroup) (es : List WorldEvent) (from to number : 
 unfolding sent_frame
 sent_to_itself c es from to number same = sym (leaves_second (is_there c from) (eqb from to) _ _ (same_test from to same))
 
-pub untaken_unsent : (c : ScriptGroup) (es : List WorldEvent) (from to : ℕ) → ((number : ℕ) → None ≡ sent_frame c es from to number) → None ≡ untaken c es from to
-unfolding untaken
+pub untaken_unsent : (c : ScriptGroup) (es : List WorldEvent) (from to : ℕ) → ((number : ℕ) → None ≡ sent_frame c es from to number) → None ≡ next_untaken c es from to
+unfolding next_untaken
 untaken_unsent c es from to none = go (is_there c to) where
   go : (b : Bool) → None ≡ cond b (sent_frame c es from to (next_number c es from to)) None
   go true = none (next_number c es from to)
@@ -63,7 +63,7 @@ untaken_unsent c es from to none = go (is_there c to) where
 
 -- ---- what is known
 
-module _ (c : ScriptGroup) (es : List WorldEvent) (g : GameFields) (b : IsBehind c es g) (world : IsWorld g.world) where
+module _ (c : ScriptGroup) (es : List WorldEvent) (g : GameFields) (b : IsAfter c es g) (world : IsWorld g.world) where
   there_is : (i : ℕ) → is_there c i ≡ is_some (member_in g.world i)
   there_is i = ap (λ (l : LiarFields). is_correct (setting_of l) i) (sym b.after.liars) ∙ sym (world.there i)
 
@@ -108,12 +108,12 @@ module _ (c : ScriptGroup) (es : List WorldEvent) (g : GameFields) (b : IsBehind
   unfolding frame_for
   frame_for_one from to number m is = sym (takes (is_there c to) _ _ (there_some to m is))
 
-  pub untaken_by_none : (from to : ℕ) → member_in g.world to ≡ None → None ≡ untaken c es from to
-  unfolding untaken
+  pub untaken_by_none : (from to : ℕ) → member_in g.world to ≡ None → None ≡ next_untaken c es from to
+  unfolding next_untaken
   untaken_by_none from to none = sym (leaves (is_there c to) _ _ (there_none to none))
 
-  pub untaken_by : (from to : ℕ) (m : MemberFields) → member_in g.world to ≡ Some m → sent_frame c es from to (next_number c es from to) ≡ untaken c es from to
-  unfolding untaken
+  pub untaken_by : (from to : ℕ) (m : MemberFields) → member_in g.world to ≡ Some m → sent_frame c es from to (next_number c es from to) ≡ next_untaken c es from to
+  unfolding next_untaken
   untaken_by from to m is = sym (takes (is_there c to) _ _ (there_some to m is))
 
   -- ---- numbers

@@ -8,18 +8,18 @@ use Rattle.pay_frame.specs.declared.kind.Kind.{Kind}
 use Rattle.pay_frame.specs.declared.kind.Kind.TheVariants.{Send, Echo, Ready, Want}
 use Rattle.pay_frame.specs.declared.limits.TheConstants.{GREATEST_VALUE, SEQS}
 use Rattle.pay_frame.specs.Frame.{BodyFields, FrameFields, IsBody}
-use Rattle.pay_echo.specs.Broadcast.{Group, Vote, echoed, may_ready, readied, sent, value_of}
+use Rattle.pay_echo.specs.Broadcast.{Group, Vote, echoed, may_ready, readied, value_if_send, value_of}
 use Rattle.pay_echo.specs.Laws.{EchoedByOneMore, ReadiedByOneMore, SentIsItsValue, value_if}
-use Rattle.pay_channel.specs.History.{Event, Ask, From, asks, is_about, is_ask, newly, out, out_after, owner_of, says, send_of, seq_of, vote_by, vote_of, votes, votes_in, counts as is_counted}
+use Rattle.pay_channel.specs.History.{Event, Ask, From, asks, is_about, is_ask, newly, out, out_after, owner_of, says, send_of, seq_of, vote_by, vote_of, votes, votes_in, counts_from as is_counted}
 use Rattle.pay_channel.specs.VoteLaws.{AsksByOneMore, NoAsksAtFirst, VotesByOneMore}
-use Rattle.pay_channel.specs.Taken.{body_from, next, taken}
+use Rattle.pay_channel.specs.Taken.{body_from, next, taken_bodies}
 use Rattle.pay_link.specs.Keys.{KeyFields}
 use Rattle.pay_member.specs.Bringing.{opened_in}
 use Rattle.pay_member.specs.OpeningLaws.{WhatOpens}
 use Rattle.pay_world.specs.declared.event.WorldEvent.{WorldEvent}
 use Rattle.pay_world.specs.declared.event.WorldEvent.TheVariants as event
-use Rattle.pay_world.specs.Answer.{brought_to, deed_of, deed_with, deeds_of, receiver}
-use Rattle.pay_world.specs.Deeds.{Deed, Asks, Brings, adds, counts, event_of, history_after, history_by, is_want, may_come, member_of}
+use Rattle.pay_world.specs.Answer.{brought_to, action_of, action_with, actions_of, receiver}
+use Rattle.pay_world.specs.Actions.{Action, Asks, Brings, adds, counts, event_of, history_after, history_by, is_want, may_come, member_of}
 use Rattle.pay_world.specs.Setting.{Setting}
 
 -- the laws of votes and asks that this stands on
@@ -97,8 +97,8 @@ votes_short members own a s k e fit = go (is_about own a s k e) (vote_of e) (vot
 echo_short : Votes → (before more : List Vote) → AreShort more → echoed before ≡ None → IsShort (echoed (before ++ more))
 echo_short by before [] short none = subst IsShort (sym (ap echoed (append-nil before) ∙ none)) tt
 echo_short by before (x ∷ xs) (short, nil) none =
-    subst IsShort (sym (ap (λ l. echoed (before ++ x ∷ l)) nil ∙ by.echoed before x ∙ ap (λ o. option_or o (sent x)) none)) (go (by.sent x)) where
-      go : ((sent x ≡ None) ⊎ (sent x ≡ Some (value_of x))) → IsShort (sent x)
+    subst IsShort (sym (ap (λ l. echoed (before ++ x ∷ l)) nil ∙ by.echoed before x ∙ ap (λ o. option_or o (value_if_send x)) none)) (go (by.sent x)) where
+      go : ((value_if_send x ≡ None) ⊎ (value_if_send x ≡ Some (value_of x))) → IsShort (value_if_send x)
       go (inl is) = subst IsShort (sym is) tt
       go (inr is) = subst IsShort (sym is) short
 
@@ -190,9 +190,9 @@ out_sent by g history own few fits = out_sent_from by g [] history own few fits.
 
 -- ---- what is taken
 
-abbrev DeedFits : Deed → Type 0
-DeedFits (Asks k v) = Unit {0}
-DeedFits (Brings k from number body) = IsBody body
+abbrev ActionFits : Action → Type 0
+ActionFits (Asks k v) = Unit {0}
+ActionFits (Brings k from number body) = IsBody body
 
 is_less : (x y : ℕ) → nat_lt x y ≡ true → x < y
 is_less x y p = search (rules, tests)
@@ -207,71 +207,71 @@ is_at_most : (x y : ℕ) → nat_le x y ≡ true → x ≤ y
 is_at_most x y p = search (rules, tests)
 
 module _ (by : Votes) (w : Setting) (i : ℕ) where
-  taken_fits : (history : List Event) (d : Deed) → DeedFits d → counts w history d ≡ true → Fits w.members history → Fits w.members (history ++ event_of d ∷ [])
-  taken_fits history (Asks k v) deed is fits =
+  taken_fits : (history : List Event) (d : Action) → ActionFits d → counts w history d ≡ true → Fits w.members history → Fits w.members (history ++ event_of d ∷ [])
+  taken_fits history (Asks k v) action is fits =
       let parts = and_parts (nat_le (length v) GREATEST_VALUE) (nat_lt (asks history) SEQS) is in
       record {
         each = each_append (IsFit w.members) history (Ask v ∷ []) fits.each (is_at_most (length v) GREATEST_VALUE parts.0, tt);
         few = (let less = is_less (asks history) SEQS parts.1 in let more = by.asks history (Ask v) in omega arith);
       }
-  taken_fits history (Brings k from number body) deed is fits =
+  taken_fits history (Brings k from number body) action is fits =
       let first = and_parts (may_come w k from body) (number == next from history) is in
       let owner = third_of (nat_lt from w.members) (not (from == k)) (nat_lt body.owner w.members) (not (is_want body.kind)) first.0 in
       record {
-        each = each_append (IsFit w.members) history (From from body ∷ []) fits.each ((deed, is_less body.owner w.members owner), tt);
+        each = each_append (IsFit w.members) history (From from body ∷ []) fits.each ((action, is_less body.owner w.members owner), tt);
         few = (let same = by.asks history (From from body) in let few = fits.few in omega arith);
       }
 
-  adds_fits : (history : List Event) (d : Deed) → DeedFits d → Fits w.members history → Fits w.members (history ++ adds w i history d)
-  adds_fits history d deed fits = go (member_of d == i && counts w history d) refl where
+  adds_fits : (history : List Event) (d : Action) → ActionFits d → Fits w.members history → Fits w.members (history ++ adds w i history d)
+  adds_fits history d action fits = go (member_of d == i && counts w history d) refl where
     go : (b : Bool) → (member_of d == i && counts w history d) ≡ b → Fits w.members (history ++ cond b (event_of d ∷ []) [])
     go false is = subst (Fits w.members) (sym (append-nil history)) fits
-    go true is = taken_fits history d deed (and_parts (member_of d == i) (counts w history d) is).1 fits
+    go true is = taken_fits history d action (and_parts (member_of d == i) (counts w history d) is).1 fits
 
-  history_fits : (deeds : List Deed) (history : List Event) → AllByRecursion DeedFits deeds → Fits w.members history → Fits w.members (history_after w i history deeds)
+  history_fits : (actions : List Action) (history : List Event) → AllByRecursion ActionFits actions → Fits w.members history → Fits w.members (history_after w i history actions)
   history_fits [] history each fits = fits
-  history_fits (d ∷ deeds) history each fits = history_fits deeds (history ++ adds w i history d) each.1 (adds_fits history d each.0 fits)
+  history_fits (d ∷ actions) history each fits = history_fits actions (history ++ adds w i history d) each.1 (adds_fits history d each.0 fits)
 
-  adds_one : (history : List Event) (d : Deed) → length (history ++ adds w i history d) ≤ length history + 1
+  adds_one : (history : List Event) (d : Action) → length (history ++ adds w i history d) ≤ length history + 1
   adds_one history d = go (member_of d == i && counts w history d) where
     go : (b : Bool) → length (history ++ cond b (event_of d ∷ []) []) ≤ length history + 1
     go false = let long = length-append history ([]) in omega arith
     go true = let long = length-append history (event_of d ∷ []) in omega arith
 
-  history_length : (deeds : List Deed) (history : List Event) → length (history_after w i history deeds) ≤ length history + length deeds
+  history_length : (actions : List Action) (history : List Event) → length (history_after w i history actions) ≤ length history + length actions
   history_length [] history = omega arith
-  history_length (d ∷ deeds) history =
-      let rest = history_length deeds (history ++ adds w i history d) in
+  history_length (d ∷ actions) history =
+      let rest = history_length actions (history ++ adds w i history d) in
       let one = adds_one history d in
       omega arith
 
-deed_fits : WhatOpens → (keys : ℕ → Option KeyFields) (e : WorldEvent) (d : Deed) → deed_of keys e ≡ Some d → DeedFits d
-deed_fits opens keys e d is = go (keys (receiver e)) e is where
-  go : (o : Option KeyFields) (e : WorldEvent) → option_and_then (λ k. deed_with k e) o ≡ Some d → DeedFits d
+action_fits : WhatOpens → (keys : ℕ → Option KeyFields) (e : WorldEvent) (d : Action) → action_of keys e ≡ Some d → ActionFits d
+action_fits opens keys e d is = go (keys (receiver e)) e is where
+  go : (o : Option KeyFields) (e : WorldEvent) → option_and_then (λ k. action_with k e) o ≡ Some d → ActionFits d
   go None e is = absurd cc
-  go (Some k) (event.Ask i v) is = let same : Asks i v ≡ d = cc in subst DeedFits same tt
+  go (Some k) (event.Ask i v) is = let same : Asks i v ≡ d = cc in subst ActionFits same tt
   go (Some k) (event.Bring i bytes) is = from (opened_in k bytes) refl is where
-    from : (o : Option FrameFields) → opened_in k bytes ≡ o → option_map (brought_to i) o ≡ Some d → DeedFits d
+    from : (o : Option FrameFields) → opened_in k bytes ≡ o → option_map (brought_to i) o ≡ Some d → ActionFits d
     from None at is = absurd cc
-    from (Some f) at is = let same : brought_to i f ≡ d = cc in subst DeedFits same (opens k bytes f at).one.is.body
+    from (Some f) at is = let same : brought_to i f ≡ d = cc in subst ActionFits same (opens k bytes f at).one.is.body
 
-deeds_fit : WhatOpens → (keys : ℕ → Option KeyFields) (es : List WorldEvent) → AllByRecursion DeedFits (deeds_of keys es)
-deeds_fit opens keys [] = tt
-deeds_fit opens keys (e ∷ es) = go (deed_of keys e) refl (deeds_fit opens keys es) where
-  go : (o : Option Deed) → deed_of keys e ≡ o → AllByRecursion DeedFits (deeds_of keys es) → AllByRecursion DeedFits (cons_option o (deeds_of keys es))
+actions_fit : WhatOpens → (keys : ℕ → Option KeyFields) (es : List WorldEvent) → AllByRecursion ActionFits (actions_of keys es)
+actions_fit opens keys [] = tt
+actions_fit opens keys (e ∷ es) = go (action_of keys e) refl (actions_fit opens keys es) where
+  go : (o : Option Action) → action_of keys e ≡ o → AllByRecursion ActionFits (actions_of keys es) → AllByRecursion ActionFits (cons_option o (actions_of keys es))
   go None is rest = rest
-  go (Some d) is rest = (deed_fits opens keys e d is, rest)
+  go (Some d) is rest = (action_fits opens keys e d is, rest)
 
 -- the history of any member by any events
-pub made_fits : Votes → WhatOpens → (w : Setting) (keys : ℕ → Option KeyFields) (es : List WorldEvent) (i : ℕ) → Fits w.members (history_by w (deeds_of keys es) i)
+pub made_fits : Votes → WhatOpens → (w : Setting) (keys : ℕ → Option KeyFields) (es : List WorldEvent) (i : ℕ) → Fits w.members (history_by w (actions_of keys es) i)
 unfolding history_by
-made_fits by opens w keys es i = history_fits by w i (deeds_of keys es) [] (deeds_fit opens keys es) (record { each = tt; few = (let none = by.no_asks in omega arith) })
+made_fits by opens w keys es i = history_fits by w i (actions_of keys es) [] (actions_fit opens keys es) (record { each = tt; few = (let none = by.no_asks in omega arith) })
 
 -- the next number from another is at most the count of events
-pub next_within : Votes → (w : Setting) (keys : ℕ → Option KeyFields) (es : List WorldEvent) (from to : ℕ) → next from (history_by w (deeds_of keys es) to) ≤ length es
-unfolding history_by taken
+pub next_within : Votes → (w : Setting) (keys : ℕ → Option KeyFields) (es : List WorldEvent) (from to : ℕ) → next from (history_by w (actions_of keys es) to) ≤ length es
+unfolding history_by taken_bodies
 next_within by w keys es from to =
-    let some = fewer (body_from from) (history_after w to [] (deeds_of keys es)) in
-    let long = history_length by w to (deeds_of keys es) [] in
-    let deeds = fewer (deed_of keys) es in
+    let some = fewer (body_from from) (history_after w to [] (actions_of keys es)) in
+    let long = history_length by w to (actions_of keys es) [] in
+    let actions = fewer (action_of keys) es in
     omega arith

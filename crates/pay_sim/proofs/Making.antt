@@ -19,13 +19,13 @@ use Rattle.pay_world.specs.declared.reply.WorldReply.TheVariants.{Asked, Refused
 use Rattle.pay_world.specs.Genuine.{is_forged_in}
 use Rattle.pay_world.specs.Liars.{LiarFields, setting_of}
 use Rattle.pay_world.specs.World.{WorldFields, member_in, history_in, keys_in}
-use Rattle.pay_world.specs.Answer.{Answers, IsReply, IsReplyOf, deed_of, is_forged_at, member_after, one_more, receiver}
+use Rattle.pay_world.specs.Answer.{AnswersEvent, IsReply, IsReplyOf, action_of, is_forged_at, member_after, one_more, receiver}
 use Rattle.pay_world.specs.RunLaws.{AnsweredIsUnforged, IsSaidTo, SaidIsForged, WorldByOneMore}
 use Rattle.pay_world.specs.GroupKeys.{group_test_keys}
 use Rattle.pay_sim.specs.declared.group.ScriptGroup.{ScriptGroup}
 use Rattle.pay_sim.specs.declared.game.TheConstants.{MOST_EVENTS}
-use Rattle.pay_sim.specs.Made.{IsReplyBehind, IsReplyTo, Makes, history_at, is_forged_by, keys_at}
-use Rattle.pay_sim.specs.Playing.{GameFields, IsBehind}
+use Rattle.pay_sim.specs.Made.{IsReplyAfter, IsReplyTo, Makes, history_at, is_forged_by, keys_at}
+use Rattle.pay_sim.specs.Playing.{GameFields, IsAfter}
 
 -- ---- an event changes no member's genesis
 
@@ -49,37 +49,37 @@ genesis_kept (Bring i bytes) Ignored m = refl
 
 -- ---- the reply
 
-as_behind : (m : MemberFields) (e : WorldEvent) (reply : WorldReply) → IsReplyOf m e reply → IsReplyBehind m.genesis m.keys (events m.history) e reply
+as_behind : (m : MemberFields) (e : WorldEvent) (reply : WorldReply) → IsReplyOf m e reply → IsReplyAfter m.genesis m.keys (events m.history) e reply
 as_behind m (Ask i v) reply said = said
 as_behind m (Bring i bytes) (Asked number) said = said
 as_behind m (Bring i bytes) (Refused fault) said = said
 as_behind m (Bring i bytes) (Brought outcome) said = said
 as_behind m (Bring i bytes) Ignored said = said
 
-module _ (c : ScriptGroup) (es : List WorldEvent) (g : GameFields) (b : IsBehind c es g) where
+module _ (c : ScriptGroup) (es : List WorldEvent) (g : GameFields) (b : IsAfter c es g) where
   reply_is : (e : WorldEvent) (reply : WorldReply) → IsReply g.world e reply → IsReplyTo c es e reply
   reply_is e reply said = go (member_in g.world (receiver e)) refl said where
     To : Option KeyFields → Type 0
-    To o = MatchOption o (reply ≡ Ignored) (λ k. IsReplyBehind c.genesis k (history_at c es (receiver e)) e reply)
+    To o = MatchOption o (reply ≡ Ignored) (λ k. IsReplyAfter c.genesis k (history_at c es (receiver e)) e reply)
 
     go : (o : Option MemberFields) → member_in g.world (receiver e) ≡ o → MatchOption o (reply ≡ Ignored) (λ m. IsReplyOf m e reply) → To (keys_at c (receiver e))
     go None is said = subst To (sym (ap (option_map (λ (m : MemberFields). m.keys)) is) ∙ b.after.known (receiver e)) said
     go (Some m) is said =
         subst To (sym (ap (option_map (λ (x : MemberFields). x.keys)) is) ∙ b.after.known (receiver e))
-        (subst (λ (h : List Event). IsReplyBehind c.genesis m.keys h e reply)
+        (subst (λ (h : List Event). IsReplyAfter c.genesis m.keys h e reply)
         (sym (ap (λ (o : Option MemberFields). option_map_or (λ (x : MemberFields). events x.history) o []) is) ∙ b.after.histories (receiver e))
-        (subst (λ (x : GenesisFields). IsReplyBehind x m.keys (events m.history) e reply) (b.each (receiver e) m is) (as_behind m e reply said)))
+        (subst (λ (x : GenesisFields). IsReplyAfter x m.keys (events m.history) e reply) (b.each (receiver e) m is) (as_behind m e reply said)))
 
   forged_is : (e : WorldEvent) → is_forged_at g.world e ≡ is_forged_by c es e
   unfolding is_forged_by
   forged_is e =
-      ap (λ (l : LiarFields). option_map_or (is_forged_in (setting_of l) (history_in g.world)) (deed_of (keys_in g.world) e) false) b.after.liars
-      ∙ ap (λ (h : ℕ → List Event). option_map_or (is_forged_in (setting_of c.liars) h) (deed_of (keys_in g.world) e) false) (λ t i. b.after.histories i t)
-      ∙ ap (λ (k : ℕ → Option KeyFields). option_map_or (is_forged_in (setting_of c.liars) (history_at c es)) (deed_of k e) false) (λ t i. b.after.known i t)
+      ap (λ (l : LiarFields). option_map_or (is_forged_in (setting_of l) (history_in g.world)) (action_of (keys_in g.world) e) false) b.after.liars
+      ∙ ap (λ (h : ℕ → List Event). option_map_or (is_forged_in (setting_of c.liars) h) (action_of (keys_in g.world) e) false) (λ t i. b.after.histories i t)
+      ∙ ap (λ (k : ℕ → Option KeyFields). option_map_or (is_forged_in (setting_of c.liars) (history_at c es)) (action_of k e) false) (λ t i. b.after.known i t)
 
   -- ---- an event that is made
 
-  each_kept : (new : WorldFields) (e : WorldEvent) (reply : WorldReply) → Answers g.world new e reply → (i : ℕ) (m : MemberFields) → member_in new i ≡ Some m → m.genesis ≡ c.genesis
+  each_kept : (new : WorldFields) (e : WorldEvent) (reply : WorldReply) → AnswersEvent g.world new e reply → (i : ℕ) (m : MemberFields) → member_in new i ≡ Some m → m.genesis ≡ c.genesis
   each_kept new e reply answers i m is = go (cases_eq i (receiver e)) where
     some_is : (x y : MemberFields) → Some x ≡ Some y → x ≡ y
     some_is x y same = cc
@@ -99,8 +99,8 @@ module _ (c : ScriptGroup) (es : List WorldEvent) (g : GameFields) (b : IsBehind
   pub makes_one :
       WorldByOneMore → AnsweredIsUnforged → (new : GameFields) (e : WorldEvent) (reply : WorldReply) → length es < MOST_EVENTS
       → IsSaidTo g.world e (Ok reply)
-      → Answers g.world new.world e reply → new.world.answered ≡ one_more g.world.answered → new.members ≡ g.members → new.made ≡ g.made + 1
-      → Makes c es e (Ok reply) × IsBehind c (es ++ e ∷ []) new
+      → AnswersEvent g.world new.world e reply → new.world.answered ≡ one_more g.world.answered → new.members ≡ g.members → new.made ≡ g.made + 1
+      → Makes c es e (Ok reply) × IsAfter c (es ++ e ∷ []) new
   makes_one by_one answered new e reply room refused answers counted members made =
       let unforged = answered g.world e reply refused in (
         (room, sym (forged_is e) ∙ unforged, reply_is e reply answers.said),

@@ -22,11 +22,11 @@ use Rattle.pay_sim.specs.declared.run.TheConstants.{LONGEST_LINE}
 use Rattle.pay_sim.specs.declared.sim_end.SimEnd.{SimEnd}
 use Rattle.pay_sim.specs.declared.stop.RunStop.{RunStop}
 use Rattle.pay_sim.specs.declared.stop.RunStop.TheVariants.{BadLine, Forged, Limit}
-use Rattle.pay_sim.specs.All.{BringsAll, Draws, Enough, Again, Feeds, Further, Halted, InTurn, Nothing, Passes, Stopped}
-use Rattle.pay_sim.specs.Commands.{command_in}
-use Rattle.pay_sim.specs.Group.{group_in}
-use Rattle.pay_sim.specs.Made.{IsBroughtTo, IsReplyBehind, IsReplyTo, Makes, frame_for, history_at, keys_at}
-use Rattle.pay_sim.specs.Script.{Told, Prints, Stops, CommandTells, Does, Follows, Founds, IsConverged, IsRun, LineTells, Moment, Obeys, Reads, Tells, TellsAll, TellsSent, end_of, lie_frame, start, with_feed}
+use Rattle.pay_sim.specs.All.{BringsAll, Draws, Enough, Again, FeedsMember, Further, Halted, InTurn, Nothing, MakesPass, Stopped}
+use Rattle.pay_sim.specs.Commands.{script_command_in}
+use Rattle.pay_sim.specs.Group.{script_group_in}
+use Rattle.pay_sim.specs.Made.{IsBroughtTo, IsReplyAfter, IsReplyTo, Makes, frame_for, history_at, keys_at}
+use Rattle.pay_sim.specs.Script.{Told, Prints, Stops, CommandTells, Does, Continues, Founds, IsConverged, IsRun, LineTells, Moment, Obeys, PlaysLine, Tells, TellsAll, TellsSent, end_of, lie_frame, start, with_feed}
 use Rattle.pay_sim.specs.Words.{reply_line}
 use Rattle.std.specs.List.{range_with_len}
 
@@ -69,7 +69,7 @@ brought_one unique g k before bytes (Asked n) other x y = absurd x
 brought_one unique g k before bytes (Refused f) other x y = absurd x
 brought_one unique g k before bytes Ignored other x y = absurd x
 
-behind_one : OneReading → (g : GenesisFields) (k : KeyFields) (before : List Event) (e : WorldEvent) (one other : WorldReply) → IsReplyBehind g k before e one → IsReplyBehind g k before e other → one ≡ other
+behind_one : OneReading → (g : GenesisFields) (k : KeyFields) (before : List Event) (e : WorldEvent) (one other : WorldReply) → IsReplyAfter g k before e one → IsReplyAfter g k before e other → one ≡ other
 behind_one unique g k before (event.Ask i v) one other x y = x ∙ sym y
 behind_one unique g k before (event.Bring i bytes) one other x y = brought_one unique g k before bytes one other x y
 
@@ -77,8 +77,8 @@ module _ (unique : OneReading) (c : ScriptGroup) where
   reply_one : (es : List WorldEvent) (e : WorldEvent) (one other : WorldReply) → IsReplyTo c es e one → IsReplyTo c es e other → one ≡ other
   reply_one es e one other x y = go (keys_at c (receiver e)) x y where
     go : (o : Option KeyFields)
-        → MatchOption o (one ≡ Ignored) (λ k. IsReplyBehind c.genesis k (history_at c es (receiver e)) e one)
-        → MatchOption o (other ≡ Ignored) (λ k. IsReplyBehind c.genesis k (history_at c es (receiver e)) e other) → one ≡ other
+        → MatchOption o (one ≡ Ignored) (λ k. IsReplyAfter c.genesis k (history_at c es (receiver e)) e one)
+        → MatchOption o (other ≡ Ignored) (λ k. IsReplyAfter c.genesis k (history_at c es (receiver e)) e other) → one ≡ other
     go None x y = x ∙ sym y
     go (Some k) x y = behind_one unique c.genesis k (history_at c es (receiver e)) e one other x y
 
@@ -150,11 +150,11 @@ in_turn_one does each (i ∷ is) es one other stop end (mid, met, first, rest) (
       go (Some s) on x y = (x.0 ∙ sym y.0, x.1 ∙ sym y.1)
 
 module _ (unique : OneReading) (c : ScriptGroup) where
-  feeds_one : (to : ℕ) → OneEnd (Feeds c to)
+  feeds_one : (to : ℕ) → OneEnd (FeedsMember c to)
   feeds_one to = in_turn_one (λ from. Draws c from to) (λ from es one other stop end x y. draws_one unique c from to x y) (range_with_len 0 c.genesis.members)
 
-  passes_one : OneEnd (Passes c)
-  passes_one = in_turn_one (Feeds c) feeds_one (range_with_len 0 c.genesis.members)
+  passes_one : OneEnd (MakesPass c)
+  passes_one = in_turn_one (FeedsMember c) feeds_one (range_with_len 0 c.genesis.members)
 
   all_one : {es one other : List WorldEvent} {stop end : Option RunStop} → BringsAll c es one stop → BringsAll c es other end → (one ≡ other) × (stop ≡ end)
   all_one {es = es} {one = one} {other = other} (Enough p same) (Enough q also) = passes_one es one other None None p q
@@ -216,7 +216,7 @@ module _ (unique : OneReading) (c : ScriptGroup) where
 
   line_one : (es : List WorldEvent) (line : List ℕ) (one other : Told) → LineTells c es line one → LineTells c es line other → one ≡ other
   line_one es [] one other x y = x ∙ sym y
-  line_one es (b ∷ line) one other x y = command_one es (command_in (b ∷ line)) one other x y
+  line_one es (b ∷ line) one other x y = command_one es (script_command_in (b ∷ line)) one other x y
 
 -- ---- so does any line of a script
 
@@ -227,7 +227,7 @@ founds_one es (Some c) then also one other x y = (x.1 ∙ sym y.1, x.0 ∙ sym y
 does_one : OneReading → (group : Option ScriptGroup) (es : List WorldEvent) (line : Option (List ℕ)) (then also : Option ScriptGroup) (one other : Told)
     → Does group es line then one → Does group es line also other → (then ≡ also) × (one ≡ other)
 does_one unique group es None then also one other x y = (x.1 ∙ sym y.1, x.0 ∙ sym y.0)
-does_one unique None es (Some line) then also one other x y = founds_one es (group_in line) then also one other x y
+does_one unique None es (Some line) then also one other x y = founds_one es (script_group_in line) then also one other x y
 does_one unique (Some c) es (Some line) then also one other x y = (x.1 ∙ sym y.1, line_one unique c es line one other x.0 y.0)
 
 -- one answer, one way on, one who goes on
@@ -237,15 +237,15 @@ OneAnswer {A} says =
     → (text ≡ words) × (on ≡ goes) × (b ≡ d)
 
 follows_one : (m : Moment) (group : Option ScriptGroup) (told : Told) (text words : List ℕ) (on goes : Bool) (b d : Moment)
-    → Follows m group told text on b → Follows m group told words goes d → (text ≡ words) × (on ≡ goes) × (b ≡ d)
+    → Continues m group told text on b → Continues m group told words goes d → (text ≡ words) × (on ≡ goes) × (b ≡ d)
 follows_one m group (Prints said last) text words on goes b d x y = (x.0 ∙ sym y.0, x.1 ∙ sym y.1, x.2 ∙ sym y.2)
 follows_one m group (Stops stop) text words on goes b d x y = (x.0 ∙ sym y.0, x.1 ∙ sym y.1, x.2 ∙ sym y.2)
 
-reads_one : OneReading → OneAnswer Reads
+reads_one : OneReading → OneAnswer PlaysLine
 reads_one unique m line text words on goes b d (group, told, does, follows) (also, other, acts, comes) =
     let same = does_one unique m.group m.events line group also told other does acts in
     follows_one m group told text words on goes b d follows
-    (subst (λ (t : Told). Follows m group t words goes d) (sym same.1) (subst (λ (g : Option ScriptGroup). Follows m g other words goes d) (sym same.0) comes))
+    (subst (λ (t : Told). Continues m group t words goes d) (sym same.1) (subst (λ (g : Option ScriptGroup). Continues m g other words goes d) (sym same.0) comes))
 
 answers_one : {A : Type 0} (says : A → Option (List ℕ) → List ℕ → Bool → A → Type 0) → OneAnswer says → (lines : List (Option (List ℕ))) (a : A) (text words : List ℕ) (on goes : Bool) (b d : A)
     → Answers says a lines text on b → Answers says a lines words goes d → (text ≡ words) × (b ≡ d)
@@ -265,5 +265,5 @@ answers_one {A} says each (line ∷ lines) a text words on goes b d (first, rest
 pub one_run : OneReading → (script text other : List ℕ) (ended end : SimEnd) → IsRun script text ended → IsRun script other end → (text ≡ other) × (ended ≡ end)
 one_run unique [] text other ended end x y = (x.0 ∙ sym y.0, x.1 ∙ sym y.1)
 one_run unique (b ∷ script) text other ended end (on, last, answers, is) (goes, final, replies, are) =
-    let same = answers_one Reads (reads_one unique) (lines_within LONGEST_LINE (b ∷ script)) start text other on goes last final answers replies in
+    let same = answers_one PlaysLine (reads_one unique) (lines_within LONGEST_LINE (b ∷ script)) start text other on goes last final answers replies in
     (same.0, is ∙ ap (λ (m : Moment). end_of m.stopped) same.1 ∙ sym are)

@@ -6,7 +6,7 @@ use Rattle.std.proofs.lemmas.Option.{same_Some, slice_get_read, slice_get_within
 use Rattle.pay_frame.specs.Frame.{BodyFields, frame_bytes}
 use Rattle.pay_channel.specs.History.{out}
 use Rattle.pay_link.specs.Keys.{KeyFields, key_for}
-use Rattle.pay_link.specs.Sealing.{sealed}
+use Rattle.pay_link.specs.Sealing.{sealed_frame}
 use Rattle.pay_link.specs.TestKeys.{test_keys_of}
 use Rattle.pay_member.specs.Events.{events}
 use Rattle.pay_member.specs.Group.{group_in}
@@ -18,7 +18,7 @@ use Rattle.pay_world.specs.Passing.{MayPass, frame_by, frame_of}
 use Rattle.pay_world.specs.World.{member_in}
 use Rattle.pay_sim.specs.declared.group.ScriptGroup.{ScriptGroup}
 use Rattle.pay_sim.specs.TestFrames.{test_frame}
-use Rattle.pay_sim.specs.Playing.{GameFields, IsBehind}
+use Rattle.pay_sim.specs.Playing.{GameFields, IsAfter}
 use Rattle.pay_sim.proofs.Sealed.{spelled_is}
 
 abbrev pub SharedTestKeys : Type 0
@@ -30,7 +30,7 @@ unlisted : {X : Type 0} (b : Bool) (o : Option X) (x : X) → Some x ≡ cond b 
 unlisted true o x is = absurd cc
 unlisted false o x is = is
 
-module _ (c : ScriptGroup) (es : List WorldEvent) (g : GameFields) (b : IsBehind c es g) where
+module _ (c : ScriptGroup) (es : List WorldEvent) (g : GameFields) (b : IsAfter c es g) where
   key_at : (i : ℕ) (m : MemberFields) → member_in g.world i ≡ Some m → Some m.keys ≡ slice_get (group_test_keys c.genesis.members) i
   key_at i m is =
       unlisted (is_listed c.liars.liars i) (slice_get (group_test_keys c.genesis.members) i) m.keys
@@ -76,6 +76,6 @@ module _ (c : ScriptGroup) (es : List WorldEvent) (g : GameFields) (b : IsBehind
     unfolding frame_of
     passed_is =
         ap (λ (o : Option MemberFields). option_map_or (λ m. frame_by m to number) o []) gives
-        ∙ ap (λ (o : Option BodyFields). option_map_or (λ x. frame_bytes (sealed giver.keys to number x)) o []) sent
-        ∙ ap (λ (k : KeyFields). frame_bytes (sealed k to number body)) (keys_are from giver gives)
+        ∙ ap (λ (o : Option BodyFields). option_map_or (λ x. frame_bytes (sealed_frame giver.keys to number x)) o []) sent
+        ∙ ap (λ (k : KeyFields). frame_bytes (sealed_frame k to number body)) (keys_are from giver gives)
         ∙ sym (spelled_is c.genesis.members from to number body (is_member to taker takes) other)

@@ -13,13 +13,13 @@ use Rattle.pay_link.specs.Fronts.{turn}
 use Rattle.pay_link.specs.Genesis.{GenesisFields}
 use Rattle.pay_link.specs.Keys.{IsPeer, KeyFields, key_for, no_key}
 use Rattle.pay_link.specs.Opening.{judgement, opened_fields}
-use Rattle.pay_link.specs.Sealing.{sealed, tagged_bytes}
+use Rattle.pay_link.specs.Sealing.{sealed_frame, tagged_bytes}
 use Rattle.pay_link.specs.TestKeys.{pair_key, test_key, test_keys_of}
 use Rattle.pay_member.specs.declared.outcome.Outcome.{Outcome}
 use Rattle.pay_member.specs.declared.incoming.Incoming.TheVariants as message
 use Rattle.pay_member.specs.declared.incoming.Incoming.TheVariants.{Message}
 use Rattle.pay_member.specs.declared.outcome.Outcome.TheVariants.{Took}
-use Rattle.pay_member.specs.Bringing.{IsOutcome, answer_to, answered, incoming_at, incoming_of, is_want, opened_in, outcome_of, outcome_to, unless_want}
+use Rattle.pay_member.specs.Bringing.{IsOutcome, answer_to, outcome_of_judged, incoming_at, incoming_of, is_want, opened_in, outcome_of, outcome_to, unless_want}
 use Rattle.pay_member.specs.Reply.{took_by}
 use Rattle.pay_sim.specs.TestFrames.{test_frame, test_tag}
 
@@ -30,7 +30,7 @@ pub record Links : Type 0 where
   pub opens :
       (a b : KeyFields) (number : ℕ) (body : BodyFields) → IsPeer b a.own → key_for a b.own ≡ key_for b a.own
       → body.owner < length b.keys
-      → judgement b (sealed a b.own number body) ≡ Ok (opened_fields b (sealed a b.own number body))
+      → judgement b (sealed_frame a b.own number body) ≡ Ok (opened_fields b (sealed_frame a b.own number body))
   pub shared :
       (members x y : ℕ) → x < members → y < members
       → key_for (test_keys_of members x) y ≡ key_for (test_keys_of members y) x
@@ -47,7 +47,7 @@ other_test x y p = search (rules, tests)
 
 -- the frame that one of so many members seals for another under their test key
 abbrev pub test_sealed : ℕ → ℕ → ℕ → ℕ → BodyFields → FrameFields
-test_sealed members from to number body = sealed (test_keys_of members from) to number body
+test_sealed members from to number body = sealed_frame (test_keys_of members from) to number body
 
 key_is : (members from to : ℕ) → to < members → from ≢ to → key_for (test_keys_of members from) to ≡ pair_key from to
 key_is members from to there other =
@@ -96,7 +96,7 @@ module _ (links : Links) (members from to number : ℕ) (body : BodyFields) (her
     unfolding answer_to outcome_of
     outcome_is g before is =
         ap (outcome_to g to before) incoming_is
-        ∙ ap (answered g to before (test_sealed members from to number body)) ((links.in_turn (next from before) number).1 is)
+        ∙ ap (outcome_of_judged g to before (test_sealed members from to number body)) ((links.in_turn (next from before) number).1 is)
 
     -- so it is what comes of its bytes
     pub taken_is : (g : GenesisFields) (before : List Event) (outcome : Outcome) → number ≡ next from before

@@ -13,10 +13,10 @@ use Rattle.pay_world.specs.Convergence.{AllTaken}
 use Rattle.pay_world.specs.Liars.{LiarFields, setting_of}
 use Rattle.pay_world.specs.World.{IsWorld, member_in, setting_in, history_in}
 use Rattle.pay_sim.specs.declared.group.ScriptGroup.{ScriptGroup}
-use Rattle.pay_sim.specs.Words.{book_of, book_words}
+use Rattle.pay_sim.specs.Words.{shown_book, member_words}
 use Rattle.pay_sim.specs.Made.{history_at, is_there}
-use Rattle.pay_sim.specs.Script.{IsConverged, shown, with_feed}
-use Rattle.pay_sim.specs.Playing.{GameFields, IsBehind}
+use Rattle.pay_sim.specs.Script.{IsConverged, shown_member, with_feed}
+use Rattle.pay_sim.specs.Playing.{GameFields, IsAfter}
 use Rattle.pay_sim.proofs.Knowing.{known, leaves, takes, there_none, there_some}
 
 pub on_ok : {T E : Type 0} (r : Result T E) (P Q : Type 0) → (P → Q) → OnOk r P → OnOk r Q
@@ -25,7 +25,7 @@ on_ok (Err e) P Q f p = tt
 
 -- ---- whether all is taken
 
-module _ (c : ScriptGroup) (es : List WorldEvent) (g : GameFields) (b : IsBehind c es g) where
+module _ (c : ScriptGroup) (es : List WorldEvent) (g : GameFields) (b : IsAfter c es g) where
   to_script : AllTaken (setting_in g.world) (history_in g.world) → AllTaken (setting_of c.liars) (history_at c es)
   to_script all =
       subst (λ (l : LiarFields). AllTaken (setting_of l) (history_at c es)) b.after.liars
@@ -47,13 +47,13 @@ module _ (c : ScriptGroup) (es : List WorldEvent) (g : GameFields) (b : IsBehind
 
 -- ---- books
 
-module _ (c : ScriptGroup) (es : List WorldEvent) (g : GameFields) (b : IsBehind c es g) (world : IsWorld g.world) where
-  pub shown_some : (i : ℕ) (m : MemberFields) → member_in g.world i ≡ Some m → with_feed (book_words m.genesis.members i (book_of m)) ≡ shown c es i
+module _ (c : ScriptGroup) (es : List WorldEvent) (g : GameFields) (b : IsAfter c es g) (world : IsWorld g.world) where
+  pub shown_some : (i : ℕ) (m : MemberFields) → member_in g.world i ≡ Some m → with_feed (member_words m.genesis.members i (shown_book m)) ≡ shown_member c es i
   shown_some i m is =
-      known c es g b world (λ (x : GenesisFields) (own : ℕ) (h : List Event). with_feed (book_words x.members i (book_after x own h))) i m is
+      known c es g b world (λ (x : GenesisFields) (own : ℕ) (h : List Event). with_feed (member_words x.members i (book_after x own h))) i m is
       ∙ sym (takes (is_there c i) _ _ (there_some c es g b world i m is))
 
-  pub shown_none : (i : ℕ) → member_in g.world i ≡ None → [] ≡ shown c es i
+  pub shown_none : (i : ℕ) → member_in g.world i ≡ None → [] ≡ shown_member c es i
   shown_none i is = sym (leaves (is_there c i) _ _ (there_none c es g b world i is))
 
 -- ---- all of them
@@ -63,11 +63,11 @@ range_more n =
     let same : (m : ℕ) → map (λ (k : ℕ). k) (range_with_len 0 m) ≡ range_with_len 0 m = λ m. map-id (range_with_len 0 m) in
     sym (same (n + 1)) ∙ map-range_with_len_more (λ (k : ℕ). k) 0 n n (omega arith) ∙ ap (λ xs. xs ++ n ∷ []) (same n)
 
-pub shown_more : (c : ScriptGroup) (es : List WorldEvent) (i : ℕ) (before now new : List ℕ) → now ≡ before ++ flat_map (shown c es) (range_with_len 0 i)
-    → new ≡ now ++ shown c es i → new ≡ before ++ flat_map (shown c es) (range_with_len 0 (i + 1))
+pub shown_more : (c : ScriptGroup) (es : List WorldEvent) (i : ℕ) (before now new : List ℕ) → now ≡ before ++ flat_map (shown_member c es) (range_with_len 0 i)
+    → new ≡ now ++ shown_member c es i → new ≡ before ++ flat_map (shown_member c es) (range_with_len 0 (i + 1))
 shown_more c es i before now new so_far one =
-    one ∙ ap (λ (xs : List ℕ). xs ++ shown c es i) so_far
-    ∙ append_assoc before (flat_map (shown c es) (range_with_len 0 i)) (shown c es i)
+    one ∙ ap (λ (xs : List ℕ). xs ++ shown_member c es i) so_far
+    ∙ append_assoc before (flat_map (shown_member c es) (range_with_len 0 i)) (shown_member c es i)
     ∙ ap (λ (xs : List ℕ). before ++ xs)
-    (sym (ap (flat_map (shown c es)) (range_more i) ∙ flat_map-append (shown c es) (range_with_len 0 i) (i ∷ [])
-    ∙ ap (λ (xs : List ℕ). flat_map (shown c es) (range_with_len 0 i) ++ xs) (append-nil (shown c es i))))
+    (sym (ap (flat_map (shown_member c es)) (range_more i) ∙ flat_map-append (shown_member c es) (range_with_len 0 i) (i ∷ [])
+    ∙ ap (λ (xs : List ℕ). flat_map (shown_member c es) (range_with_len 0 i) ++ xs) (append-nil (shown_member c es i))))

@@ -6,7 +6,7 @@ use Rattle.std.proofs.KnownBytes.{Appends-trans}
 use Rattle.pay_io.specs.declared.stream_fault.StreamFault.{StreamFault}
 use Rattle.pay_io.specs.Device.{WroteBeginning}
 use Rattle.pay_text.specs.Answers.{Answers, Either}
-use Rattle.pay_text.specs.Engine.{AnswersAll, AnswersFirst, Writes}
+use Rattle.pay_text.specs.Engine.{AnswersAll, AnswersFirst, WritesByEnd}
 use Rattle.pay_text.specs.Lines.{line_feed, lines_of, lines_within, within}
 use Rattle.pay_text.specs.Words.{onto_first}
 use Rattle.pay_sim.specs.declared.group.ScriptGroup.{ScriptGroup}
@@ -14,18 +14,18 @@ use Rattle.pay_sim.specs.declared.run.TheConstants.{LONGEST_LINE}
 use Rattle.pay_sim.specs.declared.sim_end.SimEnd.TheVariants as end
 use Rattle.pay_sim.specs.declared.stop.RunStop.{RunStop}
 use Rattle.pay_sim.specs.declared.stop.RunStop.TheVariants.{BadLine, Forged, Limit}
-use Rattle.pay_sim.specs.Script.{Told, Prints, Stops, Follows, IsRun, IsRunBegun, Moment, Reads, WritesRun, end_of, no_line, start}
-use Rattle.pay_sim.specs.Playing.{IsAnswer, IsAt, IsGameAt, IsGoing, IsStopped, MayBeAny, PlayFields}
+use Rattle.pay_sim.specs.Script.{Told, Prints, Stops, Continues, IsRun, IsRunBegun, Moment, PlaysLine, WritesRun, end_of, no_line, start}
+use Rattle.pay_sim.specs.Playing.{IsPlayAnswer, IsAt, IsGameAt, IsPlaying, IsStopped, MayBeAny, PlayFields}
 
 -- ---- lines that are answered are a script's
 
 true_false : true ≡ false → ⊥
 true_false same = cc
 
-pub follow : (p q : PlayFields) (lines : List (Option (List ℕ))) (text : List ℕ) (on : Bool) (m : Moment) → IsGoing p m → Answers IsAnswer p lines text on q
-    → (n : Moment) × Answers Reads m lines text on n × IsAt on q n
+pub follow : (p q : PlayFields) (lines : List (Option (List ℕ))) (text : List ℕ) (on : Bool) (m : Moment) → IsPlaying p m → Answers IsPlayAnswer p lines text on q
+    → (n : Moment) × Answers PlaysLine m lines text on n × IsAt on q n
 follow p q [] text on m going (silent, goes, same) =
-    (m, (silent, goes, refl), subst (λ (b : Bool). IsAt b q m) (sym goes) (subst (λ (x : PlayFields). IsGoing x m) (sym same) going))
+    (m, (silent, goes, refl), subst (λ (b : Bool). IsAt b q m) (sym goes) (subst (λ (x : PlayFields). IsPlaying x m) (sym same) going))
 follow p q (line ∷ lines) text on m going (first, rest, true, mid, said, parts, after) =
     let one = said m going in
     let more = follow mid q lines rest on one.0 one.2 after in
@@ -52,11 +52,11 @@ not_done BadLine same = cc
 not_done (Forged k) same = cc
 not_done Limit same = cc
 
-stops_here : (m n : Moment) (group : Option ScriptGroup) (told : Told) (text : List ℕ) → Follows m group told text false n → end_of n.stopped ≡ end.Done → ⊥
+stops_here : (m n : Moment) (group : Option ScriptGroup) (told : Told) (text : List ℕ) → Continues m group told text false n → end_of n.stopped ≡ end.Done → ⊥
 stops_here m n group (Prints words last) text (said, goes, is) done = true_false (sym goes)
 stops_here m n group (Stops stop) text (said, over, is) done = not_done stop (sym (ap (λ (x : Moment). end_of x.stopped) is) ∙ done)
 
-stopped_is_not_done : (m n : Moment) (lines : List (Option (List ℕ))) (text : List ℕ) (on : Bool) → on ≡ false → Answers Reads m lines text on n → end_of n.stopped ≡ end.Done → ⊥
+stopped_is_not_done : (m n : Moment) (lines : List (Option (List ℕ))) (text : List ℕ) (on : Bool) → on ≡ false → Answers PlaysLine m lines text on n → end_of n.stopped ≡ end.Done → ⊥
 stopped_is_not_done m n [] text on over (silent, goes, same) done = true_false (sym goes ∙ over)
 stopped_is_not_done m n (line ∷ lines) text on over (first, rest, true, mid, said, parts, after) done = stopped_is_not_done mid n lines rest on over after done
 stopped_is_not_done m n (line ∷ lines) text on over (first, rest, false, mid, (group, told, does, follows), parts, after) done =
@@ -64,18 +64,18 @@ stopped_is_not_done m n (line ∷ lines) text on over (first, rest, false, mid, 
 
 -- ---- how many lines there were
 
-counts_one : (m n : Moment) (group : Option ScriptGroup) (told : Told) (text : List ℕ) (on : Bool) → Follows m group told text on n → 1 ≤ n.lines
+counts_one : (m n : Moment) (group : Option ScriptGroup) (told : Told) (text : List ℕ) (on : Bool) → Continues m group told text on n → 1 ≤ n.lines
 counts_one m n group (Prints words last) text on (said, goes, is) = let count = ap (λ (x : Moment). x.lines) is in omega arith
 counts_one m n group (Stops stop) text on (said, over, is) = let count = ap (λ (x : Moment). x.lines) is in omega arith
 
-counts_on : (m n : Moment) (lines : List (Option (List ℕ))) (text : List ℕ) (on : Bool) → 1 ≤ m.lines → Answers Reads m lines text on n → 1 ≤ n.lines
+counts_on : (m n : Moment) (lines : List (Option (List ℕ))) (text : List ℕ) (on : Bool) → 1 ≤ m.lines → Answers PlaysLine m lines text on n → 1 ≤ n.lines
 counts_on m n [] text on some (silent, goes, same) = subst (λ (x : Moment). 1 ≤ x.lines) (sym same) some
 counts_on m n (line ∷ lines) text on some (first, rest, true, mid, (group, told, does, follows), parts, after) =
     counts_on mid n lines rest on (counts_one m mid group told first true follows) after
 counts_on m n (line ∷ lines) text on some (first, rest, false, mid, (group, told, does, follows), parts, after) =
     subst (λ (x : Moment). 1 ≤ x.lines) (sym after.same) (counts_one m mid group told first false follows)
 
-counts : (m n : Moment) (line : Option (List ℕ)) (lines : List (Option (List ℕ))) (text : List ℕ) (on : Bool) → Answers Reads m (line ∷ lines) text on n → 1 ≤ n.lines
+counts : (m n : Moment) (line : Option (List ℕ)) (lines : List (Option (List ℕ))) (text : List ℕ) (on : Bool) → Answers PlaysLine m (line ∷ lines) text on n → 1 ≤ n.lines
 counts m n line lines text on (first, rest, true, mid, (group, told, does, follows), parts, after) =
     counts_on mid n lines rest on (counts_one m mid group told first true follows) after
 counts m n line lines text on (first, rest, false, mid, (group, told, does, follows), parts, after) =
@@ -98,24 +98,24 @@ none_of_none = refl
 
 -- ---- what is written
 
-starts : (p : PlayFields) → p ≡ record { lines = 0; game = None; stop = None } → IsGoing p start
+starts : (p : PlayFields) → p ≡ record { lines = 0; game = None; stop = None } → IsPlaying p start
 starts p fresh = record {
   lines = ap (λ (x : PlayFields). x.lines) fresh;
   stop = ap (λ (x : PlayFields). x.stop) fresh;
   game = subst (λ (x : PlayFields). IsGameAt x.game None []) (sym fresh) refl;
 }
 
-nothing_read : (p q : PlayFields) (text : List ℕ) (on : Bool) → p.lines ≡ 0 → Answers IsAnswer p (lines_within LONGEST_LINE []) text on q → (text ≡ []) × (q.lines ≡ 0)
-nothing_read p q text on none answers = go (subst (λ (ls : List (Option (List ℕ))). Answers IsAnswer p ls text on q) none_of_none answers) where
-  go : Answers IsAnswer p [] text on q → (text ≡ []) × (q.lines ≡ 0)
+nothing_read : (p q : PlayFields) (text : List ℕ) (on : Bool) → p.lines ≡ 0 → Answers IsPlayAnswer p (lines_within LONGEST_LINE []) text on q → (text ≡ []) × (q.lines ≡ 0)
+nothing_read p q text on none answers = go (subst (λ (ls : List (Option (List ℕ))). Answers IsPlayAnswer p ls text on q) none_of_none answers) where
+  go : Answers IsPlayAnswer p [] text on q → (text ≡ []) × (q.lines ≡ 0)
   go (silent, goes, same) = (silent, ap (λ (x : PlayFields). x.lines) same ∙ none)
 
-some_read : (p q : PlayFields) (b : ℕ) (bytes text : List ℕ) (on : Bool) → IsGoing p start → Answers IsAnswer p (lines_within LONGEST_LINE (b ∷ bytes)) text on q → 1 ≤ q.lines
+some_read : (p q : PlayFields) (b : ℕ) (bytes text : List ℕ) (on : Bool) → IsPlaying p start → Answers IsPlayAnswer p (lines_within LONGEST_LINE (b ∷ bytes)) text on q → 1 ≤ q.lines
 some_read p q b bytes text on going answers =
     let followed = follow p q (lines_within LONGEST_LINE (b ∷ bytes)) text on start going answers in
     let line = some_line b bytes in
     let many = counts start followed.0 (within LONGEST_LINE line.0) (map (within LONGEST_LINE) line.1) text on
-    (subst (λ (ls : List (List ℕ)). Answers Reads start (map (within LONGEST_LINE) ls) text on followed.0) line.2 followed.1) in
+    (subst (λ (ls : List (List ℕ)). Answers PlaysLine start (map (within LONGEST_LINE) ls) text on followed.0) line.2 followed.1) in
     let same = lines_is on q followed.0 followed.2 in
     omega arith
 
@@ -124,13 +124,13 @@ module _ (p q : PlayFields) (input left before after : Option (List ℕ)) (fresh
   none_at_first = ap (λ (x : PlayFields). x.lines) fresh
 
   -- some line was read
-  pub ends : (on : Bool) → Writes IsAnswer MayBeAny LONGEST_LINE p q input left before after (Ok on) → q.lines ≢ 0 → WritesRun input left before after (Ok (end_of q.stop))
+  pub ends : (on : Bool) → WritesByEnd IsPlayAnswer MayBeAny LONGEST_LINE p q input left before after (Ok on) → q.lines ≢ 0 → WritesRun input left before after (Ok (end_of q.stop))
   ends on (all, at) some = go input all where
-    finish : (on : Bool) → Either on (IsAtEnd left) Unit → (n : Moment) (lines : List (Option (List ℕ))) (text : List ℕ) → Answers Reads start lines text on n → q.stop ≡ n.stopped → end_of q.stop ≡ end.Done → IsAtEnd left
+    finish : (on : Bool) → Either on (IsAtEnd left) Unit → (n : Moment) (lines : List (Option (List ℕ))) (text : List ℕ) → Answers PlaysLine start lines text on n → q.stop ≡ n.stopped → end_of q.stop ≡ end.Done → IsAtEnd left
     finish true at n lines text answers stop done = at
     finish false at n lines text answers stop done = absurd (stopped_is_not_done start n lines text false refl answers (sym (ap end_of stop) ∙ done))
 
-    go : (o : Option (List ℕ)) → IfSome o (λ bytes. AnswersAll IsAnswer p (lines_within LONGEST_LINE bytes) before after on q)
+    go : (o : Option (List ℕ)) → IfSome o (λ bytes. AnswersAll IsPlayAnswer p (lines_within LONGEST_LINE bytes) before after on q)
         → IfSome o (λ script. (text : List ℕ) × IsRun script text (end_of q.stop) × Appends before after text × (end_of q.stop ≡ end.Done → IsAtEnd left))
     go None a = tt
     go (Some []) a = absurd (some (nothing_read p q a.text on none_at_first a.answers).1)
@@ -143,9 +143,9 @@ module _ (p q : PlayFields) (input left before after : Option (List ℕ)) (fresh
   bad_is_not_done : end.BadLine ≡ end.Done → ⊥
   bad_is_not_done same = cc
 
-  pub ends_empty : (on : Bool) (last : Option (List ℕ)) → Writes IsAnswer MayBeAny LONGEST_LINE p q input left before after (Ok on) → q.lines ≡ 0 → Appends after last no_line → WritesRun input left before last (Ok end.BadLine)
+  pub ends_empty : (on : Bool) (last : Option (List ℕ)) → WritesByEnd IsPlayAnswer MayBeAny LONGEST_LINE p q input left before after (Ok on) → q.lines ≡ 0 → Appends after last no_line → WritesRun input left before last (Ok end.BadLine)
   ends_empty on last (all, at) none written = go input all where
-    go : (o : Option (List ℕ)) → IfSome o (λ bytes. AnswersAll IsAnswer p (lines_within LONGEST_LINE bytes) before after on q)
+    go : (o : Option (List ℕ)) → IfSome o (λ bytes. AnswersAll IsPlayAnswer p (lines_within LONGEST_LINE bytes) before after on q)
         → IfSome o (λ script. (text : List ℕ) × IsRun script text end.BadLine × Appends before last text × (end.BadLine ≡ end.Done → IsAtEnd left))
     go None a = tt
     go (Some []) a =
@@ -153,9 +153,9 @@ module _ (p q : PlayFields) (input left before after : Option (List ℕ)) (fresh
         (no_line, (refl, refl), subst (λ (t : List ℕ). Appends before last (t ++ no_line)) nothing (Appends-trans before after last a.text no_line a.written written), λ done. absurd (bad_is_not_done done))
     go (Some (b ∷ bytes)) a = absurd (let many = some_read p q b bytes a.text on (starts p fresh) a.answers in omega arith)
 
-  pub breaks_empty : (on : Bool) (last : Option (List ℕ)) (fault : StreamFault) → Writes IsAnswer MayBeAny LONGEST_LINE p q input left before after (Ok on) → q.lines ≡ 0 → WroteBeginning after last no_line → WritesRun input left before last (Err fault)
+  pub breaks_empty : (on : Bool) (last : Option (List ℕ)) (fault : StreamFault) → WritesByEnd IsPlayAnswer MayBeAny LONGEST_LINE p q input left before after (Ok on) → q.lines ≡ 0 → WroteBeginning after last no_line → WritesRun input left before last (Err fault)
   breaks_empty on last fault (all, at) none wrote = go input all where
-    go : (o : Option (List ℕ)) → IfSome o (λ bytes. AnswersAll IsAnswer p (lines_within LONGEST_LINE bytes) before after on q) → IfSome o (λ script. IsRunBegun script before last)
+    go : (o : Option (List ℕ)) → IfSome o (λ bytes. AnswersAll IsPlayAnswer p (lines_within LONGEST_LINE bytes) before after on q) → IfSome o (λ script. IsRunBegun script before last)
     go None a = tt
     go (Some []) a =
         let nothing = (nothing_read p q a.text on none_at_first a.answers).0 in
@@ -181,13 +181,13 @@ module _ (p q : PlayFields) (input left before after : Option (List ℕ)) (fresh
     take_none zero = refl
     take_none (suc k) = refl
 
-  pub breaks : (fault : StreamFault) → Writes IsAnswer MayBeAny LONGEST_LINE p q input left before after (Err fault) → WritesRun input left before after (Err fault)
+  pub breaks : (fault : StreamFault) → WritesByEnd IsPlayAnswer MayBeAny LONGEST_LINE p q input left before after (Err fault) → WritesRun input left before after (Err fault)
   breaks fault all = go input all where
-    go : (o : Option (List ℕ)) → IfSome o (λ bytes. AnswersFirst IsAnswer MayBeAny p (lines_within LONGEST_LINE bytes) before after q) → IfSome o (λ script. IsRunBegun script before after)
+    go : (o : Option (List ℕ)) → IfSome o (λ bytes. AnswersFirst IsPlayAnswer MayBeAny p (lines_within LONGEST_LINE bytes) before after q) → IfSome o (λ script. IsRunBegun script before after)
     go None a = tt
     go (Some []) a =
         let none = nil_of_nil a.first a.others (sym none_of_none ∙ a.parts) in
-        let nothing = subst (λ (ls : List (Option (List ℕ))). Answers IsAnswer p ls a.text a.on a.mid) none a.answers in
+        let nothing = subst (λ (ls : List (Option (List ℕ))). Answers IsPlayAnswer p ls a.text a.on a.mid) none a.answers in
         none_written before after a.text nothing.0 a.wrote
     go (Some (b ∷ bytes)) a =
         let followed = follow p a.mid a.first a.text a.on start (starts p fresh) a.answers in

@@ -7,18 +7,21 @@ use Rattle.pay_world.specs.declared.event.WorldEvent.TheVariants.{Bring}
 use Rattle.pay_world.specs.declared.reply.WorldReply.{WorldReply}
 use Rattle.pay_sim.specs.declared.group.ScriptGroup.{ScriptGroup}
 use Rattle.pay_sim.specs.declared.stop.RunStop.{RunStop}
-use Rattle.pay_sim.specs.Made.{Makes, untaken}
+use Rattle.pay_sim.specs.Made.{Makes, next_untaken}
 
 -- Each relation is of the events that were made before, those that were made after, and what
 -- stopped the run in between, if anything did.
 
 -- Member `to` takes of member `from`, frame after frame, until nothing of it is untaken.
-pub data Draws (c : ScriptGroup) (from to : ℕ) : List WorldEvent → List WorldEvent → Option RunStop → Type 0 where
-  Nothing : {es : List WorldEvent} → untaken c es from to ≡ None → Draws c from to es es None
-  Stopped : {es : List WorldEvent} → (frame : List ℕ) → (stop : RunStop) → untaken c es from to ≡ Some frame
+pub data Draws (c : ScriptGroup) (from to : ℕ)
+    : List WorldEvent → List WorldEvent → Option RunStop → Type 0 where
+  Nothing : {es : List WorldEvent} → next_untaken c es from to ≡ None → Draws c from to es es None
+  Stopped : {es : List WorldEvent} → (frame : List ℕ) → (stop : RunStop)
+      → next_untaken c es from to ≡ Some frame
       → Makes c es (Bring to frame) (Err stop) → Draws c from to es es (Some stop)
-  Further : {es last : List WorldEvent} → {stop : Option RunStop} → (frame : List ℕ) → (reply : WorldReply)
-      → untaken c es from to ≡ Some frame → Makes c es (Bring to frame) (Ok reply)
+  Further : {es last : List WorldEvent} → {stop : Option RunStop} → (frame : List ℕ)
+      → (reply : WorldReply)
+      → next_untaken c es from to ≡ Some frame → Makes c es (Bring to frame) (Ok reply)
       → Draws c from to (es ++ Bring to frame ∷ []) last stop → Draws c from to es last stop
 
 -- one after the other, up to the first that is stopped
@@ -30,18 +33,20 @@ InTurn does (i ∷ is) es last stop =
     × MatchOption met (InTurn does is mid last stop) (λ s. (last ≡ mid) × (stop ≡ Some s))
 
 -- a member takes of each other one, in the order of their numbers
-abbrev pub Feeds : ScriptGroup → ℕ → List WorldEvent → List WorldEvent → Option RunStop → Type 0
-Feeds c to = InTurn (λ from. Draws c from to) (range_with_len 0 c.genesis.members)
+abbrev pub FeedsMember :
+    ScriptGroup → ℕ → List WorldEvent → List WorldEvent → Option RunStop → Type 0
+FeedsMember c to = InTurn (λ from. Draws c from to) (range_with_len 0 c.genesis.members)
 
 -- each member does, in this order
-abbrev pub Passes : ScriptGroup → List WorldEvent → List WorldEvent → Option RunStop → Type 0
-Passes c = InTurn (Feeds c) (range_with_len 0 c.genesis.members)
+abbrev pub MakesPass : ScriptGroup → List WorldEvent → List WorldEvent → Option RunStop → Type 0
+MakesPass c = InTurn (FeedsMember c) (range_with_len 0 c.genesis.members)
 
 -- They do so again and again, until nothing was brought.
-pub data BringsAll (c : ScriptGroup) : List WorldEvent → List WorldEvent → Option RunStop → Type 0 where
-  Enough : {es last : List WorldEvent} → Passes c es last None → length last ≡ length es
+pub data BringsAll (c : ScriptGroup)
+    : List WorldEvent → List WorldEvent → Option RunStop → Type 0 where
+  Enough : {es last : List WorldEvent} → MakesPass c es last None → length last ≡ length es
       → BringsAll c es last None
-  Halted : {es last : List WorldEvent} → (stop : RunStop) → Passes c es last (Some stop)
+  Halted : {es last : List WorldEvent} → (stop : RunStop) → MakesPass c es last (Some stop)
       → BringsAll c es last (Some stop)
-  Again : {es mid last : List WorldEvent} → {stop : Option RunStop} → Passes c es mid None
+  Again : {es mid last : List WorldEvent} → {stop : Option RunStop} → MakesPass c es mid None
       → length es < length mid → BringsAll c mid last stop → BringsAll c es last stop

@@ -28,22 +28,22 @@ if_below bound n = if nat_lt n bound then Some n else None
 abbrev pub below : ℕ → List (List ℕ) → Option ℕ
 below bound words = option_and_then (if_below bound) (first_number words)
 
-abbrev pub decoded : Result (List ℕ) FromHexError → Option (List ℕ)
-decoded (Ok bytes) = Some bytes
-decoded (Err fault) = None
+abbrev pub decoded_bytes : Result (List ℕ) FromHexError → Option (List ℕ)
+decoded_bytes (Ok bytes) = Some bytes
+decoded_bytes (Err fault) = None
 
 -- bytes in hexadecimal digits of either case, or `-` for none; nothing is no word
-unfoldable pub bytes_of : List ℕ → Option (List ℕ)
-bytes_of word =
+unfoldable pub bytes_in_word : List ℕ → Option (List ℕ)
+bytes_in_word word =
     if bytes_eq word (codes "-") then Some []
     else if length word == 0 then None
-    else decoded (decode_of word)
+    else decoded_bytes (decode_of word)
 
 abbrev pub first_bytes : List (List ℕ) → Option (List ℕ)
-first_bytes words = option_and_then bytes_of (first_word words)
+first_bytes words = option_and_then bytes_in_word (first_word words)
 
-unfoldable pub kind_of : List ℕ → Option Kind
-kind_of word =
+unfoldable pub kind_in_word : List ℕ → Option Kind
+kind_in_word word =
     if bytes_eq word (codes "send") then Some Send
     else if bytes_eq word (codes "echo") then Some Echo
     else if bytes_eq word (codes "ready") then Some Ready
@@ -51,14 +51,15 @@ kind_of word =
     else None
 
 abbrev pub first_kind : List (List ℕ) → Option Kind
-first_kind words = option_and_then kind_of (first_word words)
+first_kind words = option_and_then kind_in_word (first_word words)
 
 -- a frame's number, or `next`
-unfoldable pub turn_of : List ℕ → Option (Option ℕ)
-turn_of word = if bytes_eq word (codes "next") then Some None else option_map Some (number_of word)
+unfoldable pub turn_in_word : List ℕ → Option (Option ℕ)
+turn_in_word word =
+    if bytes_eq word (codes "next") then Some None else option_map Some (number_of word)
 
 abbrev pub first_turn : List (List ℕ) → Option (Option ℕ)
-first_turn words = option_and_then turn_of (first_word words)
+first_turn words = option_and_then turn_in_word (first_word words)
 
 -- ---- commands, by the words after their names
 
@@ -101,7 +102,8 @@ if_body words body = if is_body body then if_last words body else None
 -- `KIND OWNER SEQ VALUE`, which are the last words, within a frame's limits
 unfoldable pub body_in : List (List ℕ) → Option BodyFields
 body_in words =
-    option_and_then (λ kind. option_and_then (λ owner. option_and_then (λ seq. option_and_then (λ value.
+    option_and_then
+    (λ kind. option_and_then (λ owner. option_and_then (λ seq. option_and_then (λ value.
     if_body (drop 1 (drop 1 (drop 1 (drop 1 words))))
     (record { kind = kind; owner = owner; seq = seq; value = value }))
     (first_bytes (drop 1 (drop 1 (drop 1 words)))))
@@ -148,5 +150,6 @@ command_of words name =
     else if bytes_eq name (codes "asks") then asks_in words
     else bringing_in name words
 
-unfoldable pub command_in : List ℕ → Option ScriptCommand
-command_in line = option_and_then (command_of (drop 1 (words_of line))) (first_word (words_of line))
+unfoldable pub script_command_in : List ℕ → Option ScriptCommand
+script_command_in line =
+    option_and_then (command_of (drop 1 (words_of line))) (first_word (words_of line))

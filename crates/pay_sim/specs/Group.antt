@@ -15,12 +15,12 @@ unfoldable pub liars_said : List ℕ → Option (List ℕ)
 liars_said bytes = option_and_then (numbers_at (codes "liars")) (value_in bytes)
 
 -- these numbers, if each has at most 16 bits
-unfoldable pub if_short : List ℕ → Option (List ℕ)
-if_short numbers = if list_all (λ n. nat_lt n (2 ^ 16)) numbers then Some numbers else None
+unfoldable pub numbers_if_short : List ℕ → Option (List ℕ)
+numbers_if_short numbers = if list_all (λ n. nat_lt n (2 ^ 16)) numbers then Some numbers else None
 
 -- what is said of liars, if it is so short; a longer number is no member's
 abbrev pub fitting : Option (List ℕ) → Option (List ℕ)
-fitting said = option_and_then if_short said
+fitting said = option_and_then numbers_if_short said
 
 -- the group with these liars, if they have no fault
 unfoldable pub with_liars : GenesisFields → List ℕ → Option ScriptGroup
@@ -29,6 +29,7 @@ with_liars g liars =
     (Some (record { genesis = g; liars = liars_in g liars }))
 
 -- the group that a file says, if its genesis and its liars have no fault
-unfoldable pub group_in : List ℕ → Option ScriptGroup
-group_in bytes =
-    option_and_then (λ g. option_and_then (with_liars g) (fitting (liars_said bytes))) (result_ok (genesis_in bytes))
+unfoldable pub script_group_in : List ℕ → Option ScriptGroup
+script_group_in bytes =
+    option_and_then (λ g. option_and_then (with_liars g) (fitting (liars_said bytes)))
+    (result_ok (genesis_in bytes))

@@ -19,7 +19,7 @@ use Rattle.pay_world.specs.declared.reply.WorldReply.TheVariants.{Asked, Refused
 use Rattle.pay_world.specs.Setting.{is_correct}
 use Rattle.pay_world.specs.Genuine.{is_forged_in}
 use Rattle.pay_world.specs.Liars.{setting_of}
-use Rattle.pay_world.specs.Answer.{answer_to_ask, deed_of, receiver}
+use Rattle.pay_world.specs.Answer.{answer_to_ask, action_of, receiver}
 use Rattle.pay_world.specs.Run.{correct_keys, history_of}
 use Rattle.pay_world.specs.GroupKeys.{group_test_keys}
 use Rattle.pay_sim.specs.declared.group.ScriptGroup.{ScriptGroup}
@@ -66,8 +66,8 @@ next_number c es from to =
 
 -- the frame that correct member `to` takes next of all that correct member `from` sent, if that is
 -- there
-unfoldable pub untaken : ScriptGroup → List WorldEvent → ℕ → ℕ → Option (List ℕ)
-untaken c es from to =
+unfoldable pub next_untaken : ScriptGroup → List WorldEvent → ℕ → ℕ → Option (List ℕ)
+next_untaken c es from to =
     if is_there c to then sent_frame c es from to (next_number c es from to) else None
 
 -- ---- what comes of an event
@@ -75,7 +75,8 @@ untaken c es from to =
 -- whether it brings a frame that the correct member which it names didn't send
 unfoldable pub is_forged_by : ScriptGroup → List WorldEvent → WorldEvent → Bool
 is_forged_by c es e =
-    option_map_or (is_forged_in (setting_of c.liars) (history_at c es)) (deed_of (keys_at c) e) false
+    option_map_or (is_forged_in (setting_of c.liars) (history_at c es))
+    (action_of (keys_at c) e) false
 
 -- what comes of bytes at the member with these keys
 abbrev pub IsBroughtTo : GenesisFields → KeyFields → List Event → List ℕ → WorldReply → Type 0
@@ -85,16 +86,16 @@ IsBroughtTo g k before bytes (Refused fault) = ⊥
 IsBroughtTo g k before bytes Ignored = ⊥
 
 -- the reply of the member with these keys, after these events of its own
-abbrev pub IsReplyBehind : GenesisFields → KeyFields → List Event → WorldEvent → WorldReply → Type 0
-IsReplyBehind g k before (Ask i v) reply =
+abbrev pub IsReplyAfter : GenesisFields → KeyFields → List Event → WorldEvent → WorldReply → Type 0
+IsReplyAfter g k before (Ask i v) reply =
     reply ≡ answer_to_ask (refusal g k before (entry.Ask v)) (asks before)
-IsReplyBehind g k before (Bring i bytes) reply = IsBroughtTo g k before bytes reply
+IsReplyAfter g k before (Bring i bytes) reply = IsBroughtTo g k before bytes reply
 
 -- the reply to an event: that of the member to which it happens, if it is there
 abbrev pub IsReplyTo : ScriptGroup → List WorldEvent → WorldEvent → WorldReply → Type 0
 IsReplyTo c es e reply =
     MatchOption (keys_at c (receiver e)) (reply ≡ Ignored)
-    (λ k. IsReplyBehind c.genesis k (history_at c es (receiver e)) e reply)
+    (λ k. IsReplyAfter c.genesis k (history_at c es (receiver e)) e reply)
 
 -- An event is made and has its reply; or the run stops before it, where as many as there may be
 -- were made, or where it is forged.

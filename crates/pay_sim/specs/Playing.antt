@@ -12,9 +12,9 @@ use Rattle.pay_sim.specs.declared.stop.Halt.{Halt}
 use Rattle.pay_sim.specs.declared.stop.Halt.TheVariants as halt
 use Rattle.pay_sim.specs.declared.stop.RunStop.{RunStop}
 use Rattle.pay_sim.specs.declared.stop.RunStop.TheVariants.{BadLine}
-use Rattle.pay_sim.specs.Group.{group_in}
+use Rattle.pay_sim.specs.Group.{script_group_in}
 use Rattle.pay_sim.specs.Made.{Makes}
-use Rattle.pay_sim.specs.Script.{Told, Prints, Stops, Moment, Does, Reads}
+use Rattle.pay_sim.specs.Script.{Told, Prints, Stops, Moment, Does, PlaysLine}
 
 -- ---- in a world
 
@@ -25,7 +25,7 @@ pub record GameFields : Type 0 where
   pub made : ℕ
 
 -- It is the world of this group after these events.
-pub record IsBehind (c : ScriptGroup) (es : List WorldEvent) (g : GameFields) : Type 0 where
+pub record IsAfter (c : ScriptGroup) (es : List WorldEvent) (g : GameFields) : Type 0 where
   pub after : IsWorldAfter c.genesis (group_test_keys c.genesis.members) c.liars es g.world
   pub each : (i : ℕ) (m : MemberFields) → member_in g.world i ≡ Some m → m.genesis ≡ c.genesis
   pub members : g.members ≡ c.genesis.members
@@ -36,12 +36,12 @@ pub record IsBehind (c : ScriptGroup) (es : List WorldEvent) (g : GameFields) : 
 pub record IsGame (g : GameFields) : Type 0 where
   pub group : ScriptGroup
   pub events : List WorldEvent
-  pub behind : IsBehind group events g
+  pub behind : IsAfter group events g
 
 -- an event more was made, or not
 abbrev pub IsMade : ScriptGroup → List WorldEvent → WorldEvent → GameFields → Result WorldReply Halt
     → Type 0
-IsMade c es e new (Ok reply) = Makes c es e (Ok reply) × IsBehind c (es ++ e ∷ []) new
+IsMade c es e new (Ok reply) = Makes c es e (Ok reply) × IsAfter c (es ++ e ∷ []) new
 IsMade c es e new (Err (halt.Stop stop)) = Makes c es e (Err stop)
 IsMade c es e new (Err halt.Memory) = Unit {0}
 
@@ -50,23 +50,23 @@ abbrev pub IsDone : (Told → Type 0) → ScriptGroup → List ℕ → List ℕ 
     → Type 0
 IsDone does c before after new (Ok _) =
     (text : List ℕ) × (last : List WorldEvent) × does (Prints text last) × (after ≡ before ++ text)
-    × IsBehind c last new
+    × IsAfter c last new
 IsDone does c before after new (Err (halt.Stop stop)) = does (Stops stop)
 IsDone does c before after new (Err halt.Memory) = Unit {0}
 
 -- frames were brought
-abbrev pub IsBrought : (List WorldEvent → Option RunStop → Type 0) → ScriptGroup → GameFields
+abbrev pub HasBrought : (List WorldEvent → Option RunStop → Type 0) → ScriptGroup → GameFields
     → Result ⊤ Halt → Type 0
-IsBrought does c new (Ok _) = (last : List WorldEvent) × does last None × IsBehind c last new
-IsBrought does c new (Err (halt.Stop stop)) = (last : List WorldEvent) × does last (Some stop)
-IsBrought does c new (Err halt.Memory) = Unit {0}
+HasBrought does c new (Ok _) = (last : List WorldEvent) × does last None × IsAfter c last new
+HasBrought does c new (Err (halt.Stop stop)) = (last : List WorldEvent) × does last (Some stop)
+HasBrought does c new (Err halt.Memory) = Unit {0}
 
 -- what the one relation says from the events of this moment on, the other says
 abbrev pub Leads : ScriptGroup → GameFields
     → (List WorldEvent → List WorldEvent → Option RunStop → Type 0)
     → (List WorldEvent → Option RunStop → Type 0) → Type 0
 Leads c now rest whole =
-    (mid : List WorldEvent) × IsBehind c mid now
+    (mid : List WorldEvent) × IsAfter c mid now
     × ((last : List WorldEvent) (stop : Option RunStop) → rest mid last stop → whole last stop)
 
 -- ---- line by line
@@ -80,10 +80,10 @@ abbrev pub IsGameAt : Option GameFields → Option ScriptGroup → List WorldEve
 IsGameAt None None es = es ≡ []
 IsGameAt None (Some c) es = ⊥
 IsGameAt (Some g) None es = ⊥
-IsGameAt (Some g) (Some c) es = IsBehind c es g
+IsGameAt (Some g) (Some c) es = IsAfter c es g
 
 -- a script that goes on has come so far
-pub record IsGoing (p : PlayFields) (m : Moment) : Type 0 where
+pub record IsPlaying (p : PlayFields) (m : Moment) : Type 0 where
   pub lines : p.lines ≡ m.lines
   pub stop : p.stop ≡ m.stopped
   pub game : IsGameAt p.game m.group m.events
@@ -94,13 +94,13 @@ pub record IsStopped (p : PlayFields) (m : Moment) : Type 0 where
   pub stop : p.stop ≡ m.stopped
 
 abbrev pub IsAt : Bool → PlayFields → Moment → Type 0
-IsAt true p m = IsGoing p m
+IsAt true p m = IsPlaying p m
 IsAt false p m = IsStopped p m
 
 -- the world that a script's first line says, before any event
 abbrev pub IsFounded : List ℕ → Result GameFields Halt → Type 0
-IsFounded line (Ok g) = (c : ScriptGroup) × (group_in line ≡ Some c) × IsBehind c [] g
-IsFounded line (Err (halt.Stop stop)) = (stop ≡ BadLine) × (group_in line ≡ None)
+IsFounded line (Ok g) = (c : ScriptGroup) × (script_group_in line ≡ Some c) × IsAfter c [] g
+IsFounded line (Err (halt.Stop stop)) = (stop ≡ BadLine) × (script_group_in line ≡ None)
 IsFounded line (Err halt.Memory) = Unit {0}
 
 -- what a line does where the script has come to this group and these events
@@ -114,9 +114,9 @@ IsRead group es line before after new (Err (halt.Stop stop)) =
 IsRead group es line before after new (Err halt.Memory) = Unit {0}
 
 -- A line is answered as a script's is, however far it has come.
-abbrev pub IsAnswer : PlayFields → Option (List ℕ) → List ℕ → Bool → PlayFields → Type 0
-IsAnswer old line text on new =
-    (m : Moment) → IsGoing old m → (n : Moment) × Reads m line text on n × IsAt on new n
+abbrev pub IsPlayAnswer : PlayFields → Option (List ℕ) → List ℕ → Bool → PlayFields → Type 0
+IsPlayAnswer old line text on new =
+    (m : Moment) → IsPlaying old m → (n : Moment) × PlaysLine m line text on n × IsAt on new n
 
 -- Where memory is refused a script ends for good, and its world is dropped: so nothing is said of
 -- what it became.

@@ -11,7 +11,7 @@ use Rattle.pay_sim.specs.declared.sim_end.SimEnd.{SimEnd}
 use Rattle.pay_sim.specs.declared.stop.RunStop.{RunStop}
 use Rattle.pay_sim.specs.declared.stop.RunStop.TheVariants.{Limit}
 use Rattle.pay_sim.specs.All.{BringsAll}
-use Rattle.pay_sim.specs.Group.{group_in}
+use Rattle.pay_sim.specs.Group.{script_group_in}
 use Rattle.pay_sim.specs.Made.{Makes}
 use Rattle.pay_sim.specs.Script.{IsRun}
 
@@ -37,7 +37,7 @@ pub record IsGroup (c : ScriptGroup) : Type 0 where
   pub of : AreLiarsOf c.genesis c.liars
 
 abbrev pub FirstLineIsGroup : Type 0
-FirstLineIsGroup = (line : List ℕ) (c : ScriptGroup) → group_in line ≡ Some c → IsGroup c
+FirstLineIsGroup = (line : List ℕ) (c : ScriptGroup) → script_group_in line ≡ Some c → IsGroup c
 
 -- ---- what `all` brings
 

@@ -26,10 +26,10 @@ use Rattle.pay_sim.specs.declared.sim_end.SimEnd.{SimEnd}
 use Rattle.pay_sim.specs.declared.sim_end.SimEnd.TheVariants as end
 use Rattle.pay_sim.specs.declared.stop.RunStop.{RunStop}
 use Rattle.pay_sim.specs.declared.stop.RunStop.TheVariants.{BadLine, Forged, Limit}
-use Rattle.pay_sim.specs.Commands.{command_in}
-use Rattle.pay_sim.specs.Words.{book_words, reply_line}
+use Rattle.pay_sim.specs.Commands.{script_command_in}
+use Rattle.pay_sim.specs.Words.{member_words, reply_line}
 use Rattle.pay_sim.specs.TestFrames.{test_frame}
-use Rattle.pay_sim.specs.Group.{group_in}
+use Rattle.pay_sim.specs.Group.{script_group_in}
 use Rattle.pay_sim.specs.Made.{Makes, frame_for, history_at, is_there, next_number}
 use Rattle.pay_sim.specs.All.{BringsAll}
 
@@ -82,15 +82,15 @@ TellsAll c es (Prints text last) =
 TellsAll c es (Stops stop) = (last : List WorldEvent) × BringsAll c es last (Some stop)
 
 -- the book of a member that is there
-abbrev pub shown : ScriptGroup → List WorldEvent → ℕ → List ℕ
-shown c es i =
+abbrev pub shown_member : ScriptGroup → List WorldEvent → ℕ → List ℕ
+shown_member c es i =
     if is_there c i
-    then with_feed (book_words c.genesis.members i (book_after c.genesis i (history_at c es i)))
+    then with_feed (member_words c.genesis.members i (book_after c.genesis i (history_at c es i)))
     else []
 
 -- those of all members, in the order of their numbers
 unfoldable pub show_text : ScriptGroup → List WorldEvent → List ℕ
-show_text c es = flat_map (shown c es) (range_with_len 0 c.genesis.members)
+show_text c es = flat_map (shown_member c es) (range_with_len 0 c.genesis.members)
 
 abbrev pub Obeys : ScriptGroup → List WorldEvent → ScriptCommand → Told → Type 0
 Obeys c es (Ask member value) told = Tells c es (event.Ask member value) told
@@ -108,7 +108,7 @@ CommandTells c es (Some command) told = Obeys c es command told
 -- a command's line; an empty one does nothing
 abbrev pub LineTells : ScriptGroup → List WorldEvent → List ℕ → Told → Type 0
 LineTells c es [] told = told ≡ Prints [] es
-LineTells c es (b ∷ line) told = CommandTells c es (command_in (b ∷ line)) told
+LineTells c es (b ∷ line) told = CommandTells c es (script_command_in (b ∷ line)) told
 
 -- ---- how far a script has come
 
@@ -146,22 +146,22 @@ Founds es (Some c) after told = (told ≡ Prints [] es) × (after ≡ Some c)
 abbrev pub Does : Option ScriptGroup → List WorldEvent → Option (List ℕ) → Option ScriptGroup → Told
     → Type 0
 Does group es None after told = (told ≡ Stops BadLine) × (after ≡ group)
-Does None es (Some line) after told = Founds es (group_in line) after told
+Does None es (Some line) after told = Founds es (script_group_in line) after told
 Does (Some c) es (Some line) after told = LineTells c es line told × (after ≡ Some c)
 
 -- It prints this text, a line may follow or not, and so far the script has come then.
-abbrev pub Follows : Moment → Option ScriptGroup → Told → List ℕ → Bool → Moment → Type 0
-Follows old group (Prints words last) text on new =
+abbrev pub Continues : Moment → Option ScriptGroup → Told → List ℕ → Bool → Moment → Type 0
+Continues old group (Prints words last) text on new =
     (text ≡ words) × (on ≡ true)
     × (new ≡ record old { lines = one_more old.lines; group = group; events = last })
-Follows old group (Stops stop) text on new =
+Continues old group (Stops stop) text on new =
     (text ≡ with_feed (last_words stop (one_more old.lines))) × (on ≡ false)
     × (new ≡ record old { lines = one_more old.lines; group = group; stopped = Some stop })
 
-abbrev pub Reads : Moment → Option (List ℕ) → List ℕ → Bool → Moment → Type 0
-Reads old line text on new =
+abbrev pub PlaysLine : Moment → Option (List ℕ) → List ℕ → Bool → Moment → Type 0
+PlaysLine old line text on new =
     (group : Option ScriptGroup) × (told : Told) × Does old.group old.events line group told
-    × Follows old group told text on new
+    × Continues old group told text on new
 
 -- ---- the whole run
 
@@ -174,14 +174,16 @@ abbrev pub IsRun : List ℕ → List ℕ → SimEnd → Type 0
 IsRun [] text ended = (text ≡ no_line) × (ended ≡ end.BadLine)
 IsRun (b ∷ script) text ended =
     (on : Bool) × (last : Moment)
-    × Answers Reads start (lines_within LONGEST_LINE (b ∷ script)) text on last
+    × Answers PlaysLine start (lines_within LONGEST_LINE (b ∷ script)) text on last
     × (ended ≡ end_of last.stopped)
 
 -- It was broken off: what was written is a prefix of the text that a script's first lines print.
 abbrev pub IsRunBegun : List ℕ → Option (List ℕ) → Option (List ℕ) → Type 0
 IsRunBegun [] before after = WroteBeginning before after no_line
 IsRunBegun (b ∷ script) before after =
-    (n : Moment) × AnswersFirst Reads (λ mid last. last ≡ mid) start (lines_within LONGEST_LINE (b ∷ script)) before after n
+    (n : Moment)
+    × AnswersFirst PlaysLine (λ mid last. last ≡ mid) start
+    (lines_within LONGEST_LINE (b ∷ script)) before after n
 
 -- What the engine writes, where its input is known. It ends as done only at the input's end.
 abbrev pub WritesRun : Option (List ℕ) → Option (List ℕ) → Option (List ℕ) → Option (List ℕ)

@@ -2,7 +2,7 @@
 use Rattle.std.specs.Prelude.{ℕ, Bool, ◌==◌, List, [], ◌∷◌, ◌++◌, decimal, codes, slice_index}
 use Rattle.std.specs.Prelude.{if◌then◌else◌}
 use Rattle.std.specs.List.{flat_map, range_with_len}
-use Rattle.pay_frame.specs.Fault.{number_of, name_of}
+use Rattle.pay_frame.specs.Fault.{fault_number, name_of}
 use Rattle.pay_link.specs.Words.{link_words}
 use Rattle.pay_book.specs.Book.{Standing}
 use Rattle.pay_member.specs.declared.fault.MemberFault.TheVariants as member
@@ -19,8 +19,8 @@ use Rattle.pay_world.specs.declared.reply.WorldReply.{WorldReply}
 use Rattle.pay_world.specs.declared.reply.WorldReply.TheVariants as reply
 
 -- `refused WHERE C NAME`
-unfoldable pub refused_words : List ℕ → ℕ → List ℕ → List ℕ
-refused_words at number name =
+unfoldable pub refused_words_at : List ℕ → ℕ → List ℕ → List ℕ
+refused_words_at at number name =
     codes "refused " ++ at ++ codes " " ++ decimal number ++ codes " " ++ name
 
 abbrev pub if_so : Bool → List ℕ → List ℕ
@@ -40,16 +40,17 @@ took_words t =
 unfoldable pub outcome_words : Outcome → List ℕ
 outcome_words (Took t) = took_words t
 outcome_words (Wanted from number) = codes "wanted " ++ decimal from ++ codes " " ++ decimal number
-outcome_words (Frame fault) = refused_words (codes "frame") (number_of fault) (name_of fault)
+outcome_words (Frame fault) = refused_words_at (codes "frame") (fault_number fault) (name_of fault)
 outcome_words (Link fault) = codes "refused link " ++ link_words fault
 outcome_words WrongKey =
-    refused_words (codes "member") (member_fault_number member.WrongKey) (member_fault_name member.WrongKey)
+    refused_words_at (codes "member") (member_fault_number member.WrongKey)
+    (member_fault_name member.WrongKey)
 
 -- what member i replied: `asked I seq S`, `refused member C NAME`, what came of bytes, or `ignored`
 unfoldable pub reply_words : ℕ → WorldReply → List ℕ
 reply_words i (reply.Asked number) = codes "asked " ++ decimal i ++ codes " seq " ++ decimal number
 reply_words i (reply.Refused fault) =
-    refused_words (codes "member") (member_fault_number fault) (member_fault_name fault)
+    refused_words_at (codes "member") (member_fault_number fault) (member_fault_name fault)
 reply_words i (reply.Brought outcome) = outcome_words outcome
 reply_words i reply.Ignored = codes "ignored"
 
@@ -57,17 +58,17 @@ unfoldable pub reply_line : ℕ → WorldReply → List ℕ
 reply_line i r = reply_words i r ++ line_feed ∷ []
 
 -- the book that a member shows
-abbrev pub book_of : MemberFields → Standing
-book_of m = book_after m.genesis m.keys.own (events m.history)
+abbrev pub shown_book : MemberFields → Standing
+shown_book m = book_after m.genesis m.keys.own (events m.history)
 
 -- a number for each of some accounts, each after a blank
-unfoldable pub account_words : (ℕ → ℕ) → ℕ → List ℕ
-account_words number_of accounts =
-    flat_map (λ a. codes " " ++ decimal (number_of a)) (range_with_len 0 accounts)
+unfoldable pub account_number_words : (ℕ → ℕ) → ℕ → List ℕ
+account_number_words fault_number accounts =
+    flat_map (λ a. codes " " ++ decimal (fault_number a)) (range_with_len 0 accounts)
 
 -- `member I fronts F0 F1 .. balances B0 B1 ..`
-unfoldable pub book_words : ℕ → ℕ → Standing → List ℕ
-book_words accounts member book =
+unfoldable pub member_words : ℕ → ℕ → Standing → List ℕ
+member_words accounts member book =
     codes "member " ++ decimal member ++ codes " fronts"
-    ++ account_words (slice_index book.front) accounts
-    ++ codes " balances" ++ account_words (slice_index book.balances) accounts
+    ++ account_number_words (slice_index book.front) accounts
+    ++ codes " balances" ++ account_number_words (slice_index book.balances) accounts

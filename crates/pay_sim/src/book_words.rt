@@ -1,7 +1,7 @@
 //! What a script prints of a member's book, appended to what is written already.
 
 ghost use Rattle.std.specs.Prelude.{◌≡◌, ◌++◌, OnOk, slice_index};
-ghost use Rattle.pay_sim.specs.Words.{account_words, book_of, book_words};
+ghost use Rattle.pay_sim.specs.Words.{account_number_words, shown_book, member_words};
 
 use pay_book::Settle;
 use pay_echo::Instance;
@@ -10,14 +10,14 @@ use pay_text::{push_number, push_word};
 use std::alloc::AllocError;
 
 /// How many entries of each account are settled, and all balances, as a member has them.
-#[tactic(auto, unfolding(crate::specs::Words::book_words))]
+#[tactic(auto, unfolding(crate::specs::Words::member_words))]
 pub fn push_book<I: Instance + Drop, B: Settle + Drop>(
     out: &mut Vec<u8>,
     number: u16,
     member: &Member<I, B>,
 ) -> Result<(), AllocError>
-    ensures { OnOk result (out.new.items ≡ out.old.items ++ book_words
-        member.now.genesis.members number (book_of member.now)) }
+    ensures { OnOk result (out.new.items ≡ out.old.items ++ member_words
+        member.now.genesis.members number (shown_book member.now)) }
 {
     push_word(out, "member ")?;
     push_number(out, u64::from(number))?;
@@ -31,8 +31,8 @@ fn push_fronts<I: Instance + Drop, B: Settle + Drop>(
     out: &mut Vec<u8>,
     member: &Member<I, B>,
 ) -> Result<(), AllocError>
-    ensures { OnOk result (out.new.items ≡ out.old.items ++ account_words
-        (slice_index (book_of member.now).front) member.now.genesis.members) }
+    ensures { OnOk result (out.new.items ≡ out.old.items ++ account_number_words
+        (slice_index (shown_book member.now).front) member.now.genesis.members) }
 {
     for account in 0..member.genesis().members() {
         push_word(out, " ")?;
@@ -45,8 +45,8 @@ fn push_balances<I: Instance + Drop, B: Settle + Drop>(
     out: &mut Vec<u8>,
     member: &Member<I, B>,
 ) -> Result<(), AllocError>
-    ensures { OnOk result (out.new.items ≡ out.old.items ++ account_words
-        (slice_index (book_of member.now).balances) member.now.genesis.members) }
+    ensures { OnOk result (out.new.items ≡ out.old.items ++ account_number_words
+        (slice_index (shown_book member.now).balances) member.now.genesis.members) }
 {
     for account in 0..member.genesis().members() {
         push_word(out, " ")?;

@@ -4,9 +4,9 @@ ghost use Rattle.std.specs.Prelude.{◌≡◌, ◌≤◌, IfOk, drop};
 ghost use Rattle.std.specs.Str.{bytes_eq};
 ghost use Rattle.pay_frame.specs.OneFrame.{is_body};
 ghost use Rattle.pay_sim.specs.Commands.{alone_in, ask_in, asks_in, below, body_in};
-ghost use Rattle.pay_sim.specs.Commands.{bring_in, bringing_in, bytes_of, command_in};
+ghost use Rattle.pay_sim.specs.Commands.{bring_in, bringing_in, bytes_in_word, script_command_in};
 ghost use Rattle.pay_sim.specs.Commands.{first_bytes, first_kind, first_turn, if_last};
-ghost use Rattle.pay_sim.specs.Commands.{kind_of, lie_in, raw_in, several_in, turn_of};
+ghost use Rattle.pay_sim.specs.Commands.{kind_in_word, lie_in, raw_in, several_in, turn_in_word};
 
 use crate::command::{ACCOUNTS, MEMBERS, ScriptCommand};
 use hex::{FromHexError, decode};
@@ -16,9 +16,9 @@ use pay_text::{Words, number, read_pairs};
 use std::alloc::{AllocError, Global};
 
 /// What a line of a script asks for, or `None` where it is no command.
-#[tactic(auto, unfolding(crate::specs::Commands::command_in))]
+#[tactic(auto, unfolding(crate::specs::Commands::script_command_in))]
 pub fn read_command(alloc: Global, line: &[u8]) -> Result<Option<ScriptCommand>, AllocError>
-    ensures { IfOk result (λ command. command ≡ command_in line.now) }
+    ensures { IfOk result (λ command. command ≡ script_command_in line.now) }
 {
     let mut words = Words::new(line);
     let Some(name) = words.next_word() else {
@@ -184,7 +184,7 @@ fn is_body(kind: Kind, owner: u16, seq: u16, value: &Bytes) -> bool
 }
 
 // Takes bytes in hexadecimal digits.
-#[tactic(auto, unfolding(crate::specs::Commands::bytes_of))]
+#[tactic(auto, unfolding(crate::specs::Commands::bytes_in_word))]
 fn next_bytes(alloc: Global, words: &mut Words) -> Result<Option<Bytes>, AllocError>
     ensures bytes { IfOk result (λ bytes. bytes ≡ first_bytes words.old) }
     ensures rest { words.new ≡ drop 1 words.old }
@@ -206,7 +206,7 @@ fn next_bytes(alloc: Global, words: &mut Words) -> Result<Option<Bytes>, AllocEr
 }
 
 // Takes a frame's kind.
-#[tactic(auto, unfolding(crate::specs::Commands::kind_of))]
+#[tactic(auto, unfolding(crate::specs::Commands::kind_in_word))]
 fn next_kind(words: &mut Words) -> Option<Kind>
     ensures kind { result ≡ first_kind words.old }
     ensures rest { words.new ≡ drop 1 words.old }
@@ -226,7 +226,7 @@ fn next_kind(words: &mut Words) -> Option<Kind>
 }
 
 // Takes a frame's number, or `next`, for which there is none.
-#[tactic(auto, unfolding(crate::specs::Commands::turn_of))]
+#[tactic(auto, unfolding(crate::specs::Commands::turn_in_word))]
 fn next_turn(words: &mut Words) -> Option<Option<u64>>
     ensures number { result ≡ first_turn words.old }
     ensures rest { words.new ≡ drop 1 words.old }

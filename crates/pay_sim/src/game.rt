@@ -7,11 +7,11 @@ ghost use Rattle.pay_world.specs.Answer.{receiver};
 ghost use Rattle.pay_world.specs.Liars.{AreLiarsOf};
 ghost use Rattle.pay_world.specs.Passing.{MayPass, frame_of, passing};
 ghost use Rattle.pay_sim.specs.declared.group.ScriptGroup.{ScriptGroup};
-ghost use Rattle.pay_sim.specs.Made.{frame_for, next_number, sent_frame, untaken};
-ghost use Rattle.pay_sim.specs.All.{BringsAll, Draws, Feeds, Passes};
+ghost use Rattle.pay_sim.specs.Made.{frame_for, next_number, sent_frame, next_untaken};
+ghost use Rattle.pay_sim.specs.All.{BringsAll, Draws, FeedsMember, MakesPass};
 ghost use Rattle.pay_sim.specs.Script.{IsConverged, Obeys, Tells, TellsAll, TellsBring};
-ghost use Rattle.pay_sim.specs.Script.{lie_frame, lie_number, show_text, shown};
-ghost use Rattle.pay_sim.specs.Playing.{IsBehind, IsBrought, IsDone, IsMade};
+ghost use Rattle.pay_sim.specs.Script.{lie_frame, lie_number, show_text, shown_member};
+ghost use Rattle.pay_sim.specs.Playing.{IsAfter, HasBrought, IsDone, IsMade};
 
 use crate::book_words::push_book;
 use crate::command::ScriptCommand;
@@ -60,7 +60,7 @@ impl<I: Instance + Drop, B: Settle + Drop> Game<I, B> {
     /// The world of a group before any event.
     pub(crate) fn new(alloc: Global, group: &ScriptGroup) -> Result<Game<I, B>, AllocError>
         requires { AreLiarsOf group.now.genesis group.now.liars }
-        ensures { IfOk result (λ game. IsBehind group.now [] game) }
+        ensures { IfOk result (λ game. IsAfter group.now [] game) }
     {
         world_by_events();
         let members = group.genesis.members();
@@ -81,7 +81,7 @@ impl<I: Instance + Drop, B: Settle + Drop> Game<I, B> {
         command: ScriptCommand,
         out: &mut Vec<u8>,
     ) -> Result<(), Halt>
-        ensures { (c : ScriptGroup) (es : List WorldEvent) → IsBehind c es self.old
+        ensures { (c : ScriptGroup) (es : List WorldEvent) → IsAfter c es self.old
             → IsDone (Obeys c es command) c out.old.items out.new.items self.new result }
     {
         match command {
@@ -109,7 +109,7 @@ impl<I: Instance + Drop, B: Settle + Drop> Game<I, B> {
     }
 
     /// How many events were made.
-    fn made(&self) -> u32
+    fn made_count(&self) -> u32
         ensures value { result ≡ self.now.made }
         ensures limit { self.now.made ≤ MOST_EVENTS }
     {
@@ -118,7 +118,7 @@ impl<I: Instance + Drop, B: Settle + Drop> Game<I, B> {
 
     /// Makes an event, unless there were as many as there may be.
     fn make(&mut self, alloc: Global, event: WorldEvent) -> Result<WorldReply, Halt>
-        ensures made { (c : ScriptGroup) (es : List WorldEvent) → IsBehind c es self.old
+        ensures made { (c : ScriptGroup) (es : List WorldEvent) → IsAfter c es self.old
             → IsMade c es event self.new result }
         ensures count { OnOk result ((self.old.made < MOST_EVENTS)
             × (self.new.made ≡ self.old.made + 1)) }
@@ -140,7 +140,7 @@ impl<I: Instance + Drop, B: Settle + Drop> Game<I, B> {
 
     /// Makes an event, and writes what its member replied.
     fn tell(&mut self, alloc: Global, event: WorldEvent, out: &mut Vec<u8>) -> Result<(), Halt>
-        ensures { (c : ScriptGroup) (es : List WorldEvent) → IsBehind c es self.old
+        ensures { (c : ScriptGroup) (es : List WorldEvent) → IsAfter c es self.old
             → IsDone (Tells c es event) c out.old.items out.new.items self.new result }
     {
         let member = receiver(&event);
@@ -159,7 +159,7 @@ impl<I: Instance + Drop, B: Settle + Drop> Game<I, B> {
     ) -> Result<(), Halt>
         requires from { from < 256 }
         requires to { to < 256 }
-        ensures { (c : ScriptGroup) (es : List WorldEvent) → IsBehind c es self.old
+        ensures { (c : ScriptGroup) (es : List WorldEvent) → IsAfter c es self.old
             → IsDone (TellsBring c es from to number) c
             out.old.items out.new.items self.new result }
     {
@@ -184,7 +184,7 @@ impl<I: Instance + Drop, B: Settle + Drop> Game<I, B> {
     ) -> Result<(), Halt>
         requires from { from < 256 }
         requires to { to < 256 }
-        ensures { (c : ScriptGroup) (es : List WorldEvent) → IsBehind c es self.old
+        ensures { (c : ScriptGroup) (es : List WorldEvent) → IsAfter c es self.old
             → IsDone (Tells c es (WorldEvent.Bring to (lie_frame c es from to number body.now))) c
             out.old.items out.new.items self.new result }
     {
@@ -194,7 +194,7 @@ impl<I: Instance + Drop, B: Settle + Drop> Game<I, B> {
     }
 
     fn lie_number(&self, from: u16, to: u16, number: Option<u64>) -> u64
-        ensures { (c : ScriptGroup) (es : List WorldEvent) → IsBehind c es self.now
+        ensures { (c : ScriptGroup) (es : List WorldEvent) → IsAfter c es self.now
             → result ≡ lie_number c es from to number }
     {
         match number {
@@ -205,12 +205,12 @@ impl<I: Instance + Drop, B: Settle + Drop> Game<I, B> {
 
     /// Brings all that is untaken between correct members, and writes how many frames that were.
     fn all(&mut self, alloc: Global, out: &mut Vec<u8>) -> Result<(), Halt>
-        ensures { (c : ScriptGroup) (es : List WorldEvent) → IsBehind c es self.old
+        ensures { (c : ScriptGroup) (es : List WorldEvent) → IsAfter c es self.old
             → IsDone (TellsAll c es) c out.old.items out.new.items self.new result }
     {
-        let before = self.made();
+        let before = self.made_count();
         self.bring_all(alloc)?;
-        let count = self.made() - before;
+        let count = self.made_count() - before;
         push_word(out, "brought ")?;
         push_number(out, u64::from(count))?;
         push_word(out, "\n")?;
@@ -220,7 +220,7 @@ impl<I: Instance + Drop, B: Settle + Drop> Game<I, B> {
 
     /// Writes whether each correct member took all that the others sent.
     fn push_converged(&self, out: &mut Vec<u8>) -> Result<(), AllocError>
-        ensures { OnOk result ((c : ScriptGroup) (es : List WorldEvent) → IsBehind c es self.now
+        ensures { OnOk result ((c : ScriptGroup) (es : List WorldEvent) → IsAfter c es self.now
             → (words : List ℕ) × IsConverged c es words
             × (out.new.items ≡ out.old.items ++ words)) }
     {
@@ -234,14 +234,14 @@ impl<I: Instance + Drop, B: Settle + Drop> Game<I, B> {
     /// Lets each member take what it didn't yet of the others, again and again, until nothing is
     /// left.
     fn bring_all(&mut self, alloc: Global) -> Result<(), Halt>
-        ensures brought { (c : ScriptGroup) (es : List WorldEvent) → IsBehind c es self.old
-            → IsBrought (BringsAll c es) c self.new result }
+        ensures brought { (c : ScriptGroup) (es : List WorldEvent) → IsAfter c es self.old
+            → HasBrought (BringsAll c es) c self.new result }
         ensures count { OnOk result (self.old.made ≤ self.new.made) }
     {
         'passes: loop {
-            let before = self.made();
+            let before = self.made_count();
             self.pass(alloc)?;
-            if self.made() == before {
+            if self.made_count() == before {
                 return Ok(());
             }
         }
@@ -249,8 +249,8 @@ impl<I: Instance + Drop, B: Settle + Drop> Game<I, B> {
 
     /// Lets each member take what it didn't yet of the others.
     fn pass(&mut self, alloc: Global) -> Result<(), Halt>
-        ensures brought { (c : ScriptGroup) (es : List WorldEvent) → IsBehind c es self.old
-            → IsBrought (Passes c es) c self.new result }
+        ensures brought { (c : ScriptGroup) (es : List WorldEvent) → IsAfter c es self.old
+            → HasBrought (MakesPass c es) c self.new result }
         ensures count { OnOk result (self.old.made ≤ self.new.made) }
     {
         for to in 0..self.members {
@@ -262,8 +262,8 @@ impl<I: Instance + Drop, B: Settle + Drop> Game<I, B> {
     /// Lets a member take what it didn't yet of the others.
     fn feed(&mut self, alloc: Global, to: u16) -> Result<(), Halt>
         requires { to < 256 }
-        ensures brought { (c : ScriptGroup) (es : List WorldEvent) → IsBehind c es self.old
-            → IsBrought (Feeds c to es) c self.new result }
+        ensures brought { (c : ScriptGroup) (es : List WorldEvent) → IsAfter c es self.old
+            → HasBrought (FeedsMember c to es) c self.new result }
         ensures count { OnOk result (self.old.made ≤ self.new.made) }
     {
         for from in 0..self.members {
@@ -276,12 +276,12 @@ impl<I: Instance + Drop, B: Settle + Drop> Game<I, B> {
     fn draw(&mut self, alloc: Global, from: u16, to: u16) -> Result<(), Halt>
         requires from { from < 256 }
         requires to { to < 256 }
-        ensures brought { (c : ScriptGroup) (es : List WorldEvent) → IsBehind c es self.old
-            → IsBrought (Draws c from to es) c self.new result }
+        ensures brought { (c : ScriptGroup) (es : List WorldEvent) → IsAfter c es self.old
+            → HasBrought (Draws c from to es) c self.new result }
         ensures count { OnOk result (self.old.made ≤ self.new.made) }
     {
         'frames: loop {
-            let Some(number) = self.untaken(from, to) else {
+            let Some(number) = self.next_untaken(from, to) else {
                 return Ok(());
             };
             self.pass_on(alloc, from, to, number)?;
@@ -298,7 +298,7 @@ impl<I: Instance + Drop, B: Settle + Drop> Game<I, B> {
         number: u64,
     ) -> Result<WorldReply, Halt>
         requires { MayPass self.old.world from to number }
-        ensures made { (c : ScriptGroup) (es : List WorldEvent) → IsBehind c es self.old
+        ensures made { (c : ScriptGroup) (es : List WorldEvent) → IsAfter c es self.old
             → IsMade c es (passing self.old.world from to number) self.new result }
         ensures count { OnOk result ((self.old.made < MOST_EVENTS)
             × (self.new.made ≡ self.old.made + 1)) }
@@ -319,9 +319,9 @@ impl<I: Instance + Drop, B: Settle + Drop> Game<I, B> {
     }
 
     /// The number of the frame that a member takes next of another's list, if the list has it.
-    fn untaken(&self, from: u16, to: u16) -> Option<u64>
-        ensures frame { (c : ScriptGroup) (es : List WorldEvent) → IsBehind c es self.now
-            → option_map (frame_of self.now.world from to) result ≡ untaken c es from to }
+    fn next_untaken(&self, from: u16, to: u16) -> Option<u64>
+        ensures frame { (c : ScriptGroup) (es : List WorldEvent) → IsAfter c es self.now
+            → option_map (frame_of self.now.world from to) result ≡ next_untaken c es from to }
         ensures there { IfSome result (MayPass self.now.world from to) }
     {
         shared_test_keys();
@@ -353,16 +353,16 @@ impl<I: Instance + Drop, B: Settle + Drop> Game<I, B> {
         requires from { from < 256 }
         requires to { to < 256 }
         ensures { IfOk result (λ frame. (c : ScriptGroup) (es : List WorldEvent)
-            → IsBehind c es self.now → frame ≡ frame_for c es from to number) }
+            → IsAfter c es self.now → frame ≡ frame_for c es from to number) }
     {
         match self.world.member(to) {
-            Some(_) => self.sent(alloc, from, to, number),
+            Some(_) => self.frame_sent(alloc, from, to, number),
             None => Ok(Some(Bytes::new(Vec::new(alloc)))),
         }
     }
 
     /// The frame at a place of a correct member's list, sealed for another.
-    fn sent(
+    fn frame_sent(
         &self,
         alloc: Global,
         from: u16,
@@ -372,7 +372,7 @@ impl<I: Instance + Drop, B: Settle + Drop> Game<I, B> {
         requires from { from < 256 }
         requires to { to < 256 }
         ensures { IfOk result (λ frame. (c : ScriptGroup) (es : List WorldEvent)
-            → IsBehind c es self.now → frame ≡ sent_frame c es from to number) }
+            → IsAfter c es self.now → frame ≡ sent_frame c es from to number) }
     {
         if from == to {
             return Ok(None);
@@ -388,7 +388,7 @@ impl<I: Instance + Drop, B: Settle + Drop> Game<I, B> {
 
     /// The number that a correct member takes next from another, or 0 where there is no such link.
     fn next(&self, from: u16, to: u16) -> u64
-        ensures { (c : ScriptGroup) (es : List WorldEvent) → IsBehind c es self.now
+        ensures { (c : ScriptGroup) (es : List WorldEvent) → IsAfter c es self.now
             → result ≡ next_number c es from to }
     {
         let Some(receiver) = self.world.member(to) else {
@@ -402,7 +402,7 @@ impl<I: Instance + Drop, B: Settle + Drop> Game<I, B> {
 
     /// Writes the book of each correct member.
     fn show(&self, out: &mut Vec<u8>) -> Result<(), AllocError>
-        ensures { OnOk result ((c : ScriptGroup) (es : List WorldEvent) → IsBehind c es self.now
+        ensures { OnOk result ((c : ScriptGroup) (es : List WorldEvent) → IsAfter c es self.now
             → out.new.items ≡ out.old.items ++ show_text c es) }
     {
         for number in 0..self.members {
@@ -413,8 +413,8 @@ impl<I: Instance + Drop, B: Settle + Drop> Game<I, B> {
 
     /// Writes the book of a member, if it is correct.
     fn push_shown(&self, out: &mut Vec<u8>, number: u16) -> Result<(), AllocError>
-        ensures { OnOk result ((c : ScriptGroup) (es : List WorldEvent) → IsBehind c es self.now
-            → out.new.items ≡ out.old.items ++ shown c es number) }
+        ensures { OnOk result ((c : ScriptGroup) (es : List WorldEvent) → IsAfter c es self.now
+            → out.new.items ≡ out.old.items ++ shown_member c es number) }
     {
         let Some(member) = self.world.member(number) else {
             return Ok(());

@@ -2,7 +2,7 @@
 
 ghost use Rattle.std.specs.Prelude.{◌≡◌, IfOk, IfSome, option_map};
 ghost use Rattle.pay_world.specs.Liars.{AreLiarsOf};
-ghost use Rattle.pay_sim.specs.Group.{fitting, group_in, if_short, liars_said};
+ghost use Rattle.pay_sim.specs.Group.{fitting, script_group_in, numbers_if_short, liars_said};
 
 use pay_link::{Genesis, GenesisFault, numbers_at, value_in};
 use pay_world::{LiarFault, Liars};
@@ -16,9 +16,9 @@ pub(crate) struct ScriptGroup {
 }
 
 /// The group that a file of JSON says, or `None` where it says none.
-#[tactic(auto, unfolding(crate::specs::Group::group_in, crate::specs::Group::with_liars))]
+#[tactic(auto, unfolding(crate::specs::Group::script_group_in, crate::specs::Group::with_liars))]
 pub(crate) fn read_group(alloc: Global, bytes: &[u8]) -> Result<Option<ScriptGroup>, AllocError>
-    ensures value { IfOk result (λ group. group ≡ group_in bytes.now) }
+    ensures value { IfOk result (λ group. group ≡ script_group_in bytes.now) }
     ensures liars { IfOk result (λ group. IfSome group (λ g. AreLiarsOf g.genesis g.liars)) }
 {
     let genesis = match Genesis::read(alloc, bytes) {
@@ -54,7 +54,7 @@ fn liars_said(alloc: Global, bytes: &[u8]) -> Result<Option<Vec<u16>>, AllocErro
 /// The same numbers in 16 bits, where they fit.
 fn as_members(alloc: Global, numbers: &[u64]) -> Result<Option<Vec<u16>>, AllocError>
     ensures { IfOk result (λ members. option_map (λ members. members.items) members
-        ≡ if_short numbers.now) }
+        ≡ numbers_if_short numbers.now) }
 {
     let mut members = Vec::new(alloc);
     for number in numbers {

@@ -4,7 +4,7 @@ ghost use Rattle.std.specs.Option.{option_copied};
 ghost use Rattle.pay_world.specs.declared.event.WorldEvent.{WorldEvent};
 ghost use Rattle.pay_sim.specs.declared.group.ScriptGroup.{ScriptGroup};
 ghost use Rattle.pay_sim.specs.Script.{LineTells, last_words, with_feed};
-ghost use Rattle.pay_sim.specs.Playing.{IsBehind, IsDone, IsFounded, IsGameAt, IsRead};
+ghost use Rattle.pay_sim.specs.Playing.{IsAfter, IsDone, IsFounded, IsGameAt, IsRead};
 
 use crate::command_reading::read_command;
 use crate::game::Game;
@@ -73,7 +73,7 @@ impl<I: Instance + Drop, B: Settle + Drop> Play<I, B> {
         match &mut self.game {
             Some(game) => obey_line(alloc, game, line, out),
             None => {
-                self.game = Some(found(alloc, line)?);
+                self.game = Some(build_game(alloc, line)?);
                 Ok(())
             }
         }
@@ -81,9 +81,9 @@ impl<I: Instance + Drop, B: Settle + Drop> Play<I, B> {
 }
 
 impl<I: Instance + Drop, B: Settle + Drop> Answerer for Play<I, B> {
-    ghost use Rattle.pay_sim.specs.Playing.{IsAnswer, MayBeAny};
+    ghost use Rattle.pay_sim.specs.Playing.{IsPlayAnswer, MayBeAny};
 
-    ghost says = { IsAnswer };
+    ghost says = { IsPlayAnswer };
 
     ghost gives_up = { MayBeAny };
 
@@ -108,7 +108,7 @@ impl<I: Instance + Drop, B: Settle + Drop> Answerer for Play<I, B> {
 }
 
 /// The world of the group that a script's first line says.
-fn found<I: Instance + Drop, B: Settle + Drop>(
+fn build_game<I: Instance + Drop, B: Settle + Drop>(
     alloc: Global,
     line: &[u8],
 ) -> Result<Game<I, B>, Halt>
@@ -127,7 +127,7 @@ fn obey_line<I: Instance + Drop, B: Settle + Drop>(
     line: &[u8],
     out: &mut Vec<u8>,
 ) -> Result<(), Halt>
-    ensures { (c : ScriptGroup) (es : List WorldEvent) → IsBehind c es game.old
+    ensures { (c : ScriptGroup) (es : List WorldEvent) → IsAfter c es game.old
         → IsDone (LineTells c es line.now) c out.old.items out.new.items game.new result }
 {
     if line.is_empty() {

@@ -2,7 +2,7 @@
 
 ghost use Rattle.std.specs.Prelude.{◌≡◌, ◌++◌, OnOk, codes, decimal};
 ghost use Rattle.pay_link.specs.Words.{link_words};
-ghost use Rattle.pay_sim.specs.Words.{if_so, outcome_words, refused_words};
+ghost use Rattle.pay_sim.specs.Words.{if_so, outcome_words, refused_words_at};
 ghost use Rattle.pay_sim.specs.Words.{reply_line, reply_words, settle_words, took_words};
 
 use pay_link::LinkFault;
@@ -109,9 +109,10 @@ fn push_link(out: &mut Vec<u8>, fault: LinkFault) -> Result<(), AllocError>
 }
 
 /// Who or what refused it (`at`: a member, a frame or a link), and the fault's number and name.
-#[tactic(auto, unfolding(crate::specs::Words::refused_words))]
+#[tactic(auto, unfolding(crate::specs::Words::refused_words_at))]
 pub fn push_refused(out: &mut Vec<u8>, at: &str, number: u8, name: &str) -> Result<(), AllocError>
-    ensures { OnOk result (out.new.items ≡ out.old.items ++ refused_words at.now number name.now) }
+    ensures { OnOk result
+        (out.new.items ≡ out.old.items ++ refused_words_at at.now number name.now) }
 {
     push_word(out, "refused ")?;
     push_word(out, at)?;

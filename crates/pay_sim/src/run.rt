@@ -1,7 +1,7 @@
 ghost use Rattle.std.specs.Prelude.{◌≡◌, None, IfErr, OnErr, OnOk};
 ghost use Rattle.std.specs.Io.KnownBytes.{Appends};
 ghost use Rattle.pay_io.specs.Counts.{KeepsCounts, itself};
-ghost use Rattle.pay_io.specs.Device.{WroteBeginning, counted};
+ghost use Rattle.pay_io.specs.Device.{WroteBeginning, next_count};
 ghost use Rattle.pay_sim.specs.Script.{WritesRun, end_of, no_line};
 
 use crate::play::Play;
@@ -36,6 +36,8 @@ where
         (W.contents writer.old) (W.contents writer.new) result }
     ensures counts { KeepsCounts itself R.call_count R.failure_count R.remaining
         W.failure_count reader.old reader.new writer.old writer.new result }
+    ensures none_failed { OnOk result (R.failure_count reader.new ≡ R.failure_count reader.old) }
+    ensures all_written { OnOk result (W.failure_count writer.new ≡ W.failure_count writer.old) }
 {
     let mut play: Play<I, B> = Play::new();
     run_play(alloc, &mut play, reader, writer)
@@ -58,6 +60,8 @@ where
         (W.contents writer.old) (W.contents writer.new) result }
     ensures counts { KeepsCounts itself R.call_count R.failure_count R.remaining
         W.failure_count reader.old reader.new writer.old writer.new result }
+    ensures none_failed { OnOk result (R.failure_count reader.new ≡ R.failure_count reader.old) }
+    ensures all_written { OnOk result (W.failure_count writer.new ≡ W.failure_count writer.old) }
 {
     run_lines(alloc, LONGEST_LINE, play, reader, writer)?;
     if !play.is_empty() {
@@ -75,7 +79,7 @@ fn write_no_line<W: Output>(writer: &mut W) -> Result<(), StreamFault>
     ensures beginning { OnErr result
         (WroteBeginning (W.contents writer.old) (W.contents writer.new) no_line) }
     ensures failed { OnErr result
-        (W.failure_count writer.new ≡ counted (W.failure_count writer.old)) }
+        (W.failure_count writer.new ≡ next_count (W.failure_count writer.old)) }
 {
     write_text(writer, b"bad line 1\n")
 }

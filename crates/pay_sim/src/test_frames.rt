@@ -34,7 +34,7 @@ impl PairTagger {
     }
 
     /// What is kept at the place of a key's pair: this key, if it is the test key of one.
-    fn kept(&self, key: &[u8; 32]) -> Option<&PreparedKey> {
+    fn prepared_key(&self, key: &[u8; 32]) -> Option<&PreparedKey> {
         let place = usize::from(key[30]) * usize::from(self.members) + usize::from(key[31]);
         let kept = self.keys.get(place)?;
         let prepared = kept.get_or_try_init(|| -> Result<Box<PreparedKey>, AllocError> {
@@ -49,7 +49,7 @@ impl PairTagger {
 
 impl Tagger for PairTagger {
     fn tag(&self, key: &[u8; 32], head: &[u8], rest: &[u8]) -> [u8; 32] {
-        match self.kept(key) {
+        match self.prepared_key(key) {
             Some(prepared) if prepared.is_for(key) => prepared.tag(head, rest),
             _ => HmacSha256.tag(key, head, rest),
         }

@@ -6,7 +6,7 @@ use Rattle.std.proofs.lemmas.Bool.{cases_lt}
 use Rattle.std.proofs.Math.Dec.{leb-zero}
 use Rattle.std.proofs.Math.Facts.{leb_yes, yes_leb}
 use Rattle.pay_text.specs.Lines.{line_feed, lines_of, within, lines_within}
-use Rattle.pay_text.specs.Cutting.{grown, last_line, lines_after}
+use Rattle.pay_text.specs.Cutting.{line_with_byte, last_line, lines_after}
 
 not_less : (a b : ℕ) → b ≤ a → nat_lt a b ≡ false
 not_less a b le = elim (nat_lt a b) as (λ e. (e ≡ true → a < b) → e ≡ false) [ true ↦ λ h. absurd (let lt : a < b = h refl in omega arith) | false ↦ λ h. refl ] (Decides-ltb a b).0
@@ -51,16 +51,16 @@ nothing_within : (bound : ℕ) → within bound [] ≡ Some []
 unfolding within
 nothing_within bound = rw (leb-zero bound) refl
 
-pub grown_fits : (bound : ℕ) (line : List ℕ) (b : ℕ) → length line < bound → grown bound (Some line) b ≡ Some (line ++ b ∷ [])
-unfolding grown
+pub grown_fits : (bound : ℕ) (line : List ℕ) (b : ℕ) → length line < bound → line_with_byte bound (Some line) b ≡ Some (line ++ b ∷ [])
+unfolding line_with_byte
 grown_fits bound line b fits = rw ((Decides-ltb (length line) bound).1 fits) refl
 
-pub grown_full : (bound : ℕ) (line : List ℕ) (b : ℕ) → bound ≤ length line → grown bound (Some line) b ≡ None
-unfolding grown
+pub grown_full : (bound : ℕ) (line : List ℕ) (b : ℕ) → bound ≤ length line → line_with_byte bound (Some line) b ≡ None
+unfolding line_with_byte
 grown_full bound line b full = rw (not_less (length line) bound full) refl
 
-pub grown_over : (bound b : ℕ) → grown bound None b ≡ None
-unfolding grown
+pub grown_over : (bound b : ℕ) → line_with_byte bound None b ≡ None
+unfolding line_with_byte
 grown_over bound b = refl
 
 within_fits : (bound : ℕ) (line : List ℕ) → length line ≤ bound → within bound line ≡ Some line
@@ -71,7 +71,7 @@ within_over : (bound : ℕ) (line : List ℕ) → bound < length line → within
 unfolding within
 within_over bound line over = rw (not_at_most (length line) bound over) refl
 
-grown_is : (bound : ℕ) (rest : List ℕ) (b : ℕ) → grown bound (within bound rest) b ≡ within bound (rest ++ b ∷ [])
+grown_is : (bound : ℕ) (rest : List ℕ) (b : ℕ) → line_with_byte bound (within bound rest) b ≡ within bound (rest ++ b ∷ [])
 grown_is bound rest b =
     let long : length (rest ++ b ∷ []) ≡ length rest + 1 = length-append rest (b ∷ []) in
     elim (less_same_more (length rest) bound) [
@@ -84,7 +84,7 @@ pub lines_after_is : (bound : ℕ) (bytes rest : List ℕ) → IsUnbroken rest �
 unfolding lines_after
 lines_after_is bound [] [] whole = rw (nothing_within bound, no_lines) refl
 lines_after_is bound [] (b ∷ rest) whole = last_is bound b rest ∙ sym (ap (map (within bound)) (ap lines_of (append-nil (b ∷ rest)) ∙ line_alone b rest whole))
-lines_after_is bound (b ∷ bytes) rest whole = elim (b == line_feed) as (λ e. (b == line_feed) ≡ e → cond e (within bound rest ∷ lines_after bound (Some []) bytes) (lines_after bound (grown bound (within bound rest) b) bytes) ≡ lines_within bound (rest ++ b ∷ bytes)) [
+lines_after_is bound (b ∷ bytes) rest whole = elim (b == line_feed) as (λ e. (b == line_feed) ≡ e → cond e (within bound rest ∷ lines_after bound (Some []) bytes) (lines_after bound (line_with_byte bound (within bound rest) b) bytes) ≡ lines_within bound (rest ++ b ∷ bytes)) [
   | true ↦ λ feed. ap (λ ls. within bound rest ∷ ls) (ap (λ l. lines_after bound l bytes) (sym (nothing_within bound)) ∙ lines_after_is bound bytes [] tt) ∙ sym (ap (map (within bound)) (line_then rest bytes b whole feed))
   | false ↦ λ no_feed. ap (λ l. lines_after bound l bytes) (grown_is bound rest b) ∙ lines_after_is bound bytes (rest ++ b ∷ []) (one_more rest b whole no_feed) ∙ ap (lines_within bound) (append_assoc rest (b ∷ []) bytes)
 ] refl
@@ -98,7 +98,7 @@ pub at_feed : (bound : ℕ) (begun : Option (List ℕ)) (piece more : List ℕ) 
 unfolding lines_after
 at_feed bound begun piece more i lt feed = rw (drop-cons piece i 0, feed, add-one) refl
 
-pub at_other : (bound : ℕ) (begun : Option (List ℕ)) (piece more : List ℕ) (i : ℕ) → i < length piece → (get_or piece i 0 == line_feed) ≡ false → lines_after bound begun (drop i piece ++ more) ≡ lines_after bound (grown bound begun (get_or piece i 0)) (drop (i + 1) piece ++ more)
+pub at_other : (bound : ℕ) (begun : Option (List ℕ)) (piece more : List ℕ) (i : ℕ) → i < length piece → (get_or piece i 0 == line_feed) ≡ false → lines_after bound begun (drop i piece ++ more) ≡ lines_after bound (line_with_byte bound begun (get_or piece i 0)) (drop (i + 1) piece ++ more)
 unfolding lines_after
 at_other bound begun piece more i lt other = rw (drop-cons piece i 0, other, add-one) refl
 

@@ -7,7 +7,7 @@ use Rattle.pay_io.specs.declared.stream_fault.StreamFault.{StreamFault}
 use Rattle.pay_io.specs.Device.{Gave}
 use Rattle.pay_text.specs.Lines.{lines_within}
 use Rattle.pay_text.specs.Cutting.{is_nothing, last_line, lines_after}
-use Rattle.pay_text.specs.Engine.{AnswersAll, AnswersFirst, Went, Goes, IsGoing, Writes, lines_left}
+use Rattle.pay_text.specs.Engine.{AnswersAll, AnswersFirst, Went, Goes, IsGoing, WritesByEnd, lines_left}
 use Rattle.pay_text.proofs.Answering.{went_nowhere, goes_further, all_further, first_further, broken_off, nothing_left}
 use Rattle.pay_text.proofs.Following.{lines_from_start}
 
@@ -108,6 +108,6 @@ module _ {A : Type 0} (says : A → Option (List ℕ) → List ℕ → Bool → 
   gave begun old a input left before w reads count g le = let many = g.many in (g.read, g.consumed, omega arith)
 
   pub last_writes : (begun : Option (List ℕ)) (old a b : A) (input left left1 before w w1 : Option (List ℕ)) (reads : ℕ) (on : Bool) → IsGoing says bound begun old a input left before w reads → Consumes left left1 [] → IsAtEnd left1 → is_nothing begun ≡ false
-      → Goes says gives_up (begun ∷ []) [] a b w w1 (Ok on) → Writes says gives_up bound old b input left1 before w1 (Ok on)
+      → Goes says gives_up (begun ∷ []) [] a b w w1 (Ok on) → WritesByEnd says gives_up bound old b input left1 before w1 (Ok on)
   last_writes begun old a b input left left1 before w w1 reads true g d end some goes = (all_gone old b input before w1 (last_goes begun old a b input left left1 before w w1 reads (Ok true) g d end some goes), end)
   last_writes begun old a b input left left1 before w w1 reads false g d end some goes = (last_goes begun old a b input left left1 before w w1 reads (Ok false) g d end some goes, tt)

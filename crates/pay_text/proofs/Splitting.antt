@@ -4,7 +4,7 @@ use Rattle.std.specs.Prelude.{◌==◌, cond, not, nat_lt}
 use Rattle.std.specs.List.{position, position_or_len}
 use Rattle.std.proofs.lemmas.Bool.Decides.{Decides-ltb}
 use Rattle.std.proofs.lemmas.List.{take_all}
-use Rattle.pay_text.specs.Words.{AreWords, IsWord, blank, onto_first, words_of, joined, is_none}
+use Rattle.pay_text.specs.Words.{AreWords, IsWord, blank, onto_first, words_of, joined_words, is_none}
 
 -- how many bytes stand before the first blank
 abbrev pub before_blank : List ℕ → ℕ
@@ -69,10 +69,10 @@ unfolding words_of
 word_then [] rest is = refl
 word_then (b ∷ bytes) rest (first, is) = rw (first, word_then bytes rest is) refl
 
-pub words_joined : (word : List ℕ) (words : List (List ℕ)) → IsWord word → AreWords words → words_of (joined word words) ≡ word ∷ words
-unfolding joined
+pub words_joined : (word : List ℕ) (words : List (List ℕ)) → IsWord word → AreWords words → words_of (joined_words word words) ≡ word ∷ words
+unfolding joined_words
 words_joined word [] is all = one_word word is
-words_joined word (next ∷ words) is (first, all) = word_then word (joined next words) is ∙ ap (λ (ws : List (List ℕ)). word ∷ ws) (words_joined next words first all)
+words_joined word (next ∷ words) is (first, all) = word_then word (joined_words next words) is ∙ ap (λ (ws : List (List ℕ)). word ∷ ws) (words_joined next words first all)
 
 -- ---- some word is always there
 

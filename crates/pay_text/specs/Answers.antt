@@ -4,9 +4,9 @@ use Rattle.pay_text.specs.declared.answerer.Text.{Text}
 use Rattle.pay_text.specs.declared.answerer.Text.TheVariants.{Made, Fixed}
 
 -- the bytes of a text
-abbrev pub bytes_of : Text → List ℕ
-bytes_of (Made made) = made.items
-bytes_of (Fixed words) = words.now
+abbrev pub text_bytes : Text → List ℕ
+text_bytes (Made made) = made.items
+text_bytes (Fixed words) = words.now
 
 -- nothing is said any more, and nobody changed
 pub record IsOver {A : Type 0} (text : List ℕ) (on : Bool) (mid last : A) : Type 0 where

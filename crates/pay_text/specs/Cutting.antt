@@ -10,9 +10,10 @@ pub record Begun : Type 0 where
   pub line : Option (List ℕ)
 
 -- the line that has begun, with one byte more
-unfoldable pub grown : ℕ → Option (List ℕ) → ℕ → Option (List ℕ)
-grown bound None b = None
-grown bound (Some line) b = if nat_lt (length line) bound then Some (line ++ b ∷ []) else None
+unfoldable pub line_with_byte : ℕ → Option (List ℕ) → ℕ → Option (List ℕ)
+line_with_byte bound None b = None
+line_with_byte bound (Some line) b =
+    if nat_lt (length line) bound then Some (line ++ b ∷ []) else None
 
 -- nothing of a line has come
 abbrev pub is_nothing : Option (List ℕ) → Bool
@@ -30,4 +31,5 @@ last_line (Some (b ∷ line)) = Some (b ∷ line) ∷ []
 unfoldable pub lines_after : ℕ → Option (List ℕ) → List ℕ → List (Option (List ℕ))
 lines_after bound begun [] = last_line begun
 lines_after bound begun (b ∷ bytes) =
-    if b == line_feed then begun ∷ lines_after bound (Some []) bytes else lines_after bound (grown bound begun b) bytes
+    if b == line_feed then begun ∷ lines_after bound (Some []) bytes
+    else lines_after bound (line_with_byte bound begun b) bytes

@@ -35,14 +35,15 @@ pub record AnswersFirst {A : Type 0} (says : A → Option (List ℕ) → List �
 
 -- What is written, by how the engine ended: the answers to all lines of the input, at its end or at
 -- the first line after which none may follow; else a beginning of them.
-abbrev pub Writes : {A : Type 0} → (A → Option (List ℕ) → List ℕ → Bool → A → Type 0)
+abbrev pub WritesByEnd : {A : Type 0} → (A → Option (List ℕ) → List ℕ → Bool → A → Type 0)
     → (A → A → Type 0) → ℕ → A → A → Option (List ℕ) → Option (List ℕ) → Option (List ℕ)
     → Option (List ℕ) → Result Bool StreamFault → Type 0
-Writes says gives_up bound old new input left before after (Ok on) =
+WritesByEnd says gives_up bound old new input left before after (Ok on) =
     IfSome input (λ bytes. AnswersAll says old (lines_within bound bytes) before after on new)
     × Either on (IsAtEnd left) Unit
-Writes says gives_up bound old new input left before after (Err fault) =
-    IfSome input (λ bytes. AnswersFirst says gives_up old (lines_within bound bytes) before after new)
+WritesByEnd says gives_up bound old new input left before after (Err fault) =
+    IfSome input
+    (λ bytes. AnswersFirst says gives_up old (lines_within bound bytes) before after new)
 
 -- ---- what its parts do
 
@@ -79,7 +80,10 @@ pub record IsGoing {A : Type 0} (says : A → Option (List ℕ) → List ℕ →
   pub read : List ℕ
   pub consumed : Consumes input left read
   pub many : reads ≤ length read
-  pub went : IfSome input (λ bytes. Went says (lines_within bound bytes) (lines_left bound begun left) old new before after)
+  pub went :
+      IfSome input
+      (λ bytes. Went says (lines_within bound bytes)
+      (lines_left bound begun left) old new before after)
 
 -- after one read more: it goes on, or it came to an end
 abbrev pub Reads : {A : Type 0} → (A → Option (List ℕ) → List ℕ → Bool → A → Type 0)
@@ -88,6 +92,6 @@ abbrev pub Reads : {A : Type 0} → (A → Option (List ℕ) → List ℕ → Bo
 Reads says gives_up bound begun old new input left before after reads (Ok None) =
     IsGoing says bound begun old new input left before after (reads + 1)
 Reads says gives_up bound begun old new input left before after reads (Ok (Some on)) =
-    Writes says gives_up bound old new input left before after (Ok on)
+    WritesByEnd says gives_up bound old new input left before after (Ok on)
 Reads says gives_up bound begun old new input left before after reads (Err fault) =
-    Writes says gives_up bound old new input left before after (Err fault)
+    WritesByEnd says gives_up bound old new input left before after (Err fault)

@@ -14,11 +14,12 @@ first_pair (word ∷ []) = None
 first_pair (first ∷ second ∷ words) = pair_of first second
 
 -- The pairs that words are, if all of them are in one.
-unfoldable pub pairs_of : List (List ℕ) → Option (List (ℕ × ℕ))
-pairs_of [] = Some []
-pairs_of (word ∷ []) = None
-pairs_of (first ∷ second ∷ words) =
-    option_and_then (λ pair. option_map (λ pairs. pair ∷ pairs) (pairs_of words)) (pair_of first second)
+unfoldable pub pairs_of_words : List (List ℕ) → Option (List (ℕ × ℕ))
+pairs_of_words [] = Some []
+pairs_of_words (word ∷ []) = None
+pairs_of_words (first ∷ second ∷ words) =
+    option_and_then (λ pair. option_map (λ pairs. pair ∷ pairs) (pairs_of_words words))
+    (pair_of first second)
 
 -- at least one, and at most so many
 abbrev pub if_within : ℕ → List (ℕ × ℕ) → Option (List (ℕ × ℕ))
@@ -26,4 +27,4 @@ if_within most pairs =
     if nat_lt 0 (length pairs) && nat_le (length pairs) most then Some pairs else None
 
 unfoldable pub pairs_within : ℕ → List (List ℕ) → Option (List (ℕ × ℕ))
-pairs_within most words = option_and_then (if_within most) (pairs_of words)
+pairs_within most words = option_and_then (if_within most) (pairs_of_words words)

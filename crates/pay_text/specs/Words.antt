@@ -18,9 +18,9 @@ words_of [] = [] ∷ []
 words_of (b ∷ bytes) = if b == blank then [] ∷ words_of bytes else onto_first b (words_of bytes)
 
 -- words with one blank between two of them
-unfoldable pub joined : List ℕ → List (List ℕ) → List ℕ
-joined word [] = word
-joined word (next ∷ words) = word ++ blank ∷ joined next words
+unfoldable pub joined_words : List ℕ → List (List ℕ) → List ℕ
+joined_words word [] = word
+joined_words word (next ∷ words) = word ++ blank ∷ joined_words next words
 
 -- the words of what is left of a line; none where nothing is left, not even an empty word
 abbrev pub words_in : Option (List ℕ) → List (List ℕ)

@@ -1,6 +1,6 @@
 ghost use Rattle.std.specs.Prelude.{◌≡◌, ℕ, List, Bool, Option, IfOk, OnErr};
 ghost use Rattle.std.specs.Option.{option_copied};
-ghost use Rattle.pay_text.specs.Answers.{bytes_of};
+ghost use Rattle.pay_text.specs.Answers.{text_bytes};
 
 use std::alloc::{AllocError, Global};
 
@@ -13,7 +13,7 @@ pub enum Text {
 
 impl Text {
     pub fn as_bytes(&self) -> &[u8]
-        ensures { result.now ≡ bytes_of self.now }
+        ensures { result.now ≡ text_bytes self.now }
     {
         match self {
             Text::Made(made) => made.as_slice(),
@@ -42,6 +42,6 @@ pub trait Answerer {
     /// Answers a line, or `None` for one that is over the bound.
     fn answer(&mut self, alloc: Global, line: Option<&[u8]>) -> Result<Answer, AllocError>
         ensures ok { IfOk result (λ a.
-            says self.old (option_copied line.entry) (bytes_of a.text) a.goes_on self.new) }
+            says self.old (option_copied line.entry) (text_bytes a.text) a.goes_on self.new) }
         ensures err { OnErr result (gives_up self.old self.new) };
 }

@@ -1,6 +1,6 @@
 ghost use Rattle.std.specs.Prelude.{◌≡◌, Some, None, [], IfOk, is_some, if◌then◌else◌};
 ghost use Rattle.std.specs.Option.{option_copied};
-ghost use Rattle.pay_text.specs.Cutting.{grown, is_nothing};
+ghost use Rattle.pay_text.specs.Cutting.{line_with_byte, is_nothing};
 
 use std::alloc::{AllocError, Global};
 use std::marker::Model;
@@ -21,14 +21,18 @@ impl Model for LineCutter {
 
     ghost Value = { Begun };
 
-    ghost view = { λ c. record { bound = c.bound; line = if c.over then None else Some c.line.items } };
+    ghost view = { λ c. record {
+      bound = c.bound;
+      line = if c.over then None
+          else Some c.line.items;
+    } };
 
     ghost invariant = { λ c. (c.bound ≤ vec_capacity c.line) };
 }
 
 impl LineCutter {
-    /// A cutter for lines of at most so many bytes, before any byte has come. It takes all its
-    /// memory now.
+    /// A cutter for lines of at most `bound` bytes, to which no byte was pushed. This is the only
+    /// call that allocates.
     pub fn new(alloc: Global, bound: usize) -> Result<LineCutter, AllocError>
         ensures { IfOk result (λ cutter. cutter ≡ record { bound = bound; line = Some [] }) }
     {
@@ -42,7 +46,8 @@ impl LineCutter {
 
     /// Adds a byte to the line.
     pub fn push(&mut self, byte: u8)
-        ensures { self.new ≡ record self.old { line = grown self.old.bound self.old.line byte } }
+        ensures { self.new
+            ≡ record self.old { line = line_with_byte self.old.bound self.old.line byte } }
     {
         if self.over {
             return;
@@ -54,7 +59,7 @@ impl LineCutter {
         }
     }
 
-    /// The line as far as it has come, or `None` if it is over the bound.
+    /// The bytes of the line so far, or `None` if they are over the bound.
     pub fn line(&self) -> Option<&[u8]>
         ensures { option_copied result ≡ self.now.line }
     {
@@ -64,7 +69,7 @@ impl LineCutter {
         Some(self.line.as_slice())
     }
 
-    /// Whether nothing of the line has come.
+    /// Whether no byte of the line was pushed.
     pub fn is_empty(&self) -> bool
         ensures { result ≡ is_nothing self.now.line }
     {

@@ -2,9 +2,9 @@ ghost use Rattle.std.specs.Prelude.{◌≡◌, ◌⊎◌, ◌+◌, ◌++◌, ◌
 ghost use Rattle.std.specs.Prelude.{[], OnOk};
 ghost use Rattle.std.specs.Prelude.{IsErrOf};
 ghost use Rattle.pay_io.specs.Counts.{KeepsCounts, itself};
-ghost use Rattle.pay_io.specs.Device.{counted};
+ghost use Rattle.pay_io.specs.Device.{next_count};
 ghost use Rattle.pay_text.specs.Cutting.{lines_after};
-ghost use Rattle.pay_text.specs.Engine.{Goes, IsGoing, Reads, Writes};
+ghost use Rattle.pay_text.specs.Engine.{Goes, IsGoing, Reads, WritesByEnd};
 ghost use Rattle.pay_text.specs.Outbox.{GoesPut, HasWritten};
 
 use crate::answerer::{Answer, Answerer};
@@ -32,10 +32,12 @@ pub fn run_lines<A: Answerer, R: Input, W: Output>(
     reader: &mut R,
     writer: &mut W,
 ) -> Result<bool, StreamFault>
-    ensures text { Writes A.says A.gives_up bound answerer.old answerer.new (R.remaining reader.old)
+    ensures text { WritesByEnd A.says A.gives_up bound answerer.old answerer.new
+        (R.remaining reader.old)
         (R.remaining reader.new) (W.contents writer.old) (W.contents writer.new) result }
     ensures counts { KeepsCounts itself R.call_count R.failure_count R.remaining
         W.failure_count reader.old reader.new writer.old writer.new result }
+    ensures none_failed { OnOk result (R.failure_count reader.new ≡ R.failure_count reader.old) }
     ensures all_written { OnOk result (W.failure_count writer.new ≡ W.failure_count writer.old) }
 {
     let mut cutter = LineCutter::new(alloc, bound)?;
@@ -74,11 +76,11 @@ fn read_once<A: Answerer, R: Input, W: Output>(
     ensures cutter { OnOk result (cutter.new.bound ≡ cutter.old.bound) }
     ensures empty { OnOk result (outbox.new ≡ []) }
     ensures bound { ¬ (IsErrOf result StreamFault.Bound) }
-    ensures called { R.call_count reader.new ≡ counted (R.call_count reader.old) }
+    ensures called { R.call_count reader.new ≡ next_count (R.call_count reader.old) }
     ensures read { IsErrOf result StreamFault.Read
-        → R.failure_count reader.new ≡ counted (R.failure_count reader.old) }
+        → R.failure_count reader.new ≡ next_count (R.failure_count reader.old) }
     ensures write { IsErrOf result StreamFault.Write
-        → W.failure_count writer.new ≡ counted (W.failure_count writer.old) }
+        → W.failure_count writer.new ≡ next_count (W.failure_count writer.old) }
     ensures none_failed { OnOk result (R.failure_count reader.new ≡ R.failure_count reader.old) }
     ensures all_written { OnOk result (W.failure_count writer.new ≡ W.failure_count writer.old) }
 {
@@ -120,15 +122,15 @@ fn take_piece<A: Answerer, W: Output>(
     ensures read { ¬ (IsErrOf result StreamFault.Read) }
     ensures bound { ¬ (IsErrOf result StreamFault.Bound) }
     ensures write { IsErrOf result StreamFault.Write
-        → W.failure_count writer.new ≡ counted (W.failure_count writer.old) }
+        → W.failure_count writer.new ≡ next_count (W.failure_count writer.old) }
     ensures all_written { OnOk result (W.failure_count writer.new ≡ W.failure_count writer.old) }
 {
     let answered = answer_lines(alloc, answerer, cutter, piece, outbox, writer);
-    written(outbox, writer, answered)
+    finish_writing(outbox, writer, answered)
 }
 
-/// Answers the line that has come at the input's end, and writes the answer. Answers whether a line
-/// may follow.
+/// Answers the last line, at the input's end, and writes the answer. Returns whether a line may
+/// follow.
 fn answer_last<A: Answerer, W: Output>(
     alloc: Global,
     answerer: &mut A,
@@ -144,15 +146,15 @@ fn answer_last<A: Answerer, W: Output>(
     ensures read { ¬ (IsErrOf result StreamFault.Read) }
     ensures bound { ¬ (IsErrOf result StreamFault.Bound) }
     ensures write { IsErrOf result StreamFault.Write
-        → W.failure_count writer.new ≡ counted (W.failure_count writer.old) }
+        → W.failure_count writer.new ≡ next_count (W.failure_count writer.old) }
     ensures all_written { OnOk result (W.failure_count writer.new ≡ W.failure_count writer.old) }
 {
     let answered = answer_line(alloc, answerer, cutter, outbox, writer);
-    written(outbox, writer, answered)
+    finish_writing(outbox, writer, answered)
 }
 
 /// Writes the answers that wait, but after a write that failed, and passes on how answering ended.
-fn written<W: Output>(
+fn finish_writing<W: Output>(
     outbox: &mut Outbox,
     writer: &mut W,
     answered: Result<bool, StreamFault>,
@@ -166,7 +168,7 @@ fn written<W: Output>(
         → ((answered ≡ Err StreamFault.Write)
         × (W.failure_count writer.new ≡ W.failure_count writer.old))
         ⊎ ((on : Bool) × (answered ≡ Ok on)
-        × (W.failure_count writer.new ≡ counted (W.failure_count writer.old))) }
+        × (W.failure_count writer.new ≡ next_count (W.failure_count writer.old))) }
     ensures all_written { OnOk result (W.failure_count writer.new ≡ W.failure_count writer.old) }
 {
     match answered {
@@ -200,7 +202,7 @@ fn answer_lines<A: Answerer, W: Output>(
     ensures read { ¬ (IsErrOf result StreamFault.Read) }
     ensures bound { ¬ (IsErrOf result StreamFault.Bound) }
     ensures write { IsErrOf result StreamFault.Write
-        → W.failure_count writer.new ≡ counted (W.failure_count writer.old) }
+        → W.failure_count writer.new ≡ next_count (W.failure_count writer.old) }
     ensures all_written { OnOk result (W.failure_count writer.new ≡ W.failure_count writer.old) }
 {
     for byte in piece {
@@ -213,7 +215,7 @@ fn answer_lines<A: Answerer, W: Output>(
     Ok(true)
 }
 
-/// Answers the line that has come, and begins the next one. Answers whether it may follow.
+/// Answers the complete line, and begins the next one. Returns whether that may follow.
 fn answer_line<A: Answerer, W: Output>(
     alloc: Global,
     answerer: &mut A,
@@ -229,7 +231,7 @@ fn answer_line<A: Answerer, W: Output>(
     ensures read { ¬ (IsErrOf result StreamFault.Read) }
     ensures bound { ¬ (IsErrOf result StreamFault.Bound) }
     ensures write { IsErrOf result StreamFault.Write
-        → W.failure_count writer.new ≡ counted (W.failure_count writer.old) }
+        → W.failure_count writer.new ≡ next_count (W.failure_count writer.old) }
     ensures all_written { OnOk result (W.failure_count writer.new ≡ W.failure_count writer.old) }
 {
     let Answer { text, goes_on } = answerer.answer(alloc, cutter.line())?;

@@ -4,7 +4,7 @@ ghost use Rattle.std.specs.Prelude.{◌≡◌, ◌∷◌, [], ℕ, List, Some};
 ghost use Rattle.pay_text.specs.Cutting.{lines_after};
 ghost use Rattle.pay_text.specs.Lines.{lines_within};
 ghost use Rattle.pay_text.specs.Numbers.{IsNumber, number_of};
-ghost use Rattle.pay_text.specs.Words.{AreWords, IsWord, joined, words_of};
+ghost use Rattle.pay_text.specs.Words.{AreWords, IsWord, joined_words, words_of};
 
 /// A word is at most one number, and reading is the inverse of writing.
 pub fn a_word_is_one_number()
@@ -15,7 +15,7 @@ pub fn a_word_is_one_number()
 /// Words that are joined by blanks are the words of what comes of it.
 pub fn words_are_joined()
     ensures law { (word : List ℕ) (words : List (List ℕ)) → IsWord word → AreWords words
-        → words_of (joined word words) ≡ word ∷ words }
+        → words_of (joined_words word words) ≡ word ∷ words }
 {}
 
 /// Lines that are cut as a text comes are the lines of the whole text.

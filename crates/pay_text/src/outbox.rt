@@ -1,6 +1,6 @@
 ghost use Rattle.std.specs.Prelude.{◌≡◌, ◌++◌, [], true, false, IfErr, IfOk, OnErr, OnOk};
 ghost use Rattle.std.specs.Io.KnownBytes.{Appends};
-ghost use Rattle.pay_io.specs.Device.{WroteBeginning, counted};
+ghost use Rattle.pay_io.specs.Device.{WroteBeginning, next_count};
 ghost use Rattle.pay_text.specs.Outbox.{Puts};
 
 use pay_io::{Output, StreamFault, write_text};
@@ -46,7 +46,7 @@ impl Outbox {
         ensures beginning { OnErr result (WroteBeginning
             (W.contents writer.old) (W.contents writer.new) (self.old ++ text.now)) }
         ensures failed { OnErr result
-            (W.failure_count writer.new ≡ counted (W.failure_count writer.old)) }
+            (W.failure_count writer.new ≡ next_count (W.failure_count writer.old)) }
     {
         if self.hold(text) {
             return Ok(());
@@ -82,7 +82,7 @@ impl Outbox {
         ensures beginning { OnErr result (WroteBeginning
             (W.contents writer.old) (W.contents writer.new) self.old) }
         ensures failed { OnErr result
-            (W.failure_count writer.new ≡ counted (W.failure_count writer.old)) }
+            (W.failure_count writer.new ≡ next_count (W.failure_count writer.old)) }
     {
         write_text(writer, self.waiting.as_slice())?;
         self.waiting.clear();

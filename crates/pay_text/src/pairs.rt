@@ -27,7 +27,7 @@ impl Pairs {
     }
 }
 
-/// Takes all words that are left as pairs of numbers: one at least, and at most so many.
+/// Reads all words that are left as pairs of numbers, at least one pair and at most `most`.
 pub fn read_pairs(
     alloc: Global,
     words: &mut Words,

@@ -4,7 +4,7 @@ use Rattle.std.proofs.lemmas.Bool.{and_parts}
 use Rattle.pay_echo.specs.Broadcast.{size, echo_set, ready_set}
 use Rattle.pay_channel.specs.Prefix.{IsPrefix}
 use Rattle.pay_channel.specs.History.{Event, delivered_at, list_of}
-use Rattle.pay_channel.specs.Asked.{asked}
+use Rattle.pay_channel.specs.Asked.{asked_values}
 use Rattle.pay_world.specs.Setting.{Setting, group_at, IsCorrect, HasFewFaulty}
 use Rattle.pay_world.specs.Stands.{votes_at, HasQuorum, Stands, Grow}
 use Rattle.pay_world.specs.Below.{Below}
@@ -45,7 +45,7 @@ module _ (below : Below) (w : Setting) (histories : ℕ → List Event) (stands 
 
   -- a quorum has a correct member, which echoed what the owner was asked for
   pub quorum_was_asked :
-      (a s : ℕ) (v : List ℕ) → IsCorrect w a → HasQuorum w histories a s v → slice_get (asked (histories a)) s ≡ Some v
+      (a s : ℕ) (v : List ℕ) → IsCorrect w a → HasQuorum w histories a s v → slice_get (asked_values (histories a)) s ≡ Some v
   quorum_was_asked a s v ca has =
       let k = has.holder in
       let set = echo_set (group_at w k) (votes_at histories k a s) v in
@@ -60,13 +60,13 @@ module _ (below : Below) (w : Setting) (histories : ℕ → List Event) (stands 
 
   pub integrity :
       (i a s : ℕ) (v : List ℕ) → IsCorrect w i → IsCorrect w a
-      → delivered_at (group_at w i) (histories i) a s ≡ Some v → slice_get (asked (histories a)) s ≡ Some v
+      → delivered_at (group_at w i) (histories i) a s ≡ Some v → slice_get (asked_values (histories a)) s ≡ Some v
   integrity i a s v ci ca is = quorum_was_asked a s v ca (delivered_has_quorum i a s v ci is)
 
   pub list_is_asked :
-      (i a : ℕ) → IsCorrect w i → IsCorrect w a → IsPrefix (list_of (group_at w i) (histories i) a) (asked (histories a))
+      (i a : ℕ) → IsCorrect w i → IsCorrect w a → IsPrefix (list_of (group_at w i) (histories i) a) (asked_values (histories a))
   list_is_asked i a ci ca =
-      below.channel.list_begins_values (group_at w i) (histories i) a (asked (histories a)) (λ s v is. integrity i a s v ci ca is)
+      below.channel.list_begins_values (group_at w i) (histories i) a (asked_values (histories a)) (λ s v is. integrity i a s v ci ca is)
 
   -- ---- at two moments before
 

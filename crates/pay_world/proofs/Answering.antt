@@ -22,7 +22,7 @@ use Rattle.pay_member.specs.Events.{events}
 use Rattle.pay_member.specs.EventLaws.{EventsByOneMore}
 use Rattle.pay_member.specs.Refusal.{refusal}
 use Rattle.pay_member.specs.Member.{MemberFields}
-use Rattle.pay_member.specs.Bringing.{opened_in, event_of, event_in, with_taken, with_brought}
+use Rattle.pay_member.specs.Bringing.{opened_in, event_of_frame, event_in, with_taken, with_brought}
 use Rattle.pay_member.specs.OpeningLaws.{WhatOpens}
 use Rattle.pay_world.specs.declared.event.WorldEvent.{WorldEvent}
 use Rattle.pay_world.specs.declared.event.WorldEvent.TheVariants.{Ask, Bring}
@@ -30,23 +30,23 @@ use Rattle.pay_world.specs.declared.fault.WorldFault.{WorldFault}
 use Rattle.pay_world.specs.declared.reply.WorldReply.{WorldReply}
 use Rattle.pay_world.specs.declared.reply.WorldReply.TheVariants.{Asked, Refused, Brought, Ignored}
 use Rattle.pay_world.specs.Setting.{Setting, HasFewFaulty}
-use Rattle.pay_world.specs.Deeds.{Deed, Asks, member_of, is_want, may_come, counts, adds}
+use Rattle.pay_world.specs.Actions.{Action, Asks, member_of, is_want, may_come, counts, adds}
 use Rattle.pay_world.specs.Genuine.{IsGenuineIn, is_forged_in}
-use Rattle.pay_world.specs.DeedLaws.{ForgedIsTold}
+use Rattle.pay_world.specs.ActionLaws.{ForgedIsTold}
 use Rattle.pay_world.specs.Stands.{Stands}
-use Rattle.pay_world.specs.StandLaws.{StandsByDeed}
-use Rattle.pay_world.specs.World.{WorldFields, setting_in, history_at, member_in, history_in, keys_in, IsWorld}
-use Rattle.pay_world.specs.Answer.{receiver, brought_to, deed_with, deed_of, is_forged_at, added_in, answer_to_ask, IsReplyOf, IsReplyFrom, IsGrownBy, after_ask, after_bring, member_after, Answers}
+use Rattle.pay_world.specs.StandLaws.{StandsByAction}
+use Rattle.pay_world.specs.World.{WorldFields, setting_in, events_at, member_in, history_in, keys_in, IsWorld}
+use Rattle.pay_world.specs.Answer.{receiver, brought_to, action_with, action_of, is_forged_at, added_in, answer_to_ask, IsReplyOf, IsReplyFrom, IsGrownBy, after_ask, after_bring, member_after, AnswersEvent}
 use Rattle.pay_world.proofs.Taking.{adds-counted, adds-uncounted}
 use Rattle.pay_world.proofs.WorldLemmas.{member_here, member_elsewhere, histories_by, changed_is_world, counted_is_world, set_same}
-use Rattle.pay_world.proofs.Forging.{deed_nowhere, deed_there, deed_opened}
+use Rattle.pay_world.proofs.Forging.{action_nowhere, action_there, action_opened}
 
 -- ---- an event of nobody
 
-added_by : (w : WorldFields) (e : WorldEvent) (i : ℕ) (o : Option Deed) → deed_of (keys_in w) e ≡ o → added_in w e i ≡ option_map_or (adds (setting_in w) i (history_in w i)) o []
-added_by w e i o is = ap (λ (x : Option Deed). option_map_or (adds (setting_in w) i (history_in w i)) x []) is
+added_by : (w : WorldFields) (e : WorldEvent) (i : ℕ) (o : Option Action) → action_of (keys_in w) e ≡ o → added_in w e i ≡ option_map_or (adds (setting_in w) i (history_in w i)) o []
+added_by w e i o is = ap (λ (x : Option Action). option_map_or (adds (setting_in w) i (history_in w i)) x []) is
 
-pub ignored : (w : WorldFields) (e : WorldEvent) → member_in w (receiver e) ≡ None → Answers w w e Ignored
+pub ignored : (w : WorldFields) (e : WorldEvent) → member_in w (receiver e) ≡ None → AnswersEvent w w e Ignored
 ignored w e none = record {
   genesis = refl;
   liars = refl;
@@ -54,7 +54,7 @@ ignored w e none = record {
   here = none ∙ sym (ap (option_map (member_after e Ignored)) none);
   others = λ i differs. refl;
   histories = λ i.
-      sym (append-nil (history_in w i)) ∙ sym (ap (λ (l : List Event). history_in w i ++ l) (added_by w e i None (deed_nowhere w e none)));
+      sym (append-nil (history_in w i)) ∙ sym (ap (λ (l : List Event). history_in w i ++ l) (added_by w e i None (action_nowhere w e none)));
 }
 
 -- ---- an event of a member that is there
@@ -63,22 +63,22 @@ module _ (w : WorldFields) (e : WorldEvent) (m new : MemberFields) (here : slice
   was : member_in w (receiver e) ≡ Some m
   was = ap (option_and_then (λ x. x)) here
 
-  -- its deed makes the histories longer
-  grown_by_deed :
-      (d : Deed) → deed_with m.keys e ≡ Some d → member_of d ≡ receiver e
+  -- its action makes the histories longer
+  grown_by_action :
+      (d : Action) → action_with m.keys e ≡ Some d → member_of d ≡ receiver e
       → events new.history ≡ events m.history ++ adds (setting_in w) (receiver e) (events m.history) d
-      → (i : ℕ) → history_at (set w.members (receiver e) (Some new)) i ≡ history_in w i ++ adds (setting_in w) i (history_in w i) d
-  grown_by_deed d is to grown i = histories_by w.members (receiver e) m new here (setting_in w) d to grown i
+      → (i : ℕ) → events_at (set w.members (receiver e) (Some new)) i ≡ history_in w i ++ adds (setting_in w) i (history_in w i) d
+  grown_by_action d is to grown i = histories_by w.members (receiver e) m new here (setting_in w) d to grown i
 
   -- or it is none, and they stay
-  stays : events new.history ≡ events m.history → (i : ℕ) → history_at (set w.members (receiver e) (Some new)) i ≡ history_in w i
+  stays : events new.history ≡ events m.history → (i : ℕ) → events_at (set w.members (receiver e) (Some new)) i ≡ history_in w i
   stays same i = go (cases_eq i (receiver e)) where
     at : Option MemberFields → List Event
     at o = option_map_or (λ (x : MemberFields). events x.history) o []
 
-    go : ((i ≡ receiver e) ⊎ (i ≢ receiver e)) → history_at (set w.members (receiver e) (Some new)) i ≡ history_in w i
+    go : ((i ≡ receiver e) ⊎ (i ≢ receiver e)) → events_at (set w.members (receiver e) (Some new)) i ≡ history_in w i
     go (inl is) =
-        let At : ℕ → Type 0 = λ k. history_at (set w.members (receiver e) (Some new)) k ≡ history_in w k in
+        let At : ℕ → Type 0 = λ k. events_at (set w.members (receiver e) (Some new)) k ≡ history_in w k in
         let h : At (receiver e) =
         ap (λ (o : Option MemberFields). option_map_or (λ (x : MemberFields). events x.history) o []) (member_here w.members (receiver e) m new here)
         ∙ same
@@ -88,8 +88,8 @@ module _ (w : WorldFields) (e : WorldEvent) (m new : MemberFields) (here : slice
 
   pub answers_by :
       (reply : WorldReply) → IsReplyOf m e reply → new ≡ member_after e reply m
-      → ((i : ℕ) → history_at (set w.members (receiver e) (Some new)) i ≡ history_in w i ++ added_in w e i)
-      → Answers w (record { genesis = w.genesis; liars = w.liars; members = set w.members (receiver e) (Some new); answered = w.answered }) e reply
+      → ((i : ℕ) → events_at (set w.members (receiver e) (Some new)) i ≡ history_in w i ++ added_in w e i)
+      → AnswersEvent w (record { genesis = w.genesis; liars = w.liars; members = set w.members (receiver e) (Some new); answered = w.answered }) e reply
   answers_by reply said is grown = record {
     genesis = refl;
     liars = refl;
@@ -99,31 +99,31 @@ module _ (w : WorldFields) (e : WorldEvent) (m new : MemberFields) (here : slice
     histories = grown;
   }
 
-  pub added_by_deed :
-      (d : Deed) → deed_with m.keys e ≡ Some d → member_of d ≡ receiver e
+  pub added_by_action :
+      (d : Action) → action_with m.keys e ≡ Some d → member_of d ≡ receiver e
       → events new.history ≡ events m.history ++ adds (setting_in w) (receiver e) (events m.history) d
-      → (i : ℕ) → history_at (set w.members (receiver e) (Some new)) i ≡ history_in w i ++ added_in w e i
-  added_by_deed d is to grown i =
-      grown_by_deed d is to grown i
-      ∙ sym (ap (λ (l : List Event). history_in w i ++ l) (added_by w e i (Some d) (deed_there w e m was ∙ is)))
+      → (i : ℕ) → events_at (set w.members (receiver e) (Some new)) i ≡ history_in w i ++ added_in w e i
+  added_by_action d is to grown i =
+      grown_by_action d is to grown i
+      ∙ sym (ap (λ (l : List Event). history_in w i ++ l) (added_by w e i (Some d) (action_there w e m was ∙ is)))
 
   pub added_by_none :
-      deed_with m.keys e ≡ None → events new.history ≡ events m.history
-      → (i : ℕ) → history_at (set w.members (receiver e) (Some new)) i ≡ history_in w i ++ added_in w e i
+      action_with m.keys e ≡ None → events new.history ≡ events m.history
+      → (i : ℕ) → events_at (set w.members (receiver e) (Some new)) i ≡ history_in w i ++ added_in w e i
   added_by_none is same i =
       stays same i ∙ sym (append-nil (history_in w i))
-      ∙ sym (ap (λ (l : List Event). history_in w i ++ l) (added_by w e i None (deed_there w e m was ∙ is)))
+      ∙ sym (ap (λ (l : List Event). history_in w i ++ l) (added_by w e i None (action_there w e m was ∙ is)))
 
   pub stands_by :
-      StandsByDeed → HasFewFaulty (setting_in w) → IsWorld w → (d : Deed) → deed_with m.keys e ≡ Some d → member_of d ≡ receiver e
+      StandsByAction → HasFewFaulty (setting_in w) → IsWorld w → (d : Action) → action_with m.keys e ≡ Some d → member_of d ≡ receiver e
       → events new.history ≡ events m.history ++ adds (setting_in w) (receiver e) (events m.history) d
       → IsGenuineIn (setting_in w) (history_in w) d
-      → Stands (setting_in w) (history_at (set w.members (receiver e) (Some new)))
-  stands_by deed few is d there to grown genuine =
-      deed (setting_in w) (history_in w) (history_at (set w.members (receiver e) (Some new))) d few genuine (grown_by_deed d there to grown) is.stands
+      → Stands (setting_in w) (events_at (set w.members (receiver e) (Some new)))
+  stands_by action few is d there to grown genuine =
+      action (setting_in w) (history_in w) (events_at (set w.members (receiver e) (Some new))) d few genuine (grown_by_action d there to grown) is.stands
 
   pub stands_still :
-      IsWorld w → events new.history ≡ events m.history → Stands (setting_in w) (history_at (set w.members (receiver e) (Some new)))
+      IsWorld w → events new.history ≡ events m.history → Stands (setting_in w) (events_at (set w.members (receiver e) (Some new)))
   stands_still is same = subst (Stands (setting_in w)) (λ t i. sym (stays same i) t) is.stands
 
 -- ---- an ask
@@ -221,7 +221,7 @@ pub bring_grows :
 unfolding event_in
 bring_grows what s m new i bytes f own members opened grown =
     grown
-    ∙ ap (λ (o : Option FrameFields). events m.history ++ option_to_list (option_and_then (event_of (events m.history)) o)) opened
+    ∙ ap (λ (o : Option FrameFields). events m.history ++ option_to_list (option_and_then (event_of_frame (events m.history)) o)) opened
     ∙ ap (λ (l : List Event). events m.history ++ l) (go (eqb f.number (next f.from (events m.history))) refl) where
       may : may_come s i f.from f.body ≡ true
       may = opened_may_come what s m i bytes f own members opened
@@ -237,7 +237,7 @@ pub bring_stays :
 unfolding event_in
 bring_stays m new bytes none grown =
     grown
-    ∙ ap (λ (o : Option FrameFields). events m.history ++ option_to_list (option_and_then (event_of (events m.history)) o)) none
+    ∙ ap (λ (o : Option FrameFields). events m.history ++ option_to_list (option_and_then (event_of_frame (events m.history)) o)) none
     ∙ append-nil (events m.history)
 
 after_keeps : (m : MemberFields) (bytes : List ℕ) (reply : WorldReply) → ((after_bring m bytes reply).genesis ≡ m.genesis) × ((after_bring m bytes reply).keys ≡ m.keys)
@@ -255,7 +255,7 @@ with_place w i p = record { genesis = w.genesis; liars = w.liars; members = set 
 -- it is still a world, and the answer is the place's
 pub record IsDone (w : WorldFields) (i : ℕ) (p : Option MemberFields) (e : WorldEvent) (reply : WorldReply) : Type 0 where
   pub world : IsWorld (with_place w i p)
-  pub answers : Answers w (with_place w i p) e reply
+  pub answers : AnswersEvent w (with_place w i p) e reply
 
 -- where nobody is there
 empty_done :
@@ -265,36 +265,36 @@ empty_done w i e reply is to here said =
     let same : set w.members i None ≡ w.members = set_same w.members i None here in
     let none : member_in w (receiver e) ≡ None = ap (member_in w) to ∙ ap (option_and_then (λ x. x)) here in
     let At : List (Option MemberFields) → Type 0 = λ members. IsWorld (record { genesis = w.genesis; liars = w.liars; members = members; answered = w.answered }) in
-    let Told : List (Option MemberFields) → WorldReply → Type 0 = λ members r. Answers w (record { genesis = w.genesis; liars = w.liars; members = members; answered = w.answered }) e r in
+    let Told : List (Option MemberFields) → WorldReply → Type 0 = λ members r. AnswersEvent w (record { genesis = w.genesis; liars = w.liars; members = members; answered = w.answered }) e r in
     record {
       world = subst At (sym same) (counted_is_world w w.answered is);
       answers = subst (λ members. Told members reply) (sym same) (subst (λ r. Told w.members r) (sym said) (ignored w e none));
     }
 
 pub ask_done :
-    EventsByOneMore → StandsByDeed → (w : WorldFields) (i : ℕ) (v : List ℕ) (o p : Option MemberFields) (reply : WorldReply)
+    EventsByOneMore → StandsByAction → (w : WorldFields) (i : ℕ) (v : List ℕ) (o p : Option MemberFields) (reply : WorldReply)
     → IsWorld w → HasFewFaulty (setting_in w) → slice_get w.members i ≡ Some o
     → IsReplyFrom o (Ask i v) reply → p ≡ option_map (member_after (Ask i v) reply) o → IsDone w i p (Ask i v) reply
-ask_done one_more deed w i v None p reply is few here said after =
+ask_done one_more action w i v None p reply is few here said after =
     subst (λ x. IsDone w i x (Ask i v) reply) (sym after) (empty_done w i (Ask i v) reply is refl here said)
-ask_done one_more deed w i v (Some m) p reply is few here said after = subst (λ x. IsDone w i x (Ask i v) reply) (sym after) done where
+ask_done one_more action w i v (Some m) p reply is few here said after = subst (λ x. IsDone w i x (Ask i v) reply) (sym after) done where
   grown : events (after_ask m v reply).history ≡ events m.history ++ adds (setting_in w) i (events m.history) (Asks i v)
   grown = ask_grows one_more (setting_in w) m (after_ask m v reply) i v reply said refl
 
   done : IsDone w i (Some (after_ask m v reply)) (Ask i v) reply
   done = record {
     world = changed_is_world w i m (after_ask m v reply) w.answered is here (ask_keeps_genesis m v reply) (ask_keeps_keys m v reply)
-        (stands_by w (Ask i v) m (after_ask m v reply) here deed few is (Asks i v) refl refl grown tt);
-    answers = answers_by w (Ask i v) m (after_ask m v reply) here reply said refl (added_by_deed w (Ask i v) m (after_ask m v reply) here (Asks i v) refl refl grown);
+        (stands_by w (Ask i v) m (after_ask m v reply) here action few is (Asks i v) refl refl grown tt);
+    answers = answers_by w (Ask i v) m (after_ask m v reply) here reply said refl (added_by_action w (Ask i v) m (after_ask m v reply) here (Asks i v) refl refl grown);
   }
 
 pub bring_done :
-    WhatOpens → ForgedIsTold → StandsByDeed → (w : WorldFields) (i : ℕ) (bytes : List ℕ) (o p : Option MemberFields) (reply : WorldReply)
+    WhatOpens → ForgedIsTold → StandsByAction → (w : WorldFields) (i : ℕ) (bytes : List ℕ) (o p : Option MemberFields) (reply : WorldReply)
     → IsWorld w → HasFewFaulty (setting_in w) → slice_get w.members i ≡ Some o → is_forged_at w (Bring i bytes) ≡ false
     → IsReplyFrom o (Bring i bytes) reply → p ≡ option_map (member_after (Bring i bytes) reply) o → IsGrownBy o p bytes → IsDone w i p (Bring i bytes) reply
-bring_done what told deed w i bytes None p reply is few here unforged said after grown =
+bring_done what told action w i bytes None p reply is few here unforged said after grown =
     subst (λ x. IsDone w i x (Bring i bytes) reply) (sym after) (empty_done w i (Bring i bytes) reply is refl here said)
-bring_done what told deed w i bytes (Some m) p reply is few here unforged said after grown =
+bring_done what told action w i bytes (Some m) p reply is few here unforged said after grown =
     subst (λ x. IsDone w i x (Bring i bytes) reply) (sym after) (opened (opened_in m.keys bytes) refl) where
       longer : events (after_bring m bytes reply).history ≡ events m.history ++ option_to_list (event_in m.keys (events m.history) bytes)
       longer = subst (λ x. IsGrownBy (Some m) x bytes) after grown
@@ -302,8 +302,8 @@ bring_done what told deed w i bytes (Some m) p reply is few here unforged said a
       there : member_in w i ≡ Some m
       there = ap (option_and_then (λ x. x)) here
 
-      done : Stands (setting_in w) (history_at (set w.members i (Some (after_bring m bytes reply))))
-          → ((j : ℕ) → history_at (set w.members i (Some (after_bring m bytes reply))) j ≡ history_in w j ++ added_in w (Bring i bytes) j)
+      done : Stands (setting_in w) (events_at (set w.members i (Some (after_bring m bytes reply))))
+          → ((j : ℕ) → events_at (set w.members i (Some (after_bring m bytes reply))) j ≡ history_in w j ++ added_in w (Bring i bytes) j)
           → IsDone w i (Some (after_bring m bytes reply)) (Bring i bytes) reply
       done stands added = record {
         world = changed_is_world w i m (after_bring m bytes reply) w.answered is here (after_keeps m bytes reply).0 (after_keeps m bytes reply).1 stands;
@@ -320,17 +320,17 @@ bring_done what told deed w i bytes (Some m) p reply is few here unforged said a
           let grows = bring_grows what (setting_in w) m (after_bring m bytes reply) i bytes f mine.own (mine.keys ∙ sym is.group.members) some longer in
           let by = ap (option_map (brought_to i)) some in
           let kept : is_forged_in (setting_in w) (history_in w) (brought_to i f) ≡ false =
-          sym (ap (λ (x : Option Deed). option_map_or (is_forged_in (setting_in w) (history_in w)) x false) (deed_opened w i bytes m f there some)) ∙ unforged in
+          sym (ap (λ (x : Option Action). option_map_or (is_forged_in (setting_in w) (history_in w)) x false) (action_opened w i bytes m f there some)) ∙ unforged in
           let genuine = (told (setting_in w) (history_in w) (brought_to i f)).0 kept in
-          done (stands_by w (Bring i bytes) m (after_bring m bytes reply) here deed few is (brought_to i f) by refl grows genuine)
-          (added_by_deed w (Bring i bytes) m (after_bring m bytes reply) here (brought_to i f) by refl grows)
+          done (stands_by w (Bring i bytes) m (after_bring m bytes reply) here action few is (brought_to i f) by refl grows genuine)
+          (added_by_action w (Bring i bytes) m (after_bring m bytes reply) here (brought_to i f) by refl grows)
 
 -- ---- whatever the place answered
 
 -- it is still a world, with the place's answer, or as it was
 pub record IsAny (w : WorldFields) (i : ℕ) (p : Option MemberFields) (e : WorldEvent) (r : Result WorldReply WorldFault) : Type 0 where
   pub world : IsWorld (with_place w i p)
-  pub answers : IfOk r (Answers w (with_place w i p) e)
+  pub answers : IfOk r (AnswersEvent w (with_place w i p) e)
   pub err : OnErr r (with_place w i p ≡ w)
 
 kept_any :
@@ -346,20 +346,20 @@ kept_any w i o p e fault is here kept =
     }
 
 pub ask_any :
-    EventsByOneMore → StandsByDeed → (w : WorldFields) (i : ℕ) (v : List ℕ) (o p : Option MemberFields) (r : Result WorldReply WorldFault)
+    EventsByOneMore → StandsByAction → (w : WorldFields) (i : ℕ) (v : List ℕ) (o p : Option MemberFields) (r : Result WorldReply WorldFault)
     → IsWorld w → HasFewFaulty (setting_in w) → slice_get w.members i ≡ Some o
     → IfOk r (IsReplyFrom o (Ask 0 v)) → IfOk r (λ reply. p ≡ option_map (member_after (Ask 0 v) reply) o) → OnErr r (p ≡ o) → IsAny w i p (Ask i v) r
-ask_any one_more deed w i v o p (Ok reply) is few here said after kept =
-    let done = ask_done one_more deed w i v o p reply is few here said after in
+ask_any one_more action w i v o p (Ok reply) is few here said after kept =
+    let done = ask_done one_more action w i v o p reply is few here said after in
     record { world = done.world; answers = done.answers; err = tt }
-ask_any one_more deed w i v o p (Err fault) is few here said after kept = kept_any w i o p (Ask i v) fault is here kept
+ask_any one_more action w i v o p (Err fault) is few here said after kept = kept_any w i o p (Ask i v) fault is here kept
 
 pub bring_any :
-    WhatOpens → ForgedIsTold → StandsByDeed → (w : WorldFields) (i : ℕ) (bytes : List ℕ) (o p : Option MemberFields) (r : Result WorldReply WorldFault)
+    WhatOpens → ForgedIsTold → StandsByAction → (w : WorldFields) (i : ℕ) (bytes : List ℕ) (o p : Option MemberFields) (r : Result WorldReply WorldFault)
     → IsWorld w → HasFewFaulty (setting_in w) → slice_get w.members i ≡ Some o → is_forged_at w (Bring i bytes) ≡ false
     → IfOk r (IsReplyFrom o (Bring 0 bytes)) → IfOk r (λ reply. p ≡ option_map (member_after (Bring 0 bytes) reply) o)
     → IfOk r (λ _. IsGrownBy o p bytes) → OnErr r (p ≡ o) → IsAny w i p (Bring i bytes) r
-bring_any what told deed w i bytes o p (Ok reply) is few here unforged said after grown kept =
-    let done = bring_done what told deed w i bytes o p reply is few here unforged said after grown in
+bring_any what told action w i bytes o p (Ok reply) is few here unforged said after grown kept =
+    let done = bring_done what told action w i bytes o p reply is few here unforged said after grown in
     record { world = done.world; answers = done.answers; err = tt }
-bring_any what told deed w i bytes o p (Err fault) is few here unforged said after grown kept = kept_any w i o p (Bring i bytes) fault is here kept
+bring_any what told action w i bytes o p (Err fault) is few here unforged said after grown kept = kept_any w i o p (Bring i bytes) fault is here kept

@@ -5,8 +5,8 @@ use Rattle.pay_frame.specs.Frame.{BodyFields}
 use Rattle.pay_frame.specs.declared.kind.Kind.TheVariants.{Send, Echo, Ready}
 use Rattle.pay_echo.specs.Broadcast.{size, echoed, echo_of, echo_set, other_ready_set, readied, ready_of, ready_set, delivered}
 use Rattle.pay_channel.specs.History.{Event, From, body_of, out, seqs, delivered_at, list_of}
-use Rattle.pay_channel.specs.Asked.{asked}
-use Rattle.pay_channel.specs.Taken.{taken}
+use Rattle.pay_channel.specs.Asked.{asked_values}
+use Rattle.pay_channel.specs.Taken.{taken_bodies}
 use Rattle.pay_world.specs.Setting.{Setting, group_at, IsCorrect, HasFewFaulty}
 use Rattle.pay_world.specs.Stands.{votes_at, HasQuorum, Stands}
 use Rattle.pay_world.specs.Convergence.{AllTaken}
@@ -22,7 +22,7 @@ module _ (below : Below) (w : Setting) (histories : ℕ → List Event) (stands 
       (i j : ℕ) (body : BodyFields) → IsCorrect w i → IsCorrect w j → i ≢ j
       → Contains (out (group_at w j) (histories j)) body → Contains (histories i) (From j body)
   took i j body ci cj differ at =
-      let same = prefix_whole (taken j (histories i)) (out (group_at w j) (histories j)) (stands.authentic i j ci cj) (all.each i j ci cj differ) in
+      let same = prefix_whole (taken_bodies j (histories i)) (out (group_at w j) (histories j)) (stands.authentic i j ci cj) (all.each i j ci cj differ) in
       (below.channel.taken_is_from j (histories i) body).0 (subst (λ l. Contains l body) (sym same) at)
 
   echo_reaches :
@@ -62,7 +62,7 @@ module _ (below : Below) (w : Setting) (histories : ℕ → List Event) (stands 
   -- what a correct owner was asked for, each correct member echoes
   ask_reaches :
       (i a s : ℕ) (v : List ℕ) → IsCorrect w i → IsCorrect w a
-      → slice_get (asked (histories a)) s ≡ Some v → echoed (votes_at histories i a s) ≡ Some v
+      → slice_get (asked_values (histories a)) s ≡ Some v → echoed (votes_at histories i a s) ≡ Some v
   ask_reaches i a s v ci ca is = go (cases_eq a i) where
     go : ((a ≡ i) ⊎ (a ≢ i)) → echoed (votes_at histories i a s) ≡ Some v
     go (inl same) =
@@ -117,7 +117,7 @@ module _ (below : Below) (w : Setting) (histories : ℕ → List Event) (stands 
 
   pub asks_are_delivered :
       (i a s : ℕ) (v : List ℕ) → IsCorrect w i → IsCorrect w a
-      → slice_get (asked (histories a)) s ≡ Some v → delivered_at (group_at w i) (histories i) a s ≡ Some v
+      → slice_get (asked_values (histories a)) s ≡ Some v → delivered_at (group_at w i) (histories i) a s ≡ Some v
   asks_are_delivered i a s v ci ca is =
       all_ready_delivered i a s v ci (λ p cp. all_echo_ready p a s v cp (λ q cq. ask_reaches q a s v cq ca is))
 
@@ -179,13 +179,13 @@ module _ (below : Below) (w : Setting) (histories : ℕ → List Event) (stands 
 
   -- each correct owner's list is all that it was asked for
   pub list_is_all :
-      (i a : ℕ) → IsCorrect w i → IsCorrect w a → length (asked (histories a)) ≤ seqs
-      → list_of (group_at w i) (histories i) a ≡ asked (histories a)
+      (i a : ℕ) → IsCorrect w i → IsCorrect w a → length (asked_values (histories a)) ≤ seqs
+      → list_of (group_at w i) (histories i) a ≡ asked_values (histories a)
   list_is_all i a ci ca short =
-      below.channel.list_is_values (group_at w i) (histories i) a (asked (histories a)) ca.member short (λ s. go s (slice_get (asked (histories a)) s) refl) where
+      below.channel.list_is_values (group_at w i) (histories i) a (asked_values (histories a)) ca.member short (λ s. go s (slice_get (asked_values (histories a)) s) refl) where
         go :
-            (s : ℕ) (o : Option (List ℕ)) → slice_get (asked (histories a)) s ≡ o
-            → delivered_at (group_at w i) (histories i) a s ≡ slice_get (asked (histories a)) s
+            (s : ℕ) (o : Option (List ℕ)) → slice_get (asked_values (histories a)) s ≡ o
+            → delivered_at (group_at w i) (histories i) a s ≡ slice_get (asked_values (histories a)) s
         go s (Some v) is = asks_are_delivered i a s v ci ca is ∙ sym is
         go s None none = nothing (delivered_at (group_at w i) (histories i) a s) refl ∙ sym none where
           nothing :

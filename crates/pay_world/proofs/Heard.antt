@@ -6,8 +6,8 @@ use Rattle.pay_frame.specs.declared.kind.Kind.TheVariants.{Send, Echo, Ready}
 use Rattle.pay_echo.specs.Broadcast.{echoed, echo_of, readied, ready_of}
 use Rattle.pay_channel.specs.Prefix.{IsPrefix}
 use Rattle.pay_channel.specs.History.{Event, From, IsEvent, body_of, out}
-use Rattle.pay_channel.specs.Asked.{asked}
-use Rattle.pay_channel.specs.Taken.{taken}
+use Rattle.pay_channel.specs.Asked.{asked_values}
+use Rattle.pay_channel.specs.Taken.{taken_bodies}
 use Rattle.pay_world.specs.Setting.{Setting, group_at}
 use Rattle.pay_world.specs.Stands.{votes_at}
 use Rattle.pay_world.specs.Below.{Below}
@@ -15,13 +15,13 @@ use Rattle.pay_world.proofs.Lists.{prefix_Contains}
 
 -- what member i took from j is a prefix of what j sent
 abbrev pub Hears : Setting → (ℕ → List Event) → ℕ → ℕ → Type 0
-Hears w histories i j = IsPrefix (taken j (histories i)) (out (group_at w j) (histories j))
+Hears w histories i j = IsPrefix (taken_bodies j (histories i)) (out (group_at w j) (histories j))
 
 module _ (below : Below) (w : Setting) (histories : ℕ → List Event) where
   -- a body taken from j was sent by it
   was_sent : (i j : ℕ) (body : BodyFields) → Hears w histories i j → Contains (histories i) (From j body) → Contains (out (group_at w j) (histories j)) body
   was_sent i j body hears at =
-      prefix_Contains (taken j (histories i)) (out (group_at w j) (histories j)) body hears
+      prefix_Contains (taken_bodies j (histories i)) (out (group_at w j) (histories j)) body hears
       ((below.channel.taken_is_from j (histories i) body).1 at)
 
   pub heard_echo :
@@ -57,9 +57,9 @@ module _ (below : Below) (w : Setting) (histories : ℕ → List Event) where
   -- what is echoed of a correct owner, the owner was asked to broadcast
   pub heard_send :
       (i a s : ℕ) (v : List ℕ) → Hears w histories i a → All (IsEvent (group_at w a)) (histories a)
-      → echoed (votes_at histories i a s) ≡ Some v → slice_get (asked (histories a)) s ≡ Some v
+      → echoed (votes_at histories i a s) ≡ Some v → slice_get (asked_values (histories a)) s ≡ Some v
   heard_send i a s v hears proper heard = go (cases_eq a i) where
-    go : ((a ≡ i) ⊎ (a ≢ i)) → slice_get (asked (histories a)) s ≡ Some v
+    go : ((a ≡ i) ⊎ (a ≢ i)) → slice_get (asked_values (histories a)) s ≡ Some v
     go (inl same) =
         sym (below.channel.own_echo_is_ask (group_at w a) (histories a) s proper)
         ∙ ap (λ k. echoed (votes_at histories k a s)) same

@@ -6,7 +6,7 @@ use Rattle.std.proofs.lemmas.Bool.Decides.{nat_tests, Decides-eqb, Decides-ltb, 
 use Rattle.std.proofs.lemmas.Map.Made.{AllPairs-from_IsDistinct, IsDistinct-from_AllPairs}
 use Rattle.pay_world.specs.declared.liar_fault.LiarFault.{LiarFault}
 use Rattle.pay_world.specs.declared.liar_fault.LiarFault.TheVariants.{Unknown, Twice, TooMany}
-use Rattle.pay_world.specs.Liars.{LiarFields, AreMembers, AreDistinct, AreLiars, is_listed, has_twice, liar_fault}
+use Rattle.pay_world.specs.Liars.{LiarFields, AreMembers, LiarsAreDistinct, AreLiars, is_listed, has_twice, liar_fault}
 
 or_false : (a b : Bool) → (a || b) ≡ false → (a ≡ false) × (b ≡ false)
 or_false a b h = elim a as (λ v. (v || b) ≡ false → (v ≡ false) × (b ≡ false)) [ true ↦ (λ p. cc) | false ↦ (λ p. (refl, p)) ] h
@@ -124,7 +124,7 @@ unknown_fault l =
           λ i. first_fault (known i) t m),
     )
 
-pub twice_fault : (l : LiarFields) → (liar_fault l ≡ Some Twice) ↔ (AreMembers l × ¬ (AreDistinct l))
+pub twice_fault : (l : LiarFields) → (liar_fault l ≡ Some Twice) ↔ (AreMembers l × ¬ (LiarsAreDistinct l))
 twice_fault l =
     let k = list_all (λ i. nat_lt i l.members) l.liars in
     let t = has_twice l.liars in
@@ -138,7 +138,7 @@ twice_fault l =
           λ i. first_fault (known i) (twice i) m),
     )
 
-pub many_fault : (l : LiarFields) → (liar_fault l ≡ Some TooMany) ↔ (AreMembers l × AreDistinct l × (l.faults < length l.liars))
+pub many_fault : (l : LiarFields) → (liar_fault l ≡ Some TooMany) ↔ (AreMembers l × LiarsAreDistinct l × (l.faults < length l.liars))
 many_fault l =
     let k = list_all (λ i. nat_lt i l.members) l.liars in
     let t = has_twice l.liars in

@@ -19,11 +19,11 @@ use Rattle.pay_link.specs.Checked.{CheckedFields, IsFor}
 use Rattle.pay_link.specs.Fronts.{turn}
 use Rattle.pay_link.specs.Keys.{IsPeer, KeyFields, key_for}
 use Rattle.pay_link.specs.Opening.{Opens, judgement, opened_fields}
-use Rattle.pay_link.specs.Sealing.{sealed, tagged_bytes}
+use Rattle.pay_link.specs.Sealing.{sealed_frame, tagged_bytes}
 use Rattle.pay_link.specs.declared.link_fault.LinkFault.{LinkFault}
 use Rattle.pay_link.specs.declared.link_fault.LinkFault.TheVariants.{Gap, Repeat}
 use Rattle.pay_member.specs.declared.incoming.Incoming.TheVariants.{Message}
-use Rattle.pay_member.specs.Bringing.{IsOutcome, answer_to, answered, event_in, incoming_at, incoming_of, is_want, opened_in, outcome_of, outcome_to, with_brought}
+use Rattle.pay_member.specs.Bringing.{IsOutcome, answer_to, outcome_of_judged, event_in, incoming_at, incoming_of, is_want, opened_in, outcome_of, outcome_to, with_brought}
 use Rattle.pay_member.specs.Events.{events}
 use Rattle.pay_member.specs.Group.{group_in}
 use Rattle.pay_member.specs.Laws.{EventIn, OpenedIn}
@@ -32,15 +32,15 @@ use Rattle.pay_member.specs.declared.outcome.Outcome.TheVariants.{Link}
 use Rattle.pay_world.specs.declared.event.WorldEvent.{WorldEvent}
 use Rattle.pay_world.specs.declared.reply.WorldReply.{WorldReply}
 use Rattle.pay_world.specs.declared.reply.WorldReply.TheVariants.{Brought}
-use Rattle.pay_world.specs.Answer.{Answers, IsReplyFrom, IsTakenBy, brought_to, is_forged_at, member_after}
-use Rattle.pay_world.specs.Deeds.{Deed, adds, counts, member_of}
-use Rattle.pay_world.specs.Deeds as deeds
-use Rattle.pay_world.specs.DeedLaws.{CorrectIsTold, ForgedIsTold}
+use Rattle.pay_world.specs.Answer.{AnswersEvent, IsReplyFrom, IsTakenBy, brought_to, is_forged_at, member_after}
+use Rattle.pay_world.specs.Actions.{Action, adds, counts, member_of}
+use Rattle.pay_world.specs.Actions as actions
+use Rattle.pay_world.specs.ActionLaws.{CorrectIsTold, ForgedIsTold}
 use Rattle.pay_world.specs.Genuine.{IsGenuineIn, is_forged_in}
 use Rattle.pay_world.specs.Passing.{MayPass, Sends, frame_by, frame_of, passing}
 use Rattle.pay_world.specs.Setting.{IsCorrect, Setting, group_at}
 use Rattle.pay_world.specs.World.{WorldFields, IsWorld, history_in, member_at, member_in, setting_in}
-use Rattle.pay_world.proofs.Forging.{deed_opened}
+use Rattle.pay_world.proofs.Forging.{action_opened}
 use Rattle.pay_world.proofs.Taking.{adds-elsewhere, adds-uncounted}
 use Rattle.pay_world.proofs.WorldLemmas.{place_of}
 
@@ -88,7 +88,7 @@ not_want Ready other = refl
 not_want Want other = absurd (other refl)
 
 adds_nothing :
-    (s : Setting) (histories : ℕ → List Event) (i : ℕ) (d : Deed) → counts s (histories (member_of d)) d ≡ false → adds s i (histories i) d ≡ []
+    (s : Setting) (histories : ℕ → List Event) (i : ℕ) (d : Action) → counts s (histories (member_of d)) d ≡ false → adds s i (histories i) d ≡ []
 adds_nothing s histories i d ignored = go (cases_eq i (member_of d)) where
   go : ((i ≡ member_of d) ⊎ (i ≢ member_of d)) → adds s i (histories i) d ≡ []
   go (inl same) = adds-uncounted s i (histories i) d (ap (λ j. counts s (histories j) d) same ∙ ignored)
@@ -98,7 +98,7 @@ adds_nothing s histories i d ignored = go (cases_eq i (member_of d)) where
 abbrev pub SealedOpens : Type 0
 SealedOpens =
     (a b : KeyFields) (number : ℕ) (body : BodyFields) → IsPeer b a.own → key_for a b.own ≡ key_for b a.own → body.owner < length b.keys
-    → judgement b (sealed a b.own number body) ≡ Ok (opened_fields b (sealed a b.own number body))
+    → judgement b (sealed_frame a b.own number body) ≡ Ok (opened_fields b (sealed_frame a b.own number body))
 
 -- ---- what is sent
 
@@ -169,14 +169,14 @@ module _ (w : WorldFields) (from to number : ℕ) (giver taker : MemberFields) (
       let xs = out (group_at (setting_in w) from) (history_in w from) in
       subst P (get_or_from_slice_get xs number body body sent_at) (All-get_or P xs number body (slice_get_within xs number body sent_at) all)
 
-  pub frame_is : frame_bytes (sealed giver.keys to number body) ≡ frame_of w from to number
+  pub frame_is : frame_bytes (sealed_frame giver.keys to number body) ≡ frame_of w from to number
   unfolding frame_of
   frame_is =
       sym (ap (λ (o : Option MemberFields). option_map_or (λ m. frame_by m to number) o []) sends.gives
-      ∙ ap (λ (o : Option BodyFields). option_map_or (λ x. frame_bytes (sealed giver.keys to number x)) o []) sends.sent)
+      ∙ ap (λ (o : Option BodyFields). option_map_or (λ x. frame_bytes (sealed_frame giver.keys to number x)) o []) sends.sent)
 
   -- by itself it is for the other
-  pub is_for : CorrectIsTold → SentMayCome → IsFor taker.keys (record { frame = sealed giver.keys to number body; key = key_for giver.keys to })
+  pub is_for : CorrectIsTold → SentMayCome → IsFor taker.keys (record { frame = sealed_frame giver.keys to number body; key = key_for giver.keys to })
   is_for told may_come =
       let event = comes told may_come in
       let owner = event.2 in
@@ -190,14 +190,14 @@ module _ (w : WorldFields) (from to number : ℕ) (giver taker : MemberFields) (
       }
 
   -- its bytes are the frame, which opens there
-  passing_one : IsFrame (sealed giver.keys to number body) → IsOneFrame (frame_of w from to number) (sealed giver.keys to number body)
+  passing_one : IsFrame (sealed_frame giver.keys to number body) → IsOneFrame (frame_of w from to number) (sealed_frame giver.keys to number body)
   passing_one fits = record { is = fits; spelled = sym frame_is }
 
   passing_opens :
-      CorrectIsTold → SentMayCome → OpenedIn → IsFrame (sealed giver.keys to number body)
-      → opened_in taker.keys (frame_of w from to number) ≡ Some (sealed giver.keys to number body)
+      CorrectIsTold → SentMayCome → OpenedIn → IsFrame (sealed_frame giver.keys to number body)
+      → opened_in taker.keys (frame_of w from to number) ≡ Some (sealed_frame giver.keys to number body)
   passing_opens correct may_come opened fits =
-      let f : FrameFields = sealed giver.keys to number body in
+      let f : FrameFields = sealed_frame giver.keys to number body in
       let mine = is_for correct may_come in
       let event = comes correct may_come in
       let opens : Opens taker.keys f = record {
@@ -210,14 +210,14 @@ module _ (w : WorldFields) (from to number : ℕ) (giver taker : MemberFields) (
 
   -- and its bytes are no forged frame
   pub passing_unforged :
-      CorrectIsTold → ForgedIsTold → SentMayCome → OpenedIn → IsFrame (sealed giver.keys to number body)
+      CorrectIsTold → ForgedIsTold → SentMayCome → OpenedIn → IsFrame (sealed_frame giver.keys to number body)
       → is_forged_at w (passing w from to number) ≡ false
   passing_unforged correct told may_come opened fits =
-      let f : FrameFields = sealed giver.keys to number body in
+      let f : FrameFields = sealed_frame giver.keys to number body in
       let genuine : IsGenuineIn (setting_in w) (history_in w) (brought_to to f) =
       λ _ _. subst (λ i. slice_get (out (group_at (setting_in w) i) (history_in w i)) number ≡ Some body) (sym giver_own) sent_at in
-      ap (λ (o : Option Deed). option_map_or (is_forged_in (setting_in w) (history_in w)) o false)
-      (deed_opened w to (frame_of w from to number) taker f sends.takes (passing_opens correct may_come opened fits))
+      ap (λ (o : Option Action). option_map_or (is_forged_in (setting_in w) (history_in w)) o false)
+      (action_opened w to (frame_of w from to number) taker f sends.takes (passing_opens correct may_come opened fits))
       ∙ (told (setting_in w) (history_in w) (brought_to to f)).1 genuine
 
   -- ---- in its turn there, or not
@@ -227,10 +227,10 @@ module _ (w : WorldFields) (from to number : ℕ) (giver taker : MemberFields) (
 
   -- the next one is taken
   pub passing_taken :
-      CorrectIsTold → SentMayCome → OpenedIn → EventIn → IsFrame (sealed giver.keys to number body)
+      CorrectIsTold → SentMayCome → OpenedIn → EventIn → IsFrame (sealed_frame giver.keys to number body)
       → (z : ⊤) → turn (next from (events taker.history)) number ≡ Ok z → IsTakenBy (passing w from to number) (member_in w to)
   passing_taken correct may_come opened event fits z is =
-      let f : FrameFields = sealed giver.keys to number body in
+      let f : FrameFields = sealed_frame giver.keys to number body in
       let here : number ≡ next giver.keys.own (events taker.history) =
       in_turn (next from (events taker.history)) number z is ∙ ap (λ i. next i (events taker.history)) (sym giver_own) in
       let some : event_in taker.keys (events taker.history) (frame_of w from to number) ≡ Some (From giver.keys.own body) =
@@ -240,15 +240,15 @@ module _ (w : WorldFields) (from to number : ℕ) (giver taker : MemberFields) (
 
   -- what comes of another
   passed_outcome :
-      CorrectIsTold → SentMayCome → SealedOpens → IsFrame (sealed giver.keys to number body)
+      CorrectIsTold → SentMayCome → SealedOpens → IsFrame (sealed_frame giver.keys to number body)
       → (fault : LinkFault) → turn (next from (events taker.history)) number ≡ Err fault
       → IsOutcome taker.genesis taker.keys (events taker.history) (frame_of w from to number) (Link fault)
   unfolding incoming_at outcome_of answer_to
   passed_outcome correct may_come opens fits fault is =
-      let f : FrameFields = sealed giver.keys to number body in
+      let f : FrameFields = sealed_frame giver.keys to number body in
       let mine = is_for correct may_come in
       let before = events taker.history in
-      let Judged : ℕ → Type 0 = λ t. judgement taker.keys (sealed giver.keys t number body) ≡ Ok (opened_fields taker.keys (sealed giver.keys t number body)) in
+      let Judged : ℕ → Type 0 = λ t. judgement taker.keys (sealed_frame giver.keys t number body) ≡ Ok (opened_fields taker.keys (sealed_frame giver.keys t number body)) in
       let judges : Judged to =
       subst Judged taker_own
       (opens giver.keys taker.keys number body mine.sender (ap (key_for giver.keys) taker_own ∙ mine.key) mine.owner) in
@@ -258,23 +258,23 @@ module _ (w : WorldFields) (from to number : ℕ) (giver taker : MemberFields) (
       record {
         reading = Ok f;
         reads = passing_one fits;
-        is = sym (ap (outcome_to taker.genesis taker.keys.own before) comes_so ∙ ap (answered taker.genesis taker.keys.own before f) turned);
+        is = sym (ap (outcome_to taker.genesis taker.keys.own before) comes_so ∙ ap (outcome_of_judged taker.genesis taker.keys.own before f) turned);
       }
 
   -- and it changes nothing
   pub passed_over :
-      CorrectIsTold → SentMayCome → OpenedIn → SealedOpens → IsFrame (sealed giver.keys to number body)
+      CorrectIsTold → SentMayCome → OpenedIn → SealedOpens → IsFrame (sealed_frame giver.keys to number body)
       → (fault : LinkFault) → turn (next from (events taker.history)) number ≡ Err fault
-      → Answers w w (passing w from to number) (Brought (Link fault))
+      → AnswersEvent w w (passing w from to number) (Brought (Link fault))
   passed_over correct may_come opened opens fits fault is =
-      let f : FrameFields = sealed giver.keys to number body in
+      let f : FrameFields = sealed_frame giver.keys to number body in
       let e : WorldEvent = passing w from to number in
       let reply : WorldReply = Brought (Link fault) in
       let some = passing_opens correct may_come opened fits in
       let outcome = passed_outcome correct may_come opens fits fault is in
       let stays : member_after e reply taker ≡ taker = ap (with_brought taker 0 (Link fault)) some in
       let ignored : counts (setting_in w) (history_in w to) (brought_to to f) ≡ false =
-      and_right (deeds.may_come (setting_in w) to giver.keys.own body) (eqb number (next giver.keys.own (history_in w to)))
+      and_right (actions.may_come (setting_in w) to giver.keys.own body) (eqb number (next giver.keys.own (history_in w to)))
       ((λ j. eqb number (next (giver_own j) (sym heard_is j))) ∙ out_of_turn (next from (events taker.history)) number fault is) in
       let nothing : (i : ℕ) → adds (setting_in w) i (history_in w i) (brought_to to f) ≡ [] =
       λ i. adds_nothing (setting_in w) (history_in w) i (brought_to to f) ignored in
@@ -287,6 +287,6 @@ module _ (w : WorldFields) (from to number : ℕ) (giver taker : MemberFields) (
         histories = λ i.
             sym (append-nil (history_in w i))
             ∙ sym (ap (λ (l : List Event). history_in w i ++ l)
-            (ap (λ (x : Option Deed). option_map_or (adds (setting_in w) i (history_in w i)) x []) (deed_opened w to (frame_of w from to number) taker f sends.takes some)
+            (ap (λ (x : Option Action). option_map_or (adds (setting_in w) i (history_in w i)) x []) (action_opened w to (frame_of w from to number) taker f sends.takes some)
             ∙ nothing i));
       }

@@ -16,13 +16,13 @@ use Rattle.pay_world.specs.declared.fault.WorldFault.TheVariants.{Memory, Forged
 use Rattle.pay_world.specs.declared.reply.WorldReply.{WorldReply}
 use Rattle.pay_world.specs.declared.reply.WorldReply.TheVariants.{Asked, Refused, Brought, Ignored}
 use Rattle.pay_world.specs.Setting.{Setting}
-use Rattle.pay_world.specs.Deeds.{Deed, adds, history_by}
+use Rattle.pay_world.specs.Actions.{Action, adds, history_by}
 use Rattle.pay_world.specs.Genuine.{IsGenuine, AreGenuine, is_forged_in}
-use Rattle.pay_world.specs.DeedLaws.{NoHistoryAtFirst, HistoryByOneMore, NoDeedIsGenuine, GenuineByOneMore, ForgedIsTold}
+use Rattle.pay_world.specs.ActionLaws.{NoHistoryAtFirst, HistoryByOneMore, NoActionIsGenuine, GenuineByOneMore, ForgedIsTold}
 use Rattle.pay_world.specs.Liars.{LiarFields, is_listed, setting_of}
 use Rattle.pay_world.specs.World.{WorldFields, setting_in, member_in, history_in, keys_in, AreKeysOf, fresh_world}
-use Rattle.pay_world.specs.Answer.{receiver, deed_of, is_forged_at, forgery, added_in, member_after, Answers, one_more}
-use Rattle.pay_world.specs.Run.{correct_keys, deeds_by, history_of, IsFirstForged, IsWorldAfter}
+use Rattle.pay_world.specs.Answer.{receiver, action_of, is_forged_at, forgery, added_in, member_after, AnswersEvent, one_more}
+use Rattle.pay_world.specs.Run.{correct_keys, actions_by, history_of, IsFirstForged, IsWorldAfter}
 use Rattle.pay_world.proofs.WorldLemmas.{placed, fresh_empty}
 use Rattle.pay_world.proofs.Answering.{ask_keeps_keys, bring_keeps}
 
@@ -39,7 +39,7 @@ keys_after : (e : WorldEvent) (reply : WorldReply) (o : Option MemberFields) →
 keys_after e reply None = refl
 keys_after e reply (Some m) = ap Some (reply_keeps e reply m)
 
-keys_kept : (old new : WorldFields) (e : WorldEvent) (reply : WorldReply) → Answers old new e reply → (i : ℕ) → keys_in new i ≡ keys_in old i
+keys_kept : (old new : WorldFields) (e : WorldEvent) (reply : WorldReply) → AnswersEvent old new e reply → (i : ℕ) → keys_in new i ≡ keys_in old i
 keys_kept old new e reply answers i = go (cases_eq i (receiver e)) where
   go : ((i ≡ receiver e) ⊎ (i ≢ receiver e)) → keys_in new i ≡ keys_in old i
   go (inl same) =
@@ -60,7 +60,7 @@ no_key true = refl
 no_key false = refl
 
 pub after_nothing :
-    NoHistoryAtFirst → NoDeedIsGenuine → (g : GenesisFields) (keys : List KeyFields) (l : LiarFields) → AreKeysOf g keys
+    NoHistoryAtFirst → NoActionIsGenuine → (g : GenesisFields) (keys : List KeyFields) (l : LiarFields) → AreKeysOf g keys
     → IsWorldAfter g keys l [] (fresh_world g keys l)
 after_nothing none genuine g keys l given = record {
   genesis = refl;
@@ -127,89 +127,89 @@ module _ (g : GenesisFields) (keys : List KeyFields) (l : LiarFields) (events : 
   group : setting_in old ≡ setting_of l
   group = ap setting_of is.liars
 
-  histories : history_in old ≡ history_by (setting_of l) (deeds_by keys l events)
+  histories : history_in old ≡ history_by (setting_of l) (actions_by keys l events)
   histories = λ t i. is.histories i t
 
   known : keys_in old ≡ correct_keys keys l
   known = λ t i. is.known i t
 
   -- what the event is to the world it is by the keys
-  deed_is : (e : WorldEvent) → deed_of (keys_in old) e ≡ deed_of (correct_keys keys l) e
-  deed_is e = ap (λ (k : ℕ → Option KeyFields). deed_of k e) known
+  action_is : (e : WorldEvent) → action_of (keys_in old) e ≡ action_of (correct_keys keys l) e
+  action_is e = ap (λ (k : ℕ → Option KeyFields). action_of k e) known
 
   -- and forged after the events
-  forged_is : (e : WorldEvent) (o : Option Deed) → deed_of (correct_keys keys l) e ≡ o
-      → is_forged_at old e ≡ option_map_or (is_forged_in (setting_of l) (history_by (setting_of l) (deeds_by keys l events))) o false
+  forged_is : (e : WorldEvent) (o : Option Action) → action_of (correct_keys keys l) e ≡ o
+      → is_forged_at old e ≡ option_map_or (is_forged_in (setting_of l) (history_by (setting_of l) (actions_by keys l events))) o false
   forged_is e o at =
-      ap (λ (x : Option Deed). option_map_or (is_forged_in (setting_in old) (history_in old)) x false) (deed_is e ∙ at)
+      ap (λ (x : Option Action). option_map_or (is_forged_in (setting_in old) (history_in old)) x false) (action_is e ∙ at)
       ∙ ap (λ (s : Setting). option_map_or (is_forged_in s (history_in old)) o false) group
       ∙ ap (λ (h : ℕ → List Event). option_map_or (is_forged_in (setting_of l) h) o false) histories
 
-  deeds_more : (e : WorldEvent) (o : Option Deed) → deed_of (correct_keys keys l) e ≡ o → deeds_by keys l (events ++ e ∷ []) ≡ deeds_by keys l events ++ filter_map (λ (x : Option Deed). x) (o ∷ [])
-  deeds_more e o at =
-      filter_map-append (deed_of (correct_keys keys l)) events (e ∷ [])
-      ∙ ap (λ (more : List Deed). deeds_by keys l events ++ more) (last (deed_of (correct_keys keys l) e) refl ∙ ap (λ (x : Option Deed). filter_map (λ (y : Option Deed). y) (x ∷ [])) at) where
-        last : (x : Option Deed) → deed_of (correct_keys keys l) e ≡ x → filter_map (deed_of (correct_keys keys l)) (e ∷ []) ≡ filter_map (λ (y : Option Deed). y) (deed_of (correct_keys keys l) e ∷ [])
+  actions_more : (e : WorldEvent) (o : Option Action) → action_of (correct_keys keys l) e ≡ o → actions_by keys l (events ++ e ∷ []) ≡ actions_by keys l events ++ filter_map (λ (x : Option Action). x) (o ∷ [])
+  actions_more e o at =
+      filter_map-append (action_of (correct_keys keys l)) events (e ∷ [])
+      ∙ ap (λ (more : List Action). actions_by keys l events ++ more) (last (action_of (correct_keys keys l) e) refl ∙ ap (λ (x : Option Action). filter_map (λ (y : Option Action). y) (x ∷ [])) at) where
+        last : (x : Option Action) → action_of (correct_keys keys l) e ≡ x → filter_map (action_of (correct_keys keys l)) (e ∷ []) ≡ filter_map (λ (y : Option Action). y) (action_of (correct_keys keys l) e ∷ [])
         last x same = refl
 
   pub after_one_more :
       HistoryByOneMore → GenuineByOneMore → ForgedIsTold → (new : WorldFields) (e : WorldEvent) (reply : WorldReply)
-      → Answers old new e reply → is_forged_at old e ≡ false → new.answered ≡ one_more old.answered → IsWorldAfter g keys l (events ++ e ∷ []) new
+      → AnswersEvent old new e reply → is_forged_at old e ≡ false → new.answered ≡ one_more old.answered → IsWorldAfter g keys l (events ++ e ∷ []) new
   after_one_more more genuine_more told new e reply answers unforged counted = record {
     genesis = answers.genesis ∙ is.genesis;
     liars = answers.liars ∙ is.liars;
     known = λ i. keys_kept old new e reply answers i ∙ is.known i;
-    histories = λ i. longer i (deed_of (correct_keys keys l) e) refl;
-    genuine = genuine (deed_of (correct_keys keys l) e) refl;
+    histories = λ i. longer i (action_of (correct_keys keys l) e) refl;
+    genuine = genuine (action_of (correct_keys keys l) e) refl;
     count = (let n = is.count in let long = length-append events (e ∷ []) in counted ∙ omega arith);
   } where
-    added : (i : ℕ) (o : Option Deed) → deed_of (correct_keys keys l) e ≡ o
+    added : (i : ℕ) (o : Option Action) → action_of (correct_keys keys l) e ≡ o
         → added_in old e i ≡ option_map_or (adds (setting_of l) i (history_of keys l events i)) o []
     added i o at =
-        ap (λ (x : Option Deed). option_map_or (adds (setting_in old) i (history_in old i)) x []) (deed_is e ∙ at)
+        ap (λ (x : Option Action). option_map_or (adds (setting_in old) i (history_in old i)) x []) (action_is e ∙ at)
         ∙ ap (λ (s : Setting). option_map_or (adds s i (history_in old i)) o []) group
         ∙ ap (λ (h : List Event). option_map_or (adds (setting_of l) i h) o []) (is.histories i)
 
-    longer : (i : ℕ) (o : Option Deed) → deed_of (correct_keys keys l) e ≡ o → history_in new i ≡ history_of keys l (events ++ e ∷ []) i
+    longer : (i : ℕ) (o : Option Action) → action_of (correct_keys keys l) e ≡ o → history_in new i ≡ history_of keys l (events ++ e ∷ []) i
     longer i None at =
         answers.histories i
         ∙ ap (λ (h : List Event). history_in old i ++ h) (added i None at)
         ∙ append-nil (history_in old i) ∙ is.histories i
-        ∙ sym (ap (λ (d : List Deed). history_by (setting_of l) d i) (deeds_more e None at ∙ append-nil (deeds_by keys l events)))
+        ∙ sym (ap (λ (d : List Action). history_by (setting_of l) d i) (actions_more e None at ∙ append-nil (actions_by keys l events)))
     longer i (Some d) at =
         answers.histories i
         ∙ ap (λ (h : List Event). history_in old i ++ h) (added i (Some d) at)
         ∙ ap (λ (h : List Event). h ++ adds (setting_of l) i (history_of keys l events i) d) (is.histories i)
-        ∙ sym (more (setting_of l) (deeds_by keys l events) d i)
-        ∙ sym (ap (λ (x : List Deed). history_by (setting_of l) x i) (deeds_more e (Some d) at))
+        ∙ sym (more (setting_of l) (actions_by keys l events) d i)
+        ∙ sym (ap (λ (x : List Action). history_by (setting_of l) x i) (actions_more e (Some d) at))
 
-    genuine : (o : Option Deed) → deed_of (correct_keys keys l) e ≡ o → AreGenuine (setting_of l) (deeds_by keys l (events ++ e ∷ []))
-    genuine None at = subst (AreGenuine (setting_of l)) (sym (deeds_more e None at ∙ append-nil (deeds_by keys l events))) is.genuine
+    genuine : (o : Option Action) → action_of (correct_keys keys l) e ≡ o → AreGenuine (setting_of l) (actions_by keys l (events ++ e ∷ []))
+    genuine None at = subst (AreGenuine (setting_of l)) (sym (actions_more e None at ∙ append-nil (actions_by keys l events))) is.genuine
     genuine (Some d) at =
-        subst (AreGenuine (setting_of l)) (sym (deeds_more e (Some d) at))
-        (genuine_more (setting_of l) (deeds_by keys l events) d is.genuine
-        ((told (setting_of l) (history_by (setting_of l) (deeds_by keys l events)) d).0 (sym (forged_is e (Some d) at) ∙ unforged)))
+        subst (AreGenuine (setting_of l)) (sym (actions_more e (Some d) at))
+        (genuine_more (setting_of l) (actions_by keys l events) d is.genuine
+        ((told (setting_of l) (history_by (setting_of l) (actions_by keys l events)) d).0 (sym (forged_is e (Some d) at) ∙ unforged)))
 
   -- the event is the first that is forged, whatever comes after it
   pub forged_after :
       ForgedIsTold → (e : WorldEvent) (rest : List WorldEvent) → is_forged_at old e ≡ true → IsFirstForged keys l (events ++ e ∷ rest) (length events)
-  forged_after told e rest forged = at (deed_of (correct_keys keys l) e) refl where
-    world_genuine : AreGenuine (setting_of l) (deeds_by keys l events)
+  forged_after told e rest forged = at (action_of (correct_keys keys l) e) refl where
+    world_genuine : AreGenuine (setting_of l) (actions_by keys l events)
     world_genuine = is.genuine
 
     front : take (length events) (events ++ e ∷ rest) ≡ events
     front = take_at events (e ∷ rest) (length events) refl
 
-    at : (o : Option Deed) → deed_of (correct_keys keys l) e ≡ o → IsFirstForged keys l (events ++ e ∷ rest) (length events)
+    at : (o : Option Action) → action_of (correct_keys keys l) e ≡ o → IsFirstForged keys l (events ++ e ∷ rest) (length events)
     at None is = absurd (true_false (sym forged ∙ forged_is e None is))
     at (Some d) is = record {
-      before = subst (λ x. AreGenuine (setting_of l) (deeds_by keys l x)) (sym front) world_genuine;
+      before = subst (λ x. AreGenuine (setting_of l) (actions_by keys l x)) (sym front) world_genuine;
       event = e;
       place = at_place events e rest;
-      deed = d;
+      action = d;
       is = is;
       forged = λ genuine.
           true_false (sym forged ∙ forged_is e (Some d) is
-          ∙ (told (setting_of l) (history_by (setting_of l) (deeds_by keys l events)) d).1
-          (subst (λ x. IsGenuine (setting_of l) (deeds_by keys l x) d) front genuine));
+          ∙ (told (setting_of l) (history_by (setting_of l) (actions_by keys l events)) d).1
+          (subst (λ x. IsGenuine (setting_of l) (actions_by keys l x) d) front genuine));
     }

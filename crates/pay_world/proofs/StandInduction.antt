@@ -7,7 +7,7 @@ use Rattle.pay_frame.specs.Frame.{BodyFields}
 use Rattle.pay_echo.specs.Broadcast.{Vote, size, echo_set, other_ready_set, readied}
 use Rattle.pay_channel.specs.Prefix.{IsPrefix}
 use Rattle.pay_channel.specs.History.{Event, Ask, From, IsEvent, votes, out}
-use Rattle.pay_channel.specs.Taken.{taken, body_from}
+use Rattle.pay_channel.specs.Taken.{taken_bodies, body_from}
 use Rattle.pay_world.specs.Setting.{Setting, group_at, IsCorrect, HasFewFaulty}
 use Rattle.pay_world.specs.Stands.{votes_at, HasQuorum, Stands, IsLonger, IsAllowed, Grow}
 use Rattle.pay_world.specs.Below.{Below}
@@ -79,29 +79,29 @@ module _ (below : Below) (w : Setting) where
         go (inr differs) = subst (λ l. All (IsEvent (group_at w i)) l) (sym (longer.others i differs)) (stands.proper i correct)
 
       -- k took nothing from j, or the next of all that j sent
-      taken_more : (j : ℕ) → IsCorrect w k → IsCorrect w j → IsPrefix (taken j (old k ++ e ∷ [])) (out (group_at w j) (old j))
+      taken_more : (j : ℕ) → IsCorrect w k → IsCorrect w j → IsPrefix (taken_bodies j (old k ++ e ∷ [])) (out (group_at w j) (old j))
       taken_more j ck cj = go (body_from j e) refl where
-        go : (o : Option BodyFields) → body_from j e ≡ o → IsPrefix (taken j (old k ++ e ∷ [])) (out (group_at w j) (old j))
+        go : (o : Option BodyFields) → body_from j e ≡ o → IsPrefix (taken_bodies j (old k ++ e ∷ [])) (out (group_at w j) (old j))
         go o is =
-            let more : taken j (old k ++ e ∷ []) ≡ taken j (old k) ++ option_to_list o =
-            below.channel.taken_by_one_more j (old k) e ∙ ap (λ x. taken j (old k) ++ option_to_list x) is in
+            let more : taken_bodies j (old k ++ e ∷ []) ≡ taken_bodies j (old k) ++ option_to_list o =
+            below.channel.taken_by_one_more j (old k) e ∙ ap (λ x. taken_bodies j (old k) ++ option_to_list x) is in
             subst (λ l. IsPrefix l (out (group_at w j) (old j))) (sym more) (next o is) where
-              next : (x : Option BodyFields) → body_from j e ≡ x → IsPrefix (taken j (old k) ++ option_to_list x) (out (group_at w j) (old j))
-              next None nothing = subst (λ l. IsPrefix l (out (group_at w j) (old j))) (sym (append-nil (taken j (old k)))) (stands.authentic k j ck cj)
+              next : (x : Option BodyFields) → body_from j e ≡ x → IsPrefix (taken_bodies j (old k) ++ option_to_list x) (out (group_at w j) (old j))
+              next None nothing = subst (λ l. IsPrefix l (out (group_at w j) (old j))) (sym (append-nil (taken_bodies j (old k)))) (stands.authentic k j ck cj)
               next (Some body) some =
-                  prefix_push (taken j (old k)) (out (group_at w j) (old j)) body (stands.authentic k j ck cj)
+                  prefix_push (taken_bodies j (old k)) (out (group_at w j) (old j)) body (stands.authentic k j ck cj)
                   (allowed.genuine j body ck cj (came_from j e body some))
 
       authentic_more : (i j : ℕ) → IsCorrect w i → IsCorrect w j → Hears w new i j
       authentic_more i j ci cj =
-          prefix_trans (taken j (new i)) (out (group_at w j) (old j)) (out (group_at w j) (new j))
+          prefix_trans (taken_bodies j (new i)) (out (group_at w j) (old j)) (out (group_at w j) (new j))
           (go (cases_eq i k)) (out_longer old new j one_more_grows) where
-            go : ((i ≡ k) ⊎ (i ≢ k)) → IsPrefix (taken j (new i)) (out (group_at w j) (old j))
+            go : ((i ≡ k) ⊎ (i ≢ k)) → IsPrefix (taken_bodies j (new i)) (out (group_at w j) (old j))
             go (inl same) =
-                subst (λ l. IsPrefix (taken j l) (out (group_at w j) (old j))) (sym (ap new same ∙ longer.here))
+                subst (λ l. IsPrefix (taken_bodies j l) (out (group_at w j) (old j))) (sym (ap new same ∙ longer.here))
                 (taken_more j (subst (IsCorrect w) same ci) cj)
             go (inr differs) =
-                subst (λ l. IsPrefix (taken j l) (out (group_at w j) (old j))) (sym (longer.others i differs)) (stands.authentic i j ci cj)
+                subst (λ l. IsPrefix (taken_bodies j l) (out (group_at w j) (old j))) (sym (longer.others i differs)) (stands.authentic i j ci cj)
 
       -- nothing happened to i: its READY is an earlier one
       earlier :

@@ -1,4 +1,4 @@
--- A legal history as deeds at its member.
+-- A legal history as actions at its member.
 use Rattle.std.proofs.Common.{◌≡◌, ℕ, Bool, true, false, not, cond, eqb, ltb, leb, ◌&&◌, List, [], ◌∷◌, ◌++◌, length, Option, None, Some, option_to_list, refl, sym, ap, ◌∙◌, subst, arith, append-nil, eq-eqb}
 use Rattle.std.specs.List.{filter_map}
 use Rattle.std.specs.Str.{bytes_eq}
@@ -18,11 +18,11 @@ use Rattle.pay_member.specs.declared.fault.MemberFault.{MemberFault}
 use Rattle.pay_member.specs.declared.fault.MemberFault.TheVariants.{TooLong, Spent, Repeat, Gap, WrongKey}
 use Rattle.pay_member.specs.Events.{channel_event, events}
 use Rattle.pay_member.specs.EventLaws.{NoEventsAtFirst, EventsByOneMore}
-use Rattle.pay_member.specs.Refusal.{is_for, turn_refusal, refusal}
-use Rattle.pay_member.specs.Legal.{IsKept, IsOwed, Legal}
+use Rattle.pay_member.specs.Refusal.{is_for_member, turn_refusal, refusal}
+use Rattle.pay_member.specs.Legal.{IsStorable, IsOwed, Legal}
 use Rattle.pay_member.specs.Laws.{PrefixIsLegal}
 use Rattle.pay_world.specs.Setting.{Setting, setting_by}
-use Rattle.pay_world.specs.Deeds.{Deed, Asks, Brings, member_of, event_of, is_want, may_come, counts, history_by, deed_at, deeds_in}
+use Rattle.pay_world.specs.Actions.{Action, Asks, Brings, member_of, event_of, is_want, may_come, counts, history_by, action_at, actions_in}
 use Rattle.pay_world.proofs.Lists.{by_push}
 use Rattle.pay_world.proofs.Taking.{adds-counted}
 use Rattle.pay_world.proofs.Happening.{no_history_at_first, history_by_one_more}
@@ -62,7 +62,7 @@ pub frame_counts :
     → refusal g k before (entry.Taken c) ≡ None
     → counts (setting_by g faulty) before (Brings k.own c.frame.from c.frame.number c.frame.body) ≡ true
 frame_counts g k faulty before c members checked taken =
-    let both = frame_taken (is_for k c) (turn_refusal (next c.frame.from before) c.frame.number) taken in
+    let both = frame_taken (is_for_member k c) (turn_refusal (next c.frame.from before) c.frame.number) taken in
     let keyed = and_parts _ (bytes_eq c.key (key_for k c.frame.from)) both.0 in
     let known = and_parts _ (ltb c.frame.body.owner (length k.keys)) keyed.0 in
     let sent = and_parts _ (is_peer k c.frame.from) known.0 in
@@ -79,62 +79,62 @@ frame_counts g k faulty before c members checked taken =
 
 -- ---- one entry more
 
-one_or_none : (o : Option Deed) → filter_map (λ (x : Option Deed). x) (o ∷ []) ≡ option_to_list o
+one_or_none : (o : Option Action) → filter_map (λ (x : Option Action). x) (o ∷ []) ≡ option_to_list o
 one_or_none None = refl
 one_or_none (Some d) = refl
 
-deeds_more : (own : ℕ) (history : List HistoryEntry) (x : HistoryEntry) → deeds_in own (history ++ x ∷ []) ≡ deeds_in own history ++ option_to_list (deed_at own x.event)
-unfolding deeds_in
-deeds_more own history x =
-    filter_map-append (λ (e : HistoryEntry). deed_at own e.event) history (x ∷ [])
-    ∙ ap (λ (l : List Deed). filter_map (λ (e : HistoryEntry). deed_at own e.event) history ++ l) (one_or_none (deed_at own x.event))
+actions_more : (own : ℕ) (history : List HistoryEntry) (x : HistoryEntry) → actions_in own (history ++ x ∷ []) ≡ actions_in own history ++ option_to_list (action_at own x.event)
+unfolding actions_in
+actions_more own history x =
+    filter_map-append (λ (e : HistoryEntry). action_at own e.event) history (x ∷ [])
+    ∙ ap (λ (l : List Action). filter_map (λ (e : HistoryEntry). action_at own e.event) history ++ l) (one_or_none (action_at own x.event))
 
-no_deeds : (own : ℕ) → deeds_in own [] ≡ []
-unfolding deeds_in
-no_deeds own = refl
+no_actions : (own : ℕ) → actions_in own [] ≡ []
+unfolding actions_in
+no_actions own = refl
 
 module _ (g : GenesisFields) (k : KeyFields) (faulty : ℕ → Bool) where
   abbrev w : Setting
   w = setting_by g faulty
 
-  -- this history is the one by its deeds
-  abbrev pub IsByDeeds : List HistoryEntry → Type 0
-  IsByDeeds history = events history ≡ history_by (setting_by g faulty) (deeds_in k.own history) k.own
+  -- this history is the one by its actions
+  abbrev pub IsByActions : List HistoryEntry → Type 0
+  IsByActions history = events history ≡ history_by (setting_by g faulty) (actions_in k.own history) k.own
 
-  -- a deed that counts is what the member takes
+  -- an action that counts is what the member takes
   pub took :
-      (before : List HistoryEntry) (d : Deed) → IsByDeeds before → member_of d ≡ k.own → counts w (events before) d ≡ true
-      → events before ++ event_of d ∷ [] ≡ history_by w (deeds_in k.own before ++ d ∷ []) k.own
+      (before : List HistoryEntry) (d : Action) → IsByActions before → member_of d ≡ k.own → counts w (events before) d ≡ true
+      → events before ++ event_of d ∷ [] ≡ history_by w (actions_in k.own before ++ d ∷ []) k.own
   took before d was here count =
       ap (λ (l : List Event). l ++ event_of d ∷ []) was
-      ∙ ap (λ (l : List Event). history_by w (deeds_in k.own before) k.own ++ l)
-      (sym (adds-counted w k.own (history_by w (deeds_in k.own before) k.own) d here (subst (λ (l : List Event). counts w l d ≡ true) was count)))
-      ∙ sym (history_by_one_more w (deeds_in k.own before) d k.own)
+      ∙ ap (λ (l : List Event). history_by w (actions_in k.own before) k.own ++ l)
+      (sym (adds-counted w k.own (history_by w (actions_in k.own before) k.own) d here (subst (λ (l : List Event). counts w l d ≡ true) was count)))
+      ∙ sym (history_by_one_more w (actions_in k.own before) d k.own)
 
-  -- by no deed it takes nothing
+  -- by no action it takes nothing
   pub took_none :
-      (before : List HistoryEntry) → IsByDeeds before
-      → events before ++ [] ≡ history_by w (deeds_in k.own before ++ []) k.own
+      (before : List HistoryEntry) → IsByActions before
+      → events before ++ [] ≡ history_by w (actions_in k.own before ++ []) k.own
   took_none before was =
-      append-nil (events before) ∙ was ∙ sym (ap (λ (l : List Deed). history_by w l k.own) (append-nil (deeds_in k.own before)))
+      append-nil (events before) ∙ was ∙ sym (ap (λ (l : List Action). history_by w l k.own) (append-nil (actions_in k.own before)))
 
-  -- So is every legal history, where each event that isn't refused makes it longer by what that event is as a deed.
-  pub by_deeds :
+  -- So is every legal history, where each event that isn't refused makes it longer by what that event is as an action.
+  pub by_actions :
       NoEventsAtFirst → EventsByOneMore → PrefixIsLegal
-      → ((before : List HistoryEntry) (e : MemberEvent) → IsByDeeds before → IsKept e → refusal g k (events before) e ≡ None
-      → events before ++ option_to_list (channel_event e) ≡ history_by w (deeds_in k.own before ++ option_to_list (deed_at k.own e)) k.own)
-      → (history : List HistoryEntry) → Legal g k history → IsByDeeds history
-  by_deeds none one_more shorter each = by_push Made first longer where
+      → ((before : List HistoryEntry) (e : MemberEvent) → IsByActions before → IsStorable e → refusal g k (events before) e ≡ None
+      → events before ++ option_to_list (channel_event e) ≡ history_by w (actions_in k.own before ++ option_to_list (action_at k.own e)) k.own)
+      → (history : List HistoryEntry) → Legal g k history → IsByActions history
+  by_actions none one_more shorter each = by_push Made first longer where
     Made : List HistoryEntry → Type 0
-    Made history = Legal g k history → IsByDeeds history
+    Made history = Legal g k history → IsByActions history
 
-    first : Legal g k [] → IsByDeeds []
-    first legal = none ∙ sym (no_history_at_first w k.own) ∙ sym (ap (λ (l : List Deed). history_by w l k.own) (no_deeds k.own))
+    first : Legal g k [] → IsByActions []
+    first legal = none ∙ sym (no_history_at_first w k.own) ∙ sym (ap (λ (l : List Action). history_by w l k.own) (no_actions k.own))
 
-    longer : (before : List HistoryEntry) (x : HistoryEntry) → (Legal g k before → IsByDeeds before) → Legal g k (before ++ x ∷ []) → IsByDeeds (before ++ x ∷ [])
+    longer : (before : List HistoryEntry) (x : HistoryEntry) → (Legal g k before → IsByActions before) → Legal g k (before ++ x ∷ []) → IsByActions (before ++ x ∷ [])
     longer before x made legal =
         one_more before x
         ∙ each before x.event (made (shorter g k before (x ∷ []) legal)) owed.kept owed.taken
-        ∙ sym (ap (λ (l : List Deed). history_by w l k.own) (deeds_more k.own before x)) where
+        ∙ sym (ap (λ (l : List Action). history_by w l k.own) (actions_more k.own before x)) where
           owed : IsOwed g k (events before) x
           owed = legal.each before x [] refl

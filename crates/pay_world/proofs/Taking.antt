@@ -1,4 +1,4 @@
--- One deed more after histories as they stand.
+-- One action more after histories as they stand.
 use Rattle.std.proofs.Common.{◌≡◌, ◌≢◌, ◌⊎◌, inl, inr, ⊎_elim, ℕ, true, false, not, eqb, ltb, leb, ◌&&◌, List, [], ◌∷◌, ◌++◌, length, slice_get, Some, refl, sym, ap, ◌∙◌, subst, append-nil, ltb-true, leb-true, eqb-true, eq-eqb, ne_eqb}
 use Rattle.std.proofs.lemmas.Bool.{cases_eq, cases_Bool, and_parts, and_left, and_right, and_from, not-true, cond-true, cond-false, eqb-false}
 use Rattle.pay_frame.specs.declared.limits.TheConstants.{GREATEST_VALUE, SEQS}
@@ -8,13 +8,13 @@ use Rattle.pay_frame.specs.Frame.{BodyFields}
 use Rattle.pay_channel.specs.History.{Event, Ask, From, asks, out}
 use Rattle.pay_channel.specs.Taken.{next}
 use Rattle.pay_world.specs.Setting.{Setting, group_at, IsCorrect, HasFewFaulty}
-use Rattle.pay_world.specs.Deeds.{Deed, Asks, Brings, member_of, event_of, is_want, may_come, counts, adds}
+use Rattle.pay_world.specs.Actions.{Action, Asks, Brings, member_of, event_of, is_want, may_come, counts, adds}
 use Rattle.pay_world.specs.Genuine.{IsGenuineIn}
 use Rattle.pay_world.specs.Stands.{Stands, IsLonger, IsAllowed}
 use Rattle.pay_world.specs.Below.{Below}
 use Rattle.pay_world.proofs.StandInduction.{stands_by_one_more}
 
--- ---- a deed that counts may happen
+-- ---- an action that counts may happen
 
 is_no_want : (kind : Kind) → is_want kind ≡ false → kind ≢ Want
 is_no_want Send other e = cc
@@ -29,7 +29,7 @@ from_same : (p j : ℕ) (b c : BodyFields) → From p b ≡ From j c → (p ≡ 
 from_same p j b c e = (cc, cc)
 
 counted_is_allowed :
-    (w : Setting) (old : ℕ → List Event) (d : Deed)
+    (w : Setting) (old : ℕ → List Event) (d : Action)
     → counts w (old (member_of d)) d ≡ true → IsGenuineIn w old d
     → IsAllowed w old (member_of d) (event_of d)
 counted_is_allowed w old (Asks k v) count genuine =
@@ -59,29 +59,29 @@ counted_is_allowed w old (Brings k from number body) count genuine =
           subst At same.0 here cj ∙ ap Some same.1;
     }
 
-adds-none : (w : Setting) (i : ℕ) (history : List Event) (d : Deed) → (eqb (member_of d) i && counts w history d) ≡ false → adds w i history d ≡ []
+adds-none : (w : Setting) (i : ℕ) (history : List Event) (d : Action) → (eqb (member_of d) i && counts w history d) ≡ false → adds w i history d ≡ []
 adds-none w i history d unheard = cond-false (eqb (member_of d) i && counts w history d) (event_of d ∷ []) [] unheard
 
--- a deed adds nothing to another's history
-pub adds-elsewhere : (w : Setting) (i : ℕ) (history : List Event) (d : Deed) → i ≢ member_of d → adds w i history d ≡ []
+-- an action adds nothing to another's history
+pub adds-elsewhere : (w : Setting) (i : ℕ) (history : List Event) (d : Action) → i ≢ member_of d → adds w i history d ≡ []
 adds-elsewhere w i history d differs =
     adds-none w i history d (and_left (eqb (member_of d) i) (counts w history d) (ne_eqb (member_of d) i (λ same. differs (sym same))))
 
 -- nor to one's own where it isn't taken
-pub adds-uncounted : (w : Setting) (i : ℕ) (history : List Event) (d : Deed) → counts w history d ≡ false → adds w i history d ≡ []
+pub adds-uncounted : (w : Setting) (i : ℕ) (history : List Event) (d : Action) → counts w history d ≡ false → adds w i history d ≡ []
 adds-uncounted w i history d ignored = adds-none w i history d (and_right (eqb (member_of d) i) (counts w history d) ignored)
 
 -- where it is, its event
-pub adds-counted : (w : Setting) (i : ℕ) (history : List Event) (d : Deed) → member_of d ≡ i → counts w history d ≡ true → adds w i history d ≡ event_of d ∷ []
+pub adds-counted : (w : Setting) (i : ℕ) (history : List Event) (d : Action) → member_of d ≡ i → counts w history d ≡ true → adds w i history d ≡ event_of d ∷ []
 adds-counted w i history d here count =
     cond-true (eqb (member_of d) i && counts w history d) (event_of d ∷ []) [] (and_from (eqb (member_of d) i) (counts w history d) (eq-eqb (member_of d) i here) count)
 
--- ---- one genuine deed more
+-- ---- one genuine action more
 
-pub stands_by_deed :
-    (below : Below) (w : Setting) (few : HasFewFaulty w) (old new : ℕ → List Event) (d : Deed)
+pub stands_by_action :
+    (below : Below) (w : Setting) (few : HasFewFaulty w) (old new : ℕ → List Event) (d : Action)
     → IsGenuineIn w old d → ((i : ℕ) → new i ≡ old i ++ adds w i (old i) d) → Stands w old → Stands w new
-stands_by_deed below w few old new d genuine grown stands = ⊎_elim counted uncounted (cases_Bool (counts w (old k) d)) where
+stands_by_action below w few old new d genuine grown stands = ⊎_elim counted uncounted (cases_Bool (counts w (old k) d)) where
   k : ℕ
   k = member_of d
 

@@ -5,11 +5,11 @@ use Rattle.std.proofs.lemmas.Bool.{cases_Bool}
 use Rattle.std.proofs.lemmas.Bool.Decides.{nat_tests}
 use Rattle.std.proofs.lemmas.List.{take-append-drop, take-append-le, take-take, take_min}
 use Rattle.pay_channel.specs.Prefix.{IsPrefix}
-use Rattle.pay_channel.specs.Asked.{asked}
+use Rattle.pay_channel.specs.Asked.{asked_values}
 use Rattle.pay_book.specs.Laws.{SettledPlacesGrow}
 use Rattle.pay_book.specs.Settled.{settled_place}
 use Rattle.pay_world.specs.Setting.{Setting, IsCorrect, HasFewFaulty}
-use Rattle.pay_world.specs.Deeds.{Deed, history_by}
+use Rattle.pay_world.specs.Actions.{Action, history_by}
 use Rattle.pay_world.specs.Genuine.{AreGenuine}
 use Rattle.pay_world.specs.Headline.{lists_by, settled_values_by}
 use Rattle.pay_world.specs.Below.{Below}
@@ -58,34 +58,34 @@ take_compares {X} m n xs ys p = subst P (take_of_prefix m xs ys p) (⊎_elim bef
 -- ---- settled values
 
 pub settled_value_stays :
-    (below : Below) → SettledPlacesGrow → (w : Setting) (opening : List ℕ) (one deeds : List Deed) (i a : ℕ) → IsPrefix one deeds
-    → IsPrefix (settled_values_by w opening one i a) (settled_values_by w opening deeds i a)
-settled_value_stays below grows w opening one deeds i a p =
+    (below : Below) → SettledPlacesGrow → (w : Setting) (opening : List ℕ) (one actions : List Action) (i a : ℕ) → IsPrefix one actions
+    → IsPrefix (settled_values_by w opening one i a) (settled_values_by w opening actions i a)
+settled_value_stays below grows w opening one actions i a p =
     take_grows
     (settled_place opening (lists_by w one i) a).0
-    (settled_place opening (lists_by w deeds i) a).0
-    (lists_by w one i a) (lists_by w deeds i a)
-    (grows opening (lists_by w one i) (lists_by w deeds i) (λ b _. list_stays below w one deeds i b p) a)
-    (list_stays below w one deeds i a p)
+    (settled_place opening (lists_by w actions i) a).0
+    (lists_by w one i a) (lists_by w actions i a)
+    (grows opening (lists_by w one i) (lists_by w actions i) (λ b _. list_stays below w one actions i b p) a)
+    (list_stays below w one actions i a p)
 
-module _ (below : Below) (w : Setting) (opening : List ℕ) (deeds : List Deed) (few : HasFewFaulty w) (are : AreGenuine w deeds) where
+module _ (below : Below) (w : Setting) (opening : List ℕ) (actions : List Action) (few : HasFewFaulty w) (are : AreGenuine w actions) where
   pub no_settled_value_forks :
-      (one other : List Deed) (i j a : ℕ) → IsPrefix one deeds → IsPrefix other deeds → IsCorrect w i → IsCorrect w j
+      (one other : List Action) (i j a : ℕ) → IsPrefix one actions → IsPrefix other actions → IsCorrect w i → IsCorrect w j
       → IsPrefix (settled_values_by w opening one i a) (settled_values_by w opening other j a)
       ⊎ IsPrefix (settled_values_by w opening other j a) (settled_values_by w opening one i a)
   no_settled_value_forks one other i j a p q ci cj =
       ⊎_elim
       (λ h. take_compares m n (lists_by w one i a) (lists_by w other j a) h)
       (λ h. ⊎_elim (λ x. inr x) (λ x. inl x) (take_compares n m (lists_by w other j a) (lists_by w one i a) h))
-      (no_list_forks below w deeds few are one other i j a p q ci cj) where
+      (no_list_forks below w actions few are one other i j a p q ci cj) where
         m : ℕ
         m = (settled_place opening (lists_by w one i) a).0
 
         n : ℕ
         n = (settled_place opening (lists_by w other j) a).0
 
-  pub settled_value_was_asked : (i a : ℕ) → IsCorrect w i → IsCorrect w a → IsPrefix (settled_values_by w opening deeds i a) (asked (history_by w deeds a))
+  pub settled_value_was_asked : (i a : ℕ) → IsCorrect w i → IsCorrect w a → IsPrefix (settled_values_by w opening actions i a) (asked_values (history_by w actions a))
   settled_value_was_asked i a ci ca =
-      prefix_trans (settled_values_by w opening deeds i a) (lists_by w deeds i a) (asked (history_by w deeds a))
-      (take_is_prefix (settled_place opening (lists_by w deeds i) a).0 (lists_by w deeds i a))
-      (list_was_asked below w deeds few are i a ci ca)
+      prefix_trans (settled_values_by w opening actions i a) (lists_by w actions i a) (asked_values (history_by w actions a))
+      (take_is_prefix (settled_place opening (lists_by w actions i) a).0 (lists_by w actions i a))
+      (list_was_asked below w actions few are i a ci ca)

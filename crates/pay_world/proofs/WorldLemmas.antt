@@ -11,11 +11,11 @@ use Rattle.pay_link.specs.Keys.{KeyFields, IsKeysOf}
 use Rattle.pay_member.specs.Events.{events}
 use Rattle.pay_member.specs.Member.{MemberFields}
 use Rattle.pay_world.specs.Setting.{Setting, is_correct, HasFewFaulty}
-use Rattle.pay_world.specs.Deeds.{Deed, member_of, adds}
+use Rattle.pay_world.specs.Actions.{Action, member_of, adds}
 use Rattle.pay_world.specs.Stands.{Stands}
 use Rattle.pay_world.specs.StandLaws.{StandsAtFirst}
 use Rattle.pay_world.specs.Liars.{LiarFields, AreLiars, AreLiarsOf, is_listed, setting_of}
-use Rattle.pay_world.specs.World.{WorldFields, setting_in, member_at, history_at, IsMemberAt, IsWorld, AreKeysOf, fresh_place, fresh_world}
+use Rattle.pay_world.specs.World.{WorldFields, setting_in, member_at, events_at, IsMemberAt, IsWorld, AreKeysOf, fresh_place, fresh_world}
 use Rattle.pay_world.proofs.Taking.{adds-elsewhere}
 
 -- ---- places of a list
@@ -89,9 +89,9 @@ module _ (g : GenesisFields) (keys : List KeyFields) (l : LiarFields) where
     go None at = ap (option_and_then (λ m. m)) at
     go (Some k) at = ap (option_and_then (λ m. m)) at
 
-  pub fresh_empty : (i : ℕ) → history_at (map (fresh_place g l) keys) i ≡ []
+  pub fresh_empty : (i : ℕ) → events_at (map (fresh_place g l) keys) i ≡ []
   fresh_empty i = go (slice_get keys i) refl where
-    go : (o : Option KeyFields) → slice_get keys i ≡ o → history_at (map (fresh_place g l) keys) i ≡ []
+    go : (o : Option KeyFields) → slice_get keys i ≡ o → events_at (map (fresh_place g l) keys) i ≡ []
     go None is = ap (λ (x : Option MemberFields). option_map_or (λ (m : MemberFields). events m.history) x []) (placed i None is)
     go (Some k) is =
         ap (λ (x : Option MemberFields). option_map_or (λ (m : MemberFields). events m.history) x []) (placed i (Some k) is)
@@ -158,33 +158,33 @@ module _ (members : List (Option MemberFields)) (i : ℕ) (old new : MemberField
   was_here : member_at members i ≡ Some old
   was_here = ap (option_and_then (λ m. m)) here
 
-  history_here : history_at (set members i (Some new)) i ≡ events new.history
+  history_here : events_at (set members i (Some new)) i ≡ events new.history
   history_here = ap (λ (x : Option MemberFields). option_map_or (λ (m : MemberFields). events m.history) x []) member_here
 
-  history_elsewhere : (j : ℕ) → j ≢ i → history_at (set members i (Some new)) j ≡ history_at members j
+  history_elsewhere : (j : ℕ) → j ≢ i → events_at (set members i (Some new)) j ≡ events_at members j
   history_elsewhere j differs = ap (λ (x : Option MemberFields). option_map_or (λ (m : MemberFields). events m.history) x []) (member_elsewhere j differs)
 
-  history_was : history_at members i ≡ events old.history
+  history_was : events_at members i ≡ events old.history
   history_was = ap (λ (x : Option MemberFields). option_map_or (λ (m : MemberFields). events m.history) x []) was_here
 
-  -- the histories grow by what the deed adds
+  -- the histories grow by what the action adds
   pub histories_by :
-      (w : Setting) (d : Deed) → member_of d ≡ i → events new.history ≡ events old.history ++ adds w i (events old.history) d
-      → (j : ℕ) → history_at (set members i (Some new)) j ≡ history_at members j ++ adds w j (history_at members j) d
+      (w : Setting) (d : Action) → member_of d ≡ i → events new.history ≡ events old.history ++ adds w i (events old.history) d
+      → (j : ℕ) → events_at (set members i (Some new)) j ≡ events_at members j ++ adds w j (events_at members j) d
   histories_by w d to grown j = go (cases_eq j i) where
-    go : ((j ≡ i) ⊎ (j ≢ i)) → history_at (set members i (Some new)) j ≡ history_at members j ++ adds w j (history_at members j) d
+    go : ((j ≡ i) ⊎ (j ≢ i)) → events_at (set members i (Some new)) j ≡ events_at members j ++ adds w j (events_at members j) d
     go (inl same) =
-        let At : ℕ → Type 0 = λ k. history_at (set members i (Some new)) k ≡ history_at members k ++ adds w k (history_at members k) d in
+        let At : ℕ → Type 0 = λ k. events_at (set members i (Some new)) k ≡ events_at members k ++ adds w k (events_at members k) d in
         subst At (sym same) (history_here ∙ grown ∙ sym (ap (λ l. l ++ adds w i l d) history_was))
     go (inr differs) =
         history_elsewhere j differs
-        ∙ sym (append-nil (history_at members j))
-        ∙ sym (ap (λ l. history_at members j ++ l) (adds-elsewhere w j (history_at members j) d (λ same. differs (same ∙ to))))
+        ∙ sym (append-nil (events_at members j))
+        ∙ sym (ap (λ l. events_at members j ++ l) (adds-elsewhere w j (events_at members j) d (λ same. differs (same ∙ to))))
 
 -- one member changed, and it still stands between the histories
 pub changed_is_world :
     (w : WorldFields) (i : ℕ) (old new : MemberFields) (n : ℕ) → IsWorld w → slice_get w.members i ≡ Some (Some old)
-    → new.genesis ≡ old.genesis → new.keys ≡ old.keys → Stands (setting_in w) (history_at (set w.members i (Some new)))
+    → new.genesis ≡ old.genesis → new.keys ≡ old.keys → Stands (setting_in w) (events_at (set w.members i (Some new)))
     → IsWorld (record { genesis = w.genesis; liars = w.liars; members = set w.members i (Some new); answered = n })
 changed_is_world w i old new n is here genesis keys stands = record {
   genesis = is.genesis;

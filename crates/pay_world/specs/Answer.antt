@@ -20,9 +20,9 @@ use Rattle.pay_world.specs.declared.fault.WorldFault.{WorldFault}
 use Rattle.pay_world.specs.declared.fault.WorldFault.TheVariants.{Forged}
 use Rattle.pay_world.specs.declared.reply.WorldReply.{WorldReply}
 use Rattle.pay_world.specs.declared.reply.WorldReply.TheVariants.{Asked, Refused, Brought, Ignored}
-use Rattle.pay_world.specs.Deeds.{Deed, Asks, Brings, adds}
+use Rattle.pay_world.specs.Actions.{Action, Asks, Brings, adds}
 use Rattle.pay_world.specs.Setting.{group_at, is_correct}
-use Rattle.pay_world.specs.Genuine.{is_body, is_forged_in}
+use Rattle.pay_world.specs.Genuine.{is_same_body, is_forged_in}
 use Rattle.pay_world.specs.World.{WorldFields, setting_in, member_in, history_in, keys_in}
 
 -- to which member it happens
@@ -30,35 +30,35 @@ abbrev pub receiver : WorldEvent → ℕ
 receiver (Ask i v) = i
 receiver (Bring i bytes) = i
 
--- ---- events as deeds
+-- ---- events as actions
 
 -- a frame that opened at member i
-abbrev pub brought_to : ℕ → FrameFields → Deed
+abbrev pub brought_to : ℕ → FrameFields → Action
 brought_to i f = Brings i f.from f.number f.body
 
--- what an event is to the member with these keys: bytes are a deed exactly where they open there
-abbrev pub deed_with : KeyFields → WorldEvent → Option Deed
-deed_with k (Ask i v) = Some (Asks i v)
-deed_with k (Bring i bytes) = option_map (brought_to i) (opened_in k bytes)
+-- what an event is to the member with these keys: bytes are an action exactly where they open there
+abbrev pub action_with : KeyFields → WorldEvent → Option Action
+action_with k (Ask i v) = Some (Asks i v)
+action_with k (Bring i bytes) = option_map (brought_to i) (opened_in k bytes)
 
 -- what it is where these are the correct members' keys
-abbrev pub deed_of : (ℕ → Option KeyFields) → WorldEvent → Option Deed
-deed_of keys e = option_and_then (λ k. deed_with k e) (keys (receiver e))
+abbrev pub action_of : (ℕ → Option KeyFields) → WorldEvent → Option Action
+action_of keys e = option_and_then (λ k. action_with k e) (keys (receiver e))
 
-abbrev pub deeds_of : (ℕ → Option KeyFields) → List WorldEvent → List Deed
-deeds_of keys events = filter_map (deed_of keys) events
+abbrev pub actions_of : (ℕ → Option KeyFields) → List WorldEvent → List Action
+actions_of keys events = filter_map (action_of keys) events
 
 -- Whether a frame names a correct member that didn't send its body under its number.
 abbrev pub is_unsent : WorldFields → FrameFields → Bool
 is_unsent w f =
     is_correct (setting_in w) f.from
-    && not (is_body f.body
+    && not (is_same_body f.body
     (slice_get (out (group_at (setting_in w) f.from) (history_in w f.from)) f.number))
 
 -- Whether it brings a frame that the correct member which it names didn't send.
 abbrev pub is_forged_at : WorldFields → WorldEvent → Bool
 is_forged_at w e =
-    option_map_or (is_forged_in (setting_in w) (history_in w)) (deed_of (keys_in w) e) false
+    option_map_or (is_forged_in (setting_in w) (history_in w)) (action_of (keys_in w) e) false
 
 -- the fault of such an event
 abbrev pub forgery : WorldFields → WorldEvent → Option WorldFault
@@ -66,7 +66,7 @@ forgery w e = if is_forged_at w e then Some (Forged w.answered) else None
 
 -- what an event adds to the history of member i of a world
 abbrev pub added_in : WorldFields → WorldEvent → ℕ → List Event
-added_in w e i = option_map_or (adds (setting_in w) i (history_in w i)) (deed_of (keys_in w) e) []
+added_in w e i = option_map_or (adds (setting_in w) i (history_in w i)) (action_of (keys_in w) e) []
 
 -- ---- the answer
 
@@ -76,18 +76,19 @@ answer_to_ask (Some fault) number = Refused fault
 answer_to_ask None number = Asked number
 
 -- to bytes that were brought to it: what comes of them
-abbrev pub IsBrought : MemberFields → List ℕ → WorldReply → Type 0
-IsBrought m bytes (Brought outcome) = IsOutcome m.genesis m.keys (events m.history) bytes outcome
-IsBrought m bytes (Asked number) = ⊥
-IsBrought m bytes (Refused fault) = ⊥
-IsBrought m bytes Ignored = ⊥
+abbrev pub IsBroughtReply : MemberFields → List ℕ → WorldReply → Type 0
+IsBroughtReply m bytes (Brought outcome) =
+    IsOutcome m.genesis m.keys (events m.history) bytes outcome
+IsBroughtReply m bytes (Asked number) = ⊥
+IsBroughtReply m bytes (Refused fault) = ⊥
+IsBroughtReply m bytes Ignored = ⊥
 
 abbrev pub IsReplyOf : MemberFields → WorldEvent → WorldReply → Type 0
 IsReplyOf m (Ask i v) reply =
     reply
     ≡ answer_to_ask (refusal m.genesis m.keys (events m.history) (entry.Ask v))
     (asks (events m.history))
-IsReplyOf m (Bring i bytes) reply = IsBrought m bytes reply
+IsReplyOf m (Bring i bytes) reply = IsBroughtReply m bytes reply
 
 -- the member's own, if it is there
 abbrev pub IsReplyFrom : Option MemberFields → WorldEvent → WorldReply → Type 0
@@ -134,7 +135,7 @@ IsGrownBy (Some old) (Some new) bytes =
 
 -- The receiver replied, and its history is as much longer as the event adds; the others are as they
 -- were.
-pub record Answers (old new : WorldFields) (e : WorldEvent) (reply : WorldReply) : Type 0 where
+pub record AnswersEvent (old new : WorldFields) (e : WorldEvent) (reply : WorldReply) : Type 0 where
   pub genesis : new.genesis ≡ old.genesis
   pub liars : new.liars ≡ old.liars
   pub said : IsReply old e reply

@@ -2,7 +2,7 @@
 -- was asked for is missing, and their books are equal.
 use Rattle.std.specs.Prelude.{◌≡◌, ℕ, List, slice_get, Option, Some}
 use Rattle.pay_channel.specs.History.{delivered_at, list_of}
-use Rattle.pay_channel.specs.Asked.{asked}
+use Rattle.pay_channel.specs.Asked.{asked_values}
 use Rattle.pay_book.specs.Book.{Standing}
 use Rattle.pay_member.specs.Group.{group_in}
 use Rattle.pay_member.specs.Book.{book_after}
@@ -24,7 +24,7 @@ book_in w i = book_after w.genesis i (history_in w i)
 
 -- the values that it was asked to broadcast, each under its place
 abbrev pub asked_in : WorldFields → ℕ → List (List ℕ)
-asked_in w i = asked (history_in w i)
+asked_in w i = asked_values (history_in w i)
 
 -- ---- of all correct members
 

@@ -1,10 +1,10 @@
--- Groups and deeds for the worked examples.
+-- Groups and actions for the worked examples.
 use Rattle.std.specs.Prelude.{ℕ, ◌==◌, ◌||◌, List, [], ◌∷◌, Option}
 use Rattle.pay_frame.specs.declared.kind.Kind.{Kind}
 use Rattle.pay_frame.specs.declared.kind.Kind.TheVariants.{Send, Echo, Ready}
 use Rattle.pay_frame.specs.Frame.{FrameFields, frame_bytes, frame_of_parts}
 use Rattle.pay_channel.specs.History.{body_of, delivered_at}
-use Rattle.pay_link.specs.Sealing.{sealed}
+use Rattle.pay_link.specs.Sealing.{sealed_frame}
 use Rattle.pay_link.specs.TestKeys.{test_keys_of}
 use Rattle.pay_member.specs.declared.event.Event.{Event as MemberEvent}
 use Rattle.pay_member.specs.declared.event.Event.TheVariants as entry
@@ -13,7 +13,7 @@ use Rattle.pay_member.specs.declared.entry.HistoryEntry.{HistoryEntry}
 use Rattle.pay_world.specs.declared.event.WorldEvent.{WorldEvent}
 use Rattle.pay_world.specs.declared.event.WorldEvent.TheVariants.{Ask, Bring}
 use Rattle.pay_world.specs.Setting.{Setting, group_at}
-use Rattle.pay_world.specs.Deeds.{Deed, Asks, Brings, history_by}
+use Rattle.pay_world.specs.Actions.{Action, Asks, Brings, history_by}
 use Rattle.pay_world.specs.Liars.{LiarFields}
 
 abbrev pub A : List ℕ
@@ -23,16 +23,16 @@ abbrev pub B : List ℕ
 B = 66 ∷ []
 
 -- a frame about number 0 of account 3 is brought to member k
-abbrev pub of_3 : Kind → ℕ → ℕ → ℕ → List ℕ → Deed
+abbrev pub of_3 : Kind → ℕ → ℕ → ℕ → List ℕ → Action
 of_3 kind k from number v = Brings k from number (body_of kind 3 0 v)
 
 -- a frame about number 0 of account 0
-abbrev pub of_0 : Kind → ℕ → ℕ → ℕ → List ℕ → Deed
+abbrev pub of_0 : Kind → ℕ → ℕ → ℕ → List ℕ → Action
 of_0 kind k from number v = Brings k from number (body_of kind 0 0 v)
 
 -- members 0 to 3, of which one may be faulty, and 3 is
-abbrev pub four : Setting
-four = record { members = 4; faults = 1; faulty = λ i. i == 3 }
+abbrev pub setting_of_four : Setting
+setting_of_four = record { members = 4; faults = 1; faulty = λ i. i == 3 }
 
 -- the same with 2 faulty too: one more than may be
 abbrev pub two_liars : Setting
@@ -43,14 +43,14 @@ abbrev pub three : Setting
 three = record { members = 3; faults = 1; faulty = λ i. i == 2 }
 
 -- what member i delivers under number 0 of account a
-abbrev pub first_of : Setting → List Deed → ℕ → ℕ → Option (List ℕ)
-first_of w deeds i a = delivered_at (group_at w i) (history_by w deeds i) a 0
+abbrev pub first_of : Setting → List Action → ℕ → ℕ → Option (List ℕ)
+first_of w actions i a = delivered_at (group_at w i) (history_by w actions i) a 0
 
 -- ---- with a liar that says B to one and A to another
 
 -- Member 0 is asked for A and member 3 lies. 3 echoes A to 0 and another value to 1, and is never
 -- READY. Some frames come twice or too early, and 0, 1 and 2 deliver A all the same.
-abbrev pub with_a_liar : List Deed
+abbrev pub with_a_liar : List Action
 with_a_liar =
     Asks 0 A
     ∷ of_0 Send 1 0 0 A ∷ of_0 Send 2 0 0 A
@@ -67,7 +67,7 @@ with_a_liar =
 -- ---- with more liars than may be
 
 -- the two are READY for A to 0, and for B to 1
-abbrev pub by_two_liars : List Deed
+abbrev pub by_two_liars : List Action
 by_two_liars =
     of_3 Ready 0 2 0 A ∷ of_3 Ready 0 3 0 A
     ∷ of_3 Ready 1 2 0 B ∷ of_3 Ready 1 3 0 B
@@ -76,7 +76,7 @@ by_two_liars =
 -- ---- with a forged frame
 
 -- The first frame is forged: 2 never sent it. To all others 3 broadcasts B.
-abbrev pub by_a_forged_frame : List Deed
+abbrev pub by_a_forged_frame : List Action
 by_a_forged_frame =
     of_3 Ready 0 2 0 A ∷ of_3 Ready 0 3 0 A
     ∷ of_3 Send 1 3 0 B ∷ of_3 Send 2 3 0 B
@@ -88,7 +88,7 @@ by_a_forged_frame =
 -- ---- with N = 3f
 
 -- 2 echoes A to both and is READY to 0 alone; each took all that the other sent
-abbrev pub of_three : List Deed
+abbrev pub of_three : List Action
 of_three =
     Asks 0 A
     ∷ of_0 Send 1 0 0 A ∷ of_0 Echo 1 0 1 A ∷ of_0 Echo 1 2 0 A
@@ -120,7 +120,7 @@ liar_of_four = record { members = 4; faults = 1; liars = 3 ∷ [] }
 
 -- the SEND of 0's A to 1, sealed with their test key
 abbrev pub sealed_send : FrameFields
-sealed_send = sealed (test_keys_of 4 0) 1 0 (body_of Send 0 0 A)
+sealed_send = sealed_frame (test_keys_of 4 0) 1 0 (body_of Send 0 0 A)
 
 -- 1 is asked for B and 0 for A, and that SEND comes to 1 twice
 abbrev pub in_bytes : List WorldEvent

@@ -18,13 +18,13 @@ abbrev pub AreMembers : LiarFields → Type 0
 AreMembers l = All (λ i. i < l.members) l.liars
 
 -- none of them is named twice
-abbrev pub AreDistinct : LiarFields → Type 0
-AreDistinct l = AllPairs (λ i j. i ≢ j) l.liars
+abbrev pub LiarsAreDistinct : LiarFields → Type 0
+LiarsAreDistinct l = AllPairs (λ i j. i ≢ j) l.liars
 
 -- members, each named once, and no more than may lie
 pub record AreLiars (l : LiarFields) : Type 0 where
   pub known : AreMembers l
-  pub once : AreDistinct l
+  pub once : LiarsAreDistinct l
   pub few : length l.liars ≤ l.faults
 
 -- of the group of this genesis

@@ -1,12 +1,12 @@
 pub mod Setting
-pub mod Deeds
+pub mod Actions
 pub mod Genuine
 pub mod Stands
 pub mod Convergence
 pub mod Faults
 pub mod Liars
 pub mod Below
-pub mod DeedLaws
+pub mod ActionLaws
 pub mod StandLaws
 pub mod Headline
 pub mod HeadlineLaws

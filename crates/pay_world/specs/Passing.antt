@@ -4,7 +4,7 @@ use Rattle.std.specs.Option.{option_map_or}
 use Rattle.pay_frame.specs.Frame.{BodyFields, frame_bytes}
 use Rattle.pay_channel.specs.History.{out}
 use Rattle.pay_link.specs.Keys.{key_for}
-use Rattle.pay_link.specs.Sealing.{sealed}
+use Rattle.pay_link.specs.Sealing.{sealed_frame}
 use Rattle.pay_member.specs.Events.{events}
 use Rattle.pay_member.specs.Group.{group_in}
 use Rattle.pay_member.specs.Member.{MemberFields}
@@ -16,7 +16,7 @@ use Rattle.pay_world.specs.World.{WorldFields, member_in}
 -- it sent none there
 abbrev pub frame_by : MemberFields → ℕ → ℕ → List ℕ
 frame_by m to number =
-    option_map_or (λ body. frame_bytes (sealed m.keys to number body))
+    option_map_or (λ body. frame_bytes (sealed_frame m.keys to number body))
     (slice_get (out (group_in m.genesis m.keys.own) (events m.history)) number) []
 
 -- the same of a correct member of a world

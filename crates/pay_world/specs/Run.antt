@@ -14,33 +14,33 @@ use Rattle.pay_member.specs.Events as stored
 use Rattle.pay_member.specs.Legal.{Legal}
 use Rattle.pay_world.specs.declared.event.WorldEvent.{WorldEvent}
 use Rattle.pay_world.specs.declared.event.WorldEvent.TheVariants.{Ask, Bring}
-use Rattle.pay_world.specs.Deeds.{Deed, history_by}
+use Rattle.pay_world.specs.Actions.{Action, history_by}
 use Rattle.pay_world.specs.Genuine.{IsGenuine, AreGenuine}
 use Rattle.pay_world.specs.Liars.{LiarFields, is_listed, setting_of}
 use Rattle.pay_world.specs.World.{WorldFields, history_in, keys_in}
-use Rattle.pay_world.specs.Answer.{deed_of, deeds_of}
+use Rattle.pay_world.specs.Answer.{action_of, actions_of}
 
 -- the keys of those that don't lie
 abbrev pub correct_keys : List KeyFields → LiarFields → ℕ → Option KeyFields
 correct_keys keys l i = if is_listed l.liars i then None else slice_get keys i
 
 -- what the events are to the correct members
-abbrev pub deeds_by : List KeyFields → LiarFields → List WorldEvent → List Deed
-deeds_by keys l events = deeds_of (correct_keys keys l) events
+abbrev pub actions_by : List KeyFields → LiarFields → List WorldEvent → List Action
+actions_by keys l events = actions_of (correct_keys keys l) events
 
 -- The history of a correct member by these events: from the left, what it took of them.
 abbrev pub history_of : List KeyFields → LiarFields → List WorldEvent → ℕ → List Event
-history_of keys l events i = history_by (setting_of l) (deeds_by keys l events) i
+history_of keys l events i = history_by (setting_of l) (actions_by keys l events) i
 
 -- Event k is a forged frame, after genuine ones: it is the first that is forged.
 pub record IsFirstForged (keys : List KeyFields) (l : LiarFields)
     (events : List WorldEvent) (k : ℕ) : Type 0 where
-  pub before : AreGenuine (setting_of l) (deeds_by keys l (take k events))
+  pub before : AreGenuine (setting_of l) (actions_by keys l (take k events))
   pub event : WorldEvent
   pub place : slice_get events k ≡ Some event
-  pub deed : Deed
-  pub is : deed_of (correct_keys keys l) event ≡ Some deed
-  pub forged : ¬ (IsGenuine (setting_of l) (deeds_by keys l (take k events)) deed)
+  pub action : Action
+  pub is : action_of (correct_keys keys l) event ≡ Some action
+  pub forged : ¬ (IsGenuine (setting_of l) (actions_by keys l (take k events)) action)
 
 -- The world of this group after these events, none of which is forged: it has the histories by
 -- them.
@@ -50,7 +50,7 @@ pub record IsWorldAfter (g : GenesisFields) (keys : List KeyFields) (l : LiarFie
   pub liars : w.liars ≡ l
   pub known : (i : ℕ) → keys_in w i ≡ correct_keys keys l i
   pub histories : (i : ℕ) → history_in w i ≡ history_of keys l events i
-  pub genuine : AreGenuine (setting_of l) (deeds_by keys l events)
+  pub genuine : AreGenuine (setting_of l) (actions_by keys l events)
   pub count : w.answered ≡ min (length events) (2 ^ 64 - 1)
 
 -- ---- stored histories

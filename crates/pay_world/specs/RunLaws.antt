@@ -12,7 +12,7 @@ use Rattle.pay_world.specs.declared.fault.WorldFault.TheVariants.{Memory, Forged
 use Rattle.pay_world.specs.declared.reply.WorldReply.{WorldReply}
 use Rattle.pay_world.specs.Liars.{AreLiarsOf, LiarFields}
 use Rattle.pay_world.specs.World.{WorldFields, AreKeysOf, fresh_world}
-use Rattle.pay_world.specs.Answer.{Answers, forgery, is_forged_at, one_more}
+use Rattle.pay_world.specs.Answer.{AnswersEvent, forgery, is_forged_at, one_more}
 use Rattle.pay_world.specs.Run.{IsOfBytes, IsWorldAfter, MayHaveTaken, correct_keys, events_of}
 use Rattle.pay_world.specs.Run.{history_of}
 
@@ -27,7 +27,7 @@ abbrev pub WorldByOneMore : Type 0
 WorldByOneMore =
     (g : GenesisFields) (keys : List KeyFields) (l : LiarFields) (events : List WorldEvent)
     (old new : WorldFields) (e : WorldEvent) (reply : WorldReply)
-    → IsWorldAfter g keys l events old → Answers old new e reply → is_forged_at old e ≡ false
+    → IsWorldAfter g keys l events old → AnswersEvent old new e reply → is_forged_at old e ≡ false
     → new.answered ≡ one_more old.answered → IsWorldAfter g keys l (events ++ e ∷ []) new
 
 -- By any events each correct member took what it can have taken: nothing refused it, and its

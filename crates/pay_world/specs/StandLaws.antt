@@ -2,9 +2,9 @@
 use Rattle.std.specs.Prelude.{◌≡◌, ◌⊎◌, ℕ, ◌≤◌, List, [], ◌++◌, length, slice_get, Some}
 use Rattle.pay_channel.specs.Prefix.{IsPrefix}
 use Rattle.pay_channel.specs.History.{Event, seqs, delivered_at, list_of}
-use Rattle.pay_channel.specs.Asked.{asked}
+use Rattle.pay_channel.specs.Asked.{asked_values}
 use Rattle.pay_world.specs.Setting.{Setting, group_at, IsCorrect, HasFewFaulty}
-use Rattle.pay_world.specs.Deeds.{Deed, adds, history_by}
+use Rattle.pay_world.specs.Actions.{Action, adds, history_by}
 use Rattle.pay_world.specs.Genuine.{IsGenuineIn, AreGenuine}
 use Rattle.pay_world.specs.Stands.{Stands, IsLonger, IsAllowed, Grow}
 use Rattle.pay_world.specs.Convergence.{AllTaken}
@@ -19,17 +19,17 @@ StandsByOneMore =
     (w : Setting) (old new : ℕ → List Event) (k : ℕ) (e : Event)
     → HasFewFaulty w → IsLonger old new k e → IsAllowed w old k e → Stands w old → Stands w new
 
--- so by one genuine deed more
-abbrev pub StandsByDeed : Type 0
-StandsByDeed =
-    (w : Setting) (old new : ℕ → List Event) (d : Deed)
+-- so by one genuine action more
+abbrev pub StandsByAction : Type 0
+StandsByAction =
+    (w : Setting) (old new : ℕ → List Event) (d : Action)
     → HasFewFaulty w → IsGenuineIn w old d → ((i : ℕ) → new i ≡ old i ++ adds w i (old i) d)
     → Stands w old → Stands w new
 
 abbrev pub GenuineStands : Type 0
 GenuineStands =
-    (w : Setting) (deeds : List Deed)
-    → HasFewFaulty w → AreGenuine w deeds → Stands w (history_by w deeds)
+    (w : Setting) (actions : List Action)
+    → HasFewFaulty w → AreGenuine w actions → Stands w (history_by w actions)
 
 -- ---- two correct members, each at a moment of its own
 
@@ -43,8 +43,8 @@ Agreement =
     → delivered_at (group_at w j) (other j) a s ≡ Some u → v ≡ u
 
 -- of their lists of an account one is a prefix of the other
-abbrev pub ListsCompare : Type 0
-ListsCompare =
+abbrev pub StandingListsCompare : Type 0
+StandingListsCompare =
     (w : Setting) (histories one other : ℕ → List Event) (i j a : ℕ)
     → Stands w histories → HasFewFaulty w → Grow one histories → Grow other histories
     → IsCorrect w i → IsCorrect w j
@@ -59,13 +59,13 @@ Integrity =
     (w : Setting) (histories : ℕ → List Event) (i a s : ℕ) (v : List ℕ)
     → Stands w histories → HasFewFaulty w → IsCorrect w i → IsCorrect w a
     → delivered_at (group_at w i) (histories i) a s ≡ Some v
-    → slice_get (asked (histories a)) s ≡ Some v
+    → slice_get (asked_values (histories a)) s ≡ Some v
 
 abbrev pub ListIsAsked : Type 0
 ListIsAsked =
     (w : Setting) (histories : ℕ → List Event) (i a : ℕ)
     → Stands w histories → HasFewFaulty w → IsCorrect w i → IsCorrect w a
-    → IsPrefix (list_of (group_at w i) (histories i) a) (asked (histories a))
+    → IsPrefix (list_of (group_at w i) (histories i) a) (asked_values (histories a))
 
 -- ---- of any member
 
@@ -95,7 +95,7 @@ abbrev pub AsksAreDelivered : Type 0
 AsksAreDelivered =
     (w : Setting) (histories : ℕ → List Event) (i a s : ℕ) (v : List ℕ)
     → Stands w histories → HasFewFaulty w → AllTaken w histories → IsCorrect w i → IsCorrect w a
-    → slice_get (asked (histories a)) s ≡ Some v
+    → slice_get (asked_values (histories a)) s ≡ Some v
     → delivered_at (group_at w i) (histories i) a s ≡ Some v
 
 -- and is the owner's list
@@ -103,5 +103,5 @@ abbrev pub ListIsAllAsked : Type 0
 ListIsAllAsked =
     (w : Setting) (histories : ℕ → List Event) (i a : ℕ)
     → Stands w histories → HasFewFaulty w → AllTaken w histories → IsCorrect w i → IsCorrect w a
-    → length (asked (histories a)) ≤ seqs
-    → list_of (group_at w i) (histories i) a ≡ asked (histories a)
+    → length (asked_values (histories a)) ≤ seqs
+    → list_of (group_at w i) (histories i) a ≡ asked_values (histories a)

@@ -4,7 +4,7 @@ use Rattle.pay_frame.specs.Frame.{BodyFields}
 use Rattle.pay_echo.specs.Broadcast.{Vote, size, echo_set, readied}
 use Rattle.pay_channel.specs.Prefix.{IsPrefix}
 use Rattle.pay_channel.specs.History.{Event, From, IsEvent, votes, out}
-use Rattle.pay_channel.specs.Taken.{taken, next}
+use Rattle.pay_channel.specs.Taken.{taken_bodies, next}
 use Rattle.pay_world.specs.Setting.{Setting, group_at, IsCorrect}
 
 -- the votes that member i has in the broadcast s of account a
@@ -27,7 +27,7 @@ pub record Stands (w : Setting) (histories : ℕ → List Event) : Type 0 where
   pub proper : (i : ℕ) → IsCorrect w i → All (IsEvent (group_at w i)) (histories i)
   pub authentic :
       (i j : ℕ) → IsCorrect w i → IsCorrect w j
-      → IsPrefix (taken j (histories i)) (out (group_at w j) (histories j))
+      → IsPrefix (taken_bodies j (histories i)) (out (group_at w j) (histories j))
   pub ruled :
       (i a s : ℕ) (v : List ℕ) → IsCorrect w i
       → readied (group_at w i) (votes_at histories i a s) ≡ Some v

@@ -30,14 +30,14 @@ abbrev pub member_at : List (Option MemberFields) → ℕ → Option MemberField
 member_at members i = option_and_then (λ m. m) (slice_get members i)
 
 -- the events that it took; none, where there is no such member
-abbrev pub history_at : List (Option MemberFields) → ℕ → List Event
-history_at members i = option_map_or (λ m. events m.history) (member_at members i) []
+abbrev pub events_at : List (Option MemberFields) → ℕ → List Event
+events_at members i = option_map_or (λ m. events m.history) (member_at members i) []
 
 abbrev pub member_in : WorldFields → ℕ → Option MemberFields
 member_in w i = member_at w.members i
 
 abbrev pub history_in : WorldFields → ℕ → List Event
-history_in w i = history_at w.members i
+history_in w i = events_at w.members i
 
 -- the keys of the correct members
 abbrev pub keys_in : WorldFields → ℕ → Option KeyFields

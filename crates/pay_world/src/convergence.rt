@@ -46,8 +46,8 @@ fn has_taken_all<I: Instance + Drop, B: Settle + Drop>(world: &World<I, B>, rece
     true
 }
 
-// Whether a member took all that another one sent, if both are correct. It took the first so many
-// of them, so there is none under the next number.
+// Whether a member took all that another one sent, if both are correct: there is nothing under the
+// number that it takes next.
 fn has_taken<I: Instance + Drop, B: Settle + Drop>(
     world: &World<I, B>,
     receiver: u16,

@@ -5,6 +5,6 @@ use pay_frame::Bytes;
 pub enum WorldEvent {
     /// Its owner asks it to broadcast this value.
     Ask(u16, Bytes),
-    /// Bytes are brought to it, whoever sent them.
+    /// Bytes are brought to it, from any sender.
     Bring(u16, Bytes),
 }

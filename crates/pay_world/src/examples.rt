@@ -8,12 +8,13 @@ ghost use Rattle.pay_channel.specs.History.{Ask, From, body_of};
 ghost use Rattle.pay_echo.specs.Broadcast.{size};
 ghost use Rattle.pay_member.specs.Events.{events};
 ghost use Rattle.pay_world.specs.Setting.{HasFewFaulty};
-ghost use Rattle.pay_world.specs.Deeds.{Asks, history_by, deeds_in};
+ghost use Rattle.pay_world.specs.Actions.{Asks, history_by, actions_in};
 ghost use Rattle.pay_world.specs.Genuine.{AreGenuine, is_forged};
 ghost use Rattle.pay_world.specs.Convergence.{AllTaken};
 ghost use Rattle.pay_world.specs.GroupKeys.{group_test_keys};
 ghost use Rattle.pay_world.specs.Run.{events_of, history_of};
-ghost use Rattle.pay_world.specs.Examples.{A, B, of_3, of_0, first_of, four, two_liars, three};
+ghost use Rattle.pay_world.specs.Examples.{A, B, of_3, of_0, first_of, setting_of_four, two_liars};
+ghost use Rattle.pay_world.specs.Examples.{three};
 ghost use Rattle.pay_world.specs.Examples.{with_a_liar, by_two_liars, by_a_forged_frame};
 ghost use Rattle.pay_world.specs.Examples.{of_three, stored_at_1, liar_of_four, in_bytes};
 
@@ -26,12 +27,12 @@ use pay_member::laws::what_is_brought;
 /// Of four members one lies, frames come twice and too early, and all premises are met: the
 /// correct members deliver the same.
 pub fn one_liar_of_four()
-    ensures few { HasFewFaulty four }
-    ensures genuine { AreGenuine four with_a_liar }
-    ensures taken { AllTaken four (history_by four with_a_liar) }
-    ensures zero { first_of four with_a_liar 0 0 ≡ Some A }
-    ensures one { first_of four with_a_liar 1 0 ≡ Some A }
-    ensures two { first_of four with_a_liar 2 0 ≡ Some A }
+    ensures few { HasFewFaulty setting_of_four }
+    ensures genuine { AreGenuine setting_of_four with_a_liar }
+    ensures taken { AllTaken setting_of_four (history_by setting_of_four with_a_liar) }
+    ensures zero { first_of setting_of_four with_a_liar 0 0 ≡ Some A }
+    ensures one { first_of setting_of_four with_a_liar 1 0 ≡ Some A }
+    ensures two { first_of setting_of_four with_a_liar 2 0 ≡ Some A }
 {
     forged_is_told();
 }
@@ -48,10 +49,10 @@ pub fn two_liars_of_four()
 
 /// So they do with one liar, where a single frame is forged.
 pub fn one_forged_frame()
-    ensures few { HasFewFaulty four }
-    ensures forged { is_forged four [] (of_3 Ready 0 2 0 A) ≡ true }
-    ensures zero { first_of four by_a_forged_frame 0 3 ≡ Some A }
-    ensures one { first_of four by_a_forged_frame 1 3 ≡ Some B }
+    ensures few { HasFewFaulty setting_of_four }
+    ensures forged { is_forged setting_of_four [] (of_3 Ready 0 2 0 A) ≡ true }
+    ensures zero { first_of setting_of_four by_a_forged_frame 0 3 ≡ Some A }
+    ensures one { first_of setting_of_four by_a_forged_frame 1 3 ≡ Some B }
 {}
 
 /// With three members of which one may lie, N = 3f. What one correct member delivers the other
@@ -66,12 +67,14 @@ pub fn one_liar_of_three()
     forged_is_told();
 }
 
-/// An ask and a frame of a stored history are deeds, a query is none, and the history is the one
+/// An ask and a frame of a stored history are actions, a query is none, and the history is the one
 /// by them. It isn't where the frame came out of turn, as in no history that a member can have.
 pub fn stored_history_of_four()
-    ensures deeds { deeds_in 1 (stored_at_1 0) ≡ Asks 1 B ∷ of_0 Send 1 0 0 A ∷ [] }
-    ensures same { events (stored_at_1 0) ≡ history_by four (deeds_in 1 (stored_at_1 0)) 1 }
-    ensures early { events (stored_at_1 1) ≢ history_by four (deeds_in 1 (stored_at_1 1)) 1 }
+    ensures actions { actions_in 1 (stored_at_1 0) ≡ Asks 1 B ∷ of_0 Send 1 0 0 A ∷ [] }
+    ensures same { events (stored_at_1 0)
+        ≡ history_by setting_of_four (actions_in 1 (stored_at_1 0)) 1 }
+    ensures early { events (stored_at_1 1)
+        ≢ history_by setting_of_four (actions_in 1 (stored_at_1 1)) 1 }
 {}
 
 /// Of events in bytes, where all have their test keys, a member takes its own ask and the frame

@@ -2,12 +2,13 @@
 //! the laws that it stands on.
 
 ghost use Rattle.pay_world.specs.Below.{Below, OfBooks};
-ghost use Rattle.pay_world.specs.DeedLaws.{NoHistoryAtFirst, HistoryByOneMore, HistoriesGrow};
-ghost use Rattle.pay_world.specs.DeedLaws.{LegalHistoryByDeeds, NoDeedIsGenuine};
-ghost use Rattle.pay_world.specs.DeedLaws.{GenuineByOneMore, PrefixIsGenuine, GenuineByPlace};
-ghost use Rattle.pay_world.specs.DeedLaws.{CorrectIsTold, ForgedIsTold, NoneForgedIsTold};
-ghost use Rattle.pay_world.specs.StandLaws.{StandsAtFirst, StandsByOneMore, StandsByDeed};
-ghost use Rattle.pay_world.specs.StandLaws.{GenuineStands, Agreement, ListsCompare, Integrity};
+ghost use Rattle.pay_world.specs.ActionLaws.{NoHistoryAtFirst, HistoryByOneMore, HistoriesGrow};
+ghost use Rattle.pay_world.specs.ActionLaws.{LegalHistoryByActions, NoActionIsGenuine};
+ghost use Rattle.pay_world.specs.ActionLaws.{GenuineByOneMore, PrefixIsGenuine, GenuineByPlace};
+ghost use Rattle.pay_world.specs.ActionLaws.{CorrectIsTold, ForgedIsTold, NoneForgedIsTold};
+ghost use Rattle.pay_world.specs.StandLaws.{StandsAtFirst, StandsByOneMore, StandsByAction};
+ghost use Rattle.pay_world.specs.StandLaws.{GenuineStands, Agreement, StandingListsCompare};
+ghost use Rattle.pay_world.specs.StandLaws.{Integrity};
 ghost use Rattle.pay_world.specs.StandLaws.{ListIsAsked, NothingIsTakenBack, Convergence};
 ghost use Rattle.pay_world.specs.StandLaws.{ListsConverge, AsksAreDelivered, ListIsAllAsked};
 ghost use Rattle.pay_world.specs.HeadlineLaws.{HeadlineHolds, BooksConverge};
@@ -69,33 +70,33 @@ fn laws_of_books()
     settled_entries_were_asked();
 }
 
-/// Each member's history is what it took of the deeds, one after the other: it grows at its end,
-/// by one event or none a deed.
-pub fn histories_by_deeds()
+/// Each member's history is what it took of the actions, one after the other: it grows at its end,
+/// by one event or none an action.
+pub fn histories_by_actions()
     ensures first { NoHistoryAtFirst }
     ensures one_more { HistoryByOneMore }
     ensures grow { HistoriesGrow }
 {}
 
-/// A history that a member can have is, queries left out, the one by its asks and frames as deeds
+/// A history that a member can have is, queries left out, the one by its asks and frames as actions
 /// at that member: each of them counts after those before it, whoever is faulty.
-pub fn legal_history_by_deeds()
-    ensures { LegalHistoryByDeeds }
+pub fn legal_history_by_actions()
+    ensures { LegalHistoryByActions }
 {
     events_in_order();
     legal_histories();
 }
 
-/// Deeds are genuine up to the first that isn't. It comes to the same to say it of each place in
+/// Actions are genuine up to the first that isn't. It comes to the same to say it of each place in
 /// their list.
-pub fn genuine_deeds()
-    ensures first { NoDeedIsGenuine }
+pub fn genuine_actions()
+    ensures first { NoActionIsGenuine }
     ensures one_more { GenuineByOneMore }
     ensures prefix { PrefixIsGenuine }
     ensures by_place { GenuineByPlace }
 {}
 
-/// The tests say which members are correct, which deed is genuine after those before it, and
+/// The tests say which members are correct, which action is genuine after those before it, and
 /// whether all are.
 pub fn forged_is_told()
     ensures correct { CorrectIsTold }
@@ -104,11 +105,11 @@ pub fn forged_is_told()
 {}
 
 /// Authenticity and the rule of READY hold between correct members at first, after one event
-/// more or one genuine deed more, and so after any genuine deeds.
+/// more or one genuine action more, and so after any genuine actions.
 pub fn correct_members_stand()
     ensures first { StandsAtFirst }
     ensures one_more { StandsByOneMore }
-    ensures deed { StandsByDeed }
+    ensures action { StandsByAction }
     ensures genuine { GenuineStands }
 {
     laws_below();
@@ -118,7 +119,7 @@ pub fn correct_members_stand()
 /// account. So of their lists of an account one is a prefix of the other.
 pub fn correct_members_agree()
     ensures values { Agreement }
-    ensures lists { ListsCompare }
+    ensures lists { StandingListsCompare }
 {
     laws_below();
 }
@@ -150,7 +151,7 @@ pub fn all_converge()
     laws_below();
 }
 
-/// The headline: take any deeds of which none is a forged frame, in a group with few faulty
+/// The headline: take any actions of which none is a forged frame, in a group with few faulty
 /// members. Then correct members never settle different payments of one account; what one settled
 /// stays settled, and of a correct owner it is what the owner was asked for. Each book is the
 /// largest front of its member's lists, where nobody owes and no money was made or lost, and
@@ -173,7 +174,7 @@ pub fn books_converge()
 /// The same of whole lists: no two correct members' lists of an account fork, nothing in them is
 /// invented or taken back, and where all was taken they are equal, and have all that correct
 /// owners were asked for.
-pub fn lists_by_deeds()
+pub fn lists_by_actions()
     ensures no_fork { NoListForks }
     ensures asked { ListWasAsked }
     ensures stays { ListStays }
@@ -186,7 +187,7 @@ pub fn lists_by_deeds()
 /// The same of values that are settled wholly, void ones too, whose entries are the first of the
 /// settled entries: of what two correct members settled of an account one is a prefix of the other,
 /// no value is taken back, and a correct owner was asked for them, in that order.
-pub fn settled_values_by_deeds()
+pub fn settled_values_by_actions()
     ensures entries { SettledValuesMakeBeginning }
     ensures agree { NoSettledValueForks }
     ensures for_good { SettledValuesStay }

@@ -1,7 +1,8 @@
 //! What holds of the faults of a list of liars. The function does nothing: its contract is the law.
 
 ghost use Rattle.std.specs.Prelude.{◌≡◌, ◌<◌, ◌↔◌, length};
-ghost use Rattle.pay_world.specs.Liars.{LiarFields, AreMembers, AreDistinct, AreLiars, liar_fault};
+ghost use Rattle.pay_world.specs.Liars.{LiarFields, AreMembers, LiarsAreDistinct, AreLiars};
+ghost use Rattle.pay_world.specs.Liars.{liar_fault};
 
 use crate::liar_fault::LiarFault;
 
@@ -12,7 +13,7 @@ pub fn liar_causes()
     ensures unknown { (l : LiarFields) → (liar_fault l ≡ Some LiarFault.Unknown)
         ↔ ¬ (AreMembers l) }
     ensures twice { (l : LiarFields) → (liar_fault l ≡ Some LiarFault.Twice)
-        ↔ (AreMembers l × ¬ (AreDistinct l)) }
+        ↔ (AreMembers l × ¬ (LiarsAreDistinct l)) }
     ensures too_many { (l : LiarFields) → (liar_fault l ≡ Some LiarFault.TooMany)
-        ↔ (AreMembers l × AreDistinct l × (l.faults < length l.liars)) }
+        ↔ (AreMembers l × LiarsAreDistinct l × (l.faults < length l.liars)) }
 {}

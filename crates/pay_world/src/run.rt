@@ -2,11 +2,11 @@ ghost use Rattle.std.specs.Prelude.{◌≡◌, ℕ, IfOk};
 ghost use Rattle.pay_world.specs.Liars.{AreLiarsOf, setting_of};
 ghost use Rattle.pay_world.specs.Headline.{Headline};
 ghost use Rattle.pay_world.specs.World.{AreKeysOf};
-ghost use Rattle.pay_world.specs.Run.{IsFirstForged, IsWorldAfter, deeds_by};
+ghost use Rattle.pay_world.specs.Run.{IsFirstForged, IsWorldAfter, actions_by};
 
 use crate::event::WorldEvent;
 use crate::fault::WorldFault;
-use crate::laws::{forged_is_told, genuine_deeds, headline, histories_by_deeds};
+use crate::laws::{forged_is_told, genuine_actions, headline, histories_by_actions};
 use crate::liars::Liars;
 use crate::world::World;
 use pay_book::Settle;
@@ -32,14 +32,14 @@ pub fn run_world<I: Instance + Drop, B: Settle + Drop, T: Tagger>(
     requires liars { AreLiarsOf genesis.now liars.now }
     ensures after { IfOk result (IsWorldAfter genesis.now keys.now liars.now events.items) }
     ensures headline { IfOk result (λ _. Headline (setting_of liars.now) genesis.now.opening
-        (deeds_by keys.now liars.now events.items)) }
+        (actions_by keys.now liars.now events.items)) }
     ensures forged { (k : ℕ) → result ≡ Err (WorldFault.Forged k)
         → IsFirstForged keys.now liars.now events.items k }
 {
     headline();
     sizes_of_sets();
-    histories_by_deeds();
-    genuine_deeds();
+    histories_by_actions();
+    genuine_actions();
     forged_is_told();
     let mut world = World::new(alloc, genesis, keys, liars)?;
     for event in events {

@@ -4,7 +4,9 @@
 ghost use Rattle.pay_world.specs.RunLaws.{AnsweredIsUnforged, HistoryIsLegal, LegalHistoryByEvents};
 ghost use Rattle.pay_world.specs.RunLaws.{NoEventsMakeFresh, SaidIsForged, WorldByOneMore};
 
-use crate::laws::{forged_is_told, genuine_deeds, histories_by_deeds, legal_history_by_deeds};
+use crate::laws::{
+    forged_is_told, genuine_actions, histories_by_actions, legal_history_by_actions,
+};
 use pay_member::laws::{events_in_order, legal_histories, what_is_brought, what_opens};
 
 /// A new world is that of a group after no events, and a world that answered one event more is that
@@ -13,8 +15,8 @@ pub fn world_by_events()
     ensures first { NoEventsMakeFresh }
     ensures one_more { WorldByOneMore }
 {
-    histories_by_deeds();
-    genuine_deeds();
+    histories_by_actions();
+    genuine_actions();
     forged_is_told();
 }
 
@@ -28,7 +30,7 @@ pub fn legal_history_by_events()
     legal_histories();
     what_opens();
     what_is_brought();
-    legal_history_by_deeds();
+    legal_history_by_actions();
 }
 
 /// An event that a world answers isn't forged, and one that it says to be forged is, under the

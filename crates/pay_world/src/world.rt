@@ -12,11 +12,11 @@ ghost use Rattle.pay_link.specs.Keys.{IsKeysOf, IsPeer, key_for};
 ghost use Rattle.pay_member.specs.Group.{group_in};
 ghost use Rattle.pay_member.specs.Events.{events};
 ghost use Rattle.pay_member.specs.Member.{MemberFields};
-ghost use Rattle.pay_world.specs.Genuine.{is_body};
+ghost use Rattle.pay_world.specs.Genuine.{is_same_body};
 ghost use Rattle.pay_world.specs.Liars.{AreLiarsOf};
 ghost use Rattle.pay_world.specs.World.{AreKeysOf, IsWorld, fresh_place};
 ghost use Rattle.pay_world.specs.World.{fresh_world, history_in, member_in};
-ghost use Rattle.pay_world.specs.Answer.{Answers, IsGrownBy, IsReplyFrom, IsTakenBy, forgery};
+ghost use Rattle.pay_world.specs.Answer.{AnswersEvent, IsGrownBy, IsReplyFrom, IsTakenBy, forgery};
 ghost use Rattle.pay_world.specs.Answer.{is_forged_at, is_unsent, member_after, one_more, receiver};
 ghost use Rattle.pay_world.specs.Passing.{MayPass, frame_of, passing};
 
@@ -33,7 +33,7 @@ use pay_frame::{Body, Bytes, FrameRef, one_answer, read_one};
 use pay_hmac::Tagger;
 use pay_hmac::laws::tag_length;
 use pay_link::laws::sealed_opens;
-use pay_link::{Checked, Genesis, Keys, sealed, turn};
+use pay_link::{Checked, Genesis, Keys, seal_checked, turn};
 use pay_member::laws::{events_in_order, what_is_brought, what_opens};
 use pay_member::{AskFault, Member, Outcome};
 use std::alloc::{AllocError, Global};
@@ -115,7 +115,7 @@ impl<I: Instance + Drop, B: Settle + Drop> World<I, B> {
             (λ fault. result ≡ Err fault) }
         ensures memory { result ≡ Err WorldFault.Memory
             → IsTakenBy event (member_in self.old (receiver event)) }
-        ensures answers { IfOk result (Answers self.old self.new event) }
+        ensures answers { IfOk result (AnswersEvent self.old self.new event) }
         ensures count { OnOk result (self.new.answered ≡ one_more self.old.answered) }
         ensures prefix { (i : ℕ) → IsPrefix (history_in self.old i) (history_in self.new i) }
         ensures err { OnErr result (self.new ≡ self.old) }
@@ -137,7 +137,7 @@ impl<I: Instance + Drop, B: Settle + Drop> World<I, B> {
             (λ fault. result ≡ Err fault) }
         ensures memory { result ≡ Err WorldFault.Memory
             → IsTakenBy event (member_in self.old (receiver event)) }
-        ensures answers { IfOk result (Answers self.old self.new event) }
+        ensures answers { IfOk result (AnswersEvent self.old self.new event) }
         ensures count { self.new.answered ≡ self.old.answered }
         ensures err { OnErr result (self.new ≡ self.old) }
     {
@@ -156,7 +156,8 @@ impl<I: Instance + Drop, B: Settle + Drop> World<I, B> {
             (λ fault. result ≡ Err fault) }
         ensures memory { result ≡ Err WorldFault.Memory
             → IsTakenBy (WorldEvent.Ask member value) (member_in self.old member) }
-        ensures answers { IfOk result (Answers self.old self.new (WorldEvent.Ask member value)) }
+        ensures answers { IfOk result
+            (AnswersEvent self.old self.new (WorldEvent.Ask member value)) }
         ensures count { self.new.answered ≡ self.old.answered }
         ensures err { OnErr result (self.new ≡ self.old) }
     {
@@ -184,7 +185,7 @@ impl<I: Instance + Drop, B: Settle + Drop> World<I, B> {
         ensures memory { result ≡ Err WorldFault.Memory
             → IsTakenBy (WorldEvent.Bring member bytes.now) (member_in self.old member) }
         ensures answers { IfOk result
-            (Answers self.old self.new (WorldEvent.Bring member bytes.now)) }
+            (AnswersEvent self.old self.new (WorldEvent.Bring member bytes.now)) }
         ensures count { self.new.answered ≡ self.old.answered }
         ensures err { OnErr result (self.new ≡ self.old) }
     {
@@ -203,7 +204,7 @@ impl<I: Instance + Drop, B: Settle + Drop> World<I, B> {
     }
 
     // Whether bytes are a frame that opens at a correct member, in the name of a correct member
-    // that didn't send it under this number. What was sent is looked at first: it takes no tag.
+    // that didn't send it under this number. What was sent is tested first, which takes no tag.
     fn is_forged<T: Tagger>(&self, tagger: &T, member: u16, bytes: &[u8]) -> bool
         ensures { result ≡ is_forged_at self.now (WorldEvent.Bring member bytes.now) }
     {
@@ -268,7 +269,7 @@ impl<I: Instance + Drop, B: Settle + Drop> World<I, B> {
         ensures memory { result ≡ Err WorldFault.Memory
             → IsTakenBy (passing self.old from to number) (member_in self.old to) }
         ensures answers { IfOk result
-            (Answers self.old self.new (passing self.old from to number)) }
+            (AnswersEvent self.old self.new (passing self.old from to number)) }
         ensures count { OnOk result (self.new.answered ≡ one_more self.old.answered) }
         ensures prefix { (i : ℕ) → IsPrefix (history_in self.old i) (history_in self.new i) }
         ensures err { OnErr result (self.new ≡ self.old) }
@@ -294,7 +295,7 @@ impl<I: Instance + Drop, B: Settle + Drop> World<I, B> {
         ensures memory { result ≡ Err WorldFault.Memory
             → IsTakenBy (passing self.old from to number) (member_in self.old to) }
         ensures answers { IfOk result
-            (Answers self.old self.new (passing self.old from to number)) }
+            (AnswersEvent self.old self.new (passing self.old from to number)) }
         ensures count { self.new.answered ≡ self.old.answered }
         ensures err { OnErr result (self.new ≡ self.old) }
     {
@@ -305,7 +306,7 @@ impl<I: Instance + Drop, B: Settle + Drop> World<I, B> {
         if let Some(reply) = self.out_of_turn(from, to, number) {
             return Ok(reply);
         }
-        let checked = self.sealed(alloc, tagger, from, to, number)?;
+        let checked = self.seal_sent(alloc, tagger, from, to, number)?;
         pass_place(&mut self.members[usize::from(to)], alloc, checked)
     }
 
@@ -315,7 +316,7 @@ impl<I: Instance + Drop, B: Settle + Drop> World<I, B> {
         requires { MayPass self.now from to number }
         ensures unforged { is_forged_at self.now (passing self.now from to number) ≡ false }
         ensures answers { IfSome result
-            (Answers self.now self.now (passing self.now from to number)) }
+            (AnswersEvent self.now self.now (passing self.now from to number)) }
         ensures taken { IfNone result
             (IsTakenBy (passing self.now from to number) (member_in self.now to)) }
     {
@@ -336,7 +337,7 @@ impl<I: Instance + Drop, B: Settle + Drop> World<I, B> {
     }
 
     // The frame at a place of all that a correct member sent, sealed for another.
-    fn sealed<T: Tagger>(
+    fn seal_sent<T: Tagger>(
         &self,
         alloc: Global,
         tagger: &T,
@@ -354,7 +355,7 @@ impl<I: Instance + Drop, B: Settle + Drop> World<I, B> {
         forged_is_told();
         let giver = self.member(from).unwrap();
         let body = giver.sent(number).unwrap();
-        let checked = sealed(alloc, tagger, giver.keys(), to, number, body)?;
+        let checked = seal_checked(alloc, tagger, giver.keys(), to, number, body)?;
         Ok(checked)
     }
 
@@ -459,7 +460,7 @@ fn is_sent<I: Instance + Drop, B: Settle + Drop>(
     sender: &Member<I, B>,
     frame: &FrameRef<'_>,
 ) -> bool
-    ensures { result ≡ is_body (fields_of frame.now).body
+    ensures { result ≡ is_same_body (fields_of frame.now).body
         (slice_get
         (out (group_in sender.now.genesis sender.now.keys.own) (events sender.now.history))
         (fields_of frame.now).number) }
@@ -471,7 +472,7 @@ fn is_sent<I: Instance + Drop, B: Settle + Drop>(
 }
 
 fn is_body(body: &Body, frame: &FrameRef<'_>) -> bool
-    ensures { result ≡ is_body (fields_of frame.now).body (Some body.now) }
+    ensures { result ≡ is_same_body (fields_of frame.now).body (Some body.now) }
 {
     body.kind() == frame.kind()
         && body.owner() == frame.owner()

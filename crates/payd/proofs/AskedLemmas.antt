@@ -6,14 +6,14 @@ use Rattle.clap.specs.Words.{AddsArg, AddsSubcommand, App, Row, Rule, Text, is_s
 use Rattle.clap.specs.declared.builder.Arg.{Arg}
 use Rattle.clap.specs.declared.builder.Command.{Command}
 use Rattle.clap.proofs.OnLiterals.{clap_on_literals}
-use Rattle.payd.specs.Job.{IsArgument, IsCommand, asked_in, asked_of, check, payd_app}
+use Rattle.payd.specs.Job.{IsArgument, IsCommand, job_of_command, asked_of, check, payd_app}
 
-pub asked-some : {A : Type 0} (name_of : A → Text) (rows_in : A → List Row) (met : Option A) (name : Text) (rows : List Row)
+pub view_of_job-some : {A : Type 0} (name_of : A → Text) (rows_in : A → List Row) (met : Option A) (name : Text) (rows : List Row)
     → Some name ≡ option_map name_of met
     → Some rows ≡ option_map (λ (p : Text × List Row). p.1) (option_map (λ a. (name_of a, rows_in a)) met)
-    → asked_of name rows ≡ asked_in (option_map (λ a. (name_of a, rows_in a)) met)
-asked-some name_of rows_in None name rows h k = absurd cc
-asked-some name_of rows_in (Some a) name rows h k =
+    → asked_of name rows ≡ job_of_command (option_map (λ a. (name_of a, rows_in a)) met)
+view_of_job-some name_of rows_in None name rows h k = absurd cc
+view_of_job-some name_of rows_in (Some a) name rows h k =
     let same_name : name ≡ name_of a = cc in
     let same_rows : rows ≡ rows_in a = cc in
     ap₂ asked_of same_name same_rows
@@ -33,9 +33,9 @@ pub text_or : (lent : Option (Bor Text)) (other : Bor Text)
 text_or None other = refl
 text_or (Some s) other = refl
 
-pub asked-none : (met : Option (Text × List Row)) → None ≡ option_map (λ p. p.1) met → check None None None ≡ asked_in met
-asked-none None h = refl
-asked-none (Some p) h = absurd cc
+pub view_of_job-none : (met : Option (Text × List Row)) → None ≡ option_map (λ p. p.1) met → check None None None ≡ job_of_command met
+view_of_job-none None h = refl
+view_of_job-none (Some p) h = absurd cc
 
 pub simple : is_simple payd_app ≡ true
 unfolding clap_on_literals

@@ -2,7 +2,7 @@
 use Rattle.std.proofs.Common.{◌≡◌, ◌+◌, ◌<◌, ℕ, Bor, List, [], ◌∷◌, ◌++◌, drop, get_or, length, map, refl, sym, ap, subst, append_assoc, append-nil, arith}
 use Rattle.std.proofs.lemmas.List.{drop_more}
 use Rattle.std.specs.List.{AllZip}
-use Rattle.pay_audit.specs.Auditor.{HasTaken}
+use Rattle.pay_audit.specs.Auditor.{HasTakenExports}
 use Rattle.pay_audit.specs.Export.{ExportFields}
 use Rattle.pay_audit.specs.declared.auditor.Auditor.{Auditor}
 use Rattle.payd.specs.Files.{IsExportOf, IsExportStop, IsExportsStop}
@@ -77,5 +77,5 @@ at_end holds names left exports none r =
 pub record IsAuditing (holds : List ℕ → List ℕ → Type 0) (names left : List (List ℕ)) (count : ℕ) (auditor : Auditor) : Type 0 where
   pub exports : List ExportFields
   pub reading : IsReading holds names left exports
-  pub taken : HasTaken exports auditor
+  pub taken : HasTakenExports exports auditor
   pub each : length exports ≡ count

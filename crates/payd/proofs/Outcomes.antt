@@ -2,12 +2,12 @@
 use Rattle.std.proofs.Common.{◌≡◌, ℕ, suc, ◌+◌, ◌<◌, Bor, List, [], ◌∷◌, ◌++◌, Result, Ok, Err, length, length-append, map, get_or, refl, sym, ap, subst, ◌∙◌, append_assoc, append-nil, inl, arith}
 use Rattle.std.proofs.lemmas.List.{length-map, map-append}
 use Rattle.std.specs.List.{AllZip}
-use Rattle.pay_audit.specs.Auditor.{HasTaken, taken_by}
+use Rattle.pay_audit.specs.Auditor.{HasTakenExports, taken_by}
 use Rattle.pay_audit.specs.Export.{ExportFields}
 use Rattle.pay_audit.specs.declared.auditor.Auditor.{Auditor}
 use Rattle.pay_engine.specs.declared.engine_fault.EngineFault.TheVariants.{Memory}
 use Rattle.payd.specs.Files.{IsExportOf, IsExportStop, IsExportsStop}
-use Rattle.payd.specs.Outcomes.{AreOutcomes, IsFirstStop, IsOutcome, IsStopOf, Takes, TakesAll, TakesExports}
+use Rattle.payd.specs.Outcomes.{AreOutcomes, IsFirstStop, IsFileOutcome, IsStopOf, AuditorTakes, TakesOutcomes, TakesExports}
 use Rattle.payd.specs.declared.stop.Stop.{Stop}
 use Rattle.payd.specs.declared.stop.Stop.TheVariants.{Engine}
 use Rattle.payd.proofs.Exports.{IsReading, at_end, at_once, later, texts}
@@ -21,7 +21,7 @@ module _ (holds : List ℕ → List ℕ → Type 0) where
   exports_of (name ∷ names) [] h = absurd h
   exports_of (name ∷ names) (e ∷ es) h = (h.0, exports_of names es h.1)
 
-  stop_of : (name : List ℕ) (outcome : Result ExportFields Stop) (stop : Stop) → IsOutcome holds name outcome → IsStopOf outcome stop → IsExportStop holds name stop
+  stop_of : (name : List ℕ) (outcome : Result ExportFields Stop) (stop : Stop) → IsFileOutcome holds name outcome → IsStopOf outcome stop → IsExportStop holds name stop
   stop_of name (Ok e) stop h is = subst (IsExportStop holds name) (sym is) (inl refl)
   stop_of name (Err own) stop h is = subst (IsExportStop holds name) (sym is) h
 
@@ -32,7 +32,7 @@ module _ (holds : List ℕ → List ℕ → Type 0) where
   stop_among (name ∷ names) [] outcome others stop h is = at_once holds name names stop (stop_of name outcome stop h.0 is)
   stop_among (name ∷ names) (e ∷ es) outcome others stop h is = later holds name names stop e h.0 (stop_among names es outcome others stop h.1 is)
 
-  pub all_taken : (names : List (List ℕ)) (outcomes : List (Result ExportFields Stop)) (before after : Auditor) → AreOutcomes holds names outcomes → TakesAll outcomes before after → TakesExports holds names before after
+  pub all_taken : (names : List (List ℕ)) (outcomes : List (Result ExportFields Stop)) (before after : Auditor) → AreOutcomes holds names outcomes → TakesOutcomes outcomes before after → TakesExports holds names before after
   all_taken names outcomes before after are t = record {
     exports = t.exports;
     read = exports_of names t.exports (subst (AreOutcomes holds names) t.are are);
@@ -53,7 +53,7 @@ long_texts names = length-map names (λ (name : Bor (List ℕ)). name.now)
 
 -- outcomes that are known place by place
 pub zipped : (holds : List ℕ → List ℕ → Type 0) (names : List (Bor (List ℕ))) (outcomes : List (Result ExportFields Stop)) → length outcomes ≡ length names
-    → ((i : ℕ) (n : Bor (List ℕ)) (o : Result ExportFields Stop) → i < length names → IsOutcome holds (get_or names i n).now (get_or outcomes i o)) → AreOutcomes holds (texts names) outcomes
+    → ((i : ℕ) (n : Bor (List ℕ)) (o : Result ExportFields Stop) → i < length names → IsFileOutcome holds (get_or names i n).now (get_or outcomes i o)) → AreOutcomes holds (texts names) outcomes
 zipped holds [] [] long each = tt
 zipped holds [] (o ∷ os) long each = absurd (omega arith)
 zipped holds (n ∷ ns) [] long each = absurd (omega arith)
@@ -64,14 +64,14 @@ zipped holds (n ∷ ns) (o ∷ os) long each = (each 0 n o (omega arith), zipped
 pub record IsTaking (outcomes left : List (Result ExportFields Stop)) (before after : Auditor) : Type 0 where
   pub exports : List ExportFields
   pub parts : outcomes ≡ map Ok exports ++ left
-  pub taken : Takes exports before after
+  pub taken : AuditorTakes exports before after
   pub count : taken_by after ≡ taken_by before + length exports
 
 pub at_first : (outcomes left : List (Result ExportFields Stop)) (auditor : Auditor) → left ≡ outcomes → IsTaking outcomes left auditor auditor
 at_first outcomes left auditor all = record {
   exports = [];
   parts = sym all;
-  taken = λ es h. subst (λ xs. HasTaken xs auditor) (sym (append-nil es)) h;
+  taken = λ es h. subst (λ xs. HasTakenExports xs auditor) (sym (append-nil es)) h;
   count = omega arith;
 }
 
@@ -90,15 +90,15 @@ module _ (outcomes left : List (Result ExportFields Stop)) (before after : Audit
   }
 
   pub one_taken : (e : ExportFields) (others : List (Result ExportFields Stop)) (now : Auditor) → left ≡ Ok e ∷ others
-      → ((es : List ExportFields) → HasTaken es after → HasTaken (es ++ e ∷ []) now) → taken_by now ≡ taken_by after + 1 → IsTaking outcomes others before now
+      → ((es : List ExportFields) → HasTakenExports es after → HasTakenExports (es ++ e ∷ []) now) → taken_by now ≡ taken_by after + 1 → IsTaking outcomes others before now
   one_taken e others now cut takes more = record {
     exports = t.exports ++ e ∷ [];
     parts = t.parts ∙ ap (λ os. map Ok t.exports ++ os) cut ∙ map_more t.exports e others;
-    taken = λ es h. subst (λ xs. HasTaken xs now) (append_assoc es t.exports (e ∷ [])) (takes (es ++ t.exports) (t.taken es h));
+    taken = λ es h. subst (λ xs. HasTakenExports xs now) (append_assoc es t.exports (e ∷ [])) (takes (es ++ t.exports) (t.taken es h));
     count = let c = t.count in let l = length-append t.exports (e ∷ []) in omega arith;
   }
 
-  pub taken_all : left ≡ [] → TakesAll outcomes before after
+  pub taken_all : left ≡ [] → TakesOutcomes outcomes before after
   taken_all none = record {
     exports = t.exports;
     are = t.parts ∙ ap (λ os. map Ok t.exports ++ os) none ∙ append-nil (map Ok t.exports);
@@ -110,7 +110,7 @@ module _ (outcomes left : List (Result ExportFields Stop)) (before after : Audit
 pub record IsSharing (holds : List ℕ → List ℕ → Type 0) (names left : List (List ℕ)) (auditor : Auditor) : Type 0 where
   pub exports : List ExportFields
   pub reading : IsReading holds names left exports
-  pub taken : HasTaken exports auditor
+  pub taken : HasTakenExports exports auditor
   pub each : length exports + length left ≡ length names
 
 module _ (holds : List ℕ → List ℕ → Type 0) where

@@ -13,7 +13,8 @@ IsDateSaid (Some word) date = IsDateWord word date
 
 -- why there is no date: the word is none, the clock says none, or memory was refused
 abbrev pub IsDateStop : Option (List ℕ) → Stop → Type 0
-IsDateStop word (stop.Date named) = (word ≡ Some named.now) × ((date : Date) → ¬ (IsDateWord named.now date))
+IsDateStop word (stop.Date named) =
+    (word ≡ Some named.now) × ((date : Date) → ¬ (IsDateWord named.now date))
 IsDateStop word stop.Clock = word ≡ None
 IsDateStop word (stop.Engine fault) = fault ≡ engine.Memory
 IsDateStop word _ = ⊥

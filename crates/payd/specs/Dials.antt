@@ -1,19 +1,22 @@
 -- How often a node dials its peers, as a word says it.
-use Rattle.std.specs.Prelude.{◌≡◌, ℕ, ◌==◌, List, Option, Some, None, codes, option_and_then, if◌then◌else◌}
+use Rattle.std.specs.Prelude.{◌≡◌, ℕ, ◌==◌, List, Option, Some, None, codes, option_and_then}
+use Rattle.std.specs.Prelude.{if◌then◌else◌}
 use Rattle.std.specs.Str.{bytes_eq}
-use Rattle.pay_peers.specs.declared.patience.Dials.{Dials}
-use Rattle.pay_peers.specs.declared.patience.Dials.TheVariants.{Usual, Counted, Always}
+use Rattle.pay_peers.specs.declared.backoff.Dials.{Dials}
+use Rattle.pay_peers.specs.declared.backoff.Dials.TheVariants.{Usual, Counted, Always}
 use Rattle.pay_text.specs.Numbers.{number_of}
 use Rattle.payd.specs.declared.stop.Stop.{Stop}
 use Rattle.payd.specs.declared.stop.Stop.TheVariants as stop
 
 -- so many, and at least one
-abbrev pub counted : ℕ → Option Dials
-counted count = if count == 0 then None else Some (Counted count)
+abbrev pub dials_of_count : ℕ → Option Dials
+dials_of_count count = if count == 0 then None else Some (Counted count)
 
 -- what a word asks for: dials without end, or a count of them; nothing where it is neither
 abbrev pub dials_by : List ℕ → Option Dials
-dials_by word = if bytes_eq word (codes "always") then Some Always else option_and_then counted (number_of word)
+dials_by word =
+    if bytes_eq word (codes "always") then Some Always
+    else option_and_then dials_of_count (number_of word)
 
 -- without a word the usual ones
 abbrev pub dials_in : Option (List ℕ) → Option Dials

@@ -1,5 +1,7 @@
--- What is read of the files that words name. `holds name bytes` says that a name's file may hold these bytes.
-use Rattle.std.specs.Prelude.{◌≡◌, ℕ, ◌⊎◌, nat_lt, List, [], ◌∷◌, ◌++◌, Option, Some, None, Result, Ok, Err, if◌then◌else◌}
+-- What is read of the files that words name. `holds name bytes` says that a name's file may hold
+-- these bytes.
+use Rattle.std.specs.Prelude.{◌≡◌, ℕ, ◌⊎◌, nat_lt, List, [], ◌∷◌, ◌++◌, Option, Some, None, Result}
+use Rattle.std.specs.Prelude.{Ok, Err, if◌then◌else◌}
 use Rattle.std.specs.Borrow.{Bor}
 use Rattle.std.specs.List.{AllZip}
 use Rattle.pay_audit.specs.Export.{ExportFields, export_in}
@@ -7,7 +9,7 @@ use Rattle.pay_audit.specs.Verdict.{verdict_of}
 use Rattle.pay_audit.specs.declared.export_fault.ExportFault.TheVariants as export
 use Rattle.pay_audit.specs.declared.verdict.Verdict.{Verdict}
 use Rattle.pay_engine.specs.declared.engine_fault.EngineFault.TheVariants as engine
-use Rattle.pay_link.specs.Files.{genesis_in, keys_in}
+use Rattle.pay_link.specs.Files.{genesis_in, keys_in_file}
 use Rattle.pay_link.specs.Genesis.{GenesisFields}
 use Rattle.pay_link.specs.Keys.{KeyFields}
 use Rattle.pay_link.specs.TestKeys.{test_keys_of}
@@ -19,8 +21,10 @@ use Rattle.payd.specs.declared.stop.Stop.{Stop}
 use Rattle.payd.specs.declared.stop.Stop.TheVariants.{Engine, Genesis, Keys, Ports, Export, File}
 
 -- bytes that the file may hold are judged so
-abbrev pub IsJudged : {X : Type 0} → (List ℕ → List ℕ → Type 0) → List ℕ → (List ℕ → X) → X → Type 0
-IsJudged holds name judge verdict = (bytes : List ℕ) × holds name bytes × (judge bytes ≡ verdict)
+abbrev pub IsFileJudged :
+    {X : Type 0} → (List ℕ → List ℕ → Type 0) → List ℕ → (List ℕ → X) → X → Type 0
+IsFileJudged holds name judge verdict =
+    (bytes : List ℕ) × holds name bytes × (judge bytes ≡ verdict)
 
 -- why the bytes of a file can't be had: it can't be read, or memory was refused
 abbrev pub IsUnread : List ℕ → Stop → Type 0
@@ -30,13 +34,17 @@ IsUnread name _ = ⊥
 
 -- a fault is said of the file of this name
 abbrev pub IsSaidOf : {E : Type 0} → List ℕ → (E → Bor (List ℕ) → Stop) → E → Stop → Type 0
-IsSaidOf name said fault stop = (named : Bor (List ℕ)) × (named.now ≡ name) × (stop ≡ said fault named)
+IsSaidOf name said fault stop =
+    (named : Bor (List ℕ)) × (named.now ≡ name) × (stop ≡ said fault named)
 
--- why a file isn't what it should be: its bytes can't be had, memory was refused, or they have this fault
-abbrev pub IsStop : {X E : Type 0} → (List ℕ → List ℕ → Type 0) → List ℕ → (List ℕ → Result X E) → (E → Bor (List ℕ) → Stop) → E → Stop → Type 0
+-- why a file isn't what it should be: its bytes can't be had, memory was refused, or they have this
+-- fault
+abbrev pub IsStop :
+    {X E : Type 0} → (List ℕ → List ℕ → Type 0) → List ℕ → (List ℕ → Result X E)
+    → (E → Bor (List ℕ) → Stop) → E → Stop → Type 0
 IsStop {X} {E} holds name judge said memory stop =
     IsUnread name stop ⊎ IsSaidOf name said memory stop
-    ⊎ ((fault : E) × IsSaidOf name said fault stop × IsJudged holds name judge (Err fault))
+    ⊎ ((fault : E) × IsSaidOf name said fault stop × IsFileJudged holds name judge (Err fault))
 
 -- ---- a genesis
 
@@ -46,7 +54,7 @@ own_genesis = record { members = 4; faults = 1; opening = 100 ∷ 0 ∷ 0 ∷ 50
 
 abbrev pub IsGenesisOf : (List ℕ → List ℕ → Type 0) → Option (List ℕ) → GenesisFields → Type 0
 IsGenesisOf holds None g = g ≡ own_genesis
-IsGenesisOf holds (Some name) g = IsJudged holds name genesis_in (Ok g)
+IsGenesisOf holds (Some name) g = IsFileJudged holds name genesis_in (Ok g)
 
 abbrev pub IsGenesisStop : (List ℕ → List ℕ → Type 0) → Option (List ℕ) → Stop → Type 0
 IsGenesisStop holds None stop = stop ≡ Engine engine.Memory
@@ -60,32 +68,36 @@ own_member members = if nat_lt 1 members then 1 else 0
 
 abbrev pub AreKeysIn : (List ℕ → List ℕ → Type 0) → ℕ → Option (List ℕ) → KeyFields → Type 0
 AreKeysIn holds members None k = k ≡ test_keys_of members (own_member members)
-AreKeysIn holds members (Some name) k = IsJudged holds name (keys_in members) (Ok k)
+AreKeysIn holds members (Some name) k = IsFileJudged holds name (keys_in_file members) (Ok k)
 
 abbrev pub IsKeysStop : (List ℕ → List ℕ → Type 0) → ℕ → Option (List ℕ) → Stop → Type 0
 IsKeysStop holds members None stop = stop ≡ Engine engine.Memory
-IsKeysStop holds members (Some name) stop = IsStop holds name (keys_in members) Keys keys.Memory stop
+IsKeysStop holds members (Some name) stop =
+    IsStop holds name (keys_in_file members) Keys keys.Memory stop
 
 -- ---- ports, for a genesis of so many members
 
 abbrev pub ArePortsIn : (List ℕ → List ℕ → Type 0) → ℕ → List ℕ → List ℕ → Type 0
-ArePortsIn holds members name ports = (bytes : List ℕ) × holds name bytes × HasPorts members bytes ports
+ArePortsIn holds members name ports =
+    (bytes : List ℕ) × holds name bytes × HasPorts members bytes ports
 
 abbrev pub IsPortsStop : (List ℕ → List ℕ → Type 0) → ℕ → List ℕ → Stop → Type 0
 IsPortsStop holds members name stop =
     IsUnread name stop
-    ⊎ ((fault : PortsFault) × IsSaidOf name Ports fault stop × (bytes : List ℕ) × holds name bytes × IsPortsFault members bytes fault)
+    ⊎ ((fault : PortsFault) × IsSaidOf name Ports fault stop × (bytes : List ℕ) × holds name bytes
+    × IsPortsFault members bytes fault)
 
 -- ---- exports
 
 abbrev pub IsExportOf : (List ℕ → List ℕ → Type 0) → List ℕ → ExportFields → Type 0
-IsExportOf holds name e = IsJudged holds name export_in (Ok e)
+IsExportOf holds name e = IsFileJudged holds name export_in (Ok e)
 
 abbrev pub IsExportStop : (List ℕ → List ℕ → Type 0) → List ℕ → Stop → Type 0
 IsExportStop holds name stop = IsStop holds name export_in Export export.Memory stop
 
 -- Exports of the first names are read, and the file behind them isn't one.
-pub record IsExportsStop (holds : List ℕ → List ℕ → Type 0) (names : List (List ℕ)) (stop : Stop) : Type 0 where
+pub record IsExportsStop (holds : List ℕ → List ℕ → Type 0) (names : List (List ℕ)) (stop : Stop)
+    : Type 0 where
   pub first : List (List ℕ)
   pub name : List ℕ
   pub others : List (List ℕ)
@@ -95,7 +107,8 @@ pub record IsExportsStop (holds : List ℕ → List ℕ → Type 0) (names : Lis
   pub stopped : IsExportStop holds name stop
 
 -- Each file is read as an export, and this is the verdict on these.
-pub record IsVerdictOn (holds : List ℕ → List ℕ → Type 0) (names : List (List ℕ)) (verdict : Verdict) : Type 0 where
+pub record IsVerdictOn (holds : List ℕ → List ℕ → Type 0) (names : List (List ℕ))
+    (verdict : Verdict) : Type 0 where
   pub exports : List ExportFields
   pub read : AllZip (IsExportOf holds) names exports
   pub is : verdict ≡ verdict_of exports

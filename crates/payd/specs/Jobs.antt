@@ -1,17 +1,18 @@
 -- How many threads share the work, as a word says it.
-use Rattle.std.specs.Prelude.{◌≡◌, ℕ, ◌&&◌, nat_le, nat_lt, List, Option, Some, None, option_and_then, if◌then◌else◌}
+use Rattle.std.specs.Prelude.{◌≡◌, ℕ, ◌&&◌, nat_le, nat_lt, List, Option, Some, None}
+use Rattle.std.specs.Prelude.{option_and_then, if◌then◌else◌}
 use Rattle.pay_text.specs.Numbers.{number_of}
 use Rattle.payd.specs.declared.jobs.TheConstants.{MOST_JOBS}
 use Rattle.payd.specs.declared.stop.Stop.{Stop}
 use Rattle.payd.specs.declared.stop.Stop.TheVariants as stop
 
 -- so many, at least one and at most the greatest count
-abbrev pub within : ℕ → Option ℕ
-within count = if nat_lt 0 count && nat_le count MOST_JOBS then Some count else None
+abbrev pub jobs_within : ℕ → Option ℕ
+jobs_within count = if nat_lt 0 count && nat_le count MOST_JOBS then Some count else None
 
 -- what a word says; nothing where it is no such count
 abbrev pub jobs_by : List ℕ → Option ℕ
-jobs_by word = option_and_then within (number_of word)
+jobs_by word = option_and_then jobs_within (number_of word)
 
 -- the program stops because a word says no such count
 abbrev pub IsJobsStop : Option (List ℕ) → Stop → Type 0

@@ -1,7 +1,8 @@
 -- The answers of a desk, as a client passes them on and counts them.
-use Rattle.std.specs.Prelude.{◌≡◌, ℕ, Bool, true, false, ◌||◌, if◌then◌else◌, List, [], ◌∷◌, ◌++◌, Option, Some, None, codes, nat_eq}
+use Rattle.std.specs.Prelude.{◌≡◌, ℕ, Bool, true, false, ◌||◌, if◌then◌else◌, List, [], ◌∷◌, ◌++◌}
+use Rattle.std.specs.Prelude.{Option, Some, None, codes, nat_eq}
 use Rattle.std.specs.List.{starts_with}
-use Rattle.pay_io.specs.Device.{counted}
+use Rattle.pay_io.specs.Device.{next_count}
 use Rattle.payd.specs.declared.sending.Relay.{Relay}
 
 -- a line by which a desk refuses one
@@ -17,11 +18,15 @@ is_last line =
 
 -- one more, if this is so
 abbrev pub counted_if : Bool → ℕ → ℕ
-counted_if b count = if b then counted count else count
+counted_if b count = if b then next_count count else count
 
 -- A line is passed on as it is and counted. One that is too long for a desk is the last.
 abbrev pub Relays : Relay → Option (List ℕ) → List ℕ → Bool → Relay → Type 0
 Relays old (Some line) text on new =
     (text ≡ line ++ 10 ∷ []) × (on ≡ true)
-    × (new ≡ record { answered = counted_if (is_last line) old.answered; refused = counted_if (is_refusal line) old.refused })
+    × (new ≡ record {
+      answered = counted_if (is_last line) old.answered;
+      refused = counted_if
+          (is_refusal line) old.refused;
+    })
 Relays old None text on new = (text ≡ []) × (on ≡ false) × (new ≡ old)

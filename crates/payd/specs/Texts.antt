@@ -1,5 +1,6 @@
 -- The texts about an export that words ask for.
-use Rattle.std.specs.Prelude.{◌≡◌, ◌⊎◌, ℕ, Bool, true, false, List, map, Option, Some, None, option_map}
+use Rattle.std.specs.Prelude.{◌≡◌, ◌⊎◌, ℕ, Bool, true, false, List, map, Option, Some, None}
+use Rattle.std.specs.Prelude.{option_map}
 use Rattle.std.specs.List.{AllZip}
 use Rattle.pay_audit.specs.Export.{ExportFields}
 use Rattle.pay_engine.specs.declared.engine_fault.EngineFault.TheVariants as engine
@@ -22,7 +23,8 @@ statement_said e (Some word) = option_map (statement_in e) (account_named e word
 
 -- why there is no statement: the word names no account, or memory was refused
 abbrev pub IsStatementStop : ExportFields → Option (List ℕ) → Stop → Type 0
-IsStatementStop e account (Account word) = (account ≡ Some word.now) × (statement_said e account ≡ None)
+IsStatementStop e account (Account word) =
+    (account ≡ Some word.now) × (statement_said e account ≡ None)
 IsStatementStop e account (Engine fault) = fault ≡ engine.Memory
 IsStatementStop e account _ = ⊥
 
@@ -34,20 +36,23 @@ form_by false true = Some AsExport
 form_by true true = None
 
 -- Each file is read as an export, and this text is said of these: it is a book's, or a fault's.
-pub record IsBookSaid (holds : List ℕ → List ℕ → Type 0) (names : List (List ℕ)) (form : BookForm) (is_book : Bool) (text : List ℕ) : Type 0 where
+pub record IsBookSaid (holds : List ℕ → List ℕ → Type 0) (names : List (List ℕ)) (form : BookForm)
+    (is_book : Bool) (text : List ℕ) : Type 0 where
   pub exports : List ExportFields
   pub read : AllZip (IsExportOf holds) names exports
   pub said : IsBookText exports form is_book text
 
 -- This is all that is wrong with these exports, each by the name at its place.
-pub record AreSaid (names : List (List ℕ)) (exports : List ExportFields) (text : List ℕ) : Type 0 where
+pub record AreSaid (names : List (List ℕ)) (exports : List ExportFields) (text : List ℕ)
+    : Type 0 where
   pub named : List Named
   pub by_name : map (λ n. n.name.now) named ≡ names
   pub of : map (λ n. n.export.now) named ≡ exports
   pub said : text ≡ findings_words named
 
 -- Each file is read as an export; this is the verdict on these, and all that is wrong with them.
-pub record AreFindings (holds : List ℕ → List ℕ → Type 0) (names : List (List ℕ)) (verdict : Verdict) (text : List ℕ) : Type 0 where
+pub record AreFindings (holds : List ℕ → List ℕ → Type 0) (names : List (List ℕ))
+    (verdict : Verdict) (text : List ℕ) : Type 0 where
   pub exports : List ExportFields
   pub read : AllZip (IsExportOf holds) names exports
   pub judged : verdict ≡ verdict_of exports

@@ -15,7 +15,7 @@ pub(crate) fn ahead_of<'a>(word: Option<&'a str>) -> Result<Ahead, Stop<'a>>
     ensures stop { IfErr result (IsAheadStop (option_map (λ word. word.now) word.entry)) }
 {
     match word {
-        None => Ok(Ahead::most()),
+        None => Ok(Ahead::usual()),
         Some(word) => read(word).ok_or(Stop::Ahead(word)),
     }
 }

@@ -3,7 +3,8 @@
 ghost use Rattle.std.specs.Prelude.{◌≡◌, ◌+◌, ◌<◌, ◌≤◌, IfErr, IfOk, length, map, slice_index_or};
 ghost use Rattle.pay_audit.specs.Auditor.{taken_by};
 ghost use Rattle.payd.specs.Files.{IsExportsStop, IsVerdictOn};
-ghost use Rattle.payd.specs.Outcomes.{AreOutcomes, IsFirstStop, IsOutcome, TakesAll, TakesExports};
+ghost use Rattle.payd.specs.Outcomes.{AreOutcomes, IsFirstStop, IsFileOutcome, TakesOutcomes};
+ghost use Rattle.payd.specs.Outcomes.{TakesExports};
 
 use crate::files::{NamedFiles, export_of, verdict_on};
 use crate::stop::Stop;
@@ -14,8 +15,9 @@ use std::thread::{Threads, map_indices};
 /// What comes of one file: its export, settled, or why there is none.
 type Outcome<'a> = Result<JudgedExport, Stop<'a>>;
 
-/// What is wrong with the exports in the files of these names, if anything is. So many of them are read and settled
-/// side by side, each in a thread of its own where one can be made, and are let go before the next are read.
+/// What is wrong with the exports in the files of these names, if anything is. So many of them are
+/// read and settled side by side, each in a thread of its own where one can be made, and are let go
+/// before the next are read.
 pub(crate) fn verdict_over<'a, R: Threads + Sync, F: NamedFiles + Sync>(
     rt: &R,
     jobs: usize,
@@ -73,7 +75,7 @@ fn outcomes_of<'a, R: Threads + Sync, F: NamedFiles + Sync>(
         names.len(),
         &|place: usize| -> Outcome
             requires { place < length names.now }
-            ensures { (name : _) → IsOutcome (F.holds files.entry.now)
+            ensures { (name : _) → IsFileOutcome (F.holds files.entry.now)
                 (slice_index_or names.entry.now place name).now result }
         { outcome_at(alloc, files, names, place) },
     )
@@ -87,7 +89,7 @@ fn outcome_at<'a, F: NamedFiles>(
     place: usize,
 ) -> Outcome<'a>
     requires { place < length names.now }
-    ensures { (name : _) → IsOutcome (F.holds files.now)
+    ensures { (name : _) → IsFileOutcome (F.holds files.now)
         (slice_index_or names.now place name).now result }
 {
     let export = export_of(alloc, files, names[place])?;
@@ -101,7 +103,7 @@ fn take_all<'a>(
     outcomes: Vec<Outcome<'a>>,
 ) -> Result<Auditor, Stop<'a>>
     requires room { taken_by auditor + length outcomes.items ≤ usize.MAX }
-    ensures taken { IfOk result (TakesAll outcomes.entry.items auditor) }
+    ensures taken { IfOk result (TakesOutcomes outcomes.entry.items auditor) }
     ensures stop { IfErr result (IsFirstStop outcomes.entry.items) }
 {
     for outcome in outcomes {

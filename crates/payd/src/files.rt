@@ -1,5 +1,5 @@
-//! The files that words name. Each is judged before the next is read, but for the exports of an audit with several
-//! jobs: of these `batches` reads and judges as many side by side.
+//! The files that words name. Each is judged before the next is read, but for the exports of an
+//! audit with several jobs: of these `batches` reads and judges as many side by side.
 
 ghost use Rattle.std.specs.Prelude.{◌≡◌, ◌+◌, ◌≤◌, ℕ, List, IfErr, IfOk, IfSome, map, take};
 ghost use Rattle.std.specs.List.{AllZip};
@@ -94,7 +94,8 @@ pub(crate) fn genesis_of<'a, F: NamedFiles>(
     }
 }
 
-/// The keys in the file of this name, or the test keys of member 1, or of 0 where there is no other.
+/// The keys in the file of this name, or the test keys of member 1, or of 0 where there is no
+/// other.
 pub(crate) fn keys_of<'a, F: NamedFiles>(
     alloc: Global,
     files: &F,
@@ -122,7 +123,8 @@ pub(crate) fn keys_of<'a, F: NamedFiles>(
     }
 }
 
-/// What is wrong with the exports in the files of these names, if anything is. Each is let go before the next is read.
+/// What is wrong with the exports in the files of these names, if anything is. Each is let go
+/// before the next is read.
 pub(crate) fn verdict_on<'a, F: NamedFiles>(
     alloc: Global,
     files: &F,
@@ -176,7 +178,8 @@ pub(crate) fn export_of<'a, F: NamedFiles>(
     }
 }
 
-/// Says on standard error where others than the owner may do something with the file of keys of this name.
+/// Says on standard error where others than the owner may do something with the file of keys of
+/// this name.
 pub(crate) fn warn_of_keys(rt: &(impl Files + Eprint), name: &str) {
     if let Ok(metadata) = fs::metadata(rt, name) {
         if metadata.permissions().mode() & OTHERS != 0 {

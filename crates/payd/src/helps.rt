@@ -16,7 +16,8 @@ Input: frames, one after the other, as members send them. Without --genesis ther
 whom one may lie. Without --keys they are judged by member 1, or by member 0 of one alone, with the
 test keys, which anyone can name: 30 zero bytes, then the lesser and the greater of the pair.
 
---jobs says how many threads judge, 1 to 8; without it as many as there are processors, 8 at most. The
+-- jobs says how many threads judge, 1 to 8; without it as many as there are processors, 8 at most.
+-- The
 text is the same. They share what one read gives, 1 MiB at most; with 1 no thread is started.
 
 Output: a line for each frame, numbered from 1.
@@ -73,7 +74,8 @@ line more, which payd audit reads.
 
 Without --data the member lives in memory alone: what ends the node before its input does, as any signal,
 loses its account.
-  --data FOLDER   the member's history is on the disk there before anything of it leaves the node. Ended
+  -- data FOLDER the member's history is on the disk there before anything of it leaves the node.
+  -- Ended
                   in whatever way, the node is started again with the same words and goes on: no payment
                   is made twice, and a PAY given again has its old answer. The folder is made where there
                   is none, one node has it at a time, and payd export writes its export
@@ -84,6 +86,10 @@ A node with a folder also listens on the Unix socket FOLDER/desk, which only the
 ID is one payment, whoever gives it. A client that is silent for 600 seconds is closed, and so is one
 that takes no answer for as long.
   --socket PATH   the node listens there in place of FOLDER/desk, also without a folder
+The socket's name has 101 bytes at most.
+
+A node with a folder writes its figures to FOLDER/status.prom, in Prometheus' text format, every 5 seconds,
+and removes the file at its end.
 
 The member listens on its own port of 127.0.0.1 and dials those of all others, a thousand times some
 10 milliseconds apart and again after each connection that brought a frame. So a group's nodes are
@@ -96,10 +102,10 @@ the system gives out by itself, mostly 32768 and more, are best.
 Standard error has a line that says which member of which group this is, and one when a peer is met, is
 lost, is given up, or when a frame in its name doesn't open: payd: peer 2 met.
 
-Of each peer as many as 64 frames are asked for before the first of them is there, or with --ahead:
-  --ahead COUNT    so many, from 1 to 64; with 1 each frame takes the way to the peer and back
+Of each peer as many as 256 frames are asked for before the first of them is there, or with --ahead:
+  --ahead COUNT    so many, from 1 to 1024: more over a longer way; with 1 each takes it to and fro
 
-Status: 0 at the input's end, 1 where what was told isn't borne out by the member's history, 2 for words
+Status: 0 at the input's end, 1 where what was told isn't consistent with the member's history, 2 for words
 or a file that can't be read, or a folder that isn't this member's, 3 where memory, a read, a write, the
 own port, the socket or the folder fails, or after 1,000,000 reads.
 
@@ -111,7 +117,8 @@ pub(crate) const SEND_HELP: &str = "\
 Input: lines as those of payd desk, each a word of the command line, or those on standard input. The node
 is named by --data, its folder, or by --socket, the socket on which it listens.
 
-Output: the answers, in order, each once it is there.
+Output: the answers, in order, each once it is there. Of an answer that refuses a payment standard error
+names the ID, and of another one the line's number: payd: refused 7: 4 IdUsed.
 
 Status: 0 where no line was refused, 1 where one was, 2 for words that can't be read, 3 where nobody
 listens there, where the node ended before it answered, or where memory, a read or a write fails, or
@@ -139,7 +146,8 @@ pub(crate) const AUDIT_ABOUT: &str =
 pub(crate) const AUDIT_HELP: &str = "\
 Input: a file of JSON for each export.
 
---jobs says how many threads read and settle exports, 1 to 8; without it as many as there are processors,
+-- jobs says how many threads read and settle exports, 1 to 8; without it as many as there are
+-- processors,
 8 at most. The verdict is the same. As many exports as threads are in memory at once; with 1 no thread is
 started.
 
@@ -183,8 +191,8 @@ Or one line, where there is no book: the first of these that there is.
   6 few K                     K exports are no more than members may lie
   7 split account A seq S     two values there have f + 1 exports each: more than f members lie
 
-  --genesis   in place of the lines the genesis of the next group: each account opens with its balance
-  --export    in place of the lines the book as an export of the first one's member
+  -- genesis in place of the lines the genesis of the next group: each account opens with its
+  -- balance export in place of the lines the book as an export of the first one's member
 
 Status: 0 for a book, 1 where there is none, 2 for words or a file that can't be read, 3 where memory or
 the write fails.
@@ -219,7 +227,8 @@ against equity:opening; then each settled payment is one, account by account and
 payer's statement. Its code is the payer's account and the entry's number there. A settled entry that
 moves nothing is a comment. Amounts have no unit, as those of the payments have none.
 
-  --date YYYY-MM-DD   the date of all transactions, from the year 1400 on: an export has no dates, and
+  -- date YYYY-MM-DD the date of all transactions, from the year 1400 on: an export has no dates,
+  -- and
                       without the option it is today's in UTC
 
 It follows from what the accounts began with and from their lists alone, as payd statement does.

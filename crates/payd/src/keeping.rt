@@ -1,7 +1,7 @@
 //! What is said of a member's log while its node runs.
 
 ghost use Rattle.std.specs.Prelude.{IsTrue};
-ghost use Rattle.pay_kept.specs.Kept.{IsKept};
+ghost use Rattle.pay_kept.specs.Kept.{AreDurable, IsHistoryKept};
 
 use pay_book::Settle;
 use pay_echo::Instance;
@@ -21,7 +21,9 @@ pub(crate) struct SayingKept<'a, H, D: Device + Drop> {
 }
 
 impl<H: Eprint, D: Device + Drop> Keeper for SayingKept<'_, H, D> {
-    ghost kept = { λ _ node. IsKept D.is_known D.seen D.may_leave node };
+    ghost kept = { λ _ node. IsHistoryKept D.is_known D.seen D.may_leave node };
+
+    ghost has = { λ _ entries. AreDurable D.is_known D.seen D.may_leave entries };
 
     fn keep<R: Wait, I: Instance + Drop, B: Settle + Drop, S: Beginning>(
         &self,
@@ -39,5 +41,9 @@ impl<H: Eprint, D: Device + Drop> Keeper for SayingKept<'_, H, D> {
 
     fn order<R: Wait>(&self, rt: &R, seq: u32, id: u64) -> Result<(), AllocError> {
         self.kept.order(rt, seq, id)
+    }
+
+    fn durable<R: Wait>(&self, rt: &R) -> Option<usize> {
+        self.kept.durable(rt)
     }
 }

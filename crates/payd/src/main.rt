@@ -7,15 +7,18 @@ mod ahead;
 mod batches;
 mod dates;
 mod dials;
+mod figures;
 mod files;
 mod folders;
 mod helps;
 mod jobs;
 mod keeping;
+mod metrics;
 mod nodes;
 mod ports;
 mod saying;
 mod sending;
+mod sent;
 mod sockets;
 mod staying;
 mod stop;
@@ -46,6 +49,7 @@ use sending::call;
 use std::alloc::{AllocError, AllocGlobal, Global};
 use std::process::ExitCode;
 use std::rt::{Env, Files};
+use std::sync::Wait;
 use std::thread::Threads;
 use std::time::Clock;
 use std::{env, io, thread};
@@ -120,7 +124,7 @@ fn words_given(rt: &(impl Env + AllocGlobal)) -> io::Result<Vec<String>> {
 /// Judges the frames on standard input, once the files are read.
 fn check<'a>(
     alloc: Global,
-    rt: &(impl Files + Input + Print + Threads + Sync),
+    rt: &(impl Files + Input + Print + Threads + Wait + Sync),
     genesis: Option<&'a str>,
     keys: Option<&'a str>,
     jobs: Option<&'a str>,
@@ -134,7 +138,7 @@ fn check<'a>(
 /// Judges them as the member with these keys.
 fn judge_frames(
     alloc: Global,
-    rt: &(impl Input + Print + Threads + Sync),
+    rt: &(impl Input + Print + Threads + Wait + Sync),
     jobs: usize,
     genesis: &Genesis,
     keys: &Keys,
@@ -203,7 +207,8 @@ fn audit<'a>(
     Ok(verdict)
 }
 
-/// Says the verdict on the exports in the files of these names, and then all that is wrong with them.
+/// Says the verdict on the exports in the files of these names, and then all that is wrong with
+/// them.
 fn audit_all<'a>(
     alloc: Global,
     rt: &impl Print,
@@ -216,7 +221,8 @@ fn audit_all<'a>(
     Ok(verdict)
 }
 
-/// Writes the book of the group by the exports in the files of these names, and says whether there is one.
+/// Writes the book of the group by the exports in the files of these names, and says whether there
+/// is one.
 fn book<'a>(
     alloc: Global,
     rt: &(impl Files + Print),
@@ -351,8 +357,8 @@ fn status_without_words(rt: &impl Eprint, error: &io::Error) -> ExitCode {
     }
 }
 
-/// Prints what the reading of the words answers in place of a job: help, the version, or a mistake, which is one also
-/// where it can't be printed.
+/// Prints what the reading of the words answers in place of a job: help, the version, or a mistake,
+/// which is one also where it can't be printed.
 fn status_of_answer(rt: &(impl Print + Eprint), answer: &clap::Error) -> ExitCode {
     if answer.kind() == ErrorKind::OutOfMemory {
         return status_of(rt, Err(Stop::Engine(EngineFault::Memory)));
@@ -367,7 +373,8 @@ fn status_of_answer(rt: &(impl Print + Eprint), answer: &clap::Error) -> ExitCod
     }
 }
 
-/// A script that ends before its input does has its last line already; a fault is named on standard error.
+/// A script that ends before its input does has its last line already; a fault is named on standard
+/// error.
 fn status_of_sim(rt: &impl Eprint, ended: Result<SimEnd, StreamFault>) -> ExitCode {
     match ended {
         Ok(SimEnd::Done) => ExitCode::SUCCESS,

@@ -5,8 +5,9 @@ ghost use Rattle.pay_link.specs.Keys.{IsKeysOf};
 
 use crate::ahead::ahead_of;
 use crate::dials::dials_of;
+use crate::figures::FiguresFile;
 use crate::files::{genesis_of, keys_of, warn_of_keys};
-use crate::folders::{Opened, open_kept_member, open_member};
+use crate::folders::{KeptMember, Opened, open_kept_member, open_member};
 use crate::keeping::SayingKept;
 use crate::ports::ports_of;
 use crate::saying::{Found, Saying, say_in_memory, say_node, say_start};
@@ -33,9 +34,9 @@ use std::io;
 use std::net::{Net, TcpListener, TcpStream};
 use std::rt::Files;
 use std::sync::Wait;
-use std::sync::atomic::AtomicBool;
+use std::sync::atomic::{AtomicBool, AtomicU64};
 use std::thread::Threads;
-use std::time::Clock;
+use std::time::{Clock, Duration};
 
 /// How a node meets its peers and its desk's clients, as words and a file say.
 #[derive(Drop)]
@@ -47,8 +48,14 @@ struct Meeting {
 }
 
 impl Meeting {
-    // The same, with who is told of peers and who keeps the history.
-    fn config<'a, O, K>(&'a self, observer: &'a O, keeper: &'a K) -> NodeConfig<'a, O, K>
+    // The same, with who is told of peers and who keeps the history, and how often figures are
+    // shown.
+    fn config<'a, O, K>(
+        &'a self,
+        observer: &'a O,
+        keeper: &'a K,
+        shown_every: Option<Duration>,
+    ) -> NodeConfig<'a, O, K>
         ensures ports { result.ports.now ≡ self.now.ports }
     {
         NodeConfig {
@@ -56,6 +63,7 @@ impl Meeting {
             dials: self.dials,
             ahead: self.ahead,
             observer,
+            shown_every,
             keeper,
             socket: match &self.socket {
                 Some(named) => Some(&named.socket),
@@ -75,8 +83,9 @@ impl Meeting {
 /// What a node starts from, in the forms of its parts that the program runs.
 type OwnStart = NodeStart<MaskInstance, WaitingBook>;
 
-/// Answers the lines on standard input, once the words and the files are read, while the member meets its peers; then
-/// writes its export, also where memory was refused for a look at what the node had answered.
+/// Answers the lines on standard input, once the words and the files are read, while the member
+/// meets its peers; then writes its export, also where memory was refused for a look at what the
+/// node had answered.
 pub(crate) fn serve_node<'a, R>(alloc: Global, rt: &R, words: NodeWords<'a>) -> Result<(), Stop<'a>>
 where
     R: Files<File = File>
@@ -91,6 +100,7 @@ where
         + Drop
         + Sync,
     R: Net<Listener = TcpListener, Stream = TcpStream>,
+    R::Dir: Send + Sync,
 {
     let dials = dials_of(words.dials)?;
     let ahead = ahead_of(words.ahead)?;
@@ -106,19 +116,26 @@ where
         ahead,
         socket: None,
     };
-    let ended = match words.folder {
+    match words.folder {
         None => {
-            meeting.socket = listen(rt, path)?;
-            serve_in_memory(alloc, rt, genesis, keys, &meeting)
+            meeting.socket = listen(alloc, rt, path)?;
+            let ended = serve_in_memory(alloc, rt, genesis, keys, &meeting);
+            meeting.leave(rt);
+            ended
         }
         Some(folder) => {
-            let opened = open_member(alloc, rt, &genesis, &keys, folder)?;
-            meeting.socket = listen(rt, path)?;
-            serve_kept(alloc, rt, opened, &meeting, words.stays)
+            // what tells others of the node is gone before another one may have the folder
+            let Opened {
+                kept,
+                is_new,
+                folder: _lock,
+            } = open_member(alloc, rt, &genesis, &keys, folder)?;
+            meeting.socket = listen(alloc, rt, path)?;
+            let ended = serve_kept(alloc, rt, folder, kept, is_new, &meeting, words.stays);
+            meeting.leave(rt);
+            ended
         }
-    };
-    meeting.leave(rt);
-    ended
+    }
 }
 
 // The node of a fresh member, which is lost with it.
@@ -130,8 +147,9 @@ fn serve_in_memory<'a, R>(
     meeting: &Meeting,
 ) -> Result<(), Stop<'a>>
 where
-    R: Input + Print + Eprint + Threads + Wait + Clock + Sync,
+    R: Files<File = File> + Input + Print + Eprint + Threads + Wait + Clock + Sync,
     R: Net<Listener = TcpListener, Stream = TcpStream>,
+    R::Dir: Send + Sync,
     requires keys { IsKeysOf genesis keys }
     requires ports { length meeting.now.ports ≡ genesis.members }
 {
@@ -141,40 +159,76 @@ where
     say_in_memory(rt);
     let start = NodeStart::fresh(alloc, member);
     let has_failed = AtomicBool::new(false);
+    let reads = AtomicU64::new(0);
+    let saying = Saying { rt, figures: None };
     let lines = Lines {
         rt,
         inner: Reader::new(rt.reader()),
         stays: false,
         has_failed: &has_failed,
+        reads: &reads,
     };
     serve(
         alloc,
         rt,
         start,
         &tagger,
-        &meeting.config(&Saying { rt }, &Unkept),
+        &meeting.config(&saying, &Unkept, None),
         lines,
     )
 }
 
-// The node of a member that is kept.
+// The node of a member that is kept in a folder.
 fn serve_kept<'a, R>(
     alloc: Global,
     rt: &R,
-    opened: Opened,
+    folder: &str,
+    kept: KeptMember,
+    is_new: bool,
     meeting: &Meeting,
     stays: bool,
 ) -> Result<(), Stop<'a>>
 where
-    R: Input + Print + Eprint + Threads + Wait + Clock + Sync,
+    R: Files<File = File> + Input + Print + Eprint + Threads + Wait + Clock + Sync,
     R: Net<Listener = TcpListener, Stream = TcpStream>,
-    requires { length meeting.now.ports ≡ length opened.kept.member.keys.keys }
+    R::Dir: Send + Sync,
+    requires { length meeting.now.ports ≡ length kept.member.keys.keys }
 {
-    let Opened {
-        kept,
-        is_new,
-        folder: _folder,
-    } = opened;
+    let has_failed = AtomicBool::new(false);
+    let reads = AtomicU64::new(0);
+    let saying = Saying {
+        rt,
+        figures: Some(FiguresFile::new(rt, alloc, folder, &reads)?),
+    };
+    let lines = Lines {
+        rt,
+        inner: Reader::new(rt.reader()),
+        stays,
+        has_failed: &has_failed,
+        reads: &reads,
+    };
+    let ended = serve_restarted(alloc, rt, kept, is_new, meeting, &saying, lines);
+    saying.leave();
+    ended
+}
+
+// The same, of a member as its log has it.
+fn serve_restarted<'a, R, In>(
+    alloc: Global,
+    rt: &R,
+    kept: KeptMember,
+    is_new: bool,
+    meeting: &Meeting,
+    saying: &Saying<'_, R>,
+    lines: Lines<'_, R, In>,
+) -> Result<(), Stop<'a>>
+where
+    R: Files<File = File> + Print + Eprint + Threads + Wait + Clock + Sync,
+    R: Net<Listener = TcpListener, Stream = TcpStream>,
+    R::Dir: Send + Sync,
+    In: pay_io::Input + Drop,
+    requires { length meeting.now.ports ≡ length kept.member.keys.keys }
+{
     let Restarted {
         member,
         ids,
@@ -185,26 +239,13 @@ where
     say_node(alloc, rt, member.genesis(), member.keys(), &meeting.ports)?;
     let start = start_again(alloc, member, ids.as_slice())?;
     say_start(rt, found);
-    let has_failed = AtomicBool::new(false);
     let keeper = SayingKept {
         rt,
         kept: Kept::new(alloc, following, ids),
-        has_failed: &has_failed,
+        has_failed: lines.has_failed,
     };
-    let lines = Lines {
-        rt,
-        inner: Reader::new(rt.reader()),
-        stays,
-        has_failed: &has_failed,
-    };
-    serve(
-        alloc,
-        rt,
-        start,
-        &tagger,
-        &meeting.config(&Saying { rt }, &keeper),
-        lines,
-    )
+    let config = meeting.config(saying, &keeper, Some(FiguresFile::<R>::every()));
+    serve(alloc, rt, start, &tagger, &config, lines)
 }
 
 // What a node starts from that goes on with a member, whose owner's ids are these.
@@ -229,8 +270,9 @@ fn serve<'a, R, K, In>(
     lines: Lines<'_, R, In>,
 ) -> Result<(), Stop<'a>>
 where
-    R: Print + Eprint + Threads + Wait + Clock + Sync,
+    R: Files<File = File> + Print + Eprint + Threads + Wait + Clock + Sync,
     R: Net<Listener = TcpListener, Stream = TcpStream>,
+    R::Dir: Send + Sync,
     K: Keeper + Sync,
     In: pay_io::Input + Drop,
     requires { length config.now.ports.now ≡ length start.member.keys.keys }
@@ -246,7 +288,7 @@ where
 fn conclude<'a>(rt: &impl Print, member: &OwnMember, receipts: Receipts) -> Result<(), Stop<'a>> {
     print_export(rt, member)?;
     match receipts {
-        Receipts::BorneOut => Ok(()),
+        Receipts::Consistent => Ok(()),
         Receipts::Unjudged => Err(Stop::Close(CloseFault::Memory)),
     }
 }
@@ -268,7 +310,8 @@ where
     Ok(print_export(rt, &opened.kept.member)?)
 }
 
-/// Writes a member's export as a line. It takes no memory, so that memory which is refused at the end loses nothing.
+/// Writes a member's export as a line. It takes no memory, so that memory which is refused at the
+/// end loses nothing.
 fn print_export(rt: &impl Print, member: &OwnMember) -> Result<(), StreamFault> {
     let mut writer = Writer::new(io::writer(rt));
     write_export(member, &mut writer).map_err(|_| StreamFault::Write)?;

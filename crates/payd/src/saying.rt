@@ -3,21 +3,43 @@
 ghost use Rattle.std.specs.Prelude.{◌≡◌, length};
 
 use crate::OwnMember;
+use crate::figures::FiguresFile;
 use pay_link::{Genesis, Keys};
-use pay_net::{News, Ports};
+use pay_net::{News, NodeFigures, Ports, Watcher};
 use pay_peers::Observer;
 use pay_record::log_header;
 use std::alloc::{AllocError, Global};
+use std::fs::File;
+use std::rt::Files;
 
 /// What is said of a member that no folder keeps.
 const IN_MEMORY: &str =
     "without --data the member lives in memory alone: what ends the node before its input does \
 loses its account";
 
-/// Says on standard error what becomes of a node's peers, a line each time.
+/// Says on standard error what becomes of a node's peers, a line each time, and has its figures
+/// written.
 #[derive(Drop)]
 pub(crate) struct Saying<'a, R> {
     pub(crate) rt: &'a R,
+    pub(crate) figures: Option<FiguresFile<'a, R>>,
+}
+
+impl<R: Files> Saying<'_, R> {
+    /// The node has ended: its figures are nobody's any more.
+    pub(crate) fn leave(&self) {
+        if let Some(figures) = &self.figures {
+            figures.remove();
+        }
+    }
+}
+
+impl<R: Files<File = File> + Eprint> Watcher for Saying<'_, R> {
+    fn watch(&self, figures: &NodeFigures) {
+        if let Some(file) = &self.figures {
+            file.watch(figures);
+        }
+    }
 }
 
 impl<R: Eprint> Observer<News> for Saying<'_, R> {
@@ -28,8 +50,8 @@ impl<R: Eprint> Observer<News> for Saying<'_, R> {
     }
 }
 
-/// Says which member of which group a node is, and on which port it listens. The group is told by the beginning of the
-/// genesis's digest, as the member's log has it.
+/// Says which member of which group a node is, and on which port it listens. The group is told by
+/// the beginning of the genesis's digest, as the member's log has it.
 pub(crate) fn say_node(
     alloc: Global,
     rt: &impl Eprint,
@@ -78,7 +100,7 @@ impl Found {
         }
         Found::History {
             entries: member.history().len(),
-            payments: settled(member),
+            payments: settled_count(member),
         }
     }
 }
@@ -94,7 +116,7 @@ pub(crate) fn say_start(rt: &impl Eprint, found: Found) {
 }
 
 // How many payments of all accounts are settled.
-fn settled(member: &OwnMember) -> u64 {
+fn settled_count(member: &OwnMember) -> u64 {
     let mut sum: u64 = 0;
     for account in 0..member.genesis().members() {
         sum = sum.saturating_add(u64::from(member.front(account)));

@@ -1,9 +1,10 @@
 //! A client of a node's desk.
 
 ghost use Rattle.std.specs.Prelude.{◌≡◌};
-ghost use Rattle.pay_io.specs.Device.{counted};
+ghost use Rattle.pay_io.specs.Device.{next_count};
 ghost use Rattle.payd.specs.Sending.{Relays, counted_if, is_last, is_refusal};
 
+use crate::sent::{LineNotes, SentLines};
 use crate::sockets::socket_path;
 use crate::stop::Stop;
 use crate::words::SendWords;
@@ -11,13 +12,14 @@ use pay_engine::EngineFault;
 use pay_io::{Reader, StreamFault, Writer, write_all};
 use pay_text::{Answer, Answerer, Text, run_lines};
 use std::alloc::{AllocError, Global};
-use std::io;
 use std::net::{Net, Shutdown};
 use std::os::unix::net::UnixStream;
-use std::sync::Arc;
 use std::sync::atomic::{AtomicU64, Ordering};
+use std::sync::{Arc, Wait};
+use std::{io, str};
 
-/// How long a line of an answer may be: that of `FRONT` has fewer than a thousand bytes in the largest group.
+/// How long a line of an answer may be: that of `FRONT` has fewer than a thousand bytes in the
+/// largest group.
 const MOST_ANSWER: usize = 4096;
 
 /// How many bytes of standard input are sent at a time.
@@ -58,6 +60,51 @@ impl Answerer for Relay {
     }
 }
 
+/// A relay that says on standard error which lines were refused.
+#[derive(Drop)]
+struct Naming<'a, R> {
+    relay: Relay,
+    rt: &'a R,
+    lines: &'a SentLines,
+}
+
+impl<R: Eprint + Wait> Answerer for Naming<'_, R> {
+    ghost says = { λ old line text on new. Relays old.relay line text on new.relay };
+
+    ghost gives_up = { λ old new. new.relay ≡ old.relay };
+
+    fn answer(&mut self, alloc: Global, line: Option<&[u8]>) -> Result<Answer, AllocError> {
+        let answer = self.relay.answer(alloc, line)?;
+        if let Some(line) = line {
+            self.name(line);
+        }
+        Ok(answer)
+    }
+}
+
+impl<R: Eprint + Wait> Naming<'_, R> {
+    // Says which of the lines that were sent an answer refuses.
+    fn name(&self, answer: &[u8]) {
+        if !is_last(answer) {
+            return;
+        }
+        let id = self.lines.answered(self.rt);
+        let Some(why) = refusal_in(answer) else {
+            return;
+        };
+        let line = self.relay.answered;
+        let _ = match id {
+            Some(id) => eprintln!(self.rt; "payd: refused {id}: {why}"),
+            None => eprintln!(self.rt; "payd: refused line {line}: {why}"),
+        };
+    }
+}
+
+// Why an answer refuses a line, if it does.
+fn refusal_in(answer: &[u8]) -> Option<&str> {
+    str::from_utf8(answer).ok()?.strip_prefix("refused ")
+}
+
 // One more, if this is so.
 fn counted_if(is_one: bool, count: u64) -> u64
     ensures { result ≡ counted_if is_one count }
@@ -87,47 +134,64 @@ fn is_last(line: &[u8]) -> bool
         || line.starts_with(b"front ")
 }
 
-/// What a thread sends to a node's desk, in which nobody waits for it: a node that ends first ends the program.
+/// What a thread sends to a node's desk, in which nobody waits for it: a node that ends first ends
+/// the program.
 #[derive(Drop)]
 pub(crate) struct Sending {
+    alloc: Global,
     stream: UnixStream,
     /// The lines, or nothing: then they are those of standard input.
     text: Vec<u8>,
+    lines: Arc<SentLines>,
     sent: Arc<AtomicU64>,
 }
 
 impl Sending {
     /// Sends the lines, and ends the stream behind them.
-    pub(crate) fn send(self, rt: &impl Input) {
+    pub(crate) fn send(self, rt: &(impl Input + Wait)) {
+        let mut notes = LineNotes::new(self.alloc, &self.lines);
         let count = if self.text.is_empty() {
-            send_input(&mut Reader::new(rt.reader()), &self.stream)
+            send_input(rt, &mut Reader::new(rt.reader()), &self.stream, &mut notes)
         } else {
-            send_text(&self.stream, self.text.as_slice())
+            send_text(rt, self.text.as_slice(), &self.stream, &mut notes)
         };
         self.sent.store(count, Ordering::SeqCst);
         let _ = self.stream.shutdown(Shutdown::Write);
     }
 }
 
-/// What a node's desk answers, and how many lines were sent to it.
+/// What a node's desk answers, and what was sent to it.
 #[derive(Drop)]
 pub(crate) struct Answers {
     stream: UnixStream,
+    lines: Arc<SentLines>,
     sent: Arc<AtomicU64>,
 }
 
 impl Answers {
-    /// Writes the answers as they come. Answers whether one was a refusal.
-    pub(crate) fn write<'a>(&self, alloc: Global, rt: &impl Print) -> Result<bool, Stop<'a>> {
-        let mut relay = Relay {
+    /// Writes the answers as they come, and says on standard error which lines they refuse. Answers
+    /// whether one is refused.
+    pub(crate) fn write<'a>(
+        &self,
+        alloc: Global,
+        rt: &(impl Print + Eprint + Wait),
+    ) -> Result<bool, Stop<'a>> {
+        let relay = Relay {
             answered: 0,
             refused: 0,
         };
+        let mut naming = Naming {
+            relay,
+            rt,
+            lines: &self.lines,
+        };
         let mut reader = Reader::new(&self.stream);
         let mut writer = Writer::new(io::writer(rt));
-        let ended = run_lines(alloc, MOST_ANSWER, &mut relay, &mut reader, &mut writer);
+        let ended = run_lines(alloc, MOST_ANSWER, &mut naming, &mut reader, &mut writer);
         match ended {
-            Ok(_) | Err(StreamFault::Read) => said_of(&relay, self.sent.load(Ordering::SeqCst)),
+            Ok(_) | Err(StreamFault::Read) => {
+                said_of(&naming.relay, self.sent.load(Ordering::SeqCst))
+            }
             Err(fault) => Err(Stop::from(fault)),
         }
     }
@@ -142,15 +206,25 @@ pub(crate) fn call<'a>(
     let stream = connect(alloc, rt, words.folder, words.socket)?;
     let text = text_of(alloc, words.lines.as_slice())?;
     let sent = Arc::new(alloc, AtomicU64::new(STILL_SENDING))?;
+    let lines = Arc::new(alloc, SentLines::new(alloc))?;
     let Ok(own) = stream.try_clone() else {
         return Err(Stop::Engine(EngineFault::Memory));
     };
     let sending = Sending {
+        alloc,
         stream: own,
         text,
+        lines: Arc::try_clone(&lines)?,
         sent: Arc::try_clone(&sent)?,
     };
-    Ok((sending, Answers { stream, sent }))
+    Ok((
+        sending,
+        Answers {
+            stream,
+            lines,
+            sent,
+        },
+    ))
 }
 
 // What is said at the end, by how many lines were sent.
@@ -194,20 +268,23 @@ fn text_of(alloc: Global, lines: &[&str]) -> Result<Vec<u8>, AllocError> {
 }
 
 // Sends a text of whole lines, and answers how many they are.
-fn send_text(stream: &UnixStream, text: &[u8]) -> u64 {
+fn send_text(rt: &impl Wait, text: &[u8], stream: &UnixStream, notes: &mut LineNotes<'_>) -> u64 {
     let mut writer = Writer::new(stream);
-    match write_all(&mut writer, text) {
-        Ok(()) => line_feeds(text),
-        Err(_) => STILL_SENDING,
+    if notes.note(rt, text).is_err() || write_all(&mut writer, text).is_err() {
+        return STILL_SENDING;
     }
+    notes.count()
 }
 
 // Sends an input, and answers how many lines it has.
-fn send_input(reader: &mut impl pay_io::Input, stream: &UnixStream) -> u64 {
+fn send_input(
+    rt: &impl Wait,
+    reader: &mut impl pay_io::Input,
+    stream: &UnixStream,
+    notes: &mut LineNotes<'_>,
+) -> u64 {
     let mut writer = Writer::new(stream);
     let mut piece = [0u8; PIECE];
-    let mut count: u64 = 0;
-    let mut is_whole = true;
     for _ in 0..u64::MAX {
         let Ok(size) = reader.read(&mut piece) else {
             return UNREAD;
@@ -215,19 +292,13 @@ fn send_input(reader: &mut impl pay_io::Input, stream: &UnixStream) -> u64 {
         if size == 0 {
             break;
         }
-        if write_all(&mut writer, &piece[..size]).is_err() {
+        let sent = &piece[..size];
+        if notes.note(rt, sent).is_err() || write_all(&mut writer, sent).is_err() {
             return STILL_SENDING;
         }
-        count = count.saturating_add(line_feeds(&piece[..size]));
-        is_whole = piece[size - 1] == b'\n';
     }
-    if is_whole {
-        count
-    } else {
-        count.saturating_add(1)
+    match notes.end(rt) {
+        Ok(()) => notes.count(),
+        Err(_) => STILL_SENDING,
     }
-}
-
-fn line_feeds(text: &[u8]) -> u64 {
-    text.iter().filter(|byte| **byte == b'\n').count() as u64
 }

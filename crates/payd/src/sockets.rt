@@ -1,9 +1,13 @@
 //! The socket of a node's desk, by the words that name it.
 
+ghost use Rattle.std.specs.Prelude.{◌≤◌, IfOk, IfSome, string_len};
+ghost use Rattle.pay_net.specs.declared.desk_socket.TheConstants.{MOST_SOCKET_NAME};
+
 use crate::stop::Stop;
-use pay_net::DeskSocket;
+use pay_net::{DeskSocket, MOST_SOCKET_NAME};
 use std::alloc::{AllocError, Global};
 use std::fs;
+use std::io::ErrorKind;
 use std::net::Net;
 use std::rt::Files;
 
@@ -25,7 +29,23 @@ impl NamedSocket {
 }
 
 /// The name of a node's socket: the one that is given, or the one in its folder.
-pub(crate) fn socket_path(
+pub(crate) fn socket_path<'a>(
+    alloc: Global,
+    folder: Option<&str>,
+    socket: Option<&str>,
+) -> Result<Option<String>, Stop<'a>>
+    ensures { IfOk result (λ path. IfSome path (λ name. string_len name ≤ MOST_SOCKET_NAME)) }
+{
+    let Some(path) = path_of_socket(alloc, folder, socket)? else {
+        return Ok(None);
+    };
+    if path.len() > MOST_SOCKET_NAME {
+        return Err(Stop::LongSocket(path));
+    }
+    Ok(Some(path))
+}
+
+fn path_of_socket(
     alloc: Global,
     folder: Option<&str>,
     socket: Option<&str>,
@@ -39,14 +59,16 @@ pub(crate) fn socket_path(
 
 /// Listens on a node's socket, if it has one.
 pub(crate) fn listen<'a, R: Files + Net>(
+    alloc: Global,
     rt: &R,
     path: Option<String>,
 ) -> Result<Option<NamedSocket>, Stop<'a>> {
     let Some(path) = path else {
         return Ok(None);
     };
-    match DeskSocket::bind(rt, path.as_str()) {
+    match DeskSocket::bind(rt, alloc, path.as_str()) {
         Ok(socket) => Ok(Some(NamedSocket { socket, path })),
+        Err(error) if error.kind() == ErrorKind::OutOfMemory => Err(Stop::from(AllocError)),
         Err(_) => Err(Stop::Socket(path)),
     }
 }

@@ -7,7 +7,7 @@ use crate::stop::Stop;
 use crate::words::NodeWords;
 use pay_io::{DeviceFailed, Input};
 use std::sync::Wait;
-use std::sync::atomic::{AtomicBool, Ordering};
+use std::sync::atomic::{AtomicBool, AtomicU64, Ordering};
 use std::thread;
 use std::time::{Clock, Duration};
 
@@ -33,6 +33,8 @@ pub(crate) struct Lines<'a, R, In> {
     pub(crate) inner: In,
     pub(crate) stays: bool,
     pub(crate) has_failed: &'a AtomicBool,
+    /// How often they were read by now.
+    pub(crate) reads: &'a AtomicU64,
 }
 
 impl<R: Wait + Clock, In: Input> Input for Lines<'_, R, In> {
@@ -44,6 +46,7 @@ impl<R: Wait + Clock, In: Input> Input for Lines<'_, R, In> {
 
     fn read(&mut self, buffer: &mut [u8]) -> Result<usize, DeviceFailed> {
         let read = self.inner.read(buffer);
+        self.reads.store(self.inner.calls(), Ordering::SeqCst);
         if self.stays && !has_more(&read) {
             self.wait_for_fault();
         }

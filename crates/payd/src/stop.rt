@@ -43,6 +43,9 @@ pub(crate) enum Stop<'a> {
     /// The socket of this name can't be had.
     #[error("socket {0}")]
     Socket(String),
+    /// The socket's name is longer than the system takes.
+    #[error("socket {0}: more than 101 bytes; --socket gives it a shorter name")]
+    LongSocket(String),
     /// Nobody listens on the socket of this name.
     #[error("nobody listens on {0}")]
     Nobody(String),
@@ -59,7 +62,7 @@ pub(crate) enum Stop<'a> {
     #[error("dials {0}: neither a count from 1 on nor always")]
     Dials(&'a str),
     /// This word says no number of frames that may be asked for ahead.
-    #[error("ahead {0}: no number from 1 to 64")]
+    #[error("ahead {0}: no number from 1 to 1024")]
     Ahead(&'a str),
     /// This word says no count of threads.
     #[error("jobs {0}: no count from 1 to 8")]
@@ -177,6 +180,7 @@ impl<'a> Stop<'a> {
             | Stop::Log(_)
             | Stop::Stay
             | Stop::NoNode
+            | Stop::LongSocket(_)
             | Stop::File(_)
             | Stop::Dials(_)
             | Stop::Ahead(_)

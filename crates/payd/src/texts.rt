@@ -98,7 +98,7 @@ fn findings_of(alloc: Global, names: &[&str], exports: &[Export]) -> Result<Find
     ensures said { IfOk result (λ found. AreSaid
         (map (λ name. name.now) names.now) exports.now found.text.items) }
 {
-    let named = named(alloc, names, exports)?;
+    let named = name_exports(alloc, names, exports)?;
     Ok(Findings {
         verdict: audit(alloc, exports)?,
         text: findings_text(alloc, named.as_slice())?,
@@ -106,7 +106,7 @@ fn findings_of(alloc: Global, names: &[&str], exports: &[Export]) -> Result<Find
 }
 
 // The exports, each with the name of its file.
-fn named<'a>(
+fn name_exports<'a>(
     alloc: Global,
     names: &[&'a str],
     exports: &'a [Export],

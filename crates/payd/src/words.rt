@@ -1,13 +1,16 @@
 ghost use Rattle.std.specs.Prelude.{◌≡◌, IfOk, IsOkAnd, map, option_map, string_bytes};
-ghost use Rattle.clap.specs.Words.{AddsSubcommand, FailsBy, fault_of, first_of, found_of, new_app, rows_of};
+ghost use Rattle.clap.specs.Words.{AddsSubcommand, FailsBy, fault_of, first_of, found_of, new_app};
+ghost use Rattle.clap.specs.Words.{rows_of};
 ghost use Rattle.clap.specs.Words.{subcommand_of, subcommand_rows_of};
-ghost use Rattle.payd.specs.Job.{IsArgument, IsCommand, account_rule, asked, asked_by, asked_in};
+ghost use Rattle.payd.specs.Job.{IsArgument, IsCommand, account_rule, view_of_job, job_of_words};
+ghost use Rattle.payd.specs.Job.{job_of_command};
 ghost use Rattle.payd.specs.Job.{asked_of};
 ghost use Rattle.payd.specs.Job.{audit_app, audit_asked, book_app, book_asked, check_app};
 ghost use Rattle.payd.specs.Job.{check_asked, desk_app};
 ghost use Rattle.payd.specs.Job.{desk_asked, export_app, export_asked, export_rule, files_of};
-ghost use Rattle.payd.specs.Job.{files_rule, flag_rule, is_set, journal_app, lines_of, lines_rule};
-ghost use Rattle.payd.specs.Job.{journal_asked, named, node_app, node_asked, option_rule};
+ghost use Rattle.payd.specs.Job.{files_rule, flag_rule, is_set, journal_app, texts_of_lines};
+ghost use Rattle.payd.specs.Job.{lines_rule};
+ghost use Rattle.payd.specs.Job.{journal_asked, required_text, node_app, node_asked, option_rule};
 ghost use Rattle.payd.specs.Job.{payd_alone, payd_app, required_rule, send_app, send_asked};
 ghost use Rattle.payd.specs.Job.{statement_app};
 ghost use Rattle.payd.specs.Job.{statement_asked};
@@ -23,15 +26,15 @@ use std::alloc::{AllocError, Global};
 /// What the program is asked to do.
 #[derive(Drop)]
 pub(crate) enum Job<'a> {
-    /// Judge the frames on standard input, as a member of this genesis with these keys, each read from
-    /// the file of this name, by as many threads as this word says.
+    /// Judge the frames on standard input, as a member of this genesis with these keys, each read
+    /// from the file of this name, by as many threads as this word says.
     Check {
         genesis: Option<&'a str>,
         keys: Option<&'a str>,
         jobs: Option<&'a str>,
     },
-    /// Answer the lines on standard input, as the desk of the member with these keys, each read from
-    /// the file of this name.
+    /// Answer the lines on standard input, as the desk of the member with these keys, each read
+    /// from the file of this name.
     Desk {
         genesis: &'a str,
         keys: &'a str,
@@ -46,15 +49,15 @@ pub(crate) enum Job<'a> {
         keys: &'a str,
         folder: &'a str,
     },
-    /// Say what is wrong with the exports in the files of these names, if anything is, read by as many
-    /// threads as this word says; or all that is wrong with them.
+    /// Say what is wrong with the exports in the files of these names, if anything is, read by as
+    /// many threads as this word says; or all that is wrong with them.
     Audit {
         files: Vec<&'a str>,
         jobs: Option<&'a str>,
         all: bool,
     },
-    /// Write the book of the group by the exports in the files of these names: in lines, or as one of
-    /// these.
+    /// Write the book of the group by the exports in the files of these names: in lines, or as one
+    /// of these.
     Book {
         files: Vec<&'a str>,
         as_genesis: bool,
@@ -84,7 +87,8 @@ pub(crate) struct NodeWords<'a> {
     /// How often a peer is dialed, and how many of its frames are asked for ahead.
     pub(crate) dials: Option<&'a str>,
     pub(crate) ahead: Option<&'a str>,
-    /// The folder in which the member is kept, if one is named, and whether it stays when the lines end.
+    /// The folder in which the member is kept, if one is named, and whether it stays when the lines
+    /// end.
     pub(crate) folder: Option<&'a str>,
     pub(crate) stays: bool,
     /// The socket on which clients may call on its desk, if one is named.
@@ -104,7 +108,8 @@ pub(crate) struct SendWords<'a> {
 /// What the words ask for, the program's name the first of them; or help, the version, or what is
 /// wrong with them. Without a command it is `check`.
 pub(crate) fn job_of<'a>(alloc: Global, words: &'a [String]) -> Result<Job<'a>, Error>
-    ensures value { IfOk result (λ job. asked job ≡ asked_by (map string_bytes words.now)) }
+    ensures value { IfOk result
+        (λ job. view_of_job job ≡ job_of_words (map string_bytes words.now)) }
     ensures fault { FailsBy (fault_of payd_app (map string_bytes words.now)) result }
 {
     let matches = matches_of(alloc, words)?;
@@ -123,7 +128,8 @@ fn matches_of<'a>(alloc: Global, words: &'a [String]) -> Result<ArgMatches<'a>, 
 
 /// The job of the command that was met, and `check` where there is none.
 fn job_in<'a>(alloc: Global, matches: &ArgMatches<'a>) -> Result<Job<'a>, AllocError>
-    ensures { IfOk result (λ job. asked job ≡ asked_in (subcommand_rows_of matches.now)) }
+    ensures { IfOk result
+        (λ job. view_of_job job ≡ job_of_command (subcommand_rows_of matches.now)) }
 {
     match matches.subcommand() {
         Some((name, command)) => command_job(alloc, name, command),
@@ -141,7 +147,8 @@ fn command_job<'a>(
     name: &str,
     command: &ArgMatches<'a>,
 ) -> Result<Job<'a>, AllocError>
-    ensures { IfOk result (λ job. asked job ≡ asked_of name.now (rows_of (found_of command.now))) }
+    ensures { IfOk result
+        (λ job. view_of_job job ≡ asked_of name.now (rows_of (found_of command.now))) }
 {
     if name == "desk" {
         Ok(desk_job(command))
@@ -168,77 +175,77 @@ fn command_job<'a>(
 
 /// The job of `check` with these options.
 fn check_job<'a>(check: &ArgMatches<'a>) -> Job<'a>
-    ensures { asked result ≡ check_asked (rows_of (found_of check.now)) }
+    ensures { view_of_job result ≡ check_asked (rows_of (found_of check.now)) }
 {
     Job::Check {
-        genesis: given(check, "genesis"),
-        keys: given(check, "keys"),
-        jobs: given(check, "jobs"),
+        genesis: option_value(check, "genesis"),
+        keys: option_value(check, "keys"),
+        jobs: option_value(check, "jobs"),
     }
 }
 
 /// The job of `desk` with these options.
 fn desk_job<'a>(desk: &ArgMatches<'a>) -> Job<'a>
-    ensures { asked result ≡ desk_asked (rows_of (found_of desk.now)) }
+    ensures { view_of_job result ≡ desk_asked (rows_of (found_of desk.now)) }
 {
     Job::Desk {
-        genesis: named(desk, "genesis"),
-        keys: named(desk, "keys"),
+        genesis: required_value(desk, "genesis"),
+        keys: required_value(desk, "keys"),
     }
 }
 
 /// The job of `node` with these options.
 fn node_job<'a>(node: &ArgMatches<'a>) -> Job<'a>
-    ensures { asked result ≡ node_asked (rows_of (found_of node.now)) }
+    ensures { view_of_job result ≡ node_asked (rows_of (found_of node.now)) }
 {
     Job::Node(NodeWords {
-        genesis: named(node, "genesis"),
-        keys: named(node, "keys"),
-        ports: named(node, "ports"),
-        dials: given(node, "dials"),
-        ahead: given(node, "ahead"),
-        folder: given(node, "data"),
+        genesis: required_value(node, "genesis"),
+        keys: required_value(node, "keys"),
+        ports: required_value(node, "ports"),
+        dials: option_value(node, "dials"),
+        ahead: option_value(node, "ahead"),
+        folder: option_value(node, "data"),
         stays: is_set(node, "stay"),
-        socket: given(node, "socket"),
+        socket: option_value(node, "socket"),
     })
 }
 
 /// The job of `send` with these lines and options.
 fn send_job<'a>(alloc: Global, send: &ArgMatches<'a>) -> Result<Job<'a>, AllocError>
-    ensures { IfOk result (λ job. asked job ≡ send_asked (rows_of (found_of send.now))) }
+    ensures { IfOk result (λ job. view_of_job job ≡ send_asked (rows_of (found_of send.now))) }
 {
     Ok(Job::Send(SendWords {
         lines: lines_in(alloc, send)?,
-        folder: given(send, "data"),
-        socket: given(send, "socket"),
+        folder: option_value(send, "data"),
+        socket: option_value(send, "socket"),
     }))
 }
 
 /// The job of `export` with these options.
 fn export_job<'a>(export: &ArgMatches<'a>) -> Job<'a>
-    ensures { asked result ≡ export_asked (rows_of (found_of export.now)) }
+    ensures { view_of_job result ≡ export_asked (rows_of (found_of export.now)) }
 {
     Job::Export {
-        genesis: named(export, "genesis"),
-        keys: named(export, "keys"),
-        folder: named(export, "data"),
+        genesis: required_value(export, "genesis"),
+        keys: required_value(export, "keys"),
+        folder: required_value(export, "data"),
     }
 }
 
 /// The job of `audit` with these files and options.
 fn audit_job<'a>(alloc: Global, audit: &ArgMatches<'a>) -> Result<Job<'a>, AllocError>
-    ensures { IfOk result (λ job. asked job ≡ audit_asked (rows_of (found_of audit.now))) }
+    ensures { IfOk result (λ job. view_of_job job ≡ audit_asked (rows_of (found_of audit.now))) }
 {
     Ok(Job::Audit {
         files: files_in(alloc, audit)?,
-        jobs: given(audit, "jobs"),
+        jobs: option_value(audit, "jobs"),
         all: is_set(audit, "all"),
     })
 }
 
 /// The job of `book` with these files and flags.
 fn book_job<'a>(alloc: Global, book: &ArgMatches<'a>) -> Result<Job<'a>, AllocError>
-    ensures { IfOk result (λ job. asked job ≡ book_asked (rows_of (found_of book.now))) }
+    ensures { IfOk result (λ job. view_of_job job ≡ book_asked (rows_of (found_of book.now))) }
 {
     Ok(Job::Book {
         files: files_in(alloc, book)?,
@@ -261,7 +268,7 @@ fn files_in<'a>(alloc: Global, command: &ArgMatches<'a>) -> Result<Vec<&'a str>,
 /// The lines that a command was given.
 fn lines_in<'a>(alloc: Global, command: &ArgMatches<'a>) -> Result<Vec<&'a str>, AllocError>
     ensures { IfOk result (λ lines.
-        map (λ line. line.now) lines.items ≡ lines_of (rows_of (found_of command.now))) }
+        map (λ line. line.now) lines.items ≡ texts_of_lines (rows_of (found_of command.now))) }
 {
     match command.get_strs("lines") {
         Some(lines) => Ok(Vec::from_slice(alloc, lines)?),
@@ -271,26 +278,26 @@ fn lines_in<'a>(alloc: Global, command: &ArgMatches<'a>) -> Result<Vec<&'a str>,
 
 /// The job of `statement` with this export and account.
 fn statement_job<'a>(statement: &ArgMatches<'a>) -> Job<'a>
-    ensures { asked result ≡ statement_asked (rows_of (found_of statement.now)) }
+    ensures { view_of_job result ≡ statement_asked (rows_of (found_of statement.now)) }
 {
     Job::Statement {
-        export: named(statement, "export"),
-        account: given(statement, "account"),
+        export: required_value(statement, "export"),
+        account: option_value(statement, "account"),
     }
 }
 
 /// The job of `journal` with this export and date.
 fn journal_job<'a>(journal: &ArgMatches<'a>) -> Job<'a>
-    ensures { asked result ≡ journal_asked (rows_of (found_of journal.now)) }
+    ensures { view_of_job result ≡ journal_asked (rows_of (found_of journal.now)) }
 {
     Job::Journal {
-        export: named(journal, "export"),
-        date: given(journal, "date"),
+        export: required_value(journal, "export"),
+        date: option_value(journal, "date"),
     }
 }
 
 /// What an option says, if it was given.
-fn given<'a>(matches: &ArgMatches<'a>, option: &str) -> Option<&'a str>
+fn option_value<'a>(matches: &ArgMatches<'a>, option: &str) -> Option<&'a str>
     ensures { option_map (λ word. word.now) result
         ≡ first_of option.now (rows_of (found_of matches.now)) }
 {
@@ -301,15 +308,15 @@ fn given<'a>(matches: &ArgMatches<'a>, option: &str) -> Option<&'a str>
 fn is_set(matches: &ArgMatches, flag: &str) -> bool
     ensures { result ≡ is_set flag.now (rows_of (found_of matches.now)) }
 {
-    match given(matches, flag) {
+    match option_value(matches, flag) {
         Some(word) => word == "true",
         None => false,
     }
 }
 
 /// What a required option names: the words aren't read without it.
-fn named<'a>(matches: &ArgMatches<'a>, option: &str) -> &'a str
-    ensures { result.now ≡ named option.now (rows_of (found_of matches.now)) }
+fn required_value<'a>(matches: &ArgMatches<'a>, option: &str) -> &'a str
+    ensures { result.now ≡ required_text option.now (rows_of (found_of matches.now)) }
 {
     matches.get_str(option).unwrap_or("")
 }
@@ -327,7 +334,10 @@ fn payd<'a>(alloc: Global) -> Result<Command<'a>, AllocError>
     let program = with_command(program, book(alloc));
     let program = with_command(program, statement(alloc));
     let program = with_command(program, journal(alloc));
-    with_command(program, Ok(titled(alloc, "sim", SIM_ABOUT, SIM_HELP)))
+    with_command(
+        program,
+        Ok(titled_command(alloc, "sim", SIM_ABOUT, SIM_HELP)),
+    )
 }
 
 /// The program with one command more, if both could be made.
@@ -354,7 +364,7 @@ fn payd_alone<'a>(alloc: Global) -> Command<'a>
 fn check<'a>(alloc: Global) -> Result<Command<'a>, AllocError>
     ensures { IfOk result (λ command. IsCommand command check_app) }
 {
-    titled(alloc, "check", CHECK_ABOUT, CHECK_HELP)
+    titled_command(alloc, "check", CHECK_ABOUT, CHECK_HELP)
         .arg(file_option(alloc, "genesis", "A file of JSON with the genesis"))?
         .arg(file_option(alloc, "keys", "A file of JSON with the keys of one member"))?
         .arg(option(alloc, "jobs", "COUNT", "How many threads judge the frames"))
@@ -364,7 +374,7 @@ fn check<'a>(alloc: Global) -> Result<Command<'a>, AllocError>
 fn desk<'a>(alloc: Global) -> Result<Command<'a>, AllocError>
     ensures { IfOk result (λ command. IsCommand command desk_app) }
 {
-    titled(alloc, "desk", DESK_ABOUT, DESK_HELP)
+    titled_command(alloc, "desk", DESK_ABOUT, DESK_HELP)
         .arg(required_file(alloc, "genesis", "A file of JSON with the genesis"))?
         .arg(required_file(alloc, "keys", "A file of JSON with the keys of one member"))
 }
@@ -373,7 +383,7 @@ fn desk<'a>(alloc: Global) -> Result<Command<'a>, AllocError>
 fn node<'a>(alloc: Global) -> Result<Command<'a>, AllocError>
     ensures { IfOk result (λ command. IsCommand command node_app) }
 {
-    titled(alloc, "node", NODE_ABOUT, NODE_HELP)
+    titled_command(alloc, "node", NODE_ABOUT, NODE_HELP)
         .arg(required_file(alloc, "genesis", "A file of JSON with the genesis"))?
         .arg(required_file(alloc, "keys", "A file of JSON with the keys of the member"))?
         .arg(required_file(
@@ -391,7 +401,7 @@ fn node<'a>(alloc: Global) -> Result<Command<'a>, AllocError>
             alloc,
             "ahead",
             "COUNT",
-            "How many frames are asked for ahead, from 1 to 64",
+            "How many frames are asked for ahead, from 1 to 1024",
         ))?
         .arg(option(
             alloc,
@@ -416,7 +426,7 @@ fn node<'a>(alloc: Global) -> Result<Command<'a>, AllocError>
 fn send<'a>(alloc: Global) -> Result<Command<'a>, AllocError>
     ensures { IfOk result (λ command. IsCommand command send_app) }
 {
-    titled(alloc, "send", SEND_ABOUT, SEND_HELP)
+    titled_command(alloc, "send", SEND_ABOUT, SEND_HELP)
         .arg(lines(alloc))?
         .arg(option(alloc, "data", "FOLDER", "The folder of the node"))?
         .arg(option(alloc, "socket", "PATH", "The socket of the node"))
@@ -426,7 +436,7 @@ fn send<'a>(alloc: Global) -> Result<Command<'a>, AllocError>
 fn exporting<'a>(alloc: Global) -> Result<Command<'a>, AllocError>
     ensures { IfOk result (λ command. IsCommand command export_app) }
 {
-    titled(alloc, "export", EXPORT_ABOUT, EXPORT_HELP)
+    titled_command(alloc, "export", EXPORT_ABOUT, EXPORT_HELP)
         .arg(required_file(alloc, "genesis", "A file of JSON with the genesis"))?
         .arg(required_file(alloc, "keys", "A file of JSON with the keys of the member"))?
         .arg(required_folder(alloc, "data", "The folder in which the member is kept"))
@@ -436,7 +446,7 @@ fn exporting<'a>(alloc: Global) -> Result<Command<'a>, AllocError>
 fn audit<'a>(alloc: Global) -> Result<Command<'a>, AllocError>
     ensures { IfOk result (λ command. IsCommand command audit_app) }
 {
-    titled(alloc, "audit", AUDIT_ABOUT, AUDIT_HELP)
+    titled_command(alloc, "audit", AUDIT_ABOUT, AUDIT_HELP)
         .arg(files(alloc))?
         .arg(option(alloc, "jobs", "COUNT", "How many threads read exports"))?
         .arg(flag(alloc, "all", "Names all that is wrong, by the files"))
@@ -446,7 +456,7 @@ fn audit<'a>(alloc: Global) -> Result<Command<'a>, AllocError>
 fn book<'a>(alloc: Global) -> Result<Command<'a>, AllocError>
     ensures { IfOk result (λ command. IsCommand command book_app) }
 {
-    titled(alloc, "book", BOOK_ABOUT, BOOK_HELP)
+    titled_command(alloc, "book", BOOK_ABOUT, BOOK_HELP)
         .arg(files(alloc))?
         .arg(flag(
             alloc,
@@ -464,7 +474,7 @@ fn book<'a>(alloc: Global) -> Result<Command<'a>, AllocError>
 fn statement<'a>(alloc: Global) -> Result<Command<'a>, AllocError>
     ensures { IfOk result (λ command. IsCommand command statement_app) }
 {
-    titled(alloc, "statement", STATEMENT_ABOUT, STATEMENT_HELP)
+    titled_command(alloc, "statement", STATEMENT_ABOUT, STATEMENT_HELP)
         .arg(export(alloc))?
         .arg(account(alloc))
 }
@@ -473,13 +483,13 @@ fn statement<'a>(alloc: Global) -> Result<Command<'a>, AllocError>
 fn journal<'a>(alloc: Global) -> Result<Command<'a>, AllocError>
     ensures { IfOk result (λ command. IsCommand command journal_app) }
 {
-    titled(alloc, "journal", JOURNAL_ABOUT, JOURNAL_HELP)
+    titled_command(alloc, "journal", JOURNAL_ABOUT, JOURNAL_HELP)
         .arg(export(alloc))?
         .arg(option(alloc, "date", "YYYY-MM-DD", "The date of all transactions"))
 }
 
 /// A command without options, and what its help says.
-fn titled<'a>(alloc: Global, name: &'a str, about: &'a str, help: &'a str) -> Command<'a>
+fn titled_command<'a>(alloc: Global, name: &'a str, about: &'a str, help: &'a str) -> Command<'a>
     ensures { IsCommand result (new_app name.entry.now) }
 {
     Command::new(alloc, name).about(about).after_help(help)

@@ -19,8 +19,8 @@ pub(crate) struct Ledger<B: Settle> {
 
 impl<B: Settle> Model for Ledger<B> {
     ghost use Rattle.pay_book.specs.Book.{Standing};
-    ghost use Rattle.pay_library_tests.specs.Ledger.{IsLedger};
-    ghost use Rattle.pay_library_tests.specs.Lists.{values_of};
+    ghost use Rattle.pay_library_tests.specs.Ledger.{IsPlainLedger};
+    ghost use Rattle.pay_library_tests.specs.Lists.{owner_values};
     ghost use Rattle.std.specs.Prelude.{vec_len};
 
     ghost Value = { Standing };
@@ -28,8 +28,8 @@ impl<B: Settle> Model for Ledger<B> {
     ghost view = { λ ledger. B.shows ledger.book };
 
     ghost invariant = { λ ledger.
-        IsLedger ledger.accounts (vec_len ledger.lists.values)
-        (values_of ledger.lists.values.items) (B.shows ledger.book) };
+        IsPlainLedger ledger.accounts (vec_len ledger.lists.values)
+        (owner_values ledger.lists.values.items) (B.shows ledger.book) };
 }
 
 impl<B: Settle + Drop> Ledger<B> {

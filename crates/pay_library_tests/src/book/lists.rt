@@ -2,7 +2,7 @@
 
 ghost use Rattle.std.specs.Prelude.{◌≡◌, ◌+◌, ◌<◌, ℕ, length, vec_len, IfOk, IsTrue, OnOk, OnErr};
 ghost use Rattle.pay_channel.specs.Source.{GrowsOnly};
-ghost use Rattle.pay_library_tests.specs.Lists.{values_of, AreShort};
+ghost use Rattle.pay_library_tests.specs.Lists.{owner_values, AreShortLists};
 
 use pay_channel::Source;
 use pay_frame::SEQS;
@@ -12,7 +12,7 @@ use std::alloc::{AllocError, Global};
 #[derive(Drop)]
 pub(crate) struct Lists {
     values: Vec<Vec<Vec<u8>>>,
-    ghost short: { AreShort values.items },
+    ghost short: { AreShortLists values.items },
 }
 
 impl Lists {
@@ -20,7 +20,7 @@ impl Lists {
     pub(crate) fn new(alloc: Global, owners: u16) -> Result<Self, AllocError>
         ensures owners { IfOk result (λ lists. vec_len lists.values ≡ owners) }
         ensures empty { IfOk result (λ lists. (owner : ℕ)
-            → length (values_of lists.values.items owner) ≡ 0) }
+            → length (owner_values lists.values.items owner) ≡ 0) }
     {
         let mut values = Vec::new(alloc);
         for _owner in 0..owners {
@@ -32,7 +32,7 @@ impl Lists {
     /// Whether there is such an owner, and its list has room for another value.
     pub(crate) fn has_room(&self, owner: u16) -> bool
         ensures owner { IsTrue result → owner < vec_len self.now.values }
-        ensures room { IsTrue result → length (values_of self.now.values.items owner) < SEQS }
+        ensures room { IsTrue result → length (owner_values self.now.values.items owner) < SEQS }
     {
         match self.values.get(owner as usize) {
             Some(list) => list.len() < SEQS as usize,
@@ -43,12 +43,13 @@ impl Lists {
     /// Appends a value to an owner's list.
     pub(crate) fn append(&mut self, owner: u16, value: Vec<u8>) -> Result<(), AllocError>
         requires owner { owner < vec_len self.old.values }
-        requires room { length (values_of self.old.values.items owner) < SEQS }
+        requires room { length (owner_values self.old.values.items owner) < SEQS }
         ensures owners { vec_len self.new.values ≡ vec_len self.old.values }
         ensures ok { OnOk result
-            (GrowsOnly (values_of self.old.values.items) (values_of self.new.values.items) owner) }
+            (GrowsOnly (owner_values self.old.values.items)
+            (owner_values self.new.values.items) owner) }
         ensures err { OnErr result ((a : ℕ)
-            → values_of self.new.values.items a ≡ values_of self.old.values.items a) }
+            → owner_values self.new.values.items a ≡ owner_values self.old.values.items a) }
     {
         self.values[owner as usize].push(value)?;
         Ok(())
@@ -56,7 +57,7 @@ impl Lists {
 }
 
 impl Source for Lists {
-    ghost lists = { λ lists. values_of lists.values.items };
+    ghost lists = { λ lists. owner_values lists.values.items };
 
     fn length(&self, owner: u16) -> u32 {
         match self.values.get(owner as usize) {

@@ -97,7 +97,7 @@ fn seats_handed_in(
 }
 
 // A node of two seats, whose first one asked.
-fn asked<R: Wait>(rt: &R, alloc: Global) -> Option<(Tried, Vec<Seat>)> {
+fn node_asked_once<R: Wait>(rt: &R, alloc: Global) -> Option<(Tried, Vec<Seat>)> {
     let (node, mut seats) = node_of(alloc, FOUR)?;
     let asks = match seats.first_mut() {
         Some(seat) => meets(rt, alloc, &node, seat, &Step::Ask(&[], Ok(0))),
@@ -112,7 +112,7 @@ fn fault_of<R: Wait>(
     alloc: Global,
     handed: &[(Whose, usize)],
 ) -> Option<Option<CloseFault>> {
-    let (node, mut own) = asked(rt, alloc)?;
+    let (node, mut own) = node_asked_once(rt, alloc)?;
     let seats = seats_handed_in(alloc, handed, &mut own)?;
     Some(fault_at_closing(alloc, node, seats.as_slice()))
 }
@@ -128,7 +128,7 @@ fn seats_agree_or_not(rt: HostRuntime) {
 
 // Closes a node with the seats of another one, if that is refused: the fault, and the node after
 // it.
-fn refused(
+fn refused_close(
     alloc: Global,
     node: Tried,
 ) -> Option<(CloseFault, Stopped<MaskInstance, PlainBook, NoHistory>)> {
@@ -157,8 +157,8 @@ fn started_again<R: Wait>(
     rt: &R,
     alloc: Global,
 ) -> Option<(Option<CloseFault>, Option<CloseFault>)> {
-    let (node, mut seats) = asked(rt, alloc)?;
-    let (fault, stopped) = refused(alloc, node)?;
+    let (node, mut seats) = node_asked_once(rt, alloc)?;
+    let (fault, stopped) = refused_close(alloc, node)?;
     let (asks, again) = asked_again(rt, alloc, stopped.start(), seats.as_mut_slice());
     asks.then_some((Some(fault), again))
 }

@@ -31,7 +31,7 @@ impl Admissions {
     }
 
     // How often, and for whom last.
-    fn told(&self) -> (u64, u64) {
+    fn counts(&self) -> (u64, u64) {
         (
             self.count.load(Ordering::SeqCst),
             self.peer.load(Ordering::SeqCst),
@@ -175,7 +175,7 @@ const ROWS: &[Row] = &[
 ];
 
 // These frames, one after the other.
-fn joined(alloc: Global, frames: &[&[u8]]) -> Option<Vec<u8>> {
+fn join_frames(alloc: Global, frames: &[&[u8]]) -> Option<Vec<u8>> {
     let mut bytes = Vec::new(alloc);
     for frame in frames {
         bytes.extend_from_slice(frame).ok()?;
@@ -197,7 +197,7 @@ fn asks_twice<R: Wait>(rt: &R, alloc: Global, node: &Tried, seat: &mut Seat) -> 
 }
 
 // The number of bytes that a node writes for those that come, and in how many calls.
-fn written<R: Wait>(
+fn write_frames<R: Wait>(
     rt: &R,
     alloc: Global,
     node: &Tried,
@@ -232,11 +232,11 @@ fn came_of<R: Wait>(
     writing: &[(u16, Mutex<Seat>); 2],
     row: &Row,
 ) -> Option<Came> {
-    let frames = joined(alloc, row.frames)?;
+    let frames = join_frames(alloc, row.frames)?;
     let admissions = Admissions::new(row.goes_on);
-    let (bytes, calls) = written(rt, alloc, node, writing, &admissions, frames.as_slice())?;
+    let (bytes, calls) = write_frames(rt, alloc, node, writing, &admissions, frames.as_slice())?;
     Some(Came {
-        admitted: admissions.told(),
+        admitted: admissions.counts(),
         bytes,
         calls,
         receipts: (

@@ -38,7 +38,7 @@ fn feeds<R: Wait>(
 
 // Whether a node that is fed a frame twice asks for the first, and then for the next one twice; and
 // how many receipts its first seat has then.
-fn fed<R: Wait>(rt: &R, alloc: Global, node: &Tried, seats: &mut [Seat]) -> (bool, usize) {
+fn feed_twice<R: Wait>(rt: &R, alloc: Global, node: &Tried, seats: &mut [Seat]) -> (bool, usize) {
     let Some(seat) = seats.first_mut() else {
         return (false, 0);
     };
@@ -51,7 +51,7 @@ fn fed<R: Wait>(rt: &R, alloc: Global, node: &Tried, seats: &mut [Seat]) -> (boo
 // The same of a node that closes with its seats.
 fn fed_and_closed<R: Wait>(rt: &R, alloc: Global) -> Option<(bool, usize)> {
     let (node, mut seats) = node_of(alloc, FOUR)?;
-    let came = fed(rt, alloc, &node, seats.as_mut_slice());
+    let came = feed_twice(rt, alloc, &node, seats.as_mut_slice());
     let closes = fault_at_closing(alloc, node, seats.as_slice()).is_none();
     closes.then_some(came)
 }

@@ -221,7 +221,7 @@ fn run<R: Threads + Wait + Clock + Sync>(
         &dial,
         &told,
         Dials::Usual,
-        Ahead::most(),
+        Ahead::usual(),
         pairs,
     );
     !gate.gave_up.load(Ordering::SeqCst) && told.counts() == (2, 0, 0, 0)

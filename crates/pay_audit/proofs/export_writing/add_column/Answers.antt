@@ -4,7 +4,7 @@ use Rattle.std.proofs.lemmas.Option.{slice_get-get_or}
 use Rattle.serde_json.specs.Written.{comma_if}
 use Rattle.pay_link.specs.Genesis.{GenesisFields}
 use Rattle.pay_audit.specs.Columns.{column_of}
-use Rattle.pay_audit.specs.Exporting.{exported, number_data}
+use Rattle.pay_audit.specs.Exporting.{export_of, number_data}
 use Rattle.pay_audit.specs.Gathering.{Adds, state}
 use Rattle.pay_audit.proofs.ColumnLengths.{length-column_of}
 use Rattle.pay_audit.proofs.Gathering.{adds_next, adds_then}
@@ -15,7 +15,7 @@ pub loop-account-preserved : goal.loop-account-preserved
 loop-account-preserved g c =
     let at = state g.W.Output.contents g.W.Output.failure_count in
     let m = c.args.member.now in
-    let list = column_of (exported m) c.args.column in
+    let list = column_of (export_of m) c.args.column in
     let k = c.loop-account.account in
     let count : length list ≡ m.genesis.members = length-column_of c.book_of_events.ensures.settled m c.args.column c.genesis.ensures.limits in
     let members : c.members-account-end.result ≡ m.genesis.members = c.members-account-end.ensures.value ∙ ap (λ (x : GenesisFields). x.members) c.genesis.ensures.value in
@@ -33,7 +33,7 @@ pub returns : goal.returns
 returns g c =
     let at = state g.W.Output.contents g.W.Output.failure_count in
     let m = c.args.member.now in
-    let list = column_of (exported m) c.args.column in
+    let list = column_of (export_of m) c.args.column in
     let k = c.loop-account.account in
     let count : length list ≡ m.genesis.members = length-column_of c.book_of_events.ensures.settled m c.args.column c.genesis.ensures.limits in
     let members : c.members-account-end.result ≡ m.genesis.members = c.members-account-end.ensures.value ∙ ap (λ (x : GenesisFields). x.members) c.genesis.ensures.value in

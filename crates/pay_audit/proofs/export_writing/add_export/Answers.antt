@@ -1,7 +1,7 @@
 use Rattle.std.proofs.Common.{ap, subst, ◌∙◌}
 use Rattle.pay_link.specs.Genesis.{GenesisFields}
 use Rattle.pay_link.specs.Keys.{KeyFields}
-use Rattle.pay_audit.specs.Exporting.{exported}
+use Rattle.pay_audit.specs.Exporting.{export_of}
 use Rattle.pay_audit.specs.Gathering.{Adds, state}
 use Rattle.pay_audit.proofs.ExportText.{whole}
 use Rattle.pay_audit.proofs.Gathering.{adds_then}
@@ -30,7 +30,7 @@ returns g c =
     let faults = c.from.ensures ∙ c.faults.ensures.value ∙ ap (λ (x : GenesisFields). x.faults) c.genesis-genesis.ensures.value in
     let member = c.from-2.ensures ∙ c.own.ensures.value ∙ ap (λ (x : KeyFields). x.own) c.keys.ensures.value in
     let count = c.from-3.ensures ∙ c.members.ensures.value ∙ ap (λ (x : GenesisFields). x.members) c.genesis-genesis.ensures.value in
-    subst (Adds s0 s15) (whole (exported m) c.from.result c.from-2.result c.from-3.result faults member count)
+    subst (Adds s0 s15) (whole (export_of m) c.from.result c.from-2.result c.from-3.result faults member count)
     (adds_then s0 s1 s15 _ _ c.add.ensures
     (adds_then s1 s2 s15 _ _ c.add_column.ensures
     (adds_then s2 s3 s15 _ _ c.add-2.ensures

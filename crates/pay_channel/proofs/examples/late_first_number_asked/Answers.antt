@@ -1,9 +1,9 @@
 use Rattle.std.proofs.Common.{◌≢◌, ℕ, ◌<◌, List, All, refl, arith}
 use Rattle.std.proofs.lemmas.List.Elements.{All-from_recursion}
 use Rattle.pay_frame.specs.declared.kind.Kind.TheVariants.{Send, Ready}
-use Rattle.pay_echo.specs.Broadcast.{value_of, sent, echoed_by, readied_by, first_known, size, is_for, echoed, echo_of, echo_set, other_ready_of, other_ready_set, may_ready, readied, ready_of, ready_set, may_deliver, delivered}
+use Rattle.pay_echo.specs.Broadcast.{value_of, value_if_send, echoed_by, readied_by, first_known, size, is_for, echoed, echo_of, echo_set, other_ready_of, other_ready_set, may_ready, readied, ready_of, ready_set, may_deliver, delivered}
 use Rattle.pay_channel.specs.History.{IsEvent, body_of, From, asks, votes_in, votes, says, out}
-use Rattle.pay_channel.specs.Asked.{asked}
+use Rattle.pay_channel.specs.Asked.{asked_values}
 use Rattle.pay_channel.specs.Examples.{four, late_first_number, X, Y}
 use Rattle.pay_channel.proofs.examples.late_first_number_asked.Goals as goal
 
@@ -23,5 +23,5 @@ events =
     All-from_recursion (IsEvent four) late_first_number (first, (second, (third, (fourth, (send, (omega arith, tt))))))
 
 pub returns : goal.returns
-unfolding value_of sent echoed_by readied_by first_known size is_for echoed echo_of echo_set other_ready_of other_ready_set may_ready readied ready_of ready_set may_deliver delivered asks votes_in votes says out asked
+unfolding value_of value_if_send echoed_by readied_by first_known size is_for echoed echo_of echo_set other_ready_of other_ready_set may_ready readied ready_of ready_set may_deliver delivered asks votes_in votes says out asked_values
 returns c = record { events = events; asked = refl; sends = refl; echo = refl; again = refl; numbered = refl; forged = refl }

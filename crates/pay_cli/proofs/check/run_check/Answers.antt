@@ -16,11 +16,11 @@ returns-in_err-progress-clause-text g c =
     let memory : c.from_residual.result ≡ Err Memory = search rules in
     rw memory (at_start k, nothing_written k (c.every_text.ensures.law k) (g.R.Input.remaining c.args.reader.now) (g.W.Output.contents c.args.writer.now))
 
-pub handle_stream-requires : goal.handle_stream-requires
-handle_stream-requires g c =
+pub judge_with-requires-clause-room : goal.judge_with-requires-clause-room
+judge_with-requires-clause-room g c κs within n few =
     let k = c.args.keys.now in
     let start : c.new-shared.result ≡ at_start k = c.new-shared.ensures ∙ c.in_ok-progress.ensures.start ∙ ap (λ (n : ℕ). let p : Progress = record { fronts = replicate n 0; line = 1 } in p) (c.members.ensures.value ∙ sym c.requires.keys) in
-    record { room = λ n few. (subst (λ (p : Progress). HasRoom k p n) (sym start) (room_at_start k n few), λ frames whole before. (search rules, λ r post. search rules)) }
+    subst (λ (p : Progress). HasRoom k p n) (sym start) (room_at_start k n few)
 
 pub returns-clause-text : goal.returns-clause-text
 returns-clause-text g c =
@@ -29,5 +29,5 @@ returns-clause-text g c =
     let contents = g.W.Output.contents in
     let from : Progress → Start Progress = λ p. record { first = []; state = p; input = remaining c.args.reader.now; before = contents c.args.writer.now } in
     let start : c.new-shared.result ≡ at_start k = c.new-shared.ensures ∙ c.in_ok-progress.ensures.start ∙ ap (λ (n : ℕ). let p : Progress = record { fronts = replicate n 0; line = 1 } in p) (c.members.ensures.value ∙ sym c.requires.keys) in
-    let text = c.exact_text.ensures.text (checking k) _ _ _ _ _ c.handle_stream.ensures.handled in
-    (c.handle_stream.new.state, subst (λ (p : Progress). EngineWrites (checking k) (from p) c.handle_stream.new.state (remaining c.handle_stream.new.reader) (contents c.handle_stream.new.writer) c.handle_stream.result) start text)
+    let text = c.exact_text.ensures.text (checking k) _ _ _ _ _ c.judge_with.ensures.handled in
+    (c.judge_with.new.shared, subst (λ (p : Progress). EngineWrites (checking k) (from p) c.judge_with.new.shared (remaining c.judge_with.new.reader) (contents c.judge_with.new.writer) c.judge_with.result) start text)

@@ -10,7 +10,7 @@ pub returns-in-Ok-clause-words : goal.returns-in-Ok-clause-words
 returns-in-Ok-clause-words g c =
     let f = fields_of c.args.frame in
     let judged : judgement c.args.keys.now f ≡ Ok c.in-Ok.opened = sym c.in-Ok.ensures in
-    let told = (c.opened.ensures c.args.keys.now f c.in-Ok.opened).0 judged in
+    let told = (c.judgement_opens.ensures c.args.keys.now f c.in-Ok.opened).0 judged in
     let same : fields_of c.frame.result.now ≡ f = c.frame.ensures.value ∙ ap (λ (o : OpenedFields). o.frame) told.1 in
     rw judged (subst (λ (h : FrameFields). OnOk c.push_opened_words.result (c.push_opened_words.new.words.items ≡ c.args.words.now.items ++ opened_words h h.body.kind)) same c.push_opened_words.ensures.words)
 
@@ -18,6 +18,6 @@ pub returns-in-Ok-clause-turn : goal.returns-in-Ok-clause-turn
 returns-in-Ok-clause-turn g c =
     let f = fields_of c.args.frame in
     let judged : judgement c.args.keys.now f ≡ Ok c.in-Ok.opened = sym c.in-Ok.ensures in
-    let told = (c.opened.ensures c.args.keys.now f c.in-Ok.opened).0 judged in
+    let told = (c.judgement_opens.ensures c.args.keys.now f c.in-Ok.opened).0 judged in
     let same : fields_of c.frame.result.now ≡ f = c.frame.ensures.value ∙ ap (λ (o : OpenedFields). o.frame) told.1 in
     rw judged (subst (λ (h : FrameFields). IfOk c.push_opened_words.result (λ turn. turn ≡ opened_turn h h.body.kind)) same c.push_opened_words.ensures.turn)

@@ -28,16 +28,16 @@ loop-finding-init c =
     }
 
 pub split_at-requires : goal.split_at-requires
-split_at-requires c = (line_fits c.opened.ensures c.loop-finding.progress c.loop-finding.findings.now c.in-Some.finding.now c.in-Some.others.now c.loop-finding.words.now c.loop-finding.invariant.room c.in-Some.ensures.cases.0).fits
+split_at-requires c = (line_fits c.judgement_opens.ensures c.loop-finding.progress c.loop-finding.findings.now c.in-Some.finding.now c.in-Some.others.now c.loop-finding.words.now c.loop-finding.invariant.room c.in-Some.ensures.cases.0).fits
 
 pub push_finding-requires-clause-known : goal.push_finding-requires-clause-known
-push_finding-requires-clause-known c = (line_fits c.opened.ensures c.loop-finding.progress c.loop-finding.findings.now c.in-Some.finding.now c.in-Some.others.now c.loop-finding.words.now c.loop-finding.invariant.room c.in-Some.ensures.cases.0).known
+push_finding-requires-clause-known c = (line_fits c.judgement_opens.ensures c.loop-finding.progress c.loop-finding.findings.now c.in-Some.finding.now c.in-Some.others.now c.loop-finding.words.now c.loop-finding.invariant.room c.in-Some.ensures.cases.0).known
 
 pub push_finding-requires-clause-room : goal.push_finding-requires-clause-room
-push_finding-requires-clause-room c = (line_fits c.opened.ensures c.loop-finding.progress c.loop-finding.findings.now c.in-Some.finding.now c.in-Some.others.now c.loop-finding.words.now c.loop-finding.invariant.room c.in-Some.ensures.cases.0).below
+push_finding-requires-clause-room c = (line_fits c.judgement_opens.ensures c.loop-finding.progress c.loop-finding.findings.now c.in-Some.finding.now c.in-Some.others.now c.loop-finding.words.now c.loop-finding.invariant.room c.in-Some.ensures.cases.0).below
 
 pub push_finding-requires-clause-line : goal.push_finding-requires-clause-line
-push_finding-requires-clause-line c = (line_fits c.opened.ensures c.loop-finding.progress c.loop-finding.findings.now c.in-Some.finding.now c.in-Some.others.now c.loop-finding.words.now c.loop-finding.invariant.room c.in-Some.ensures.cases.0).line
+push_finding-requires-clause-line c = (line_fits c.judgement_opens.ensures c.loop-finding.progress c.loop-finding.findings.now c.in-Some.finding.now c.in-Some.others.now c.loop-finding.words.now c.loop-finding.invariant.room c.in-Some.ensures.cases.0).line
 
 pub returns-in_err-push_finding : goal.returns-in_err-push_finding
 returns-in_err-push_finding c =

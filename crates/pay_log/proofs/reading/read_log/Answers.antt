@@ -1,7 +1,7 @@
 use Rattle.std.proofs.Common.{◌≡◌, ◌+◌, ℕ, List, drop, sym, ◌∙◌, subst, rules, true}
 use Rattle.std.specs.Prelude.{◌↔◌, IsTrue}
 use Rattle.std.proofs.lemmas.Bool.{false≢true}
-use Rattle.pay_log.specs.Damage.{HasChunkBehind, IsDamaged}
+use Rattle.pay_log.specs.Damage.{HasChunkAfter, IsDamaged}
 use Rattle.pay_log.specs.Headers.{header_bytes}
 use Rattle.pay_log.specs.Recovery.{HasRead}
 use Rattle.pay_log.proofs.Headed.{header_length}
@@ -23,10 +23,10 @@ returns-then-branch-clause-damaged g c count said known =
     same_1.seen_same (c.in_ok-len.ensures.read same_1.known) in
     let at = found g.S.Sink.takes key header file c.args.sink.now c.read_chunks.new.sink 75 len c.in_ok-len.field-0.count
     (header_length c.args.header.now (search rules) (search rules)) (c.in_ok-judge_header.ensures.same known) read in
-    let P : List ℕ → Type 0 = λ l. IsTrue c.in_ok-has_more.field-0 ↔ HasChunkBehind key len (drop (75 + len) l) in
-    let more : IsTrue c.in_ok-has_more.field-0 ↔ HasChunkBehind key len (drop (75 + len) file) =
+    let P : List ℕ → Type 0 = λ l. IsTrue c.in_ok-has_more.field-0 ↔ HasChunkAfter key len (drop (75 + len) l) in
+    let more : IsTrue c.in_ok-has_more.field-0 ↔ HasChunkAfter key len (drop (75 + len) file) =
     subst P (same_2.seen_same ∙ same_1.seen_same) (c.in_ok-has_more.ensures.value same_2.known) in
-    let here : HasChunkBehind key len (drop (75 + len) file) = more.0 (subst IsTrue (sym c.if-branch.true) truth) in
+    let here : HasChunkAfter key len (drop (75 + len) file) = more.0 (subst IsTrue (sym c.if-branch.true) truth) in
     let number : c.in_ok-len.field-0.count ≡ count = search (rules, said) in
     subst (λ (k : ℕ). IsDamaged key header file k) number
     (found_damaged g.S.Sink.takes key header file c.args.sink.now c.read_chunks.new.sink 75 len c.in_ok-len.field-0.count at here)
@@ -43,8 +43,8 @@ returns-clause-read g c known =
     same_1.seen_same (c.in_ok-len.ensures.read same_1.known) in
     let at = found g.S.Sink.takes key header file c.args.sink.now c.read_chunks.new.sink 75 len c.in_ok-len.field-0.count
     (header_length c.args.header.now (search rules) (search rules)) (c.in_ok-judge_header.ensures.same known) read in
-    let P : List ℕ → Type 0 = λ l. IsTrue c.in_ok-has_more.field-0 ↔ HasChunkBehind key len (drop (75 + len) l) in
-    let more : IsTrue c.in_ok-has_more.field-0 ↔ HasChunkBehind key len (drop (75 + len) file) =
+    let P : List ℕ → Type 0 = λ l. IsTrue c.in_ok-has_more.field-0 ↔ HasChunkAfter key len (drop (75 + len) l) in
+    let more : IsTrue c.in_ok-has_more.field-0 ↔ HasChunkAfter key len (drop (75 + len) file) =
     subst P (same_2.seen_same ∙ same_1.seen_same) (c.in_ok-has_more.ensures.value same_2.known) in
     found_sound g.S.Sink.takes key header file c.args.sink.now c.read_chunks.new.sink len c.in_ok-len.field-0.count at
     (λ has. false≢true (subst IsTrue c.if-branch.false (more.1 has)))

@@ -23,8 +23,8 @@ pub returns-in-Want-clause-peer : goal.returns-in-Want-clause-peer
 returns-in-Want-clause-peer g c =
     let k = c.args.keys.now in
     let f = fields_of c.args.frame in
-    let from = c.from.ensures.value ∙ ap (λ (x : FrameFields). x.from) (c.frame-frame.ensures.value ∙ opened_frame c.opened.ensures k f c.in_ok-opened.opened c.in_ok-opened.ensures) in
-    (subst (IsPeer k) (sym from) (opened_from_peer c.opened.ensures k f c.in_ok-opened.opened c.in_ok-opened.ensures), from)
+    let from = c.from.ensures.value ∙ ap (λ (x : FrameFields). x.from) (c.frame-frame.ensures.value ∙ opened_frame c.judgement_opens.ensures k f c.in_ok-opened.opened c.in_ok-opened.ensures) in
+    (subst (IsPeer k) (sym from) (opened_from_peer c.judgement_opens.ensures k f c.in_ok-opened.opened c.in_ok-opened.ensures), from)
 
 pub returns-in-Send : goal.returns-in-Send
 returns-in-Send g c =
@@ -35,5 +35,5 @@ returns-in-Send g c =
     let other = ap is_want (sym kind) ∙ no_want c.kind.result c.in-Send.is in
     record {
       incoming = frame_opened k f o c.in_ok-opened.ensures other;
-      peer = (opened_from_peer c.opened.ensures k f o c.in_ok-opened.ensures, opened_frame c.opened.ensures k f o c.in_ok-opened.ensures, wants_not o.frame.body.kind other);
+      peer = (opened_from_peer c.judgement_opens.ensures k f o c.in_ok-opened.ensures, opened_frame c.judgement_opens.ensures k f o c.in_ok-opened.ensures, wants_not o.frame.body.kind other);
     }

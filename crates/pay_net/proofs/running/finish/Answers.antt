@@ -7,13 +7,13 @@ use Rattle.pay_net.proofs.running.finish.Goals as goal
 pub returns-in-Ok-clause-ended : goal.returns-in-Ok-clause-ended
 returns-in-Ok-clause-ended g c start ports input left before after given =
     subst (λ r. HasEnded c.args.node start ports input left before after (as_fault r)) c.in-Ok.is
-    (c.closed.ensures start ports input left before after
+    (c.close_stopped.ensures start ports input left before after
     (subst (λ (s : List SeatFields). HasRun c.args.node start s input left before after) (sym c.as_slice.ensures.value)
     (well _ _ _ _ c.in_ok-seats.was given)))
 
 pub returns-clause-ended : goal.returns-clause-ended
 returns-clause-ended g c start ports input left before after given =
     subst (λ r. HasEnded c.args.node start ports input left before after (as_fault r)) c.in-Err.is
-    (c.closed.ensures start ports input left before after
+    (c.close_stopped.ensures start ports input left before after
     (subst (λ (s : List SeatFields). HasRun c.args.node start s input left before after) (sym c.as_slice.ensures.value)
     (well _ _ _ _ c.in_ok-seats.was given)))

@@ -1,5 +1,5 @@
 use Rattle.std.proofs.Common.{◌≡◌, ℕ, ◌<◌, arith, drop, ap, ◌∙◌}
-use Rattle.pay_node.specs.Closing.{IsKept}
+use Rattle.pay_node.specs.Closing.{HasConsistentSeat}
 use Rattle.pay_node.proofs.Verdicts.{verdict}
 use Rattle.pay_node.proofs.closing.least_wrong.Goals as goal
 
@@ -7,5 +7,5 @@ pub returns : goal.returns
 returns g c =
     let stop = c.loop-stamp-test.false in
     let at : c.entries_since-since.result.now ≡ drop c.args.base c.args.member.now.history = c.entries_since-since.ensures ∙ ap (drop c.args.base) c.history.ensures.value in
-    let kept : (lower : ℕ) → lower < c.args.count → IsKept c.args.member.now c.args.base lower c.args.seats.now = λ lower below. c.loop-stamp.invariant lower (omega arith) in
-    verdict (λ s. IsKept c.args.member.now c.args.base s c.args.seats.now) c.args.member.now c.args.base c.args.count c.args.seats.now c.entries_since-since.result.now c.least_of_seats-of_seats.result c.least_of_entries.result kept c.least_of_seats-of_seats.ensures at c.least_of_entries.ensures
+    let kept : (lower : ℕ) → lower < c.args.count → HasConsistentSeat c.args.member.now c.args.base lower c.args.seats.now = λ lower below. c.loop-stamp.invariant lower (omega arith) in
+    verdict (λ s. HasConsistentSeat c.args.member.now c.args.base s c.args.seats.now) c.args.member.now c.args.base c.args.count c.args.seats.now c.entries_since-since.result.now c.least_of_seats-of_seats.result c.least_of_entries.result kept c.least_of_seats-of_seats.ensures at c.least_of_entries.ensures

@@ -1,7 +1,7 @@
 use Rattle.std.proofs.Common.{◌≡◌, ◌≤◌, false, refl, subst, rules}
 use Rattle.std.specs.List.{All, AllPairs}
 use Rattle.pay_node.specs.declared.receipt.Receipt.{Receipt}
-use Rattle.pay_node.specs.Judging.{EachBorneOut}
+use Rattle.pay_node.specs.Judging.{EachConsistent}
 use Rattle.pay_node.specs.Receipts.{entries_after}
 use Rattle.pay_node.specs.Seats.{HasItsEntries, Right}
 use Rattle.pay_node.proofs.Judged.{judged_so, judged_there, known_right, not_counted}
@@ -18,13 +18,13 @@ returns-then-are_in_order g c =
     let rs = c.receipts-receipts.ensures in
     let since = subst (All (λ (r : Receipt). c.args.base ≤ r.seen)) rs (c.are_in_order.ensures.since (search rules)) in
     let ordered = subst (AllPairs (λ (r later : Receipt). entries_after r ≤ later.seen)) rs (c.are_in_order.ensures.ordered (search rules)) in
-    let known : EachBorneOut c.args.member.now c.args.seat.now = c.requires.known (search rules) in
+    let known : EachConsistent c.args.member.now c.args.seat.now = c.requires.known (search rules) in
     let right : Right c.args.member.now c.args.base c.args.seat.now = known_right _ _ _ its (λ k d within. (since k d within, known k d within)) ordered in
     ((λ _. right), (λ _. refl))
 
 pub returns : goal.returns
 returns g c =
     let its : HasItsEntries c.args.member.now c.args.base c.args.seat.now = search rules in
-    judged_so c.args.member.now c.args.base c.args.seat.now c.are_borne_out.result its
-    (judged_there c.args.member.now c.in_ok-fresh.fresh c.replay_to.new.member c.args.base c.history-history.result.now c.args.seat.now c.stamp-stamp.result c.receipts-receipts.result.now c.are_borne_out.result
-    c.in_ok-fresh.ensures (search rules) (search rules) c.history-history.ensures.value c.stamp-stamp.ensures c.receipts-receipts.ensures c.are_borne_out.ensures)
+    judged_so c.args.member.now c.args.base c.args.seat.now c.are_consistent.result its
+    (judged_there c.args.member.now c.in_ok-fresh.fresh c.replay_to.new.member c.args.base c.history-history.result.now c.args.seat.now c.stamp-stamp.result c.receipts-receipts.result.now c.are_consistent.result
+    c.in_ok-fresh.ensures (search rules) (search rules) c.history-history.ensures.value c.stamp-stamp.ensures c.receipts-receipts.ensures c.are_consistent.ensures)

@@ -1,7 +1,7 @@
 use Rattle.std.proofs.Common.{◌≡◌, length}
-use Rattle.pay_node.specs.Judging.{CountedBorneOut}
+use Rattle.pay_node.specs.Judging.{CountedConsistent}
 use Rattle.pay_node.proofs.once.count_here.Given as goal
 
 abbrev pub invariant-loop-k : goal.invariant-loop-k
 invariant-loop-k g l =
-    CountedBorneOut (record l.fn.member { history = l.history }) l.seats l.counts × (length l.counts ≡ length l.seats) × (l.member ≡ l.fn.member)
+    CountedConsistent (record l.fn.member { history = l.history }) l.seats l.counts × (length l.counts ≡ length l.seats) × (l.member ≡ l.fn.member)

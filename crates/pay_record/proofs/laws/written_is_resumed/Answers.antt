@@ -6,7 +6,7 @@ use Rattle.pay_link.specs.Keys.{KeyFields}
 use Rattle.pay_log.specs.Laws.{OneReading}
 use Rattle.pay_log.specs.Logs.{IsLog, IsStray, IsWithOrWithout}
 use Rattle.pay_member.specs.Member.{MemberFields}
-use Rattle.pay_resume.specs.Resuming.{IsOfRecords, LoggedFields, entries_of, ids_of}
+use Rattle.pay_resume.specs.Resuming.{IsOfRecords, LoggedFields, entries_of_logged, ids_of}
 use Rattle.pay_record.specs.Laws.{OneList}
 use Rattle.pay_record.specs.Loggable.{IsLoggable}
 use Rattle.pay_record.specs.Records.{record_of}
@@ -23,7 +23,7 @@ same_entries :
 same_entries law k m ids qs logged loggable found is =
     let same : found.logged ≡ logged = law k found.logged logged found.loggable loggable (found.records ∙ sym is) in
     record {
-      history = found.history ∙ ap (λ (l : List LoggedFields). entries_of l) same;
+      history = found.history ∙ ap (λ (l : List LoggedFields). entries_of_logged l) same;
       ids_are = found.ids_are ∙ ap (λ (l : List LoggedFields). ids_of l) same;
     }
 

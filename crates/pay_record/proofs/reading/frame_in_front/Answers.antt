@@ -27,7 +27,7 @@ returns-then-is_want g c =
 pub own-requires : goal.own-requires
 own-requires g c want =
     let f : FrameFields = fields_of c.in-Some.frame in
-    let same = (c.opened.ensures c.args.keys.now f c.in-Ok.opened).0 (sym c.open.ensures ∙ c.in-Ok.is) in
+    let same = (c.judgement_opens.ensures c.args.keys.now f c.in-Ok.opened).0 (sym c.open.ensures ∙ c.in-Ok.is) in
     not_true c.is_want.result (c.is_want.ensures.1 (c.kind.ensures.value ∙ ap (λ (o : OpenedFields). o.frame.body.kind) (sym same.1) ∙ want)) c.if-is_want.false
 
 pub returns-in_ok-own-in-Ok : goal.returns-in_ok-own-in-Ok
@@ -35,8 +35,8 @@ returns-in_ok-own-in-Ok g c =
     let f : FrameFields = fields_of c.in-Some.frame in
     let has = c.in-Some.ensures.some.0 in
     let judged = sym c.open.ensures ∙ c.in-Ok.is in
-    let same = ((c.opened.ensures c.args.keys.now f c.in-Ok.opened).0 judged).1 in
-    let kept = c.owned.ensures.kept c.args.keys.now f c.in-Ok.opened has.is (λ want. not_true c.is_want.result (c.is_want.ensures.1 (c.kind.ensures.value ∙ want)) c.if-is_want.false) judged in (
+    let same = ((c.judgement_opens.ensures c.args.keys.now f c.in-Ok.opened).0 judged).1 in
+    let kept = c.owned_opens_again.ensures.kept c.args.keys.now f c.in-Ok.opened has.is (λ want. not_true c.is_want.result (c.is_want.ensures.1 (c.kind.ensures.value ∙ want)) c.if-is_want.false) judged in (
       subst (λ (x : CheckedFields). FrameStandsIn c.args.keys.now c.args.bytes.now x) (sym c.in_ok-own-in-Ok.ensures)
           (opened_stands c.args.keys.now c.args.bytes.now f c.in-Ok.opened has same kept),
       c.in-Some.ensures.some.1
@@ -46,5 +46,5 @@ returns-in_ok-own-in-Ok g c =
 
 pub returns-in-Err : goal.returns-in-Err
 returns-in-Err g c =
-    no_opening c.one_front.ensures.law c.owned.ensures.opens_again c.args.keys.now c.args.bytes.now (fields_of c.in-Some.frame) c.in-Err.field-0
+    no_opening c.one_front.ensures.law c.owned_opens_again.ensures.opens_again c.args.keys.now c.args.bytes.now (fields_of c.in-Some.frame) c.in-Err.field-0
     c.in-Some.ensures.some.0 (sym c.open.ensures ∙ c.in-Err.is)

@@ -2,12 +2,12 @@ use Rattle.std.proofs.Common.{◌∙◌, sym, slice_index}
 use Rattle.std.proofs.lemmas.List.{append-nil}
 use Rattle.pay_member.specs.Events.{events}
 use Rattle.pay_member.specs.Book.{book_after}
-use Rattle.pay_sim.specs.Words.{account_words}
+use Rattle.pay_sim.specs.Words.{account_number_words}
 use Rattle.pay_sim.proofs.Accounts.{words_more}
 use Rattle.pay_sim.proofs.book_words.push_fronts.Goals as goal
 
 pub loop-account-init : goal.loop-account-init
-unfolding account_words
+unfolding account_number_words
 loop-account-init g c = sym (append-nil c.args.out.now.items)
 
 pub loop-account-preserved : goal.loop-account-preserved

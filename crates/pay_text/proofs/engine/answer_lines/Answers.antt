@@ -1,5 +1,5 @@
 use Rattle.std.proofs.Common.{◌≡◌, ◌+◌, ◌∷◌, ◌++◌, ℕ, List, [], Option, Some, Ok, Err, true, false, rules, subst, sym, ap, ◌∙◌, drop, get_or}
-use Rattle.pay_text.specs.Cutting.{Begun, grown, lines_after}
+use Rattle.pay_text.specs.Cutting.{Begun, line_with_byte, lines_after}
 use Rattle.pay_text.specs.Outbox.{PutWent, GoesPut}
 use Rattle.pay_text.proofs.Waiting.{put_further}
 use Rattle.pay_text.proofs.Following.{at_feed, at_other, other_byte}
@@ -39,7 +39,7 @@ loop-byte-preserved g c = elim c.if-byte-ne10.branch [
       let i = c.loop-byte.byte-index in
       let begun = c.loop-byte.cutter.line in
       let b = get_or piece i 0 in
-      let line : c.if-byte-ne10.cutter.line ≡ grown bound begun b = ap (λ (s : Begun). s.line) (w.cutter-is ∙ w.push.ensures) ∙ ap (λ (n : ℕ). grown n begun b) c.loop-byte.invariant.bound in
+      let line : c.if-byte-ne10.cutter.line ≡ line_with_byte bound begun b = ap (λ (s : Begun). s.line) (w.cutter-is ∙ w.push.ensures) ∙ ap (λ (n : ℕ). line_with_byte n begun b) c.loop-byte.invariant.bound in
       record {
         went = λ more.
             let next : lines_after bound begun (drop i piece ++ more) ≡ lines_after bound c.if-byte-ne10.cutter.line (drop (i + 1) piece ++ more) =

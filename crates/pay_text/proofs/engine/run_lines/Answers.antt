@@ -3,7 +3,7 @@ use Rattle.std.proofs.lemmas.Grind.{common_steps}
 use Rattle.pay_io.specs.declared.stream_fault.StreamFault.{StreamFault}
 use Rattle.pay_io.specs.declared.stream_fault.StreamFault.TheVariants.{Memory}
 use Rattle.pay_text.specs.Cutting.{Begun}
-use Rattle.pay_text.specs.Engine.{IsGoing, Writes}
+use Rattle.pay_text.specs.Engine.{IsGoing, WritesByEnd}
 use Rattle.pay_text.proofs.Rounds.{going_at_start, broken}
 use Rattle.pay_text.proofs.engine.run_lines.Goals as goal
 
@@ -35,7 +35,7 @@ returns-in_err-at_end-clause-text g c =
     let e : StreamFault = c.in_err-at_end.field-0.0 in
     let same : c.from_residual-in_err-at_end.result ≡ Err e = search rules in
     let going = subst (λ (n : ℕ). IsGoing says n c.loop.cutter.line c.args.answerer.now c.loop.answerer (remaining c.args.reader.now) (remaining c.loop.reader) (contents c.args.writer.now) (contents c.loop.writer) c.loop.counter) (sym c.loop.invariant.bound) c.loop.invariant.going in
-    rw same (subst (λ (n : ℕ). Writes says gives_up n c.args.answerer.now c.read_once.new.answerer (remaining c.args.reader.now) (remaining c.read_once.new.reader) (contents c.args.writer.now) (contents c.read_once.new.writer) (Err e)) c.loop.invariant.bound
+    rw same (subst (λ (n : ℕ). WritesByEnd says gives_up n c.args.answerer.now c.read_once.new.answerer (remaining c.args.reader.now) (remaining c.read_once.new.reader) (contents c.args.writer.now) (contents c.read_once.new.writer) (Err e)) c.loop.invariant.bound
     (c.in_err-at_end.ensures.reads c.args.answerer.now (remaining c.args.reader.now) (contents c.args.writer.now) c.loop.counter going))
 
 pub returns-in-Some-clause-text : goal.returns-in-Some-clause-text
@@ -45,10 +45,10 @@ returns-in-Some-clause-text g c =
     let remaining = g.R.Input.remaining in
     let contents = g.W.Output.contents in
     let going = subst (λ (n : ℕ). IsGoing says n c.loop.cutter.line c.args.answerer.now c.loop.answerer (remaining c.args.reader.now) (remaining c.loop.reader) (contents c.args.writer.now) (contents c.loop.writer) c.loop.counter) (sym c.loop.invariant.bound) c.loop.invariant.going in
-    let told : Writes says gives_up c.loop.cutter.bound c.args.answerer.now c.read_once.new.answerer (remaining c.args.reader.now) (remaining c.read_once.new.reader) (contents c.args.writer.now) (contents c.read_once.new.writer) (Ok c.in-Some.at_end) =
+    let told : WritesByEnd says gives_up c.loop.cutter.bound c.args.answerer.now c.read_once.new.answerer (remaining c.args.reader.now) (remaining c.read_once.new.reader) (contents c.args.writer.now) (contents c.read_once.new.writer) (Ok c.in-Some.at_end) =
     rw c.in-Some.is at c.in_ok-at_end.ensures.reads c.args.answerer.now (remaining c.args.reader.now) (contents c.args.writer.now) c.loop.counter going
     in
-    subst (λ (n : ℕ). Writes says gives_up n c.args.answerer.now c.read_once.new.answerer (remaining c.args.reader.now) (remaining c.read_once.new.reader) (contents c.args.writer.now) (contents c.read_once.new.writer) (Ok c.in-Some.at_end)) c.loop.invariant.bound told
+    subst (λ (n : ℕ). WritesByEnd says gives_up n c.args.answerer.now c.read_once.new.answerer (remaining c.args.reader.now) (remaining c.read_once.new.reader) (contents c.args.writer.now) (contents c.read_once.new.writer) (Ok c.in-Some.at_end)) c.loop.invariant.bound told
 
 pub returns-clause-text : goal.returns-clause-text
 returns-clause-text g c = broken g.A.Answerer.says g.A.Answerer.gives_up c.args.bound c.loop.cutter.line c.args.answerer.now c.loop.answerer _ _ _ _ c.loop.counter c.loop.invariant.going

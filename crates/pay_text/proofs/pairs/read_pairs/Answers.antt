@@ -1,6 +1,6 @@
 use Rattle.std.proofs.Common.{◌≡◌, ◌∙◌, ◌<◌, ◌++◌, ◌∷◌, [], ℕ, List, length, sym, subst, arith, rules}
 use Rattle.std.specs.Prelude.{option_map}
-use Rattle.pay_text.specs.Pairs.{pairs_of}
+use Rattle.pay_text.specs.Pairs.{pairs_of_words}
 use Rattle.pay_text.proofs.Pairing.{at_end, fewer, no_pair, none_within, read_on, some_within, too_many}
 use Rattle.pay_text.proofs.pairs.read_pairs.Goals as goal
 
@@ -19,9 +19,9 @@ loop-words-preserved c = record {
   all =
       let all = c.args.words.now in
       let more : List (ℕ × ℕ) = c.loop-words.pairs.items ++ c.in-Some.pair ∷ [] in
-      subst (λ (items : List (ℕ × ℕ)). pairs_of all ≡ option_map (λ rest. items ++ rest) (pairs_of c.next_pair.new.words))
+      subst (λ (items : List (ℕ × ℕ)). pairs_of_words all ≡ option_map (λ rest. items ++ rest) (pairs_of_words c.next_pair.new.words))
       (sym c.in_ok-push.ensures.items)
-      (subst (λ (words : List (List ℕ)). pairs_of all ≡ option_map (λ rest. more ++ rest) (pairs_of words))
+      (subst (λ (words : List (List ℕ)). pairs_of_words all ≡ option_map (λ rest. more ++ rest) (pairs_of_words words))
       (sym c.next_pair.ensures.rest)
       (read_on all c.loop-words.words c.loop-words.pairs.items c.in-Some.pair c.loop-words.invariant.all
       (sym c.next_pair.ensures.pair ∙ c.in-Some.is)));

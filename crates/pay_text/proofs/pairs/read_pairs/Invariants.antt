@@ -1,13 +1,13 @@
 use Rattle.std.proofs.Common.{◌≡◌, ◌≤◌, ◌++◌, length}
 use Rattle.std.specs.Prelude.{option_map}
-use Rattle.pay_text.specs.Pairs.{pairs_of}
+use Rattle.pay_text.specs.Pairs.{pairs_of_words}
 use Rattle.pay_text.proofs.pairs.read_pairs.Given as goal
 
 -- with the pairs of the words to come they are those of all words
 abbrev pub invariant-loop-words : goal.invariant-loop-words
 invariant-loop-words l =
     record {
-      all : pairs_of l.fn.words ≡ option_map (λ more. l.pairs.items ++ more) (pairs_of l.words);
+      all : pairs_of_words l.fn.words ≡ option_map (λ more. l.pairs.items ++ more) (pairs_of_words l.words);
       few : length l.pairs.items ≤ l.most;
     }
 

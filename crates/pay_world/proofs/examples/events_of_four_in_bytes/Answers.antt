@@ -4,7 +4,7 @@ use Rattle.pay_frame.specs.declared.kind.Kind.TheVariants.{Send, Want}
 use Rattle.pay_frame.specs.Frame.{FrameFields, IsFrame, frame_bytes}
 use Rattle.pay_frame.specs.OneFrame.{IsOneFrame}
 use Rattle.pay_channel.specs.History.{Ask, From, asks, body_of}
-use Rattle.pay_channel.specs.Taken.{taken}
+use Rattle.pay_channel.specs.Taken.{taken_bodies}
 use Rattle.pay_hmac.specs.Mac.{mac}
 use Rattle.pay_link.specs.Keys.{key_for}
 use Rattle.pay_link.specs.Opening.{Opens}
@@ -13,7 +13,7 @@ use Rattle.pay_link.specs.TestKeys.{test_keys_of}
 use Rattle.pay_member.specs.Bringing.{opened_in}
 use Rattle.pay_member.specs.Laws.{OpenedIn}
 use Rattle.pay_world.specs.Answer.{brought_to}
-use Rattle.pay_world.specs.Deeds.{Deed, Asks, history_by}
+use Rattle.pay_world.specs.Actions.{Action, Asks, history_by}
 use Rattle.pay_world.specs.Examples.{A, B, liar_of_four, sealed_send}
 use Rattle.pay_world.specs.Liars.{setting_of}
 use Rattle.pay_world.specs.Run.{events_of}
@@ -45,10 +45,10 @@ send_opens opened long shared =
     (opened (test_keys_of 4 1) (frame_bytes sealed_send) sealed_send).1 (one, opens, send_no_want)
 
 pub returns-clause-taken : goal.returns-clause-taken
-unfolding asks taken history_by
+unfolding asks taken_bodies history_by
 returns-clause-taken c =
     ap (λ (o : Option FrameFields). history_by (setting_of liar_of_four)
-    (filter_map (λ (x : Option Deed). x) (Some (Asks 1 B) ∷ Some (Asks 0 A) ∷ option_map (brought_to 1) o ∷ option_map (brought_to 1) o ∷ [])) 1)
+    (filter_map (λ (x : Option Action). x) (Some (Asks 1 B) ∷ Some (Asks 0 A) ∷ option_map (brought_to 1) o ∷ option_map (brought_to 1) o ∷ [])) 1)
     (send_opens c.what_is_brought.ensures.opened (c.tag_length.ensures _ _) (c.shared_test_keys.ensures 4 0 1 (omega arith) (omega arith)))
 
 pub returns-clause-stored : goal.returns-clause-stored

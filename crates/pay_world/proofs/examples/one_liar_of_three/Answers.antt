@@ -1,9 +1,9 @@
 use Rattle.std.proofs.Common.{◌≡◌, ◌≢◌, ℕ, zero, suc, ◌<◌, ◌≤◌, length, refl, arith, true≢false}
-use Rattle.pay_echo.specs.Broadcast.{value_of, sent, echoed_by, readied_by, first_known, size, is_for, echoed, echo_of, echo_set, other_ready_of, other_ready_set, may_ready, readied, ready_of, ready_set, may_deliver, delivered}
+use Rattle.pay_echo.specs.Broadcast.{value_of, value_if_send, echoed_by, readied_by, first_known, size, is_for, echoed, echo_of, echo_set, other_ready_of, other_ready_set, may_ready, readied, ready_of, ready_set, may_deliver, delivered}
 use Rattle.pay_channel.specs.History.{asks, votes_in, votes, says, out, delivered_at}
-use Rattle.pay_channel.specs.Taken.{taken, next}
+use Rattle.pay_channel.specs.Taken.{taken_bodies, next}
 use Rattle.pay_world.specs.Setting.{group_at, IsCorrect}
-use Rattle.pay_world.specs.Deeds.{history_by}
+use Rattle.pay_world.specs.Actions.{history_by}
 use Rattle.pay_world.specs.Examples.{three, of_three}
 use Rattle.pay_world.proofs.examples.one_liar_of_three.Goals as goal
 
@@ -14,7 +14,7 @@ correct_below (suc (suc zero)) correct = absurd (true≢false correct.honest)
 correct_below (suc (suc (suc n))) correct = let member : suc (suc (suc n)) < 3 = correct.member in absurd (omega arith)
 
 all_taken : (i j : ℕ) → i < 2 → j < 2 → i ≢ j → next j (history_by three of_three i) ≡ length (out (group_at three j) (history_by three of_three j))
-unfolding value_of sent echoed_by readied_by first_known size is_for echoed echo_of echo_set other_ready_of other_ready_set may_ready readied ready_of ready_set may_deliver delivered asks votes_in votes says out delivered_at taken history_by
+unfolding value_of value_if_send echoed_by readied_by first_known size is_for echoed echo_of echo_set other_ready_of other_ready_set may_ready readied ready_of ready_set may_deliver delivered asks votes_in votes says out delivered_at taken_bodies history_by
 all_taken zero zero p q differ = absurd (differ refl)
 all_taken zero (suc zero) p q differ = refl
 all_taken zero (suc (suc n)) p q differ = absurd (omega arith)
@@ -30,7 +30,7 @@ few =
     omega arith
 
 pub returns : goal.returns
-unfolding value_of sent echoed_by readied_by first_known size is_for echoed echo_of echo_set other_ready_of other_ready_set may_ready readied ready_of ready_set may_deliver delivered asks votes_in votes says out delivered_at taken history_by
+unfolding value_of value_if_send echoed_by readied_by first_known size is_for echoed echo_of echo_set other_ready_of other_ready_set may_ready readied ready_of ready_set may_deliver delivered asks votes_in votes says out delivered_at taken_bodies history_by
 returns c =
     record {
       few = few;

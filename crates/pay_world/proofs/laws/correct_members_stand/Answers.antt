@@ -1,5 +1,5 @@
 use Rattle.pay_world.proofs.StandInduction.{stands_at_first, stands_by_one_more}
-use Rattle.pay_world.proofs.Taking.{stands_by_deed}
+use Rattle.pay_world.proofs.Taking.{stands_by_action}
 use Rattle.pay_world.proofs.Happening.{genuine_stands}
 use Rattle.pay_world.proofs.laws.correct_members_stand.Goals as goal
 
@@ -9,6 +9,6 @@ returns c =
     record {
       first = stands_at_first below;
       one_more = λ w old new k e few longer allowed stands. stands_by_one_more below w old new k e longer few allowed stands;
-      deed = λ w old new d few genuine grown stands. stands_by_deed below w few old new d genuine grown stands;
+      action = λ w old new d few genuine grown stands. stands_by_action below w few old new d genuine grown stands;
       genuine = genuine_stands below;
     }

@@ -9,7 +9,7 @@ use Rattle.pay_world.specs.Headline.{Headline}
 use Rattle.pay_world.specs.Liars.{setting_of}
 use Rattle.pay_world.specs.World.{IsWorld, fresh_world}
 use Rattle.pay_world.specs.Answer.{forgery}
-use Rattle.pay_world.specs.Run.{IsFirstForged, IsWorldAfter, deeds_by}
+use Rattle.pay_world.specs.Run.{IsFirstForged, IsWorldAfter, actions_by}
 use Rattle.pay_world.proofs.WorldLemmas.{few_lie}
 use Rattle.pay_world.proofs.Running.{after_nothing, answered_unforged, refused_forged, after_one_more, forged_after}
 use Rattle.pay_world.proofs.run.run_world.Goals as goal
@@ -23,7 +23,7 @@ loop-event-init g c =
     let given = c.into_iter-event-iterator.ensures.into_iter_gives in
     record {
       after = subst (IsWorldAfter c.args.genesis.now c.args.keys.now c.args.liars.now []) (sym c.in_ok-world.ensures.value)
-          (after_nothing c.histories_by_deeds.ensures.first c.genuine_deeds.ensures.first c.args.genesis.now c.args.keys.now c.args.liars.now c.requires.keys);
+          (after_nothing c.histories_by_actions.ensures.first c.genuine_actions.ensures.first c.args.genesis.now c.args.keys.now c.args.liars.now c.requires.keys);
       items = given.0;
       left = first_of (search rules, grind (arith, common_steps));
       few = (let n = given.2 in omega arith);
@@ -37,7 +37,7 @@ loop-event-preserved g c =
     let gone = c.in-Some.ensures.steps.1 in
     record {
       after = after_one_more c.args.genesis.now c.args.keys.now c.args.liars.now at.yielded at.world at.invariant.after
-          c.histories_by_deeds.ensures.one_more c.genuine_deeds.ensures.one_more c.forged_is_told.ensures.forged c.apply.new.self e c.in_ok-apply.field-0
+          c.histories_by_actions.ensures.one_more c.genuine_actions.ensures.one_more c.forged_is_told.ensures.forged c.apply.new.self e c.in_ok-apply.field-0
           c.in_ok-apply.ensures.answers (answered_unforged at.world e c.in_ok-apply.field-0 c.in_ok-apply.ensures.refused) c.in_ok-apply.ensures.count;
       items = append_assoc at.yielded (e ∷ []) _ ∙ rw (← steps) at.invariant.items;
       left = (let was = at.invariant.left in let short = ap length steps in omega arith);
@@ -60,8 +60,8 @@ returns-clause-headline g c =
     let all : at.yielded ≡ c.args.events.items = sym (append-nil at.yielded) ∙ rw empty at at.invariant.items in
     let is : IsWorld (fresh_world c.args.genesis.now c.args.keys.now c.args.liars.now) = subst IsWorld c.in_ok-world.ensures.value c.in_ok-world.ensures.limits in
     let few = few_lie c.sizes_of_sets.ensures.listed c.args.genesis.now c.args.liars.now is.genesis is.liars is.group in
-    subst (λ l. Headline (setting_of c.args.liars.now) c.args.genesis.now.opening (deeds_by c.args.keys.now c.args.liars.now l)) all
-    (c.headline.ensures (setting_of c.args.liars.now) c.args.genesis.now.opening (deeds_by c.args.keys.now c.args.liars.now at.yielded) few at.invariant.after.genuine)
+    subst (λ l. Headline (setting_of c.args.liars.now) c.args.genesis.now.opening (actions_by c.args.keys.now c.args.liars.now l)) all
+    (c.headline.ensures (setting_of c.args.liars.now) c.args.genesis.now.opening (actions_by c.args.keys.now c.args.liars.now at.yielded) few at.invariant.after.genuine)
 
 pub returns-in_err-apply-clause-forged : goal.returns-in_err-apply-clause-forged
 returns-in_err-apply-clause-forged g c =

@@ -8,4 +8,4 @@ returns-clause-legal c = λ g keys l es i k mine all.
 
 pub returns-clause-own : goal.returns-clause-own
 returns-clause-own c = λ g keys l k history of members mine legal.
-    by_events g keys l k of mine c.what_is_brought.ensures.opened c.legal_histories.ensures.shorter c.legal_history_by_deeds.ensures members history legal
+    by_events g keys l k of mine c.what_is_brought.ensures.opened c.legal_histories.ensures.shorter c.legal_history_by_actions.ensures members history legal

@@ -2,7 +2,7 @@ use Rattle.std.proofs.Common.{◌≡◌, List, [], ◌∷◌, ◌++◌, length, 
 use Rattle.std.proofs.lemmas.Grind.{common_steps}
 use Rattle.std.proofs.lemmas.List.{nil_from_length}
 use Rattle.std.specs.Vec.Iter.{into_iter_items}
-use Rattle.pay_audit.specs.Auditor.{HasTaken}
+use Rattle.pay_audit.specs.Auditor.{HasTakenExports}
 use Rattle.pay_audit.specs.Export.{ExportFields}
 use Rattle.pay_engine.specs.declared.engine_fault.EngineFault.TheVariants.{Memory}
 use Rattle.payd.specs.declared.stop.Stop.TheVariants.{Engine}
@@ -24,7 +24,7 @@ loop-outcome-preserved c =
     let others = into_iter_items c.next.new.self in
     let steps : into_iter_items at.outcome-iterator ≡ c.in-Some.outcome ∷ others = c.in-Some.ensures.steps.0 in
     let is : c.in-Some.outcome ≡ Ok e = c.in_ok-outcome.was in
-    let takes : (es : List ExportFields) → HasTaken es at.auditor → HasTaken (es ++ e ∷ []) c.in_ok-auditor.auditor =
+    let takes : (es : List ExportFields) → HasTakenExports es at.auditor → HasTakenExports (es ++ e ∷ []) c.in_ok-auditor.auditor =
     λ es h. search (rules, c.in_ok-auditor.ensures.taken) in
     record {
       taking = one_taken c.args.outcomes.items (into_iter_items at.outcome-iterator) c.args.auditor at.auditor at.invariant.taking e others

@@ -2,7 +2,7 @@ use Rattle.std.proofs.Common.{rules, ◌≡◌, IfErr, IfOk, Err, arith}
 use Rattle.std.proofs.lemmas.Result.{IfErr-weaker, IfOk-weaker}
 use Rattle.std.proofs.lemmas.Slice.Zip.{AllZip-long}
 use Rattle.pay_engine.specs.declared.engine_fault.EngineFault.TheVariants.{Memory}
-use Rattle.payd.specs.Outcomes.{AreOutcomes, IsFirstStop, IsOutcome, TakesAll}
+use Rattle.payd.specs.Outcomes.{AreOutcomes, IsFirstStop, IsFileOutcome, TakesOutcomes}
 use Rattle.payd.specs.declared.stop.Stop.TheVariants.{Engine}
 use Rattle.payd.proofs.Exports.{texts}
 use Rattle.payd.proofs.Outcomes.{all_taken, first_stop, long_texts, none_read}
@@ -19,14 +19,14 @@ take_all-requires g c =
     let names = c.args.names.now in
     let outcomes = c.in_ok-outcomes.outcomes.items in
     let are : AreOutcomes (g.F.NamedFiles.holds c.args.files.now) (texts names) outcomes = search rules in
-    let each = AllZip-long (IsOutcome (g.F.NamedFiles.holds c.args.files.now)) (texts names) outcomes are in
+    let each = AllZip-long (IsFileOutcome (g.F.NamedFiles.holds c.args.files.now)) (texts names) outcomes are in
     record { room = (let long = long_texts names in let room = c.requires.room in omega arith) }
 
 pub returns-clause-taken : goal.returns-clause-taken
 returns-clause-taken g c =
     let outcomes = c.in_ok-outcomes.outcomes.items in
     let are : AreOutcomes (g.F.NamedFiles.holds c.args.files.now) (texts c.args.names.now) outcomes = search rules in
-    let taken : IfOk c.take_all.result (TakesAll outcomes c.args.auditor) = search rules in
+    let taken : IfOk c.take_all.result (TakesOutcomes outcomes c.args.auditor) = search rules in
     IfOk-weaker c.take_all.result _ _ (λ auditor t. all_taken (g.F.NamedFiles.holds c.args.files.now) (texts c.args.names.now)
     outcomes c.args.auditor auditor are t) taken
 

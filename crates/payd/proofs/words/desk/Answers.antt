@@ -4,5 +4,5 @@ use Rattle.payd.proofs.words.desk.Goals as goal
 
 pub returns : goal.returns
 returns c =
-    let one = one_argument_more _ _ _ _ _ c.titled.ensures c.required_file.ensures c.in_ok-arg.ensures in
+    let one = one_argument_more _ _ _ _ _ c.titled_command.ensures c.required_file.ensures c.in_ok-arg.ensures in
     IfOk-weaker c.arg-2.result _ _ (λ r h. one_argument_more _ _ _ _ _ one c.required_file-2.ensures h) c.arg-2.ensures

@@ -4,5 +4,5 @@ use Rattle.payd.proofs.words.journal.Goals as goal
 
 pub returns : goal.returns
 returns c =
-    let one = one_argument_more _ _ _ _ _ c.titled.ensures c.export.ensures c.in_ok-arg.ensures in
+    let one = one_argument_more _ _ _ _ _ c.titled_command.ensures c.export.ensures c.in_ok-arg.ensures in
     IfOk-weaker c.arg-2.result _ _ (λ r h. one_argument_more _ _ _ _ _ one c.option.ensures h) c.arg-2.ensures

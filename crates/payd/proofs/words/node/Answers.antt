@@ -4,7 +4,7 @@ use Rattle.payd.proofs.words.node.Goals as goal
 
 pub returns : goal.returns
 returns c =
-    let one = one_argument_more _ _ _ _ _ c.titled.ensures c.required_file.ensures c.in_ok-arg.ensures in
+    let one = one_argument_more _ _ _ _ _ c.titled_command.ensures c.required_file.ensures c.in_ok-arg.ensures in
     let two = one_argument_more _ _ _ _ _ one c.required_file-2.ensures c.in_ok-arg-2.ensures in
     let three = one_argument_more _ _ _ _ _ two c.required_file-3.ensures c.in_ok-arg-3.ensures in
     let four = one_argument_more _ _ _ _ _ three c.option.ensures c.in_ok-arg-4.ensures in

@@ -25,4 +25,4 @@ returns c =
     let seven = one_command_more c.with_command-program-6.result c.book.result c.with_command-program-7.result with_audit book_app six c.book.ensures c.with_command-program-7.ensures in
     let eight = one_command_more c.with_command-program-7.result c.statement.result c.with_command-program-8.result with_book statement_app seven c.statement.ensures c.with_command-program-8.ensures in
     let nine = one_command_more c.with_command-program-8.result c.journal.result c.with_command-program-9.result with_statement journal_app eight c.journal.ensures c.with_command-program-9.ensures in
-    one_command_more c.with_command-program-9.result (Ok c.titled.result) c.with_command.result with_journal sim_app nine c.titled.ensures c.with_command.ensures
+    one_command_more c.with_command-program-9.result (Ok c.titled_command.result) c.with_command.result with_journal sim_app nine c.titled_command.ensures c.with_command.ensures

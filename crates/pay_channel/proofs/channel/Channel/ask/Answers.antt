@@ -3,7 +3,7 @@ use Rattle.std.proofs.lemmas.Grind.{common_steps}
 use Rattle.pay_echo.specs.Broadcast.{value_of}
 use Rattle.pay_channel.specs.Source.{GrowsOnly}
 use Rattle.pay_channel.specs.History.{Ask}
-use Rattle.pay_channel.specs.State.{State, lists_of}
+use Rattle.pay_channel.specs.State.{State, channel_lists}
 use Rattle.pay_channel.specs.Applied.{IsToldOf, Takes}
 use Rattle.pay_channel.proofs.Asking.{with_asks, asked_sound, asked_takes, asked_told, asked_grow}
 use Rattle.pay_channel.proofs.channel.Channel.ask.Goals as goal
@@ -25,7 +25,7 @@ returns-clause-applied g c =
 
 pub returns-clause-grows : goal.returns-clause-grows
 returns-clause-grows g c =
-    let At : State → Type 0 = λ x. GrowsOnly (lists_of c.args.self.now) (lists_of (with_asks x (c.self.inside.asks + 1))) c.args.self.now.group.own in
+    let At : State → Type 0 = λ x. GrowsOnly (channel_lists c.args.self.now) (channel_lists (with_asks x (c.self.inside.asks + 1))) c.args.self.now.group.own in
     subst At (sym c.self-2.view_is)
     (asked_grow c.args.self.now c.vote.new.self c.self.inside.group.own c.self.inside.asks (ap (λ (x : State). x.group.own) c.self.view_is) (ap (λ (x : State). x.asks) c.self.view_is) (c.self.inside.asks + 1) c.in_ok-applied.ensures.grows)
 

@@ -1,4 +1,4 @@
-use Rattle.pay_channel.proofs.Listing.{IsSound-blank, Follows-blank}
+use Rattle.pay_channel.proofs.Listing.{IsSound-blank, IsStateBy-blank}
 use Rattle.pay_channel.proofs.channel.Channel.new.Goals as goal
 
 pub invariant_of-result : goal.invariant_of-result
@@ -7,4 +7,4 @@ invariant_of-result g c =
 
 pub returns-clause-follows : goal.returns-clause-follows
 returns-clause-follows g c =
-    rw (c.new.ensures, c.new-2.ensures.items) (Follows-blank (record { members = c.args.members; faults = c.args.faults; own = c.args.own }))
+    rw (c.new.ensures, c.new-2.ensures.items) (IsStateBy-blank (record { members = c.args.members; faults = c.args.faults; own = c.args.own }))

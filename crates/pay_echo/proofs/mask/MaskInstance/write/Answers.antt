@@ -3,7 +3,7 @@ use Rattle.std.specs.Option.{option_or}
 use Rattle.pay_echo.specs.Broadcast.{IsForeign, value_of}
 use Rattle.pay_echo.specs.Meaning.{Meaning}
 use Rattle.pay_echo.specs.Plain.{AreDistinct}
-use Rattle.pay_echo.specs.Votes.{vote_of}
+use Rattle.pay_echo.specs.Votes.{vote_of_ref}
 use Rattle.pay_echo.specs.Step.{vote_before, put_echo, put_ready, put_if, with_moves}
 use Rattle.pay_echo.specs.declared.moves.Moves.{Moves}
 use Rattle.pay_echo.proofs.MaskLemmas.{counted-IsCounted, counted-view, before-place}
@@ -11,7 +11,7 @@ use Rattle.pay_echo.proofs.mask.MaskInstance.write.Goals as goal
 
 pub invariant_of-self-2 : goal.invariant_of-self-2
 invariant_of-self-2 c =
-    let x = vote_of c.args.vote in
+    let x = vote_of_ref c.args.vote in
     let old = c.self.inside in
     let place = c.in_ok-place.place in
     let tally = c.put_ready_if.new.tally in
@@ -31,7 +31,7 @@ invariant_of-self-2 c =
 
 pub returns-clause-after : goal.returns-clause-after
 returns-clause-after c =
-    let x = vote_of c.args.vote in
+    let x = vote_of_ref c.args.vote in
     let old = c.self.inside in
     let place = c.in_ok-place.place in
     let tally = c.put_ready_if.new.tally in

@@ -1,6 +1,6 @@
 use Rattle.std.proofs.Common.{◌≡◌, ◌&&◌, not, is_none, sym, ap, ◌∙◌}
 use Rattle.std.proofs.lemmas.Result.{on_ok_weaker}
-use Rattle.pay_echo.specs.Votes.{vote_of}
+use Rattle.pay_echo.specs.Votes.{vote_of_ref}
 use Rattle.pay_echo.specs.declared.moves.Moves.{Moves}
 use Rattle.pay_echo.proofs.Clauses.{Sees-again, Sees-told}
 use Rattle.pay_echo.proofs.MaskLemmas.{Foresees-own}
@@ -9,7 +9,7 @@ use Rattle.pay_echo.proofs.mask.MaskInstanceInstance.take.Goals as goal
 
 pub returns-then-has_voted-clause-seen : goal.returns-then-has_voted-clause-seen
 returns-then-has_voted-clause-seen c =
-    Sees-again c.args.self.now (vote_of c.args.vote) c.has_voted.ensures.placed c.requires.foreign (sym c.has_voted.ensures.voted ∙ c.if-has_voted.true)
+    Sees-again c.args.self.now (vote_of_ref c.args.vote) c.has_voted.ensures.placed c.requires.foreign (sym c.has_voted.ensures.voted ∙ c.if-has_voted.true)
 
 pub returns-clause-seen : goal.returns-clause-seen
 returns-clause-seen c =
@@ -20,6 +20,6 @@ returns-clause-seen c =
     ] in
     let moves : Moves = record { echo = c.args.moves.echo; ready = c.if-moves.ready; deliver = c.args.moves.deliver } in
     on_ok_weaker c.write.result
-    (Sees-told c.args.self.now (vote_of c.args.vote) c.has_voted.ensures.placed c.requires.foreign (sym c.has_voted.ensures.voted ∙ c.if-has_voted.false) moves
-    (Foresees-own c.args.self.now (vote_of c.args.vote) c.args.moves c.if-moves.ready c.requires.told ready) c.write.new.self)
+    (Sees-told c.args.self.now (vote_of_ref c.args.vote) c.has_voted.ensures.placed c.requires.foreign (sym c.has_voted.ensures.voted ∙ c.if-has_voted.false) moves
+    (Foresees-own c.args.self.now (vote_of_ref c.args.vote) c.args.moves c.if-moves.ready c.requires.told ready) c.write.new.self)
     c.write.ensures.after

@@ -4,7 +4,7 @@ use Rattle.std.specs.List.{count_by}
 use Rattle.std.proofs.lemmas.List.{length-map}
 use Rattle.std.proofs.lemmas.List.Sums.{count_by-le-length}
 use Rattle.pay_echo.specs.Plain.{is_at}
-use Rattle.pay_echo.specs.Masks.{TallyFields, places_of}
+use Rattle.pay_echo.specs.Masks.{TallyFields, vote_places}
 use Rattle.pay_echo.specs.declared.candidate.Candidate.{Candidate}
 use Rattle.pay_echo.proofs.Candidates.{count-at_place}
 use Rattle.pay_echo.proofs.tally.Tally.count.Goals as goal
@@ -16,7 +16,7 @@ returns-clause-count c =
     let below : c.args.place < length candidates = omega (arith, c.requires, values) in
     ap count_ones c.mask.ensures
     ∙ count-at_place c.self.inside.members candidates c.self.inside.echoed c.self.inside.readied c.args.place c.index.result.now c.args.kind c.self.invariant below c.index.ensures
-    ∙ ap (λ (t : TallyFields). count_by (is_at c.args.place) (places_of c.args.kind t)) c.self.view_is
+    ∙ ap (λ (t : TallyFields). count_by (is_at c.args.place) (vote_places c.args.kind t)) c.self.view_is
 
 pub returns-clause-few : goal.returns-clause-few
 returns-clause-few c =
@@ -26,6 +26,6 @@ returns-clause-few c =
     let is =
     ap count_ones c.mask.ensures
     ∙ count-at_place c.self.inside.members candidates c.self.inside.echoed c.self.inside.readied c.args.place c.index.result.now c.args.kind c.self.invariant below c.index.ensures
-    ∙ ap (λ (t : TallyFields). count_by (is_at c.args.place) (places_of c.args.kind t)) c.self.view_is in
-    let most = count_by-le-length (is_at c.args.place) (places_of c.args.kind c.args.self.now) in
+    ∙ ap (λ (t : TallyFields). count_by (is_at c.args.place) (vote_places c.args.kind t)) c.self.view_is in
+    let most = count_by-le-length (is_at c.args.place) (vote_places c.args.kind c.args.self.now) in
     omega (arith, is, most)

@@ -2,7 +2,7 @@ use Rattle.std.proofs.Common.{ℕ, ◌<◌, List, ◌++◌, Err, length, refl, s
 use Rattle.std.proofs.lemmas.Bool.Decides.{nat_tests}
 use Rattle.std.proofs.Math.Logic.{∥∥₁_map}
 use Rattle.pay_log.specs.declared.log.Log.{Log}
-use Rattle.pay_log.specs.Logs.{IsSettled}
+use Rattle.pay_log.specs.Logs.{IsSynced}
 use Rattle.pay_kept.specs.Following.{IsFlushed, IsFollowingSome}
 use Rattle.pay_kept.proofs.Followed.{flushed, one_chunk}
 use Rattle.pay_kept.proofs.following.Following.flush.Goals as goal
@@ -13,7 +13,7 @@ invariant_of-result g c =
     let written : IsFlushed g.D.Device.is_known g.D.Device.seen g.D.Device.may_leave c.args.self.log c.append.new.self c.args.self.pending.items c.clear.new.self.items = record {
       nothing_waits = c.clear.ensures.items;
       settled = λ header ps settled.
-          subst (λ (p : List (List ℕ)). IsSettled g.D.Device.is_known g.D.Device.seen g.D.Device.may_leave c.append.new.self header (ps ++ p))
+          subst (λ (p : List (List ℕ)). IsSynced g.D.Device.is_known g.D.Device.seen g.D.Device.may_leave c.append.new.self header (ps ++ p))
           (one_chunk c.args.self.pending.items c.deref.result.now c.deref.ensures.value some)
           (c.in-Ok.ensures.acknowledged header ps settled);
     } in

@@ -1,8 +1,8 @@
 use Rattle.std.proofs.Common.{◌≡◌, ◌<◌, refl, sym, subst}
 use Rattle.pay_channel.specs.Source.{GrowsOnly}
-use Rattle.pay_channel.specs.State.{lists_of}
+use Rattle.pay_channel.specs.State.{channel_lists}
 use Rattle.pay_channel.specs.History.{owner_of}
-use Rattle.pay_channel.specs.Applied.{event_of}
+use Rattle.pay_channel.specs.Applied.{event_of_ref}
 use Rattle.pay_member.specs.Ledger.{LedgerFields, Grows, IsSameLedger}
 use Rattle.pay_member.proofs.Ledgers.{same_ledger, grown_can_settle, settled_ledger, on_err}
 use Rattle.pay_member.proofs.ledger.Ledger.apply.Goals as goal
@@ -15,16 +15,16 @@ invariant_of-self g c =
 pub settle-settled-requires : goal.settle-settled-requires
 settle-settled-requires g c =
     let Member : LedgerFields → Type 0 = λ l. c.args.owner < l.channel.group.members in
-    let Owner : LedgerFields → Type 0 = λ l. c.args.owner ≡ owner_of l.channel.group.own (event_of c.args.event) in
+    let Owner : LedgerFields → Type 0 = λ l. c.args.owner ≡ owner_of l.channel.group.own (event_of_ref c.args.event) in
     let owner = subst Owner (sym c.self.view_is) c.requires.owner in
     grown_can_settle c.lists_of_a_channel.ensures.short c.group_lists_are_countable.ensures c.grown_list_can_settle.ensures
     c.self.inside.channel c.apply.new.self (g.B.Settle.shows c.self.inside.book) c.args.owner c.self.invariant
-    (subst (GrowsOnly (lists_of c.self.inside.channel) (lists_of c.apply.new.self)) (sym owner) c.in_ok-applied.ensures.grows)
+    (subst (GrowsOnly (channel_lists c.self.inside.channel) (channel_lists c.apply.new.self)) (sym owner) c.in_ok-applied.ensures.grows)
     (subst Member (sym c.self.view_is) c.requires.member)
 
 pub returns-clause-grows : goal.returns-clause-grows
 returns-clause-grows g c =
-    let At : LedgerFields → Type 0 = λ l. Grows l (record { channel = c.apply.new.self; book = g.B.Settle.shows c.settle-settled.new.self }) (event_of c.args.event) (record {
+    let At : LedgerFields → Type 0 = λ l. Grows l (record { channel = c.apply.new.self; book = g.B.Settle.shows c.settle-settled.new.self }) (event_of_ref c.args.event) (record {
       echo = c.in_ok-applied.applied.echo;
       ready = c.in_ok-applied.applied.ready;
       deliver = c.in_ok-applied.applied.deliver;

@@ -21,7 +21,7 @@ take_opened-requires-clause-mine g c =
     let k = c.args.self.now.keys in
     let has = opened k f o (subst (λ (k : KeyFields). Ok (Message o) ≡ incoming_at k f) c.keys.ensures.value (rw c.in-Ok-Message.field-0-is at c.in-Ok-Message.ensures.incoming)) in
     let of_peer = (rw c.in-Ok-Message.field-0-is at c.in-Ok-Message.ensures.peer) in
-    is_for c.opened.ensures c.owned.ensures.kept k f o c.args.frame.is_frame (λ is. of_peer.2 (ap (λ (x : FrameFields). x.body.kind) of_peer.1 ∙ is)) has
+    is_for c.judgement_opens.ensures c.owned_opens_again.ensures.kept k f o c.args.frame.is_frame (λ is. of_peer.2 (ap (λ (x : FrameFields). x.body.kind) of_peer.1 ∙ is)) has
 
 pub returns-in_err-outcome-in-Ok-Message-clause-memory : goal.returns-in_err-outcome-in-Ok-Message-clause-memory
 returns-in_err-outcome-in-Ok-Message-clause-memory g c =
@@ -42,11 +42,11 @@ returns-in_ok-outcome-in-Ok-Message-clause-want g c =
     let has = opened m.keys f o comes in
     let behind : after ≡ after_frame c.args.stamp m f =
     is.ensures.entry
-    ∙ after_opened c.opened.ensures c.args.stamp m f o is.outcome has
+    ∙ after_opened c.judgement_opens.ensures c.args.stamp m f o is.outcome has
     (answered_opened m.genesis m.keys.own (events m.history) m.keys f o is.outcome comes is.ensures.outcome) in
     let from = c.from-from.ensures.value ∙ ap (λ (x : FrameFields). x.from) c.frame.ensures.value in
     let told = ap Some (c.next.ensures ∙ ap (λ p. next p (events after.history)) from) ∙ next_opened m.keys f o (events after.history) has in
-    want_is c.args.stamp m after f _ behind (want_some c.opened.ensures m.keys f (events after.history) c.next.result told)
+    want_is c.args.stamp m after f _ behind (want_some c.judgement_opens.ensures m.keys f (events after.history) c.next.result told)
 
 pub returns-in_ok-outcome-in-Ok-Message-clause-after : goal.returns-in_ok-outcome-in-Ok-Message-clause-after
 returns-in_ok-outcome-in-Ok-Message-clause-after g c =
@@ -56,7 +56,7 @@ returns-in_ok-outcome-in-Ok-Message-clause-after g c =
     let is = c.in_ok-outcome-in-Ok-Message in
     let comes = subst (λ (k : KeyFields). Ok (Message o) ≡ incoming_at k f) c.keys.ensures.value (rw c.in-Ok-Message.field-0-is at c.in-Ok-Message.ensures.incoming) in
     is.ensures.entry
-    ∙ after_opened c.opened.ensures c.args.stamp m f o is.outcome (opened m.keys f o comes)
+    ∙ after_opened c.judgement_opens.ensures c.args.stamp m f o is.outcome (opened m.keys f o comes)
     (answered_opened m.genesis m.keys.own (events m.history) m.keys f o is.outcome comes is.ensures.outcome)
 
 -- ---- none

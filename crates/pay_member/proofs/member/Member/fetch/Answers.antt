@@ -5,13 +5,13 @@ use Rattle.pay_echo.specs.Broadcast.{Group}
 use Rattle.pay_channel.specs.History.{out}
 use Rattle.pay_member.specs.Group.{group_in}
 use Rattle.pay_member.specs.Events.{events}
-use Rattle.pay_member.specs.Reading.{fetched}
+use Rattle.pay_member.specs.Reading.{fetched_bodies}
 use Rattle.pay_member.specs.Member.{MemberFields}
 use Rattle.pay_member.specs.declared.member.TheConstants.{MOST_FETCHED}
 use Rattle.pay_member.proofs.member.Member.fetch.Goals as goal
 
 pub returns : goal.returns
-unfolding fetched
+unfolding fetched_bodies
 returns g c =
     let h = events c.self.inside.history.items in
     let Of : ℕ → List BodyFields → Type 0 = λ n sent. IfOk c.fetch.result (λ bodies. bodies.items ≡ take n (drop c.args.from sent)) in

@@ -1,6 +1,6 @@
 use Rattle.std.proofs.Common.{◌≡◌, ℕ, List, slice_index, subst}
 use Rattle.std.specs.Result.{IfOk}
-use Rattle.pay_channel.specs.State.{lists_of}
+use Rattle.pay_channel.specs.State.{channel_lists}
 use Rattle.pay_channel.specs.History.{list_of}
 use Rattle.pay_book.specs.Book.{Standing}
 use Rattle.pay_book.specs.Statement.{statement_of}
@@ -23,4 +23,4 @@ returns g c =
     (book_is follow c.settled_book_is_one.ensures c.self.inside.genesis own h c.self.inside.ledger c.self.invariant.tracks)
     (subst (λ lists. Of c.self.inside.genesis.members lists c.self.inside.ledger.book.front)
     (λ t a. lists_are follow c.self.inside.genesis own h c.self.inside.ledger c.self.invariant.tracks a t)
-    (subst (λ n. Of n (lists_of c.self.inside.ledger.channel) c.self.inside.ledger.book.front) c.members.ensures.value c.statement.ensures)))
+    (subst (λ n. Of n (channel_lists c.self.inside.ledger.channel) c.self.inside.ledger.book.front) c.members.ensures.value c.statement.ensures)))

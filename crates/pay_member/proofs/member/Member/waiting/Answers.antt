@@ -1,6 +1,6 @@
 use Rattle.std.proofs.Common.{◌≡◌, length, subst}
 use Rattle.std.specs.Result.{IfOk}
-use Rattle.pay_channel.specs.State.{lists_of}
+use Rattle.pay_channel.specs.State.{channel_lists}
 use Rattle.pay_book.specs.Book.{Standing}
 use Rattle.pay_book.specs.Excerpt.{waiting_excerpt}
 use Rattle.pay_book.specs.Front.{AllGrow}
@@ -15,7 +15,7 @@ use Rattle.pay_member.proofs.member.Member.waiting.Goals as goal
 pub waiting-requires-clause-grown : goal.waiting-requires-clause-grown
 waiting-requires-clause-grown g c =
     let ledger = c.self.inside.ledger in
-    let At : MemberFields → Type 0 = λ m. AllGrow (length ledger.book.opening) (lists_of ledger.channel) (values_known m.genesis m.keys.own (events m.history)) in
+    let At : MemberFields → Type 0 = λ m. AllGrow (length ledger.book.opening) (channel_lists ledger.channel) (values_known m.genesis m.keys.own (events m.history)) in
     subst At c.self.view_is
     (λ a below. known_grow c.a_channel_follows.ensures.lists c.self.inside.genesis c.self.inside.keys.own (events c.self.inside.history.items) ledger c.self.invariant.tracks a)
 

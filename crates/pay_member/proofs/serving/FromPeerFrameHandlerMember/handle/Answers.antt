@@ -5,7 +5,7 @@ use Rattle.pay_link.specs.Keys.{KeyFields, IsPeer}
 use Rattle.pay_member.specs.declared.brought.Brought.{Brought}
 use Rattle.pay_member.specs.Bringing.{with_want}
 use Rattle.pay_member.specs.Member.{MemberFields}
-use Rattle.pay_member.specs.Serving.{bytes_of, want_of}
+use Rattle.pay_member.specs.Serving.{bytes_if_any, want_of}
 use Rattle.pay_member.proofs.Servings.{keys_after}
 use Rattle.pay_member.proofs.serving.FromPeerFrameHandlerMember.handle.Goals as goal
 
@@ -29,5 +29,5 @@ returns-in_ok-extend_from_slice g c =
     ∙ (λ i. (with_want (keys i) (c.from-from.ensures.value i) is.received).want)
     ∙ is.ensures.want in
     record {
-      handles = (c.in-Some.want, (is.ensures.after, sym (ap bytes_of c.in-Some.is) ∙ ap bytes_of told), c.in_ok-extend_from_slice.ensures.items);
+      handles = (c.in-Some.want, (is.ensures.after, sym (ap bytes_if_any c.in-Some.is) ∙ ap bytes_if_any told), c.in_ok-extend_from_slice.ensures.items);
     }

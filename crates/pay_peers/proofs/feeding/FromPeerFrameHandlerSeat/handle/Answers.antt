@@ -2,7 +2,7 @@ use Rattle.std.proofs.Common.{◌≡◌, [], Err, inr, refl, sym, ap, ◌∙◌,
 use Rattle.pay_frame.specs.Lent.{fields_of}
 use Rattle.pay_member.specs.declared.brought.Brought.{Brought}
 use Rattle.pay_member.specs.Bringing.{with_want}
-use Rattle.pay_member.specs.Serving.{bytes_of}
+use Rattle.pay_member.specs.Serving.{bytes_if_any}
 use Rattle.pay_peers.proofs.feeding.FromPeerFrameHandlerSeat.handle.Goals as goal
 
 pub returns-in-None : goal.returns-in-None
@@ -11,7 +11,7 @@ returns-in-None g c =
     let received = c.in_ok-received.received in
     let told : c.with_want-brought.result.want ≡ (with_want c.args.self.now.node.now.keys f.from received).want =
     ap (λ (b : Brought). b.want) c.with_want-brought.ensures ∙ (λ i. (with_want (c.keys.ensures i) (c.from-from.ensures.value i) received).want) in
-    let want = sym (ap bytes_of c.in-None.is) ∙ ap bytes_of told in
+    let want = sym (ap bytes_if_any c.in-None.is) ∙ ap bytes_if_any told in
     record { handles = ([], record { received = received; is = c.in_ok-received.ensures.received; want = want }, sym (append-nil c.args.out.now.items)) }
 
 pub returns-in_err-extend_from_slice-in-Some : goal.returns-in_err-extend_from_slice-in-Some
@@ -25,7 +25,7 @@ returns-in_ok-extend_from_slice-in-Some g c =
     let received = c.in_ok-received.received in
     let told : c.with_want-brought.result.want ≡ (with_want c.args.self.now.node.now.keys f.from received).want =
     ap (λ (b : Brought). b.want) c.with_want-brought.ensures ∙ (λ i. (with_want (c.keys.ensures i) (c.from-from.ensures.value i) received).want) in
-    let want = sym (ap bytes_of c.in-Some.is) ∙ ap bytes_of told in
+    let want = sym (ap bytes_if_any c.in-Some.is) ∙ ap bytes_if_any told in
     record {
       handles = (c.in-Some.want, record { received = received; is = c.in_ok-received.ensures.received; want = want }, c.in_ok-extend_from_slice-in-Some.ensures.items);
     }

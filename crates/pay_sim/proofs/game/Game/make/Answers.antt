@@ -2,7 +2,7 @@ use Rattle.std.proofs.Common.{◌<◌, [], ◌∷◌, ◌++◌, length, Err, sym
 use Rattle.std.proofs.lemmas.Grind.{common_steps}
 use Rattle.pay_world.specs.RunLaws.{IsSaidTo}
 use Rattle.pay_sim.specs.declared.game.TheConstants.{MOST_EVENTS}
-use Rattle.pay_sim.specs.Playing.{IsBehind}
+use Rattle.pay_sim.specs.Playing.{IsAfter}
 use Rattle.pay_sim.proofs.Making.{makes_one, stops_forged}
 use Rattle.pay_sim.proofs.game.Game.make.Goals as goal
 
@@ -16,13 +16,13 @@ invariant_of-self g c =
 
 pub returns-in-Ok-clause-made : goal.returns-in-Ok-clause-made
 returns-in-Ok-clause-made g c = λ group es b.
-    let b1 = subst (IsBehind group es) (sym c.self.view_is) b in
+    let b1 = subst (IsAfter group es) (sym c.self.view_is) b in
     let room : length es < MOST_EVENTS = (let made = b1.made in let less = c.if-self-ge-MOST_EVENTS.false in omega arith) in
     makes_one group es _ b1 c.world_by_events.ensures.one_more c.what_is_forged.ensures.answered _ c.args.event c.in-Ok.reply room c.in-Ok.ensures.refused c.in-Ok.ensures.answers c.in-Ok.ensures.count refl refl
 
 pub returns-in-Err-Forged-clause-made : goal.returns-in-Err-Forged-clause-made
 returns-in-Err-Forged-clause-made g c = λ group es b.
-    let b1 = subst (IsBehind group es) (sym c.self.view_is) b in
+    let b1 = subst (IsAfter group es) (sym c.self.view_is) b in
     let room : length es < MOST_EVENTS = (let made = b1.made in let less = c.if-self-ge-MOST_EVENTS.false in omega arith) in
     stops_forged group es _ b1 c.what_is_forged.ensures.said c.args.event c.in-Err-Forged.place room
     (subst (λ f. IsSaidTo c.self.inside.world c.args.event (Err f)) c.in-Err-Forged.field-0-is c.in-Err-Forged.ensures.refused)

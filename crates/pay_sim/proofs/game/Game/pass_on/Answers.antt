@@ -2,7 +2,7 @@ use Rattle.std.proofs.Common.{◌+◌, ◌<◌, [], ◌∷◌, ◌++◌, length,
 use Rattle.std.proofs.lemmas.Grind.{common_steps}
 use Rattle.pay_world.specs.Passing.{passing}
 use Rattle.pay_sim.specs.declared.game.TheConstants.{MOST_EVENTS}
-use Rattle.pay_sim.specs.Playing.{GameFields, IsBehind, IsMade}
+use Rattle.pay_sim.specs.Playing.{GameFields, IsAfter, IsMade}
 use Rattle.pay_sim.proofs.Making.{makes_one}
 use Rattle.pay_sim.proofs.game.Game.pass_on.Goals as goal
 
@@ -17,7 +17,7 @@ invariant_of-self g c =
 
 pub returns-in-Ok-clause-made : goal.returns-in-Ok-clause-made
 returns-in-Ok-clause-made g c = λ group es b.
-    let b1 = subst (IsBehind group es) (sym c.self.view_is) b in
+    let b1 = subst (IsAfter group es) (sym c.self.view_is) b in
     let room : length es < MOST_EVENTS = (let made = b1.made in let less = c.if-self-lt-MOST_EVENTS.true in omega arith) in
     let event = passing c.self.inside.world c.args.from c.args.to c.args.number in
     let new : GameFields = record { world = c.pass.new.self; members = c.self.inside.members; made = c.self.inside.made + 1 } in

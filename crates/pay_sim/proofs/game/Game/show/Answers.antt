@@ -1,7 +1,7 @@
 use Rattle.std.proofs.Common.{◌≡◌, ◌++◌, ◌∙◌, ℕ, ap, sym, append-nil, arith}
 use Rattle.std.specs.List.{flat_map, range_with_len}
 use Rattle.pay_sim.specs.Playing.{GameFields}
-use Rattle.pay_sim.specs.Script.{shown, show_text}
+use Rattle.pay_sim.specs.Script.{shown_member, show_text}
 use Rattle.pay_sim.proofs.Showing.{shown_more}
 use Rattle.pay_sim.proofs.game.Game.show.Goals as goal
 
@@ -23,4 +23,4 @@ pub returns : goal.returns
 unfolding show_text
 returns g c = λ group es b.
     let all : c.loop-number.number ≡ group.genesis.members = (let done = c.loop-number-test.false in let within = c.loop-number.invariant.within in let end = c.loop-number.invariant.end in let members = b.members in omega arith) in
-    c.loop-number.invariant.books group es b ∙ ap (λ (n : ℕ). c.args.out.now.items ++ flat_map (shown group es) (range_with_len 0 n)) all
+    c.loop-number.invariant.books group es b ∙ ap (λ (n : ℕ). c.args.out.now.items ++ flat_map (shown_member group es) (range_with_len 0 n)) all

@@ -10,5 +10,5 @@ returns-in_default-clause-read g c = λ group es b. reads_none group es _ (ap op
 pub returns-in-Some-game-clause-read : goal.returns-in-Some-game-clause-read
 returns-in-Some-game-clause-read g c = λ group es b. reads_command group es _ c.in-Some.line.now _ _ _ _ _ c.obey_line.result (ap option_copied c.in-Some.is) (sym (ap (λ (p : PlayFields). p.game) c.self.view_is) ∙ c.in-Some-game.is) b c.obey_line.ensures
 
-pub returns-in_ok-found-in-None-clause-read : goal.returns-in_ok-found-in-None-clause-read
-returns-in_ok-found-in-None-clause-read g c = λ group es b. founds group es _ c.in-Some.line.now _ _ c.in_ok-found-in-None.field-0 (ap option_copied c.in-Some.is) (sym (ap (λ (p : PlayFields). p.game) c.self.view_is) ∙ c.in-None.is) b c.in_ok-found-in-None.ensures
+pub returns-in_ok-build_game-in-None-clause-read : goal.returns-in_ok-build_game-in-None-clause-read
+returns-in_ok-build_game-in-None-clause-read g c = λ group es b. founds group es _ c.in-Some.line.now _ _ c.in_ok-build_game-in-None.field-0 (ap option_copied c.in-Some.is) (sym (ap (λ (p : PlayFields). p.game) c.self.view_is) ∙ c.in-None.is) b c.in_ok-build_game-in-None.ensures

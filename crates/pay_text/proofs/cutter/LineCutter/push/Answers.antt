@@ -1,6 +1,6 @@
 use Rattle.std.proofs.Common.{◌≡◌, ℕ, ◌<◌, ◌≤◌, List, [], ◌∷◌, ◌++◌, length, sym, ◌∙◌, ap, subst, arith, true, false, Some, None, Bool}
 use Rattle.std.specs.Prelude.{if◌then◌else◌}
-use Rattle.pay_text.specs.Cutting.{Begun, grown}
+use Rattle.pay_text.specs.Cutting.{Begun, line_with_byte}
 use Rattle.pay_text.proofs.Following.{grown_fits, grown_full, grown_over}
 use Rattle.pay_text.proofs.cutter.LineCutter.push.Goals as goal
 
@@ -9,7 +9,7 @@ held over bound line = record { bound = bound; line = if over then None else Som
 
 -- the same line with a byte more
 abbrev more : Begun → ℕ → Begun
-more begun b = record begun { line = grown begun.bound begun.line b }
+more begun b = record begun { line = line_with_byte begun.bound begun.line b }
 
 over_stays : (over : Bool) (bound : ℕ) (line : List ℕ) (b : ℕ) → over ≡ true → held over bound line ≡ more (held over bound line) b
 over_stays true bound line b is = ap (λ l. let s : Begun = record { bound = bound; line = l } in s) (sym (grown_over bound b))

@@ -6,7 +6,7 @@ use Rattle.pay_member.specs.Member.{MemberFields}
 use Rattle.pay_world.specs.declared.event.WorldEvent.TheVariants.{Bring}
 use Rattle.pay_world.specs.Setting.{HasFewFaulty}
 use Rattle.pay_world.specs.World.{WorldFields, member_in, setting_in}
-use Rattle.pay_world.specs.Answer.{Answers, is_forged_at}
+use Rattle.pay_world.specs.Answer.{AnswersEvent, is_forged_at}
 use Rattle.pay_world.proofs.WorldLemmas.{few_lie}
 use Rattle.pay_world.proofs.Answering.{with_place, bring_any}
 use Rattle.pay_world.proofs.Passing.{is_below, place_is_for}
@@ -44,7 +44,7 @@ invariant_of-self g c =
     subst (λ n. is_forged_at w (Bring n bytes) ≡ false) (sym c.from.ensures)
     (subst (λ (x : WorldFields). is_forged_at x (Bring c.args.to bytes) ≡ false) (sym c.self.view_is)
     (subst (λ (l : List ℕ). is_forged_at c.args.self.now (Bring c.args.to l) ≡ false) (sym c.in_ok-checked.ensures.bytes) c.out_of_turn.ensures.unforged)) in
-    (bring_any c.what_opens.ensures c.forged_is_told.ensures.forged c.correct_members_stand.ensures.deed w i bytes c.index_mut.result.now c.pass_place.new.place c.pass_place.result
+    (bring_any c.what_opens.ensures c.forged_is_told.ensures.forged c.correct_members_stand.ensures.action w i bytes c.index_mut.result.now c.pass_place.new.place c.pass_place.result
     c.self.invariant few here unforged c.pass_place.ensures.reply c.pass_place.ensures.after c.pass_place.ensures.grown c.pass_place.ensures.err).world
 
 pub returns-clause-answers : goal.returns-clause-answers
@@ -60,12 +60,12 @@ returns-clause-answers g c =
     subst (λ n. is_forged_at w (Bring n bytes) ≡ false) (sym c.from.ensures)
     (subst (λ (x : WorldFields). is_forged_at x (Bring c.args.to bytes) ≡ false) (sym c.self.view_is)
     (subst (λ (l : List ℕ). is_forged_at c.args.self.now (Bring c.args.to l) ≡ false) (sym c.in_ok-checked.ensures.bytes) c.out_of_turn.ensures.unforged)) in
-    let any = bring_any c.what_opens.ensures c.forged_is_told.ensures.forged c.correct_members_stand.ensures.deed w i bytes c.index_mut.result.now c.pass_place.new.place c.pass_place.result
+    let any = bring_any c.what_opens.ensures c.forged_is_told.ensures.forged c.correct_members_stand.ensures.action w i bytes c.index_mut.result.now c.pass_place.new.place c.pass_place.result
     c.self.invariant few here unforged c.pass_place.ensures.reply c.pass_place.ensures.after c.pass_place.ensures.grown c.pass_place.ensures.err in
     let p = c.pass_place.new.place in
-    subst (λ (l : List ℕ). IfOk c.pass_place.result (Answers c.args.self.now (with_place w i p) (Bring c.args.to l))) c.in_ok-checked.ensures.bytes
-    (subst (λ (x : WorldFields). IfOk c.pass_place.result (Answers x (with_place w i p) (Bring c.args.to bytes))) c.self.view_is
-    (subst (λ n. IfOk c.pass_place.result (Answers w (with_place w i p) (Bring n bytes))) c.from.ensures any.answers))
+    subst (λ (l : List ℕ). IfOk c.pass_place.result (AnswersEvent c.args.self.now (with_place w i p) (Bring c.args.to l))) c.in_ok-checked.ensures.bytes
+    (subst (λ (x : WorldFields). IfOk c.pass_place.result (AnswersEvent x (with_place w i p) (Bring c.args.to bytes))) c.self.view_is
+    (subst (λ n. IfOk c.pass_place.result (AnswersEvent w (with_place w i p) (Bring n bytes))) c.from.ensures any.answers))
 
 pub returns-clause-err : goal.returns-clause-err
 returns-clause-err g c =
@@ -80,7 +80,7 @@ returns-clause-err g c =
     subst (λ n. is_forged_at w (Bring n bytes) ≡ false) (sym c.from.ensures)
     (subst (λ (x : WorldFields). is_forged_at x (Bring c.args.to bytes) ≡ false) (sym c.self.view_is)
     (subst (λ (l : List ℕ). is_forged_at c.args.self.now (Bring c.args.to l) ≡ false) (sym c.in_ok-checked.ensures.bytes) c.out_of_turn.ensures.unforged)) in
-    let any = bring_any c.what_opens.ensures c.forged_is_told.ensures.forged c.correct_members_stand.ensures.deed w i bytes c.index_mut.result.now c.pass_place.new.place c.pass_place.result
+    let any = bring_any c.what_opens.ensures c.forged_is_told.ensures.forged c.correct_members_stand.ensures.action w i bytes c.index_mut.result.now c.pass_place.new.place c.pass_place.result
     c.self.invariant few here unforged c.pass_place.ensures.reply c.pass_place.ensures.after c.pass_place.ensures.grown c.pass_place.ensures.err in
     subst (λ (x : WorldFields). OnErr c.pass_place.result (with_place w i c.pass_place.new.place ≡ x)) c.self.view_is any.err
 

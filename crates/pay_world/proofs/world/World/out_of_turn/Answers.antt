@@ -3,7 +3,7 @@ use Rattle.std.specs.Option.{option_copied}
 use Rattle.pay_frame.specs.Frame.{IsFrame}
 use Rattle.pay_channel.specs.Taken.{next}
 use Rattle.pay_link.specs.Fronts.{turn}
-use Rattle.pay_link.specs.Sealing.{sealed}
+use Rattle.pay_link.specs.Sealing.{sealed_frame}
 use Rattle.pay_member.specs.Events.{events}
 use Rattle.pay_world.proofs.Passing.{giver_own, passed_over, passing_taken, passing_unforged, sends_these}
 use Rattle.pay_world.proofs.world.World.out_of_turn.Goals as goal
@@ -16,7 +16,7 @@ returns-in-Ok-clause-unforged g c =
     let taker = c.unwrap-taker.result.now in
     let sends = sends_these w c.args.from c.args.to c.args.number c.requires giver taker body (sym c.member.ensures.value ∙ ap option_copied c.unwrap-giver.ensures)
     (sym c.sent.ensures ∙ ap option_copied c.unwrap-body.ensures) (sym c.member-2.ensures.value ∙ ap option_copied c.unwrap-taker.ensures) in
-    let fits : IsFrame (sealed giver.keys c.args.to c.args.number body) = record {
+    let fits : IsFrame (sealed_frame giver.keys c.args.to c.args.number body) = record {
       from = subst (λ n. n < 2 ^ 16) (sym (giver_own w c.args.from c.args.to c.args.number giver taker body c.member.ensures.limits sends)) c.ranges.from.fits;
       to = c.ranges.to.fits;
       number = c.ranges.number.fits;
@@ -34,7 +34,7 @@ returns-in-Ok-clause-taken g c =
     let taker = c.unwrap-taker.result.now in
     let sends = sends_these w c.args.from c.args.to c.args.number c.requires giver taker body (sym c.member.ensures.value ∙ ap option_copied c.unwrap-giver.ensures)
     (sym c.sent.ensures ∙ ap option_copied c.unwrap-body.ensures) (sym c.member-2.ensures.value ∙ ap option_copied c.unwrap-taker.ensures) in
-    let fits : IsFrame (sealed giver.keys c.args.to c.args.number body) = record {
+    let fits : IsFrame (sealed_frame giver.keys c.args.to c.args.number body) = record {
       from = subst (λ n. n < 2 ^ 16) (sym (giver_own w c.args.from c.args.to c.args.number giver taker body c.member.ensures.limits sends)) c.ranges.from.fits;
       to = c.ranges.to.fits;
       number = c.ranges.number.fits;
@@ -53,7 +53,7 @@ returns-in-Err-clause-unforged g c =
     let taker = c.unwrap-taker.result.now in
     let sends = sends_these w c.args.from c.args.to c.args.number c.requires giver taker body (sym c.member.ensures.value ∙ ap option_copied c.unwrap-giver.ensures)
     (sym c.sent.ensures ∙ ap option_copied c.unwrap-body.ensures) (sym c.member-2.ensures.value ∙ ap option_copied c.unwrap-taker.ensures) in
-    let fits : IsFrame (sealed giver.keys c.args.to c.args.number body) = record {
+    let fits : IsFrame (sealed_frame giver.keys c.args.to c.args.number body) = record {
       from = subst (λ n. n < 2 ^ 16) (sym (giver_own w c.args.from c.args.to c.args.number giver taker body c.member.ensures.limits sends)) c.ranges.from.fits;
       to = c.ranges.to.fits;
       number = c.ranges.number.fits;
@@ -71,7 +71,7 @@ returns-in-Err-clause-answers g c =
     let taker = c.unwrap-taker.result.now in
     let sends = sends_these w c.args.from c.args.to c.args.number c.requires giver taker body (sym c.member.ensures.value ∙ ap option_copied c.unwrap-giver.ensures)
     (sym c.sent.ensures ∙ ap option_copied c.unwrap-body.ensures) (sym c.member-2.ensures.value ∙ ap option_copied c.unwrap-taker.ensures) in
-    let fits : IsFrame (sealed giver.keys c.args.to c.args.number body) = record {
+    let fits : IsFrame (sealed_frame giver.keys c.args.to c.args.number body) = record {
       from = subst (λ n. n < 2 ^ 16) (sym (giver_own w c.args.from c.args.to c.args.number giver taker body c.member.ensures.limits sends)) c.ranges.from.fits;
       to = c.ranges.to.fits;
       number = c.ranges.number.fits;

@@ -2,7 +2,7 @@ use Rattle.std.proofs.Common.{◌<◌, ◌≤◌, length, vec_len, refl, arith}
 use Rattle.std.specs.Result.{is_ok}
 use Rattle.std.proofs.lemmas.List.Elements.{All-set}
 use Rattle.pay_frame.specs.declared.limits.TheConstants.{SEQS}
-use Rattle.pay_library_tests.proofs.ListValues.{values_of-append, values_of-kept, length_at-read, pushed_len, OnErr-from, Values}
+use Rattle.pay_library_tests.proofs.ListValues.{owner_values-append, owner_values-kept, length_at-read, pushed_len, OnErr-from, Values}
 use Rattle.pay_library_tests.proofs.book.lists.Lists.append.Goals as goal
 
 pub invariant_of-self : goal.invariant_of-self
@@ -16,8 +16,8 @@ invariant_of-self c =
 pub returns-in_err-push-clause-err : goal.returns-in_err-push-clause-err
 returns-in_err-push-clause-err c =
     OnErr-from c.from_residual.result
-    (values_of-kept c.args.self.now.values.items c.args.owner c.index_mut.result.now c.push.new.self (omega (arith, c.args.self.now.values.ok.0)) c.index_mut.ensures.value c.in_err-push.ensures.items)
+    (owner_values-kept c.args.self.now.values.items c.args.owner c.index_mut.result.now c.push.new.self (omega (arith, c.args.self.now.values.ok.0)) c.index_mut.ensures.value c.in_err-push.ensures.items)
 
 pub returns-clause-ok : goal.returns-clause-ok
 returns-clause-ok c =
-    values_of-append c.args.self.now.values.items c.args.owner c.index_mut.result.now c.push.new.self c.args.value (omega (arith, c.args.self.now.values.ok.0)) c.index_mut.ensures.value c.in_ok-push.ensures.items
+    owner_values-append c.args.self.now.values.items c.args.owner c.index_mut.result.now c.push.new.self c.args.value (omega (arith, c.args.self.now.values.ok.0)) c.index_mut.ensures.value c.in_ok-push.ensures.items

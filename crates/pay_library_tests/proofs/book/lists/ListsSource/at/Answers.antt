@@ -1,10 +1,10 @@
 use Rattle.std.proofs.Common.{arith}
-use Rattle.pay_library_tests.proofs.ListValues.{values_of-within, place_within, value_at-read}
+use Rattle.pay_library_tests.proofs.ListValues.{owner_values-within, place_within, value_at-read}
 use Rattle.pay_library_tests.proofs.book.lists.ListsSource.at.Goals as goal
 
 pub index-requires : goal.index-requires
 index-requires c =
-    let there = values_of-within c.args.self.now.values.items c.args.owner c.args.k c.requires in
+    let there = owner_values-within c.args.self.now.values.items c.args.owner c.args.k c.requires in
     omega (arith, c.args.self.now.values.ok.0)
 
 pub index-requires-2 : goal.index-requires-2
