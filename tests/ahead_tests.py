@@ -1,11 +1,15 @@
 """Black-box tests of how many frames a node asks its peers for ahead, and of what it answers to many WANTs at once."""
 
+import contextlib
+import os
 import random
 import socket
+import subprocess
 import time
+import unittest
 
 from frames import ECHO, SEND, WANT, frame, payment, read_frame
-from nodes import Group, free_ports, told_apart
+from nodes import Group, Node, free_ports, told_apart
 from peers import connected, received
 from runs import SECONDS, key_texts, same, shows, test, with_files
 
@@ -16,8 +20,8 @@ PAIR = {"members": 2, "faults": 0, "opening": [5, 5]}
 def words_that_say_no_number_ahead():
     files = {"g": PAIR, "k": {"own": 0, "keys": key_texts(0, 2)}, "p": {"ports": free_ports(2)}}
     words = ["node", "--genesis", "g", "--keys", "k", "--ports", "p"]
-    for word in ("0", "65", "", "00", "05", "+5", "5 ", "1.5", "1e1", "0x5", "five", "always", f"{2**64}"):
-        errors = f"payd: ahead {word}: no number from 1 to 64\n"
+    for word in ("0", "1025", "", "00", "05", "+5", "5 ", "1.5", "1e1", "0x5", "five", "always", f"{2**64}"):
+        errors = f"payd: ahead {word}: no number from 1 to 1024\n"
         was = with_files(files, [*words, f"--ahead={word}"], b"FRONT\n")
         shows(was, 2, "", errors, of=f"{word!r}")
         was = with_files({}, [*words, f"--ahead={word}"])
@@ -25,7 +29,7 @@ def words_that_say_no_number_ahead():
     for more in (["--ahead"], ["--ahead", "-1"], ["--ahead", "5", "--ahead", "5"]):
         status, output, errors = with_files(files, [*words, *more], b"FRONT\n")
         same((status, output, errors != ""), (2, "", True), f"{more}")
-    for word in ("1", "2", "63", "64"):
+    for word in ("1", "2", "1023", "1024"):
         status, output, errors = with_files(files, [*words, "--dials", "1", "--ahead", word], b"FRONT\n")
         same((status, output.split("\n")[0], told_apart(errors)[1]), (0, "front 0 0", ""), f"{word!r}")
 
@@ -52,25 +56,28 @@ def wanted(ahead, frames):
 def a_window_opens_with_each_frame():
     sends = [frame(SEND, 1, 0, number, owner=1, seq=number) for number in range(3)]
     for ahead, frames, numbers in (
-        (64, [], [0]),
+        (1, [], [0]),
+        (2, [], [0, 1]),
+        (1024, [], [0, 1, 2, 3]),
         (1, sends[:1], [0, 1]),
-        (64, sends[:1], [0, 1, 2]),
+        (1024, sends[:1], [*range(6)]),
         (1, sends, [0, 1, 2, 3]),
         (2, sends, [0, 1, 2, 3, 4]),
+        (5, sends, [*range(8)]),
         # the frame again is out of turn, and what comes after it isn't read
-        (64, [sends[0], *sends], [0, 1, 2]),
+        (1024, [sends[0], *sends], [*range(6)]),
         # so is another member's
-        (64, [frame(SEND, 2, 0, 0, owner=2), *sends], [0]),
+        (1024, [frame(SEND, 2, 0, 0, owner=2), *sends], [0, 1, 2, 3]),
     ):
         same(wanted(ahead, b"".join(frames)), numbers, f"{ahead} ahead, {len(frames)} frames")
 
 
 @test
 def nodes_of_different_numbers_ahead():
-    """Two nodes ask for 64 frames ahead and two for one; all that is asked settles at all."""
+    """Two nodes ask for 1,024 frames ahead and two for one; all that is asked settles at all."""
     with Group([1000, 1000, 1000, 1000], running=[]) as group:
         for own in range(4):
-            group.start(own, options=["--ahead", "64" if own < 2 else "1"])
+            group.start(own, options=["--ahead", "1024" if own < 2 else "1"])
         for seq in range(200):
             for own in range(4):
                 group.nodes[own].write(f"PAY {seq} {(own + 1) % 4} 1\n")
@@ -100,6 +107,49 @@ def a_peer_that_is_killed_and_started_anew():
                 for seq in seqs:
                     same(group.nodes[own].line(), f"asked {seq} seq {seq}", f"payment {seq} by {own}")
         group.settle([3 * each, 3 * each, 3 * each, 0], [5000, 5000, 5000, 0])
+        group.stop()
+
+
+@contextlib.contextmanager
+def small_sockets():
+    """The words before a command that has it run where a socket holds no more than Linux promises to each."""
+    name = f"payd-{os.getpid()}"
+    inside, how = ["ip", "netns", "exec", name], {"check": True, "capture_output": True}
+    try:
+        subprocess.run(["ip", "netns", "add", name], **how)
+    except (OSError, subprocess.CalledProcessError) as error:
+        raise unittest.SkipTest(f"no network namespace: {error}") from error
+    try:
+        subprocess.run(["ip", "-n", name, "link", "set", "lo", "up"], **how)
+        for buffer in ("tcp_rmem", "tcp_wmem"):
+            subprocess.run([*inside, "sysctl", "-w", f"net.ipv4.{buffer}=4096 4096 4096"], **how)
+        yield inside
+    finally:
+        subprocess.run(["ip", "netns", "delete", name], **how)
+
+
+class Inside(Group):
+    """A group whose nodes run behind some words."""
+
+    def __init__(self, prefix, *words, **more):
+        super().__init__(*words, **more)
+        self.prefix = prefix
+
+    def start(self, own, ports="ports", options=()):
+        self.nodes[own] = Node(own, self.place.name, ports, [*self.options, *options], self.prefix)
+        return self.nodes[own]
+
+
+@test
+def a_window_of_more_than_the_sockets_hold():
+    """Two sockets hold some 100 WANTs and a few frames of 32 payments: a node that catches up goes on by new ones."""
+    values, options = 300, ["--ahead", "1024", "--dials", "always"]
+    with small_sockets() as prefix, Inside(prefix, [32 * values, 0], running=[0], options=options) as group:
+        for order in range(values):
+            line = f"PAYS {order} {' '.join(32 * ['1 1'])}"
+            same(group.nodes[0].ask(line), f"asked {order} seq {order}", f"value {order}")
+        group.start(1)
+        group.settle([32 * values, 0], [0, 32 * values])
         group.stop()
 
 

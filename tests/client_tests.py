@@ -10,7 +10,7 @@ import threading
 
 import desks
 from clients import Client, socket_of
-from nodes import PATIENCE, Node, until
+from nodes import PATIENCE, Group, Node, until
 from restarts import Folders
 from runs import PAYD, run, run_to_nobody, same, shows, test
 
@@ -210,6 +210,64 @@ def socket_elsewhere():
 
 
 @test
+def socket_is_never_open_to_others():
+    """From when it is there, under a mask that takes nothing away, and in a folder that others may enter."""
+    with Folders(OPENING, running=[]) as group, tempfile.TemporaryDirectory() as folder:
+        os.chmod(folder, 0o755)
+        path, seen = os.path.join(folder, "socket"), set()
+        for _ in range(10):
+            prefix = ["sh", "-c", 'umask 0; exec "$@"', "sh"]
+            node = Node(0, group.place.name, options=["--socket", path], prefix=prefix)
+            while not seen or 0 in seen:
+                seen.discard(0)
+                seen.add(stat.S_IMODE(os.lstat(path).st_mode) if os.path.lexists(path) else 0)
+            node.kill()
+            os.remove(path)
+            same(os.listdir(folder), [], "what else is in the folder")
+            same(seen, {0o600}, "modes of the socket")
+            seen.clear()
+
+
+@test
+def half_made_socket_makes_way():
+    """What a kill leaves of a start: the folder in which a socket is made."""
+    with Folders(OPENING, running=[]) as group, tempfile.TemporaryDirectory() as folder:
+        path = os.path.join(folder, "socket")
+        os.mkdir(f"{path}.new")
+        with socket.socket(socket.AF_UNIX) as left:
+            left.bind(os.path.join(f"{path}.new", "s"))
+        group.start(0, options=["--socket", path])
+        same(group.nodes[0].front(), [0, 0, 0, 0], "a node")
+        same(Client(path).ask("BALANCE 3"), "balance 3 50", "a client")
+        same(os.listdir(folder), ["socket"], "what is in the folder")
+        # a folder of somebody's that isn't empty stays, and the node says which socket it can't have
+        group.kill(0)
+        os.mkdir(f"{path}.new")
+        with open(os.path.join(f"{path}.new", "file"), "wb"):
+            node = Node(0, group.place.name, options=["--socket", path])
+        status, output, errors = node.end()
+        same((status, output, f"payd: socket {path}\n" in errors), (3, "", True), f"the node: {errors}")
+        same(os.listdir(f"{path}.new"), ["file"], "what is in that folder")
+
+
+@test
+def socket_with_a_long_name():
+    """One of 101 bytes works; a longer one is refused before anything is made, also to a client."""
+    with Group(OPENING, running=[]) as group, tempfile.TemporaryDirectory() as folder:
+        longest, longer = "d" * (101 - len("/desk")), "d" * (102 - len("/desk"))
+        node = group.start(0, options=["--data", longest])
+        same(node.front(), [0, 0, 0, 0], "a node in the longest folder")
+        said = f"payd: socket {longer}/desk: more than 101 bytes; --socket gives it a shorter name\n"
+        shows(Node(1, group.place.name, options=["--data", longer]).end(), 2, "", said, of="a node in a longer one")
+        same(os.path.exists(os.path.join(group.place.name, longer)), False, "whether that folder is made")
+        shows(run(["send", "--data", longer, "FRONT"]), 2, "", said, of="a client")
+        path = os.path.join(folder, "socket")
+        started = group.start(1, options=["--data", longer, "--socket", path])
+        same(started.front(), [0, 0, 0, 0], "the same, by --socket")
+        same(Client(path).ask("BALANCE 3"), "balance 3 50", "its client")
+
+
+@test
 def node_that_stays_is_asked_on_its_socket():
     with Folders(OPENING, running=[]) as group:
         node = group.start(0, options=["--stay"])
@@ -248,16 +306,42 @@ def sent_lines_are_answered():
         shows(send(group, 0, stream=b"FRONT"), 0, "front 1 0 0 0\n", of="a line without its end")
         shows(send(group, 0), 0, "", of="no line")
         shows(send(group, 0, "FRONT", stream=b"BALANCE 0\n"), 0, "front 1 0 0 0\n", of="words, and not the input")
-        wanted = "balance 0 70\nrefused 2 NoAccount\nbalance 1 30\n"
-        shows(send(group, 0, "BALANCE 0", "BALANCE 4", "BALANCE 1"), 1, wanted, of="a line that is refused")
-        shows(send(group, 0, "FLY"), 1, "refused 1 BadLine\n", of="a line that is none")
+        wanted, said = "balance 0 70\nrefused 2 NoAccount\nbalance 1 30\n", "payd: refused line 2: 2 NoAccount\n"
+        shows(send(group, 0, "BALANCE 0", "BALANCE 4", "BALANCE 1"), 1, wanted, said, of="a line that is refused")
+        shows(send(group, 0, "FLY"), 1, "refused 1 BadLine\n", "payd: refused line 1: 1 BadLine\n", of="no command")
         path = socket_of(group, 0)
         shows(run(["send", "--socket", path, "FRONT"]), 0, "front 1 0 0 0\n", of="by the socket")
         # several lines in one word are several lines
         shows(send(group, 0, "FRONT\nBALANCE 0"), 0, "front 1 0 0 0\nbalance 0 70\n", of="a word of two lines")
         many = "".join(f"PAY {it} 1 0\n" for it in range(1000, 21_000))
-        status, output, _ = send(group, 0, stream=many.encode())
+        status, output, errors = send(group, 0, stream=many.encode())
         same((status, output), (1, "refused 3 ZeroOrSelf\n" * 20_000), "many lines")
+        same(errors, "".join(f"payd: refused {it}: 3 ZeroOrSelf\n" for it in range(1000, 21_000)), "which are refused")
+
+
+@test
+def send_names_what_is_refused():
+    """A payment by its id, and another line by its number; also behind answers of many lines, and without its end."""
+    with Folders(OPENING) as group:
+        last, most = 2**64 - 1, 2**64
+        rows = [
+            ("PAY 7 1 30", "asked 7 seq 0", None),
+            ("PAY 7 1 31", "refused 4 IdUsed", "7"),
+            (f"PAYS {last} 9 1 1 2", "refused 2 NoAccount", f"{last}"),
+            (f"PAY {most} 1 1", "refused 1 BadLine", "line 4"),
+            ("STATEMENT 3", "end 3 balance 50", None),
+            ("", "refused 1 BadLine", "line 6"),
+            ("PAY 8", "refused 1 BadLine", "8"),
+            (f"PAY 9 {'1' * 2000}", "refused 1 BadLine", "9"),
+            ("STATE 5 0", "refused 2 NoAccount", "line 9"),
+            ("PAY 10 1 0", "refused 3 ZeroOrSelf", "10"),
+        ]
+        output = "".join(f"{answer}\n" for _, answer, _ in rows)
+        refusals = [(name, answer.partition(" ")[2]) for _, answer, name in rows if name]
+        said = "".join(f"payd: refused {name}: {why}\n" for name, why in refusals)
+        stream = "\n".join(line for line, _, _ in rows).encode()
+        shows(send(group, 0, stream=stream), 1, output, said, of="lines of the input")
+        shows(send(group, 0, *(line for line, _, _ in rows)), 1, output, said, of="words")
 
 
 @test

@@ -152,7 +152,7 @@ def wrong_clause_is_told_of():
         ("Desk::line", "text", "bound"),
         ("Reader::new", "inner", "limits"),
         ("Member::ask", "asked", "took"),
-        ("lists_by_deeds", "no_fork", "agree"),
+        ("lists_by_actions", "no_fork", "agree"),
         ("headline", "agree", "no_fork"),
         ("LineCutter", "push", "feed"),
         ("KeepsCounts", "gave", "agree"),

@@ -12,6 +12,8 @@ from memory_tests import PIECE, is_refused, run_within
 from runs import PAYD, SECONDS, TOP, run, same, shows, test
 
 EACH = range(1, 9)
+# How often a run is tried in which another thread has to get at something.
+PATIENT = 100
 
 
 def run_from_file(stream, jobs):
@@ -143,14 +145,14 @@ def as_many_threads_as_processors_unless_said(library):
 
 @hostile
 def each_growth_of_a_further_thread_refused(library):
-    """The text is whole, or a prefix of it and Memory."""
-    stream = drawn(7, 300)
-    wanted, refusals = check(stream), 0
-    for place, was in library.each(["check", "--jobs", "3"], stream, "further_growth"):
-        if was == wanted:
-            continue
-        refusals += 1
-        status, text, errors = was
-        same((status, errors), (3, "payd: engine 0 Memory\n"), f"growth {place}")
-        same(wanted[1].startswith(text), True, f"growth {place}: a prefix")
-    same(refusals > 10, True, f"{refusals} growths of further threads were refused")
+    """What another thread can't judge for memory the one that reads does: the text is whole."""
+    stream, refused = drawn(7, 300), 0
+    wanted = check(stream)
+    # (which thread judges what hangs on which is free, so one run may refuse nothing)
+    for _ in range(PATIENT):
+        for place, was in library.each(["check", "--jobs", "3"], stream, "further_growth"):
+            same(was, wanted, f"growth {place}")
+            refused += 1
+        if refused > 10:
+            return
+    raise AssertionError(f"{refused} growths of further threads were refused")

@@ -44,10 +44,13 @@ def row(what, ahead, *steps):
 
 DIALED, DIALS, ENDED, ENDS = {"dialed": 1}, {"dials": 3}, {"end": "node"}, {"end": "member"}
 FIRST = says(answered=[want(0, 1, 0)])
+# with four frames ahead, or more
+FIRST_FOUR = says(answered=[want(0, 1, it) for it in range(4)])
 
 ROWS = [
     # what a node asks of a member that it dialed
-    row("a node asks the member that it dialed for its first frame", 64, DIALED, FIRST),
+    row("a node asks the member that it dialed for its first four frames", 64, DIALED, FIRST_FOUR),
+    row("or for as many as it asks for ahead", 3, DIALED, says(answered=[want(0, 1, it) for it in range(3)])),
     row(
         "with one frame ahead, each that comes has the next asked for",
         1,
@@ -59,18 +62,18 @@ ROWS = [
         "each frame that comes lets one more be under way",
         64,
         DIALED,
-        FIRST,
-        *(says(echo(it, it), answered=[want(0, 1, 2 * it + 1), want(0, 1, 2 * it + 2)]) for it in range(4)),
+        FIRST_FOUR,
+        *(says(echo(it, it), answered=[want(0, 1, 2 * it + 4), want(0, 1, 2 * it + 5)]) for it in range(4)),
     ),
     row(
         "never more are under way than it asks for ahead",
-        3,
+        6,
         DIALED,
-        FIRST,
-        says(echo(0, 0), answered=[want(0, 1, 1), want(0, 1, 2)]),
-        says(echo(1, 1), answered=[want(0, 1, 3), want(0, 1, 4)]),
-        says(echo(2, 2), answered=[want(0, 1, 5)]),
-        says(echo(3, 3), answered=[want(0, 1, 6)]),
+        FIRST_FOUR,
+        says(echo(0, 0), answered=[want(0, 1, 4), want(0, 1, 5)]),
+        says(echo(1, 1), answered=[want(0, 1, 6), want(0, 1, 7)]),
+        says(echo(2, 2), answered=[want(0, 1, 8)]),
+        says(echo(3, 3), answered=[want(0, 1, 9)]),
     ),
     row(
         "a new connection begins with the first frame again, and goes on where the one before ended",
@@ -84,18 +87,30 @@ ROWS = [
         says(echo(0, 0), answered=[want(0, 1, 3)]),
         says(echo(3, 3), answered=[want(0, 1, 4)]),
     ),
-    row("a frame that wasn't asked for next ends it", 64, DIALED, FIRST, says(echo(1, 1)), ENDED),
+    row(
+        "with more ahead it does so once all of the first frames came again",
+        64,
+        DIALED,
+        FIRST_FOUR,
+        *(says(echo(it, it), answered=[want(0, 1, 2 * it + 4), want(0, 1, 2 * it + 5)]) for it in range(6)),
+        ENDS,
+        DIALED,
+        FIRST_FOUR,
+        *(says(echo(it, it)) for it in range(3)),
+        says(echo(3, 3), answered=[want(0, 1, 6), want(0, 1, 7)]),
+    ),
+    row("a frame that wasn't asked for next ends it", 64, DIALED, FIRST_FOUR, says(echo(1, 1)), ENDED),
     row(
         "so does one that came before",
         64,
         DIALED,
-        FIRST,
-        says(echo(0, 0), answered=[want(0, 1, 1), want(0, 1, 2)]),
+        FIRST_FOUR,
+        says(echo(0, 0), answered=[want(0, 1, 4), want(0, 1, 5)]),
         says(echo(0, 0)),
         ENDED,
     ),
-    row("and one in another member's name", 64, DIALED, FIRST, says(echo(0, 0, sender=2)), ENDED),
-    row("and bytes that no frame begins with", 64, DIALED, FIRST, says(b"\0\0"), ENDED),
+    row("and one in another member's name", 64, DIALED, FIRST_FOUR, says(echo(0, 0, sender=2)), ENDED),
+    row("and bytes that no frame begins with", 64, DIALED, FIRST_FOUR, says(b"\0\0"), ENDED),
     row(
         "a frame that doesn't open is passed over, and the one asked for may still come",
         1,

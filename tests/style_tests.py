@@ -67,3 +67,25 @@ def linter_finds_nothing():
     words = [linter, "check", "--no-cache"] if linter == "ruff" else [linter]
     done = subprocess.run([*words, *python_files()], cwd=TOP, capture_output=True, text=True, timeout=SECONDS)
     same(done.returncode, 0, f"{linter}: {done.stdout}{done.stderr}")
+
+
+# Lines of Rattle, except attributes, which `rt fmt` keeps on one line, and texts: those of --help, and tests' data.
+LONGEST_OF_RATTLE = 100
+TEXTS = ("crates/payd/src/helps.rt", "crates/pay_library_tests/src/")
+
+
+def long_lines():
+    """The lines of src/ and specs/ that are too long, by their places."""
+    for folder, inner, files in os.walk(os.path.join(TOP, "crates")):
+        inner[:] = [it for it in inner if it not in ("out", "proofs")]
+        for path in (os.path.relpath(os.path.join(folder, it), TOP) for it in files):
+            if path.endswith((".rt", ".antt")) and not path.startswith(TEXTS):
+                with open(os.path.join(TOP, path), encoding="utf-8") as file:
+                    for number, line in enumerate(file, 1):
+                        if len(line.rstrip("\n")) > LONGEST_OF_RATTLE and not line.lstrip().startswith("#["):
+                            yield f"{path}:{number}"
+
+
+@test
+def lines_of_rattle_keep_their_length():
+    same(sorted(long_lines()), [], f"lines longer than {LONGEST_OF_RATTLE}")

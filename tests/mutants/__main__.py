@@ -10,7 +10,7 @@ stands once. Where the function ensures several clauses, a line 'clause: NAME' s
 docs/PROMISES.md.
 
 A mutant stands in a twin of its function: one of another name, with the same proof files (none where all of its body
-is new), that ensures this clause and no other. All other functions are hollow: taken by their contracts, without their
+is new), that ensures this clause and no other. All other functions are stubbed: taken by their contracts, without their
 proofs. A method of a trait can have no twin; its mutant takes its place, with all clauses of the trait.
 
 - It is killed where the prover doesn't prove the clause's goal and proves all else: so it would get through without

@@ -11,7 +11,7 @@ import tempfile
 from dataclasses import dataclass, field
 
 from edits import INVARIANT, Mutant, Place, in_batches
-from hollow import hollow_out
+from stubs import stub_out
 from kit import rtlib
 from sources import TRUE, cut, item, named, proof_folders, read_file, with_answers_to, with_one_clause, write_files
 
@@ -54,14 +54,14 @@ class Report:
 
 
 def check(crate, batch: list[Place]) -> Report:
-    """Checks the functions of a batch on a copy of the crate with all its mutants. All others are hollow there."""
+    """Checks the functions of a batch on a copy of the crate with all its mutants. All others are stubbed there."""
     tried = {it.function() for it in batch}
     with tempfile.TemporaryDirectory(prefix="mutants-") as room:
         for part in rtlib.PARTS:
             if os.path.isdir(f"{crate.folder}/{part}"):
                 shutil.copytree(f"{crate.folder}/{part}", f"{room}/{part}")
         write_files(room, joined(crate, batch))
-        hollow_out(crate.name, room, tried)
+        stub_out(crate.name, room, tried)
         for it in batch:
             copy_proofs(crate, it, room)
         # (it would take a tenth longer to keep its work for a later check)

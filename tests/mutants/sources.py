@@ -80,7 +80,7 @@ def module_of(file: str) -> str:
 
 def path_of(file: str, head: str, name: str) -> str:
     """How the prover names the function whose head ends this text of a file, or '' where its place
-    doesn't tell that, or it is one that is never hollow."""
+    doesn't tell that, or it is one that is never stubbed."""
     own = item(head, name)
     if name == "main" or "#[cycle" in own or re.search(rf"\bconst fn {name}\b", own):
         return ""
@@ -89,7 +89,7 @@ def path_of(file: str, head: str, name: str) -> str:
 
 
 def named(file: str, head: str, name: str) -> str:
-    """The same, also of a function that is never hollow where its impl is of a trait with one argument."""
+    """The same, also of a function that is never stubbed where its impl is of a trait with one argument."""
     of = re.match(r"impl\b.*?\b(\w+)<(?:\w+::)*(\w+)> for (\w+)", above(head)) if item(head, name)[0] == " " else None
     return path_of(file, head, name) or (f"{module_of(file)}::{of[3]}{of[1]}{of[2]}::{name}" if of else "")
 
