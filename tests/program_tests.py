@@ -6,6 +6,7 @@ import subprocess
 import tempfile
 
 from check_tests import BAD_TAG, TWICE
+from completions import Command, commands_of
 from nodes import free_ports, write_json
 from runs import PAYD, SECONDS, TOP, run, same, test
 
@@ -18,6 +19,16 @@ def help_is_printed():
         status, output, errors = run(words)
         same((status, errors), (0, ""), f"{words}")
         same("check" in output, True, f"{words}: speaks of check")
+
+
+@test
+def help_names_the_options_that_there_are():
+    """A line of a command's help that begins with a dash begins with an option of that command."""
+    for name in commands_of(run(["--help"])[1]):
+        status, output, errors = run([name, "--help"])
+        same((status, errors), (0, ""), name)
+        begins = {line.split()[0] for line in output.splitlines() if line.lstrip().startswith("-")}
+        same(begins - {*Command(name, output).options, "-h,"}, set(), f"{name}: what are no options")
 
 
 @test

@@ -71,7 +71,7 @@ def linter_finds_nothing():
 
 # Lines of Rattle, except attributes, which `rt fmt` keeps on one line, and texts: those of --help, and tests' data.
 LONGEST_OF_RATTLE = 100
-TEXTS = ("crates/payd/src/helps.rt", "crates/pay_library_tests/src/")
+TEXTS = ("crates/pay_cli/src/helps.rt", "crates/pay_library_tests/src/")
 
 
 def long_lines():

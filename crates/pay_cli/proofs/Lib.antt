@@ -4,3 +4,4 @@ pub mod Starting
 pub mod Findings
 pub mod Cuts
 pub mod Parts
+pub mod AskedLemmas

@@ -2,3 +2,4 @@ pub mod Lines
 pub mod CheckText
 pub mod Engine
 pub mod Findings
+pub mod Job

@@ -13,6 +13,7 @@ ghost use Rattle.pay_cli.specs.Findings.{JudgesAll};
 use crate::board::Judge;
 use crate::checking::Checking;
 use crate::cores::{OverCores, Shared, parts_of};
+use crate::jobs::Jobs;
 use crate::judging::Judged;
 use crate::laws::every_text;
 use crate::progress::Progress;
@@ -30,14 +31,13 @@ use std::thread::Threads;
 /// Reads frames to the input's end, and writes what the member with these keys would make of each:
 /// the text of all bytes that were read, however they come in pieces.
 ///
-/// So many threads judge what a read gave, this one among them, and fewer where it is little or no
+/// As many threads as there are jobs judge what a read gave, and fewer where it is little or no
 /// thread can be made.
 ///
 /// A fault in the frames ends the text with its line, and is then answered. After another fault
 /// what was written is a prefix of the text.
 pub fn run_check<H: Threads + Wait + Sync, R: Input, W: Output, T: Tagger + Sync>(
-    rt: &H,
-    jobs: usize,
+    jobs: Jobs<'_, H>,
     alloc: Global,
     t: &T,
     genesis: &Genesis,
@@ -57,13 +57,12 @@ pub fn run_check<H: Threads + Wait + Sync, R: Input, W: Output, T: Tagger + Sync
     let progress = Progress::new(alloc, genesis.members())?;
     let mut shared = Shared::new(alloc, progress);
     let checker = Checking { tagger: t, keys };
-    judge_with::<H, R, W, T, Brand>(rt, jobs, alloc, checker, &mut shared, reader, writer)
+    judge_with::<H, R, W, T, Brand>(jobs, alloc, checker, &mut shared, reader, writer)
 }
 
 // The same from what is known before the first line, by the keys of a type.
 fn judge_with<'a, H, R, W, T, J>(
-    rt: &'a H,
-    jobs: usize,
+    jobs: Jobs<'a, H>,
     alloc: Global,
     checker: Checking<'a, T>,
     shared: &mut Shared,
@@ -89,11 +88,11 @@ where
     ensures counts { KeepsCounts engine_of R.call_count R.failure_count R.remaining
         W.failure_count reader.old reader.new writer.old writer.new result }
 {
-    let workers = Workers::<H, T, J>::new(rt, alloc, checker);
-    if jobs < 2 {
-        judge_stream(&workers, jobs, shared, reader, writer)
+    let workers = Workers::<H, T, J>::new(jobs.rt, alloc, checker);
+    if jobs.count < 2 {
+        judge_stream(&workers, jobs.count, shared, reader, writer)
     } else {
-        judge_beside(&workers, jobs, shared, reader, writer)
+        judge_beside(&workers, jobs.count, shared, reader, writer)
     }
 }
 

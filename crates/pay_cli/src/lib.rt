@@ -1,7 +1,10 @@
-//! The engine of the command `check`: a line for each frame of a stream, judged by several threads.
+//! The words of the program, and the engine of its command `check`: a line for each frame of a
+//! stream, judged by several threads.
 //!
 //! ```
-//! run_check(&rt, 4, alloc, &tagger, &genesis, &keys, &mut reader, &mut writer)?;
+//! let job = job_of(alloc, words.as_slice())?;
+//! let jobs = Jobs { rt: &rt, count: 4 };
+//! run_check(jobs, alloc, &tagger, &genesis, &keys, &mut reader, &mut writer)?;
 //! ```
 #![tactic(auto)]
 
@@ -10,14 +13,22 @@ mod check;
 mod checking;
 mod cores;
 mod finding;
+mod helps;
+mod job;
+mod jobs;
 mod judging;
 mod laws;
 mod lines;
 mod progress;
 mod sharing;
 mod turns;
+mod words;
 mod workers;
 
 pub use check::run_check;
+pub use helps::NOT_UTF8;
+pub use job::{Job, NodeWords, SendWords};
+pub use jobs::Jobs;
 pub use laws::{every_text, next_is_ok_lines_before, one_text};
 pub use progress::Progress;
+pub use words::job_of;

@@ -1,4 +1,3 @@
-mod AskedLemmas
 mod Exports
 mod Reading
 mod Outcomes

@@ -1,4 +1,3 @@
-pub mod Job
 pub mod Files
 pub mod Stops
 pub mod Dials

@@ -10,7 +10,6 @@ mod dials;
 mod figures;
 mod files;
 mod folders;
-mod helps;
 mod jobs;
 mod keeping;
 mod metrics;
@@ -23,17 +22,15 @@ mod sockets;
 mod staying;
 mod stop;
 mod texts;
-mod words;
 
 use batches::verdict_over;
 use clap::error::ErrorKind;
 use dates::date_of;
 use files::{NamedFiles, export_of, genesis_of, keys_of};
-use helps::NOT_UTF8;
 use jobs::jobs_of;
 use nodes::{export, serve_node};
 use pay_audit::Verdict;
-use pay_cli::run_check;
+use pay_cli::{Job, Jobs, NOT_UTF8, job_of, run_check};
 use pay_desk::{Desk, OneMember, Teller, run_desk};
 use pay_echo::MaskInstance;
 use pay_engine::EngineFault;
@@ -55,7 +52,6 @@ use std::time::Clock;
 use std::{env, io, thread};
 use stop::Stop;
 use texts::{Findings, book_over, findings_over, form_of, statement_said};
-use words::{Job, job_of};
 
 /// A member, in the forms of its parts that the program runs.
 type OwnMember = Member<MaskInstance, WaitingBook>;
@@ -148,8 +144,8 @@ fn judge_frames(
     let tagger = tagger_of(alloc, keys)?;
     let mut reader = Reader::new(rt.reader());
     let mut writer = Writer::new(io::writer(rt));
+    let jobs = Jobs { rt, count: jobs };
     run_check(
-        rt,
         jobs,
         alloc,
         &tagger,

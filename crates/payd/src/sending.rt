@@ -7,7 +7,7 @@ ghost use Rattle.payd.specs.Sending.{Relays, counted_if, is_last, is_refusal};
 use crate::sent::{LineNotes, SentLines};
 use crate::sockets::socket_path;
 use crate::stop::Stop;
-use crate::words::SendWords;
+use pay_cli::SendWords;
 use pay_engine::EngineFault;
 use pay_io::{Reader, StreamFault, Writer, write_all};
 use pay_text::{Answer, Answerer, Text, run_lines};

@@ -4,7 +4,7 @@ ghost use Rattle.std.specs.Prelude.{◌≡◌, IfErr, IsSome, IsTrue, None, OnOk
 ghost use Rattle.payd.specs.declared.stop.Stop.TheVariants.{Stay};
 
 use crate::stop::Stop;
-use crate::words::NodeWords;
+use pay_cli::NodeWords;
 use pay_io::{DeviceFailed, Input};
 use std::sync::Wait;
 use std::sync::atomic::{AtomicBool, AtomicU64, Ordering};

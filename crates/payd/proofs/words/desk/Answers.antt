@@ -1,8 +1,0 @@
-use Rattle.std.proofs.lemmas.Result.{IfOk-weaker}
-use Rattle.payd.proofs.AskedLemmas.{one_argument_more}
-use Rattle.payd.proofs.words.desk.Goals as goal
-
-pub returns : goal.returns
-returns c =
-    let one = one_argument_more _ _ _ _ _ c.titled_command.ensures c.required_file.ensures c.in_ok-arg.ensures in
-    IfOk-weaker c.arg-2.result _ _ (λ r h. one_argument_more _ _ _ _ _ one c.required_file-2.ensures h) c.arg-2.ensures

@@ -1,9 +1,0 @@
-use Rattle.std.proofs.lemmas.Result.{IfOk-weaker}
-use Rattle.payd.proofs.AskedLemmas.{one_argument_more}
-use Rattle.payd.proofs.words.exporting.Goals as goal
-
-pub returns : goal.returns
-returns c =
-    let one = one_argument_more _ _ _ _ _ c.titled_command.ensures c.required_file.ensures c.in_ok-arg.ensures in
-    let two = one_argument_more _ _ _ _ _ one c.required_file-2.ensures c.in_ok-arg-2.ensures in
-    IfOk-weaker c.arg-3.result _ _ (λ r h. one_argument_more _ _ _ _ _ two c.required_folder.ensures h) c.arg-3.ensures
