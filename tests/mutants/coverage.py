@@ -12,6 +12,8 @@ WITHOUT_OTHER_BODY = {
     "pay_cli::finding::Findings::new",
     "pay_desk::desk::Desk::into_teller",
     "pay_desk::desk::Desk::teller",
+    "pay_frame::shared_body::SharedBody::body",
+    "pay_frame::shared_body::SharedBody::copy",
     "pay_io::counted::Counted::into_inner",
     "pay_kept::behind::Behind::into_inner",
     "pay_kept::following::Following::new",

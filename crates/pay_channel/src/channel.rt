@@ -19,7 +19,7 @@ use crate::outgoing::Outgoing;
 use crate::source::Source;
 use pay_echo::laws::{known_stays, nothing_known_at_first, one_vote_more};
 use pay_echo::{Group, Instance, VoteRef};
-use pay_frame::{Body, GREATEST_VALUE, Kind, MOST_MEMBERS};
+use pay_frame::{Body, GREATEST_VALUE, Kind, MOST_MEMBERS, SharedBody};
 use std::alloc::{AllocError, Global};
 use std::marker::Model;
 
@@ -30,7 +30,7 @@ pub struct Channel<I: Instance + Drop> {
     group: Group,
     asks: u32,
     instances: Instances<I>,
-    sent: Vec<Body>,
+    sent: Vec<SharedBody>,
     listed: Vec<u32>,
 }
 
@@ -134,7 +134,7 @@ impl<I: Instance + Drop> Channel<I> {
         owner: u16,
         seq: u32,
         vote: VoteRef,
-        send: Option<Body>,
+        send: Option<SharedBody>,
     ) -> Result<Applied, AllocError>
         requires owner { owner < self.old.group.members }
         requires seq { seq < seqs }
@@ -185,6 +185,13 @@ impl<I: Instance + Drop> Channel<I> {
 
     /// The body at a place of the sent list.
     pub fn sent(&self, place: usize) -> Option<&Body>
+        ensures { option_copied result ≡ slice_get self.now.sent place }
+    {
+        Some(self.sent_shared(place)?.body())
+    }
+
+    /// The same, to be shared.
+    pub fn sent_shared(&self, place: usize) -> Option<&SharedBody>
         ensures { option_copied result ≡ slice_get self.now.sent place }
     {
         self.sent.get(place)
@@ -262,7 +269,7 @@ fn vote_in<'a>(process: u16, body: &'a Body) -> Option<VoteRef<'a>>
 }
 
 // Puts a body at the end, where there is one; room for it was made.
-fn say(sent: &mut Vec<Body>, body: Option<Body>)
+fn say(sent: &mut Vec<SharedBody>, body: Option<SharedBody>)
     requires { vec_len sent.old + 1 ≤ vec_capacity sent.old }
     ensures items { sent.new.items ≡ sent.old.items ++ option_to_list body }
     ensures len { vec_len sent.new ≤ vec_len sent.old + 1 }

@@ -12,7 +12,7 @@ ghost use Rattle.pay_channel.specs.Hearing.{HearsVote, IsOutgoing};
 use crate::outgoing::Outgoing;
 use pay_echo::laws::nothing_known_at_first;
 use pay_echo::{Group, Instance, VoteRef};
-use pay_frame::{Body, Bytes, GREATEST_VALUE, Kind, MOST_MEMBERS, SEQS};
+use pay_frame::{Body, Bytes, GREATEST_VALUE, Kind, MOST_MEMBERS, SEQS, SharedBody};
 use std::alloc::{AllocError, Global};
 use std::collections::BTreeMap;
 use std::marker::Model;
@@ -169,7 +169,7 @@ fn body_if(
     owner: u16,
     seq: u32,
     value: &[u8],
-) -> Result<Option<Body>, AllocError>
+) -> Result<Option<SharedBody>, AllocError>
     requires kind { kind ≢ Kind.Want }
     requires seq { seq < seqs }
     requires value { length value.now ≤ GREATEST_VALUE }
@@ -188,12 +188,12 @@ pub fn body_of(
     owner: u16,
     seq: u32,
     value: &[u8],
-) -> Result<Body, AllocError>
+) -> Result<SharedBody, AllocError>
     requires kind { kind ≢ Kind.Want }
     requires seq { seq < seqs }
     requires value { length value.now ≤ GREATEST_VALUE }
     ensures { IfOk result (λ body. body ≡ body_of kind owner seq value.now) }
 {
     let value = Bytes::from_slice(alloc, value)?;
-    Ok(Body::new(kind, owner, seq, value))
+    SharedBody::new(alloc, Body::new(kind, owner, seq, value))
 }

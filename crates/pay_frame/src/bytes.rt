@@ -1,12 +1,14 @@
 ghost use Rattle.std.specs.Prelude.{◌≡◌, ◌↔◌, [], length, IfOk, IsTrue};
 
+use smallvec::SmallVec;
 use std::alloc::{AllocError, Global};
 use std::marker::Model;
 
-/// Bytes on the heap. Contracts see them as a list of numbers.
+/// Bytes, of which up to 16 take no memory: so many has a value of one payment. Contracts see them
+/// as a list of numbers.
 #[derive(Debug, Drop)]
 pub struct Bytes {
-    bytes: Vec<u8>,
+    bytes: SmallVec<u8, 16>,
 }
 
 impl Model for Bytes {
@@ -22,14 +24,18 @@ impl Bytes {
     pub fn new(bytes: Vec<u8>) -> Bytes
         ensures value { result ≡ bytes.items }
     {
-        Bytes { bytes }
+        Bytes {
+            bytes: SmallVec::from_vec(bytes),
+        }
     }
 
     /// A copy of a slice.
     pub fn from_slice(alloc: Global, bytes: &[u8]) -> Result<Bytes, AllocError>
         ensures value { IfOk result (λ copy. copy ≡ bytes.now) }
     {
-        Ok(Bytes::new(Vec::from_slice(alloc, bytes)?))
+        Ok(Bytes {
+            bytes: SmallVec::from_slice(alloc, bytes)?,
+        })
     }
 
     pub fn as_slice(&self) -> &[u8]

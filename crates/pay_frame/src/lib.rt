@@ -22,6 +22,7 @@ mod kind;
 mod laws;
 mod limits;
 mod reading;
+mod shared_body;
 mod stream_laws;
 mod writing;
 
@@ -41,6 +42,7 @@ pub use limits::{
     TAG_LEN,
 };
 pub use reading::{frames_in_front, read, read_one};
+pub use shared_body::SharedBody;
 pub use stream_laws::{
     cutter_follows_stream, every_reading, every_stream, fault_is_for_good, frame_sizes, one_stream,
     stream_goes_on, stream_grows,

@@ -1,7 +1,7 @@
 //! A node's history in a log: on a disk that fails at each of its calls, and with threads that wait
 //! for one sync.
 
-ghost use Rattle.std.specs.Prelude.{[], IfOk};
+ghost use Rattle.std.specs.Prelude.{◌≡◌, [], IfOk};
 ghost use Rattle.pay_link.specs.Keys.{IsKeysOf};
 
 use crate::logs::FailingDisk;
@@ -13,9 +13,10 @@ use pay_kept::{Keeper, Kept, Restarted, restart};
 use pay_link::{Genesis, Keys, test_keys};
 use pay_log::{Device, DeviceFault, DiskFailed, LogFault};
 use pay_member::{Event, Member};
-use pay_node::{MOST_SEATS, NoHistory, Node, Seat};
+use pay_node::{Beginning, Node, Seat};
 use pay_record::log_header;
 use std::alloc::Global;
+use std::marker::Brand;
 use std::process::Abort;
 use std::sync::atomic::{AtomicU32, Ordering};
 use std::sync::{Mutex, Wait};
@@ -37,7 +38,9 @@ const CALLS: usize = 8;
 /// How often a disk looks whether others have asked, a millisecond apart.
 const TURNS: u32 = 20_000;
 
-type Tried = Node<MaskInstance, PlainBook, NoHistory>;
+type OwnMember = Member<MaskInstance, PlainBook>;
+
+type Tried<S> = Node<MaskInstance, PlainBook, S>;
 
 type Started<'a, R> = Restarted<MaskInstance, PlainBook, Shared<'a, R>>;
 
@@ -119,26 +122,21 @@ fn start<'a, R: Wait + Clock>(
     Ok(restart(alloc, device, &HmacSha256, &genesis, &keys))
 }
 
-/// A node of a member that took nothing, with so many seats.
-fn node_of(
-    alloc: Global,
-    member: Member<MaskInstance, PlainBook>,
-    seats: u16,
-) -> Result<(Tried, Vec<Seat>), Fail> {
-    if !member.history().is_empty() || seats > MOST_SEATS {
-        return Err(Fail::new("no new member"));
-    }
-    match Node::new(alloc, member, seats) {
+/// A node of a member, with three seats.
+fn node_of<S: Beginning>(alloc: Global, member: OwnMember) -> Result<(Tried<S>, Vec<Seat>), Fail>
+    requires { member ≡ S.beginning }
+{
+    match Node::new(alloc, member, 3) {
         Ok(made) => Ok(made),
         Err((_, error)) => Err(error.into()),
     }
 }
 
 /// Asks the node to pay, and says whether that is kept.
-fn pays<R: Wait, K: Keeper>(
+fn pays<S: Beginning, R: Wait, K: Keeper>(
     rt: &R,
     alloc: Global,
-    node: &Tried,
+    node: &Tried<S>,
     seat: &mut Seat,
     kept: &K,
 ) -> Result<bool, Fail> {
@@ -156,6 +154,36 @@ struct Ended {
     stops: bool,
 }
 
+/// Pays under each id from a member's node: how often that was acknowledged, and whether all stops
+/// after the first failure.
+fn pay_each<S: Beginning, R: Wait, D: Device + Drop>(
+    rt: &R,
+    alloc: Global,
+    member: OwnMember,
+    kept: &Kept<D>,
+    disk: &Mutex<FailingDisk>,
+) -> Result<(usize, bool), Fail>
+    requires { member ≡ S.beginning }
+{
+    let (node, mut seats) = node_of::<S>(alloc, member)?;
+    let Some(mut seat) = seats.pop() else {
+        return Err(Fail::new("no seat"));
+    };
+    let mut acknowledged = 0;
+    let mut stops = true;
+    for (seq, id) in IDS.iter().enumerate() {
+        let failed = kept.has_failed(rt);
+        let calls = disk.lock(rt).calls;
+        kept.order(rt, seq as u32, *id)?;
+        if pays(rt, alloc, &node, &mut seat, kept)? {
+            acknowledged = seq + 1;
+            stops = stops && !failed;
+        }
+        stops = stops && (!failed || disk.lock(rt).calls == calls);
+    }
+    Ok((acknowledged, stops))
+}
+
 /// Pays under each id on a disk whose call of this number fails.
 fn pay_until_crash<R: Wait + Clock>(
     rt: &R,
@@ -165,30 +193,19 @@ fn pay_until_crash<R: Wait + Clock>(
 ) -> Result<Ended, Fail> {
     let disk = Mutex::new(new_disk(alloc, fails, torn)?);
     let missing = AtomicU32::new(0);
-    let mut acknowledged = 0;
-    let mut stops = true;
-    if let Ok(started) = start(rt, alloc, &disk, &missing)? {
-        let Restarted {
-            member,
-            ids,
-            following,
-        } = started;
-        let kept = Kept::new(alloc, following, ids);
-        let (node, mut seats) = node_of(alloc, member, 1)?;
-        let Some(mut seat) = seats.pop() else {
-            return Err(Fail::new("no seat"));
-        };
-        for (seq, id) in IDS.iter().enumerate() {
-            let failed = kept.has_failed(rt);
-            let calls = disk.lock(rt).calls;
-            kept.order(rt, seq as u32, *id)?;
-            if pays(rt, alloc, &node, &mut seat, &kept)? {
-                acknowledged = seq + 1;
-                stops = stops && !failed;
-            }
-            stops = stops && (!failed || disk.lock(rt).calls == calls);
+    let (acknowledged, stops) = match start(rt, alloc, &disk, &missing)? {
+        Ok(
+            Restarted {
+                member,
+                ids,
+                following,
+            },
+        ) => {
+            let kept = Kept::new(alloc, following, ids);
+            pay_each::<Brand, _, _>(rt, alloc, member, &kept, &disk)?
         }
-    }
+        Err(_) => (0, true),
+    };
     let bytes = disk.lock(rt).bytes.to_vec(alloc)?;
     Ok(Ended {
         bytes,
@@ -234,20 +251,21 @@ fn failing_disk_loses_no_kept_payment(rt: HostRuntime) -> Result<(), Fail> {
     Ok(())
 }
 
-/// Pays from each of three seats at once. The first sync waits until all have asked.
-fn paid_at_once<R: Wait + Threads + Clock + Sync>(
+/// Pays from each of a node's three seats at once, the first of which waits until all have asked.
+fn all_pay<S, R, D>(
     rt: &R,
     alloc: Global,
-) -> Result<(bool, usize, Vec<u8>), Fail> {
-    let disk = Mutex::new(new_disk(alloc, usize::MAX, 0)?);
-    let missing = AtomicU32::new(0);
-    let Restarted {
-        member,
-        ids,
-        following,
-    } = start(rt, alloc, &disk, &missing)??;
-    let kept = Kept::new(alloc, following, ids);
-    let (node, seats) = node_of(alloc, member, 3)?;
+    member: OwnMember,
+    kept: &Kept<D>,
+    missing: &AtomicU32,
+) -> Result<bool, Fail>
+where
+    S: Beginning + Send + Sync,
+    R: Wait + Threads + Sync,
+    D: Device + Drop + Send,
+    requires { member ≡ S.beginning }
+{
+    let (node, seats) = node_of::<S>(alloc, member)?;
     missing.store(3, Ordering::SeqCst);
     let answers = thread::map_vec(
         rt,
@@ -261,7 +279,23 @@ fn paid_at_once<R: Wait + Threads + Clock + Sync>(
             asked && kept.keep(rt, &node)
         },
     )?;
-    let all = answers.iter().all(|answer| *answer);
+    Ok(answers.iter().all(|answer| *answer))
+}
+
+/// Pays from three seats at once. The first sync waits until all have asked.
+fn paid_at_once<R: Wait + Threads + Clock + Sync>(
+    rt: &R,
+    alloc: Global,
+) -> Result<(bool, usize, Vec<u8>), Fail> {
+    let disk = Mutex::new(new_disk(alloc, usize::MAX, 0)?);
+    let missing = AtomicU32::new(0);
+    let Restarted {
+        member,
+        ids,
+        following,
+    } = start(rt, alloc, &disk, &missing)??;
+    let kept = Kept::new(alloc, following, ids);
+    let all = all_pay::<Brand, _, _>(rt, alloc, member, &kept, &missing)?;
     let calls = disk.lock(rt).calls;
     let bytes = disk.lock(rt).bytes.to_vec(alloc)?;
     Ok((all, calls, bytes))

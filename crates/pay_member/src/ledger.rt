@@ -20,7 +20,7 @@ use pay_book::{Excerpt, Line, Settle, settled_excerpt, statement, waiting_excerp
 use pay_channel::laws::{a_channel_follows, lists_of_a_channel, nothing_at_first};
 use pay_channel::{Channel, EventRef, Source};
 use pay_echo::Instance;
-use pay_frame::Body;
+use pay_frame::{Body, SharedBody};
 use pay_link::Genesis;
 use std::alloc::{AllocError, Global};
 use std::marker::Model;
@@ -92,6 +92,13 @@ impl<I: Instance + Drop, B: Settle + Drop> Ledger<I, B> {
         ensures { option_copied result ≡ slice_get self.now.channel.sent place }
     {
         self.channel.sent(place)
+    }
+
+    /// The same, to be shared.
+    pub fn sent_shared(&self, place: usize) -> Option<&SharedBody>
+        ensures { option_copied result ≡ slice_get self.now.channel.sent place }
+    {
+        self.channel.sent_shared(place)
     }
 
     /// How many bodies the member sent to all.

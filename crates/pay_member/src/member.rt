@@ -52,7 +52,9 @@ use pay_channel::laws::{
     a_channel_follows, nothing_at_first, one_event_more, sends_are_asks, taken_in_order,
 };
 use pay_echo::Instance;
-use pay_frame::{Body, Bytes, FrameRef, GREATEST_VALUE, Kind, SEQS, one_frame_is, read_one};
+use pay_frame::{
+    Body, Bytes, FrameRef, GREATEST_VALUE, Kind, SEQS, SharedBody, one_frame_is, read_one,
+};
 use pay_hmac::Tagger;
 use pay_link::{Checked, Fronts, Genesis, Keys, LinkFault, Opened, laws};
 use std::alloc::{AllocError, Global};
@@ -478,6 +480,15 @@ impl<I: Instance + Drop, B: Settle + Drop> Member<I, B> {
             (events self.now.history)) place }
     {
         self.ledger.sent(place as usize)
+    }
+
+    /// The same, to be shared.
+    pub fn sent_shared(&self, place: u64) -> Option<&SharedBody>
+        ensures { option_copied result
+            ≡ slice_get (out (group_in self.now.genesis self.now.keys.own)
+            (events self.now.history)) place }
+    {
+        self.ledger.sent_shared(place as usize)
     }
 
     /// How many bodies the member sent to all.

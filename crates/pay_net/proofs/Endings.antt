@@ -20,7 +20,7 @@ ends_at :
     (stopped : StoppedFields) (start : DeskStart) (ports : List ℕ) (seats : List SeatFields) (input left before after : Option (List ℕ))
     (found : Result MemberFields (CloseFault × StoppedFields)) (uncounted : Option ℕ)
     → Legal stopped.member.genesis stopped.member.keys stopped.member.history
-    → IfOk found (λ m. m ≡ stopped.member) → IfOk found (λ _. IsOwn stopped.node stopped.member)
+    → IfOk found (λ m. m ≡ stopped.member) → IsOwn stopped.node stopped.member
     → IfOk found (λ _. AllReconciled stopped.member (base_of stopped.node) stopped.node.seats seats)
     → IfErr found (λ back. IsCloseFault stopped.node stopped.member seats back.0) → IfErr found (λ back. back.1 ≡ stopped)
     → IsCount stopped.member (base_of stopped.node) stopped.node.seats seats uncounted → HasRun stopped.node start seats input left before after
@@ -35,18 +35,18 @@ ends_at stopped start ports seats input left before after (Ok m) uncounted legal
       right = right_at_end _ _ _ _ _ ran.desk ran.all settled;
     })
 ends_at stopped start ports seats input left before after (Err (close.Mismatch stamp, again)) uncounted legal is own settled fault back count ran =
-    record { member = stopped.member; legal = legal; seats = seats; ran = ran; wrong = inl fault }
+    record { member = stopped.member; own = own; legal = legal; seats = seats; ran = ran; wrong = inl fault }
 ends_at stopped start ports seats input left before after (Err (close.Memory, again)) None legal is own settled fault back count ran =
     subst (λ (x : StoppedFields). IsUnjudged stopped.node start x.member input left before after) (sym back)
-    (record { own = fault; legal = legal; seats = seats; counted = count; ran = ran })
+    (record { own = own; legal = legal; seats = seats; counted = count; ran = ran })
 ends_at stopped start ports seats input left before after (Err (close.Memory, again)) (Some stamp) legal is own settled fault back count ran =
-    record { member = stopped.member; legal = legal; seats = seats; ran = ran; wrong = inr (fault, count) }
+    record { member = stopped.member; own = own; legal = legal; seats = seats; ran = ran; wrong = inr count }
 
 pub ends_so :
     (n : NodeFields) (stopped : StoppedFields) (start : DeskStart) (ports : List ℕ) (seats : List SeatFields) (input left before after : Option (List ℕ))
     (found : Result MemberFields (CloseFault × StoppedFields)) (uncounted : Option ℕ) (r : Result (MemberFields × Receipts) ℕ)
     → stopped.node ≡ n → r ≡ ended_by found uncounted → Legal stopped.member.genesis stopped.member.keys stopped.member.history
-    → IfOk found (λ m. m ≡ stopped.member) → IfOk found (λ _. IsOwn stopped.node stopped.member)
+    → IfOk found (λ m. m ≡ stopped.member) → IsOwn stopped.node stopped.member
     → IfOk found (λ _. AllReconciled stopped.member (base_of stopped.node) stopped.node.seats seats)
     → IfErr found (λ back. IsCloseFault stopped.node stopped.member seats back.0) → IfErr found (λ back. back.1 ≡ stopped)
     → IsCount stopped.member (base_of stopped.node) stopped.node.seats seats uncounted → HasRun n start seats input left before after

@@ -16,8 +16,8 @@ use Rattle.pay_member.specs.Legal.{Legal}
 use Rattle.pay_member.specs.Member.{MemberFields}
 use Rattle.pay_node.specs.declared.close_fault.CloseFault.{CloseFault}
 use Rattle.pay_node.specs.declared.close_fault.CloseFault.TheVariants as close
-use Rattle.pay_node.specs.Closing.{AllCounted, AllReconciled, IsCloseFault, IsLeastUncounted}
-use Rattle.pay_node.specs.Nodes.{IsOwn, NodeFields, StoppedFields, base_of, fresh_seat}
+use Rattle.pay_node.specs.Closing.{AllCounted, AllReconciled, IsLeastUncounted, IsLeastWrong}
+use Rattle.pay_node.specs.Nodes.{IsOwn, NodeFields, StoppedFields, base_of, fresh_seat, node_with}
 use Rattle.pay_node.specs.Seats.{Right, SeatFields}
 use Rattle.pay_peers.specs.Growing.{SeatGrows}
 use Rattle.pay_peers.specs.Telling.{TellerFields, TellerSays}
@@ -28,14 +28,7 @@ use Rattle.pay_net.specs.declared.receipts.Receipts.TheVariants.{Consistent, Unj
 
 -- the node of a member: two seats for each peer, and one for the desk
 abbrev pub node_of : MemberFields → NodeFields
-node_of m =
-    record {
-      genesis = m.genesis;
-      keys = m.keys;
-      seats = 2 * length m.keys.keys
-          - 1;
-      beginning = m.history;
-    }
+node_of m = node_with m (2 * length m.keys.keys - 1)
 
 -- ---- the threads
 
@@ -138,12 +131,13 @@ pub record IsUnjudged (n : NodeFields) (start : DeskStart) (m : MemberFields)
 pub record IsMismatch (n : NodeFields) (start : DeskStart) (stamp : ℕ)
     (input left before after : Option (List ℕ)) : Type 0 where
   pub member : MemberFields
+  pub own : IsOwn n member
   pub legal : Legal member.genesis member.keys member.history
   pub seats : List SeatFields
   pub ran : HasRun n start seats input left before after
   pub wrong :
-      IsCloseFault n member seats (close.Mismatch stamp)
-      ⊎ (IsOwn n member × IsLeastUncounted member (base_of n) n.seats seats stamp)
+      IsLeastWrong member (base_of n) n.seats seats stamp
+      ⊎ IsLeastUncounted member (base_of n) n.seats seats stamp
 
 -- the desk ended with this fault
 pub record IsDeskFault (n : NodeFields) (start : DeskStart) (fault : StreamFault)

@@ -117,7 +117,7 @@ where
     run_begun::<H, I, B, Brand, T, O, K, In, Out>(rt, alloc, start, tagger, config, reader, writer)
 }
 
-// The same, where the history that the node begins with is a type's.
+// The same, where the member that the node begins with is a type's.
 fn run_begun<H, I, B, S, T, O, K, In, Out>(
     rt: &H,
     alloc: Global,
@@ -137,7 +137,7 @@ where
     K: Keeper + Sync,
     In: Input,
     Out: Output,
-    requires beginning { start.member.history ≡ S.beginning }
+    requires beginning { start.member ≡ S.beginning }
     requires ports { length config.now.ports.now ≡ length start.member.keys.keys }
     ensures ended { HasEnded (node_of start.member)
         (desk_start start.kept config.now.socket) config.now.ports.now

@@ -7,7 +7,7 @@ use Rattle.std.proofs.lemmas.List.Quantifiers.{all_pairs_push}
 use Rattle.std.proofs.lemmas.List.Elements.{All-nil, All-cons, All-head, All-tail, All-weaker}
 use Rattle.pay_member.specs.declared.entry.HistoryEntry.{HistoryEntry}
 use Rattle.pay_member.specs.Member.{MemberFields}
-use Rattle.pay_node.specs.declared.receipt.Receipt.{Receipt}
+use Rattle.pay_node.specs.Receipts.{ReceiptFields}
 use Rattle.pay_node.specs.Receipts.{IsConsistent, entries_after}
 use Rattle.pay_node.specs.Judging.{AreConsistent, IsNextConsistent}
 use Rattle.pay_node.specs.Seats.{HasItsEntries, SeatFields, Right, entries_told, entries_under, since}
@@ -32,74 +32,74 @@ pairs_rest R x xs pairs i j d below within = pairs (suc i) (suc j) d (omega arit
 
 -- ---- all receipts of a seat
 
-abbrev Follows : Receipt → Receipt → Type 0
+abbrev Follows : ReceiptFields → ReceiptFields → Type 0
 Follows r later = entries_after r ≤ later.seen
 
-seen_first : (r : Receipt) → r.seen ≤ entries_after r
+seen_first : (r : ReceiptFields) → r.seen ≤ entries_after r
 seen_first r = search rules
 
 -- one receipt more, behind all that those before it left
 pub ordered_on :
-    (rs : List Receipt) (i least after : ℕ) (r : Receipt) → AllPairs Follows (take i rs)
-    → ((k : ℕ) (d : Receipt) → k < i → entries_after (get_or rs k d) ≤ least) → i < length rs → r ≡ get_or rs i r → after ≡ entries_after r → least ≤ r.seen
-    → AllPairs Follows (take (i + 1) rs) × ((k : ℕ) (d : Receipt) → k < i + 1 → entries_after (get_or rs k d) ≤ after)
+    (rs : List ReceiptFields) (i least after : ℕ) (r : ReceiptFields) → AllPairs Follows (take i rs)
+    → ((k : ℕ) (d : ReceiptFields) → k < i → entries_after (get_or rs k d) ≤ least) → i < length rs → r ≡ get_or rs i r → after ≡ entries_after r → least ≤ r.seen
+    → AllPairs Follows (take (i + 1) rs) × ((k : ℕ) (d : ReceiptFields) → k < i + 1 → entries_after (get_or rs k d) ≤ after)
 ordered_on rs i least after r pairs before below is left ahead =
     let long = length-take-le i rs (omega arith) in (
-      subst (AllPairs Follows) (sym (take_more rs i r below ∙ ap (λ (x : Receipt). take i rs ++ x ∷ []) (sym is)))
+      subst (AllPairs Follows) (sym (take_more rs i r below ∙ ap (λ (x : ReceiptFields). take i rs ++ x ∷ []) (sym is)))
           (all_pairs_push Follows (take i rs) r pairs
           (λ k d within. (let early : k < i = omega arith in
           let told = before k d early in
-          subst (λ (x : Receipt). entries_after x ≤ r.seen) (sym (get_or-take i rs k d early)) (omega arith)))),
+          subst (λ (x : ReceiptFields). entries_after x ≤ r.seen) (sym (get_or-take i rs k d early)) (omega arith)))),
       (λ k d within. ⊎_elim
           (λ same. (let last : get_or rs k d ≡ r = ap (λ n. get_or rs n d) same ∙ get_or_default rs i d r below ∙ sym is in
-          subst (λ (x : Receipt). entries_after x ≤ after) (sym last) (omega (arith, left))))
+          subst (λ (x : ReceiptFields). entries_after x ≤ after) (sym last) (omega (arith, left))))
           (λ other. (let told = before k d (omega arith) in let first = seen_first r in omega (arith, left)))
           (cases_eq k i)),
     )
 
 -- none saw less than a base, as the first didn't
 pub since_on :
-    (rs : List Receipt) (i base least after : ℕ) (r : Receipt) → base ≤ least → ((k : ℕ) (d : Receipt) → k < i → base ≤ (get_or rs k d).seen)
+    (rs : List ReceiptFields) (i base least after : ℕ) (r : ReceiptFields) → base ≤ least → ((k : ℕ) (d : ReceiptFields) → k < i → base ≤ (get_or rs k d).seen)
     → i < length rs → r ≡ get_or rs i r → after ≡ entries_after r → least ≤ r.seen
-    → (base ≤ after) × ((k : ℕ) (d : Receipt) → k < i + 1 → base ≤ (get_or rs k d).seen)
+    → (base ≤ after) × ((k : ℕ) (d : ReceiptFields) → k < i + 1 → base ≤ (get_or rs k d).seen)
 since_on rs i base least after r far before below is left ahead =
     let first = seen_first r in (
       omega (arith, left),
       (λ k d within. ⊎_elim
           (λ same. (let last : get_or rs k d ≡ r = ap (λ n. get_or rs n d) same ∙ get_or_default rs i d r below ∙ sym is in
-          subst (λ (x : Receipt). base ≤ x.seen) (sym last) (omega arith)))
+          subst (λ (x : ReceiptFields). base ≤ x.seen) (sym last) (omega arith)))
           (λ other. before k d (omega arith))
           (cases_eq k i)),
     )
 
 -- receipts that are consistent in order, the first behind so many entries
-record AreInOrder (m : MemberFields) (stamp least : ℕ) (rs : List Receipt) : Type 0 where
-  ahead : All (λ (r : Receipt). least ≤ r.seen) rs
-  each : All (λ (r : Receipt). IsConsistent m stamp r.seen r.call) rs
+record AreInOrder (m : MemberFields) (stamp least : ℕ) (rs : List ReceiptFields) : Type 0 where
+  ahead : All (λ (r : ReceiptFields). least ≤ r.seen) rs
+  each : All (λ (r : ReceiptFields). IsConsistent m stamp r.seen r.call) rs
   ordered : AllPairs Follows rs
 
-in_order_from : (m : MemberFields) (stamp least : ℕ) (rs : List Receipt) → AreConsistent m stamp least rs → AreInOrder m stamp least rs
+in_order_from : (m : MemberFields) (stamp least : ℕ) (rs : List ReceiptFields) → AreConsistent m stamp least rs → AreInOrder m stamp least rs
 in_order_from m stamp least [] are = record { ahead = All-nil _; each = All-nil _; ordered = pairs_none Follows }
 in_order_from m stamp least (r ∷ rs) are =
     let rest = in_order_from m stamp (entries_after r) rs are.1 in
     let first = seen_first r in
     record {
-      ahead = All-cons (λ (x : Receipt). least ≤ x.seen) r rs are.0.ahead
-          (All-weaker (λ (x : Receipt). entries_after r ≤ x.seen) (λ (x : Receipt). least ≤ x.seen) (λ x above. (let below = are.0.ahead in omega arith)) rs rest.ahead);
-      each = All-cons (λ (x : Receipt). IsConsistent m stamp x.seen x.call) r rs are.0.is rest.each;
+      ahead = All-cons (λ (x : ReceiptFields). least ≤ x.seen) r rs are.0.ahead
+          (All-weaker (λ (x : ReceiptFields). entries_after r ≤ x.seen) (λ (x : ReceiptFields). least ≤ x.seen) (λ x above. (let below = are.0.ahead in omega arith)) rs rest.ahead);
+      each = All-cons (λ (x : ReceiptFields). IsConsistent m stamp x.seen x.call) r rs are.0.is rest.each;
       ordered = pairs_cons Follows r rs rest.ahead rest.ordered;
     }
 
-in_order_to : (m : MemberFields) (stamp least : ℕ) (rs : List Receipt) → AreInOrder m stamp least rs → AreConsistent m stamp least rs
+in_order_to : (m : MemberFields) (stamp least : ℕ) (rs : List ReceiptFields) → AreInOrder m stamp least rs → AreConsistent m stamp least rs
 in_order_to m stamp least [] are = tt
 in_order_to m stamp least (r ∷ rs) are = (
   record {
-    ahead = All-head (λ (x : Receipt). least ≤ x.seen) r rs are.ahead;
-    is = All-head (λ (x : Receipt). IsConsistent m stamp x.seen x.call) r rs are.each;
+    ahead = All-head (λ (x : ReceiptFields). least ≤ x.seen) r rs are.ahead;
+    is = All-head (λ (x : ReceiptFields). IsConsistent m stamp x.seen x.call) r rs are.each;
   },
   in_order_to m stamp (entries_after r) rs (record {
     ahead = pairs_first Follows r rs are.ordered;
-    each = All-tail (λ (x : Receipt). IsConsistent m stamp x.seen x.call) r rs are.each;
+    each = All-tail (λ (x : ReceiptFields). IsConsistent m stamp x.seen x.call) r rs are.each;
     ordered = pairs_rest Follows r rs are.ordered;
   }),
 )
@@ -119,7 +119,7 @@ abbrev taken_to : MemberFields → List HistoryEntry → ℕ → MemberFields
 taken_to first h n = record first { history = take n h }
 
 pub judged_on :
-    (first was now : MemberFields) (h : List HistoryEntry) (stamp least : ℕ) (rs : List Receipt) (i : ℕ) (r : Receipt)
+    (first was now : MemberFields) (h : List HistoryEntry) (stamp least : ℕ) (rs : List ReceiptFields) (i : ℕ) (r : ReceiptFields)
     → was ≡ record first { history = take (length was.history) h }
     → AreConsistent (record first { history = h }) stamp least rs ↔ AreConsistent (record first { history = h }) stamp (length was.history) (drop i rs)
     → i < length rs → r ≡ get_or rs i r
@@ -160,8 +160,8 @@ not_counted m base seat says is failed = (
 
 -- in whichever order a seat is looked at
 pub known_right : (m : MemberFields) (base : ℕ) (seat : SeatFields) → HasItsEntries m base seat
-    → All (λ (r : Receipt). (base ≤ r.seen) × IsConsistent m seat.stamp r.seen r.call) seat.receipts
-    → AllPairs (λ (r later : Receipt). entries_after r ≤ later.seen) seat.receipts → Right m base seat
+    → All (λ (r : ReceiptFields). (base ≤ r.seen) × IsConsistent m seat.stamp r.seen r.call) seat.receipts
+    → AllPairs (λ (r later : ReceiptFields). entries_after r ≤ later.seen) seat.receipts → Right m base seat
 unfolding HasItsEntries
 known_right m base seat its each ordered = record { counted = its; each = each; ordered = ordered }
 
@@ -175,7 +175,7 @@ judged_so m base seat (Ok says) counted is =
 judged_so m base seat (Err error) counted is = tt
 
 pub judged_there :
-    {E : Type 0} (m fresh begun : MemberFields) (base : ℕ) (h : List HistoryEntry) (seat : SeatFields) (stamp : ℕ) (rs : List Receipt) (answer : Result Bool E)
+    {E : Type 0} (m fresh begun : MemberFields) (base : ℕ) (h : List HistoryEntry) (seat : SeatFields) (stamp : ℕ) (rs : List ReceiptFields) (answer : Result Bool E)
     → fresh ≡ record m { history = [] } → begun ≡ record fresh { history = take base h } → base ≤ length h
     → h ≡ m.history → stamp ≡ seat.stamp → rs ≡ seat.receipts
     → IfOk answer (λ says. IsTrue says ↔ AreConsistent (record begun { history = h }) stamp (length begun.history) rs)

@@ -1,17 +1,18 @@
 -- A number's body is shown on one receipt, which is kept.
 use Rattle.std.proofs.Common.{◌≡◌, ◌≢◌, ℕ, ◌+◌, zero, suc, max, inl, inr, List, [], ◌∷◌, ◌++◌, length, take, drop, slice_get, Option, Some, None, Result, Ok, Err, refl, sym, ap, ◌∙◌, subst, arith}
 use Rattle.std.proofs.lemmas.Option.{slice_get_within}
-use Rattle.std.specs.Prelude.{IfOk}
+use Rattle.std.specs.Prelude.{IfOk, OnOk}
 use Rattle.std.specs.declared.alloc.AllocError.{AllocError}
 use Rattle.pay_frame.specs.Frame.{BodyFields}
+use Rattle.pay_member.specs.Legal.{Legal}
 use Rattle.pay_member.specs.Member.{MemberFields}
 use Rattle.pay_member.specs.Reading.{fetched_bodies}
 use Rattle.pay_node.specs.declared.question.Question.TheVariants as question
-use Rattle.pay_node.specs.declared.receipt.Call.TheVariants.{Read}
-use Rattle.pay_node.specs.declared.receipt.Receipt.{Receipt}
+use Rattle.pay_node.specs.declared.call.Call.TheVariants.{Read}
+use Rattle.pay_node.specs.Receipts.{ReceiptFields}
 use Rattle.pay_node.specs.declared.shown.Shown.TheVariants as shown
-use Rattle.pay_node.specs.Keeping.{HasFetched, IsFetched, IsKeptFor, IsKeptOnce, mark_of}
-use Rattle.pay_node.specs.Nodes.{NodeFields}
+use Rattle.pay_node.specs.Keeping.{HasFetched, IsFetched, IsKeptFor, IsKeptOnce, IsNoted, mark_of}
+use Rattle.pay_node.specs.Nodes.{IsOwn, NodeFields}
 use Rattle.pay_node.specs.Receipts.{reading_receipt, shown_of}
 use Rattle.pay_node.specs.Seats.{Right, SeatFields, StaysRight, with_receipts}
 use Rattle.pay_node.specs.Sending.{sent_by}
@@ -19,7 +20,7 @@ use Rattle.pay_node.proofs.Rights.{reading_stays, slice_get-last, slice_get-long
 
 -- ---- one body of all
 
-some_same : (y x : BodyFields) → Some y ≡ Some x → y ≡ x
+pub some_same : (y x : BodyFields) → Some y ≡ Some x → y ≡ x
 some_same y x is = cc
 
 one_at : (xs : List BodyFields) (n : ℕ) (x : BodyFields) → slice_get xs n ≡ Some x → take 1 (drop n xs) ≡ x ∷ []
@@ -42,6 +43,19 @@ pub none_shown : (m : MemberFields) (n : ℕ) → slice_get (sent_by m) n ≡ No
 unfolding fetched_bodies
 none_shown m n is = ap shown.Sent (sym (none_at (sent_by m) n is))
 
+found_at : (xs : List BodyFields) (n : ℕ) (x : BodyFields) → x ∷ [] ≡ take 1 (drop n xs) → slice_get xs n ≡ Some x
+found_at [] zero x is = cc
+found_at [] (suc n) x is = cc
+found_at (y ∷ ys) zero x is = cc
+found_at (y ∷ ys) (suc n) x is = found_at ys n x is
+
+sent_bodies : (xs ys : List BodyFields) → shown.Sent xs ≡ shown.Sent ys → xs ≡ ys
+sent_bodies xs ys is = cc
+
+pub found_shown : (m : MemberFields) (n : ℕ) (x : BodyFields) → shown.Sent (x ∷ []) ≡ shown_of m (question.Sent n 1) → slice_get (sent_by m) n ≡ Some x
+unfolding fetched_bodies
+found_shown m n x is = found_at (sent_by m) n x (sent_bodies (x ∷ []) (take 1 (drop n (sent_by m))) is)
+
 -- ---- what is fetched
 
 pub has_fetched : (n : NodeFields) (before after : SeatFields) (number : ℕ) (r : Result (Option BodyFields) AllocError)
@@ -49,13 +63,24 @@ pub has_fetched : (n : NodeFields) (before after : SeatFields) (number : ℕ) (r
 has_fetched n before after number (Ok found) is = record { before = before; after = after; is = is }
 has_fetched n before after number (Err error) is = tt
 
+fetched : (n : NodeFields) (m : MemberFields) (before after : SeatFields) (number : ℕ) (found : Option BodyFields)
+    → IsOwn n m → Legal m.genesis m.keys m.history → IsNoted m before after number found → IsFetched n before after number found
+fetched n m before after number (Some body) own legal is = record { member = m; own = own; legal = legal; is = is }
+fetched n m before after number None own legal is = record { member = m; own = own; legal = legal; is = is.0; receipt = is.1 }
+
+pub fetched_by : (n : NodeFields) (m : MemberFields) (before after : SeatFields) (number : ℕ) (r : Result (Option BodyFields) AllocError)
+    → IsOwn n m → OnOk r (Legal m.genesis m.keys m.history) → IfOk r (λ found. IsNoted m before after number found)
+    → IfOk r (λ found. IsFetched n before after number found)
+fetched_by n m before after number (Ok found) own legal is = fetched n m before after number found own legal is
+fetched_by n m before after number (Err error) own legal is = tt
+
 -- ---- marks
 
 -- marks are no matter of a history
 right_marked : (m : MemberFields) (base : ℕ) (was seat : SeatFields) → seat.stamp ≡ was.stamp → seat.receipts ≡ was.receipts → Right m base was → Right m base seat
 right_marked m base was seat stamp receipts right =
     subst (λ (s : ℕ). Right m base (record { stamp = s; receipts = seat.receipts; marks = seat.marks })) (sym stamp)
-    (subst (λ (rs : List Receipt). Right m base (record { stamp = was.stamp; receipts = rs; marks = seat.marks })) (sym receipts)
+    (subst (λ (rs : List ReceiptFields). Right m base (record { stamp = was.stamp; receipts = rs; marks = seat.marks })) (sym receipts)
     (record { counted = right.counted; each = right.each; ordered = right.ordered }))
 
 pub kept_stays :
@@ -63,7 +88,7 @@ pub kept_stays :
     → after.stamp ≡ before.stamp → after.receipts ≡ before.receipts ++ reading_receipt (length m.history) (question.Sent number 1) (shown.Sent (body ∷ []))
     → StaysRight m before m after
 kept_stays m before after number body sent stamp receipt base within right =
-    let more : List Receipt = reading_receipt (length m.history) (question.Sent number 1) (shown.Sent (body ∷ [])) in
+    let more : List ReceiptFields = reading_receipt (length m.history) (question.Sent number 1) (shown.Sent (body ∷ [])) in
     right_marked m base (with_receipts before more) after stamp receipt
     (reading_stays m before (with_receipts before more) (question.Sent number 1) (shown.Sent (body ∷ [])) (one_shown m number body sent) refl base within right)
 
@@ -84,7 +109,7 @@ pub kept_now :
     → mark_of after.marks number ≡ Some (length before.receipts) → ((k : ℕ) → k ≢ number → mark_of after.marks k ≡ mark_of before.marks k)
     → length after.marks ≡ max (length before.marks) (number + 1) → IsKeptOnce m before after number body
 kept_now m before after number body sent unkept stamp receipt mark others room =
-    let r : Receipt = record { seen = length m.history; call = Read (question.Sent number 1) (shown.Sent (body ∷ [])) } in
+    let r : ReceiptFields = record { seen = length m.history; call = Read (question.Sent number 1) (shown.Sent (body ∷ [])) } in
     let within = slice_get_within (sent_by m) number body sent in
     record {
       sent = sent;
@@ -92,7 +117,7 @@ kept_now m before after number body sent unkept stamp receipt mark others room =
         place = length before.receipts;
         receipt = r;
         marked = mark;
-        there = subst (λ (rs : List Receipt). slice_get rs (length before.receipts) ≡ Some r) (sym receipt) (slice_get-last before.receipts r);
+        there = subst (λ (rs : List ReceiptFields). slice_get rs (length before.receipts) ≡ Some r) (sym receipt) (slice_get-last before.receipts r);
         shows = refl;
       };
       once = λ kept. absurd (unkept kept);
@@ -102,7 +127,7 @@ kept_now m before after number body sent unkept stamp receipt mark others room =
         place = kept.place;
         receipt = kept.receipt;
         marked = others k differs ∙ kept.marked;
-        there = subst (λ (rs : List Receipt). slice_get rs kept.place ≡ Some kept.receipt) (sym receipt) (slice_get-longer before.receipts (r ∷ []) kept.place kept.receipt kept.there);
+        there = subst (λ (rs : List ReceiptFields). slice_get rs kept.place ≡ Some kept.receipt) (sym receipt) (slice_get-longer before.receipts (r ∷ []) kept.place kept.receipt kept.there);
         shows = kept.shows;
       };
       few = omega (arith, room, within);

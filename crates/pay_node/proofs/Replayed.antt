@@ -5,7 +5,7 @@ use Rattle.std.proofs.lemmas.List.{length-take-le, take_all}
 use Rattle.std.proofs.lemmas.Option.{slice_get-get_or}
 use Rattle.pay_member.specs.declared.entry.HistoryEntry.{HistoryEntry}
 use Rattle.pay_member.specs.Member.{MemberFields}
-use Rattle.pay_node.specs.declared.receipt.Receipt.{Receipt}
+use Rattle.pay_node.specs.Receipts.{ReceiptFields}
 use Rattle.pay_node.specs.Receipts.{IsConsistent}
 use Rattle.pay_node.specs.Judging.{AreAllCounted, CountedConsistent, EachConsistent}
 use Rattle.pay_node.specs.Seats.{SeatFields}
@@ -33,5 +33,5 @@ pub all_counted : (m : MemberFields) (seats : List SeatFields) (counts : List �
 all_counted m seats counts are all k d below =
     let seat : SeatFields = get_or seats k d in
     let there = slice_get-get_or seats k d below in
-    subst (All (λ (r : Receipt). IsConsistent m seat.stamp r.seen r.call))
+    subst (All (λ (r : ReceiptFields). IsConsistent m seat.stamp r.seen r.call))
     (ap (λ n. take n seat.receipts) (all k seat there) ∙ take_all (length seat.receipts) seat.receipts (omega arith)) (are k seat there)

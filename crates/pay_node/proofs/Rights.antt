@@ -18,9 +18,9 @@ use Rattle.pay_member.specs.Member.{MemberFields, with_entry}
 use Rattle.pay_member.specs.Refusal.{refusal}
 use Rattle.pay_node.specs.declared.question.Question.{Question}
 use Rattle.pay_node.specs.declared.shown.Shown.{Shown}
-use Rattle.pay_node.specs.declared.receipt.Call.{Call}
-use Rattle.pay_node.specs.declared.receipt.Call.TheVariants.{Handed, Read}
-use Rattle.pay_node.specs.declared.receipt.Receipt.{Receipt}
+use Rattle.pay_node.specs.declared.call.Call.{Call}
+use Rattle.pay_node.specs.declared.call.Call.TheVariants.{Handed, Read}
+use Rattle.pay_node.specs.Receipts.{ReceiptFields}
 use Rattle.pay_node.specs.Receipts.{shown_of, IsConsistent, has_entry, entries_after, receipts_of, reading_receipt}
 use Rattle.pay_node.specs.Seats.{SeatFields, with_receipts, entries_told, entries_under, since, Right, StaysRight}
 
@@ -52,7 +52,7 @@ consistent_more m e stamp seen (Read question shown) is =
     )
 
 -- what a receipt saw and made is in the history that is consistent with it
-pub consistent_bound : (m : MemberFields) (stamp : ℕ) (r : Receipt) → IsConsistent m stamp r.seen r.call → entries_after r ≤ length m.history
+pub consistent_bound : (m : MemberFields) (stamp : ℕ) (r : ReceiptFields) → IsConsistent m stamp r.seen r.call → entries_after r ≤ length m.history
 consistent_bound m stamp r is = go r.call refl is where
   go : (call : Call) → r.call ≡ call → IsConsistent m stamp r.seen call → entries_after r ≤ length m.history
   go (Handed event (Ok reply)) at is = rw at (let within = slice_get_within m.history r.seen _ is in omega arith)
@@ -75,10 +75,10 @@ under_more m base stamp e within =
     ∙ sum_by_push (λ (x : HistoryEntry). one (eqb x.stamp stamp)) (drop base m.history) e
 
 -- a receipt that saw all before a base, and is consistent
-abbrev IsSince : MemberFields → ℕ → ℕ → Receipt → Type 0
+abbrev IsSince : MemberFields → ℕ → ℕ → ReceiptFields → Type 0
 IsSince m base stamp r = (base ≤ r.seen) × IsConsistent m stamp r.seen r.call
 
-since_more : (m : MemberFields) (e : HistoryEntry) (base stamp : ℕ) (rs : List Receipt) → All (IsSince m base stamp) rs → All (IsSince (with_entry m e) base stamp) rs
+since_more : (m : MemberFields) (e : HistoryEntry) (base stamp : ℕ) (rs : List ReceiptFields) → All (IsSince m base stamp) rs → All (IsSince (with_entry m e) base stamp) rs
 since_more m e base stamp rs all =
     All-weaker (IsSince m base stamp) (IsSince (with_entry m e) base stamp) (λ x is. (is.0, consistent_more m e stamp x.seen x.call is.1)) rs all
 
@@ -87,12 +87,12 @@ right_told : (m : MemberFields) (base : ℕ) (seat : SeatFields) (call : Call) �
     → IsConsistent m seat.stamp (length m.history) call
     → Right m base seat → Right m base (with_receipts seat (record { seen = length m.history; call = call } ∷ []))
 right_told m base seat call within none is right =
-    let r : Receipt = record { seen = length m.history; call = call } in
-    let told : entries_told (with_receipts seat (r ∷ [])) ≡ entries_told seat + one (has_entry call) = sum_by_push (λ (x : Receipt). one (has_entry x.call)) seat.receipts r in
+    let r : ReceiptFields = record { seen = length m.history; call = call } in
+    let told : entries_told (with_receipts seat (r ∷ [])) ≡ entries_told seat + one (has_entry call) = sum_by_push (λ (x : ReceiptFields). one (has_entry x.call)) seat.receipts r in
     record {
       counted = right.counted ∙ sym (told ∙ ap (λ b. entries_told seat + one b) none ∙ plus_none (entries_told seat));
       each = All-push (IsSince m base seat.stamp) seat.receipts r right.each (within, is);
-      ordered = all_pairs_push (λ (x later : Receipt). entries_after x ≤ later.seen) seat.receipts r right.ordered
+      ordered = all_pairs_push (λ (x later : ReceiptFields). entries_after x ≤ later.seen) seat.receipts r right.ordered
           (λ k d below. consistent_bound m seat.stamp (get_or seat.receipts k d) (right.each k d below).1);
     }
 
@@ -102,15 +102,15 @@ right_entered : (m : MemberFields) (base : ℕ) (seat : SeatFields) (event : Eve
     (with_receipts seat (record { seen = length m.history; call = Handed event (Ok reply) } ∷ []))
 right_entered m base seat event reply within right =
     let e : HistoryEntry = record { stamp = seat.stamp; event = event; reply = reply } in
-    let r : Receipt = record { seen = length m.history; call = Handed event (Ok reply) } in
+    let r : ReceiptFields = record { seen = length m.history; call = Handed event (Ok reply) } in
     let now : MemberFields = with_entry m e in
     let under = under_more m base seat.stamp e within in
-    let told : entries_told (with_receipts seat (r ∷ [])) ≡ entries_told seat + 1 = sum_by_push (λ (x : Receipt). one (has_entry x.call)) seat.receipts r in
+    let told : entries_told (with_receipts seat (r ∷ [])) ≡ entries_told seat + 1 = sum_by_push (λ (x : ReceiptFields). one (has_entry x.call)) seat.receipts r in
     record {
       counted = under ∙ ap (λ b. entries_under seat.stamp (since base m) + one b) (eq-eqb seat.stamp seat.stamp refl) ∙ ap (λ n. n + 1) right.counted ∙ sym told;
       each = All-push (IsSince now base seat.stamp) seat.receipts r
           (since_more m e base seat.stamp seat.receipts right.each) (within, slice_get-last m.history e);
-      ordered = all_pairs_push (λ (x later : Receipt). entries_after x ≤ later.seen) seat.receipts r right.ordered
+      ordered = all_pairs_push (λ (x later : ReceiptFields). entries_after x ≤ later.seen) seat.receipts r right.ordered
           (λ k d below. consistent_bound m seat.stamp (get_or seat.receipts k d) (right.each k d below).1);
     }
 
@@ -145,7 +145,7 @@ own_stays m now seat after event (Ok reply) is entry same at =
     (right_entered m base seat event reply within right))
 own_stays m now seat after event (Err Memory) is entry same at =
     subst (StaysRight m seat now) (sym at)
-    (λ base within right. subst (λ (l : List Receipt). Right now base (record seat { receipts = l })) (sym (append-nil seat.receipts))
+    (λ base within right. subst (λ (l : List ReceiptFields). Right now base (record seat { receipts = l })) (sym (append-nil seat.receipts))
     (subst (λ x. Right x base seat) (sym same) right))
 own_stays m now seat after event (Err Spent) is entry same at = subst (StaysRight m seat now) (sym at) (refused_stays m now seat event Spent (is (λ other. cc)) same)
 own_stays m now seat after event (Err TooLong) is entry same at = subst (StaysRight m seat now) (sym at) (refused_stays m now seat event TooLong (is (λ other. cc)) same)

@@ -1,11 +1,11 @@
 -- When all seats of a node agree with its member's history.
-use Rattle.std.specs.Prelude.{◌≡◌, ◌≢◌, ◌⊎◌, ℕ, ◌<◌, ◌≤◌, ◌==◌, ◌&&◌, nat_le, nat_lt, Bool, true}
+use Rattle.std.specs.Prelude.{◌≡◌, ◌≢◌, ⊤, ℕ, ◌<◌, ◌≤◌, ◌==◌, ◌&&◌, nat_le, nat_lt, Bool, true}
 use Rattle.std.specs.Prelude.{false, if◌then◌else◌, List, [], ◌∷◌, Option, Some, None}
 use Rattle.std.specs.List.{All, filter}
 use Rattle.pay_member.specs.Member.{MemberFields}
 use Rattle.pay_node.specs.declared.close_fault.CloseFault.{CloseFault}
 use Rattle.pay_node.specs.declared.close_fault.CloseFault.TheVariants.{Memory, Mismatch}
-use Rattle.pay_node.specs.Nodes.{IsOwn, NodeFields, base_of}
+use Rattle.pay_node.specs.Nodes.{NodeFields, base_of}
 use Rattle.pay_node.specs.Seats.{HasItsEntries, SeatFields, Right, since}
 
 abbrev pub seats_with : ℕ → List SeatFields → List SeatFields
@@ -76,13 +76,11 @@ abbrev pub IsCount : MemberFields → ℕ → ℕ → List SeatFields → Option
 IsCount m base count seats found =
     IsVerdictBy (λ s. IsCounted m base s seats) m base count seats found
 
--- Why a node isn't closed: the member isn't its own, so that the very first stamp is wrong; or it
--- is, and this stamp is the least that isn't reconciled. Where memory was refused, no more is known
--- of the receipts.
+-- Why a node isn't closed: this stamp is the least that isn't reconciled. Where memory was refused,
+-- nothing is known of the receipts.
 abbrev pub IsCloseFault : NodeFields → MemberFields → List SeatFields → CloseFault → Type 0
-IsCloseFault n m seats Memory = IsOwn n m
-IsCloseFault n m seats (Mismatch stamp) =
-    (¬ (IsOwn n m) × (stamp ≡ 0)) ⊎ (IsOwn n m × IsLeastWrong m (base_of n) n.seats seats stamp)
+IsCloseFault n m seats Memory = ⊤
+IsCloseFault n m seats (Mismatch stamp) = IsLeastWrong m (base_of n) n.seats seats stamp
 
 -- ---- how the judge finds it
 

@@ -3,17 +3,17 @@ use Rattle.std.specs.Prelude.{◌≡◌, ℕ, ◌≤◌, List, [], ◌∷◌, ta
 use Rattle.std.specs.Prelude.{Some, ⊤}
 use Rattle.std.specs.List.{All}
 use Rattle.pay_member.specs.Member.{MemberFields}
-use Rattle.pay_node.specs.declared.receipt.Receipt.{Receipt}
+use Rattle.pay_node.specs.Receipts.{ReceiptFields}
 use Rattle.pay_node.specs.Receipts.{IsConsistent, entries_after}
 use Rattle.pay_node.specs.Seats.{SeatFields}
 
 -- a receipt is consistent, and saw at least so many entries
-pub record IsNextConsistent (m : MemberFields) (stamp least : ℕ) (r : Receipt) : Type 0 where
+pub record IsNextConsistent (m : MemberFields) (stamp least : ℕ) (r : ReceiptFields) : Type 0 where
   pub ahead : least ≤ r.seen
   pub is : IsConsistent m stamp r.seen r.call
 
 -- so are all, each behind what the one before it left
-abbrev pub AreConsistent : MemberFields → ℕ → ℕ → List Receipt → Type 0
+abbrev pub AreConsistent : MemberFields → ℕ → ℕ → List ReceiptFields → Type 0
 AreConsistent m stamp least [] = ⊤
 AreConsistent m stamp least (r ∷ rs) =
     IsNextConsistent m stamp least r × AreConsistent m stamp (entries_after r) rs

@@ -6,7 +6,7 @@ use Rattle.pay_frame.specs.Frame.{BodyFields}
 use Rattle.pay_member.specs.Legal.{Legal}
 use Rattle.pay_member.specs.Member.{MemberFields}
 use Rattle.pay_node.specs.declared.question.Question.TheVariants as question
-use Rattle.pay_node.specs.declared.receipt.Receipt.{Receipt}
+use Rattle.pay_node.specs.Receipts.{ReceiptFields}
 use Rattle.pay_node.specs.declared.shown.Shown.TheVariants as shown
 use Rattle.pay_node.specs.Nodes.{IsOwn, IsShown, NodeFields}
 use Rattle.pay_node.specs.Receipts.{ShowsAlone, reading, reading_receipt, shown_of}
@@ -20,7 +20,7 @@ mark_of marks number = slice_index_or marks number None
 -- the receipt that is marked for the number shows this body
 pub record IsKeptFor (seat : SeatFields) (number : ℕ) (body : BodyFields) : Type 0 where
   pub place : ℕ
-  pub receipt : Receipt
+  pub receipt : ReceiptFields
   pub marked : mark_of seat.marks number ≡ Some place
   pub there : slice_get seat.receipts place ≡ Some receipt
   pub shows : ShowsAlone receipt number body

@@ -1,4 +1,3 @@
-pub mod Bodies
 pub mod Requests
 pub mod Receipts
 pub mod Seats

@@ -43,6 +43,11 @@ pub record NodeFields : Type 0 where
   pub seats : ℕ
   pub beginning : List HistoryEntry
 
+-- the node of a member, with so many seats
+abbrev pub node_with : MemberFields → ℕ → NodeFields
+node_with m seats =
+    record { genesis = m.genesis; keys = m.keys; seats = seats; beginning = m.history }
+
 -- how many entries it began with: the seats tell of those after them
 abbrev pub base_of : NodeFields → ℕ
 base_of n = length n.beginning
@@ -52,12 +57,15 @@ pub record StoppedFields : Type 0 where
   pub member : MemberFields
   pub node : NodeFields
 
--- A member of the node's group, with the node's keys, whose history begins with the node's: nothing
--- was taken back.
-pub record IsOwn (n : NodeFields) (m : MemberFields) : Type 0 where
-  pub genesis : m.genesis ≡ n.genesis
-  pub keys : m.keys ≡ n.keys
-  pub begun : IsPrefix n.beginning m.history
+-- This member went on from that one: it is of its group, has its keys, and took nothing back.
+pub record WentOn (was now : MemberFields) : Type 0 where
+  pub genesis : now.genesis ≡ was.genesis
+  pub keys : now.keys ≡ was.keys
+  pub begun : IsPrefix was.history now.history
+
+-- a member that went on from the one that the node began with
+abbrev pub IsOwn : NodeFields → MemberFields → Type 0
+IsOwn n m = WentOn (record { genesis = n.genesis; keys = n.keys; history = n.beginning }) m
 
 -- a seat from which nothing was called
 abbrev pub fresh_seat : ℕ → SeatFields

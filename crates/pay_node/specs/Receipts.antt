@@ -1,12 +1,15 @@
 -- Receipts of a node's calls, and when a history is consistent with one.
 use Rattle.std.specs.Prelude.{◌≡◌, ℕ, ◌+◌, ◌≤◌, nat_lt, min, Bool, true, false, if◌then◌else◌, List}
-use Rattle.std.specs.Prelude.{[], ◌∷◌, take, length, slice_get, slice_index, Some, Result, Ok, Err}
+use Rattle.std.specs.Prelude.{[], ◌∷◌, take, length, slice_get, slice_index, Option, Some, None}
+use Rattle.std.specs.Prelude.{Result, Ok, Err}
 use Rattle.pay_frame.specs.Frame.{BodyFields}
 use Rattle.pay_channel.specs.History.{list_of}
 use Rattle.pay_book.specs.Excerpt.{ExcerptFields}
 use Rattle.pay_book.specs.Statement.{StatementFields, statement_of}
 use Rattle.pay_member.specs.declared.event.Event.{Event}
+use Rattle.pay_member.specs.declared.event.Event.TheVariants.{Taken}
 use Rattle.pay_member.specs.declared.reply.Reply.{Reply}
+use Rattle.pay_member.specs.declared.reply.Reply.TheVariants.{Took}
 use Rattle.pay_member.specs.declared.fault.MemberFault.{MemberFault}
 use Rattle.pay_member.specs.declared.fault.MemberFault.TheVariants.{Memory, Spent, TooLong, Repeat}
 use Rattle.pay_member.specs.declared.fault.MemberFault.TheVariants.{Gap, WrongKey, NoAccount}
@@ -23,9 +26,10 @@ use Rattle.pay_node.specs.declared.question.Question.{Question}
 use Rattle.pay_node.specs.declared.question.Question.TheVariants as question
 use Rattle.pay_node.specs.declared.shown.Shown.{Shown}
 use Rattle.pay_node.specs.declared.shown.Shown.TheVariants as shown
-use Rattle.pay_node.specs.declared.receipt.Call.{Call}
-use Rattle.pay_node.specs.declared.receipt.Call.TheVariants.{Handed, Read}
-use Rattle.pay_node.specs.declared.receipt.Receipt.{Receipt}
+use Rattle.pay_node.specs.declared.call.Call.{Call}
+use Rattle.pay_node.specs.declared.call.Call.TheVariants.{Handed, Read}
+use Rattle.pay_node.specs.declared.receipt.KeptCall.{KeptCall}
+use Rattle.pay_node.specs.declared.receipt.KeptCall.TheVariants as kept
 
 -- ---- what a member shows
 
@@ -75,6 +79,18 @@ shown_of m question.Fronts = shown.Fronts (book_after m.genesis m.keys.own (even
 
 -- ---- receipts
 
+-- One answered call of a seat: how many entries the history had before it, which is the place of
+-- its own entry, if it has one, and the call with its answer.
+pub record ReceiptFields : Type 0 where
+  pub seen : ℕ
+  pub call : Call
+
+-- the call that is kept so
+abbrev pub call_in : KeptCall → Call
+call_in (kept.Taken frame took) = Handed (Taken frame) (Ok (Took took))
+call_in (kept.Sent number body) = Read (question.Sent number 1) (shown.Sent (body ∷ []))
+call_in (kept.Other call) = call.value
+
 -- the member as it was behind its first entries
 abbrev pub back_at : MemberFields → ℕ → MemberFields
 back_at m count = record m { history = take count m.history }
@@ -96,12 +112,18 @@ has_entry (Handed event (Ok reply)) = true
 has_entry (Handed event (Err fault)) = false
 has_entry (Read question shown) = false
 
+-- why what was handed in was refused, if it was
+abbrev pub fault_of_call : Call → Option MemberFault
+fault_of_call (Handed event (Ok reply)) = None
+fault_of_call (Handed event (Err fault)) = Some fault
+fault_of_call (Read question shown) = None
+
 -- how many entries the history had once the call was answered
-abbrev pub entries_after : Receipt → ℕ
+abbrev pub entries_after : ReceiptFields → ℕ
 entries_after r = if has_entry r.call then r.seen + 1 else r.seen
 
 -- of an answer one receipt, and none of refused memory
-abbrev pub receipts_of : ℕ → Event → Result Reply MemberFault → List Receipt
+abbrev pub receipts_of : ℕ → Event → Result Reply MemberFault → List ReceiptFields
 receipts_of seen event (Ok reply) = record { seen = seen; call = Handed event (Ok reply) } ∷ []
 receipts_of seen event (Err Memory) = []
 receipts_of seen event (Err Spent) = record { seen = seen; call = Handed event (Err Spent) } ∷ []
@@ -117,12 +139,12 @@ receipts_of seen event (Err NoAccount) =
     record { seen = seen; call = Handed event (Err NoAccount) } ∷ []
 
 -- of what was read
-abbrev pub reading : ℕ → Question → Shown → Receipt
+abbrev pub reading : ℕ → Question → Shown → ReceiptFields
 reading seen question shown = record { seen = seen; call = Read question shown }
 
-abbrev pub reading_receipt : ℕ → Question → Shown → List Receipt
+abbrev pub reading_receipt : ℕ → Question → Shown → List ReceiptFields
 reading_receipt seen question shown = reading seen question shown ∷ []
 
 -- the receipt shows this body alone, as that of a number
-abbrev pub ShowsAlone : Receipt → ℕ → BodyFields → Type 0
+abbrev pub ShowsAlone : ReceiptFields → ℕ → BodyFields → Type 0
 ShowsAlone r number body = r.call ≡ Read (question.Sent number 1) (shown.Sent (body ∷ []))

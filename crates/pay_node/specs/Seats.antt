@@ -3,7 +3,7 @@ use Rattle.std.specs.Prelude.{◌≡◌, ◌⊎◌, ℕ, ◌≤◌, ◌-◌, ◌
 use Rattle.std.specs.Prelude.{length}
 use Rattle.std.specs.List.{All, AllPairs, Contains, count_by}
 use Rattle.pay_member.specs.Member.{MemberFields}
-use Rattle.pay_node.specs.declared.receipt.Receipt.{Receipt}
+use Rattle.pay_node.specs.Receipts.{ReceiptFields}
 use Rattle.pay_node.specs.declared.seat.TheConstants.{LATEST}
 use Rattle.pay_node.specs.Receipts.{IsConsistent, has_entry, entries_after}
 
@@ -11,19 +11,19 @@ use Rattle.pay_node.specs.Receipts.{IsConsistent, has_entry, entries_after}
 -- place among them is that of a number's body, if it is kept.
 pub record SeatFields : Type 0 where
   pub stamp : ℕ
-  pub receipts : List Receipt
+  pub receipts : List ReceiptFields
   pub marks : List (Option ℕ)
 
-abbrev pub with_receipts : SeatFields → List Receipt → SeatFields
+abbrev pub with_receipts : SeatFields → List ReceiptFields → SeatFields
 with_receipts seat more = record seat { receipts = seat.receipts ++ more }
 
 -- the last receipts, in which one is looked for before it is left once more
-abbrev pub latest : SeatFields → List Receipt
+abbrev pub latest : SeatFields → List ReceiptFields
 latest seat = drop (length seat.receipts - LATEST) seat.receipts
 
 -- The seat keeps this receipt. If it was among the latest, nothing changes; else the seat has a
 -- receipt more, if any.
-pub record KeepsReceipt (before after : SeatFields) (r : Receipt) : Type 0 where
+pub record KeepsReceipt (before after : SeatFields) (r : ReceiptFields) : Type 0 where
   pub kept : Contains after.receipts r
   pub once : Contains (latest before) r → after ≡ before
   pub more : (after ≡ before) ⊎ (after ≡ with_receipts before (r ∷ []))

@@ -1,23 +1,19 @@
-ghost use Rattle.std.specs.Prelude.{List, []};
-ghost use Rattle.pay_member.specs.declared.entry.HistoryEntry.{HistoryEntry};
+ghost use Rattle.std.specs.Prelude.{[]};
+ghost use Rattle.pay_member.specs.Member.{MemberFields};
 
 use std::marker::Brand;
 
-/// The history that a node begins with. Who starts a node picks it, so that the type of what lies
-/// under its lock can name it.
+/// The member that a node begins with. Who starts a node picks it, so that types can name it: what
+/// lies under the node's lock is that member, as it went on.
 pub trait Beginning {
-    ghost beginning: { List HistoryEntry };
+    ghost beginning: { MemberFields };
 }
 
 /// It is picked where a node is started.
 impl Beginning for Brand {
-    ghost beginning = { [] };
-}
-
-/// The beginning of a member that took nothing.
-#[derive(Clone, Copy, Debug)]
-pub struct NoHistory;
-
-impl Beginning for NoHistory {
-    ghost beginning = { [] };
+    ghost beginning = { record {
+      genesis = record { members = 0; faults = 0; opening = [] };
+      keys = record { own = 0; keys = [] };
+      history = [];
+    } };
 }

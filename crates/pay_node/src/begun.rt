@@ -1,8 +1,8 @@
 ghost use Rattle.std.specs.Prelude.{◌≡◌, IfOk, OnErr, length};
-ghost use Rattle.pay_channel.specs.Prefix.{IsPrefix};
 ghost use Rattle.pay_member.specs.Answer.{IsAnswer};
 ghost use Rattle.pay_member.specs.Legal.{Legal};
 ghost use Rattle.pay_member.specs.Member.{with_entry};
+ghost use Rattle.pay_node.specs.Nodes.{WentOn};
 ghost use Rattle.pay_node.specs.Receipts.{receipts_of};
 ghost use Rattle.pay_node.specs.Seats.{with_receipts};
 
@@ -15,8 +15,7 @@ use pay_member::Member;
 use std::alloc::Global;
 use std::marker::{Model, PhantomData};
 
-/// What lies under a node's lock: a member whose history begins with the one that the node began
-/// with.
+/// What lies under a node's lock: the member that the node began with, as it went on.
 #[derive(Drop)]
 pub(crate) struct Begun<I: Instance + Drop, B: Settle + Drop, S: Beginning> {
     member: Member<I, B>,
@@ -26,21 +25,21 @@ pub(crate) struct Begun<I: Instance + Drop, B: Settle + Drop, S: Beginning> {
 
 impl<I: Instance + Drop, B: Settle + Drop, S: Beginning> Model for Begun<I, B, S> {
     ghost use Rattle.std.specs.Prelude.{◌≡◌, length};
-    ghost use Rattle.pay_channel.specs.Prefix.{IsPrefix};
     ghost use Rattle.pay_member.specs.Member.{MemberFields};
+    ghost use Rattle.pay_node.specs.Nodes.{WentOn};
 
     ghost Value = { MemberFields };
 
     ghost view = { λ b. b.member };
 
-    ghost invariant = { λ b. IsPrefix S.beginning b.member.history
-        × (b.base ≡ length S.beginning) };
+    ghost invariant = { λ b. WentOn S.beginning b.member
+        × (b.base ≡ length S.beginning.history) };
 }
 
 impl<I: Instance + Drop, B: Settle + Drop, S: Beginning> Begun<I, B, S> {
-    /// A member with just this history.
+    /// The member as the node begins with it.
     pub(crate) fn new(member: Member<I, B>) -> Begun<I, B, S>
-        requires { member.history ≡ S.beginning }
+        requires { member ≡ S.beginning }
         ensures { result ≡ member }
     {
         let base = member.history().len();
@@ -53,21 +52,21 @@ impl<I: Instance + Drop, B: Settle + Drop, S: Beginning> Begun<I, B, S> {
 
     pub(crate) fn member(&self) -> &Member<I, B>
         ensures member { result.now ≡ self.now }
-        ensures begun { IsPrefix S.beginning result.now.history }
+        ensures own { WentOn S.beginning self.now }
     {
         &self.member
     }
 
     pub(crate) fn into_member(self) -> Member<I, B>
         ensures member { result ≡ self }
-        ensures begun { IsPrefix S.beginning result.history }
+        ensures own { WentOn S.beginning self }
     {
         self.member
     }
 
     /// How many entries it began with.
     pub(crate) fn base(&self) -> usize
-        ensures { result ≡ length S.beginning }
+        ensures { result ≡ length S.beginning.history }
     {
         self.base
     }
@@ -88,6 +87,7 @@ impl<I: Instance + Drop, B: Settle + Drop, S: Beginning> Begun<I, B, S> {
         ensures receipt { seat.new ≡ with_receipts seat.old
             (receipts_of (length self.old.history) (Q.event request) (Q.answer result)) }
         ensures legal { Legal self.old.genesis self.old.keys self.old.history }
+        ensures own { WentOn S.beginning self.old }
     {
         seat.hand_in(alloc, &mut self.member, request, copy)
     }

@@ -1,31 +1,22 @@
-ghost use Rattle.std.specs.Prelude.{◌≡◌, [], ◌∷◌, IfOk};
+ghost use Rattle.std.specs.Prelude.{◌≡◌, IfOk};
 
 use pay_frame::Body;
 use std::alloc::{AllocError, Global};
 use std::marker::Model;
-use std::slice;
 
 /// Bodies that a member sent to all. Contracts see them as a list.
 #[derive(Drop)]
 pub struct Bodies {
-    held: Held,
-}
-
-// A receipt of each frame that is served holds one.
-#[derive(Drop)]
-pub(crate) enum Held {
-    One(Body),
-    Several(Vec<Body>),
+    bodies: Vec<Body>,
 }
 
 impl Model for Bodies {
     ghost use Rattle.std.specs.Prelude.{List};
     ghost use Rattle.pay_frame.specs.Frame.{BodyFields};
-    ghost use Rattle.pay_node.specs.Bodies.{bodies_in};
 
     ghost Value = { List BodyFields };
 
-    ghost view = { λ b. bodies_in b.held };
+    ghost view = { λ b. b.bodies.items };
 }
 
 impl Bodies {
@@ -33,26 +24,14 @@ impl Bodies {
     pub fn new(bodies: Vec<Body>) -> Bodies
         ensures { result ≡ bodies.items }
     {
-        let held = Held::Several(bodies);
-        Bodies { held }
-    }
-
-    /// A copy of one.
-    pub(crate) fn alone(alloc: Global, body: &Body) -> Result<Bodies, AllocError>
-        ensures { IfOk result (λ bodies. bodies ≡ body.now ∷ []) }
-    {
-        let held = Held::One(body.copy(alloc)?);
-        Ok(Bodies { held })
+        Bodies { bodies }
     }
 
     /// The bodies, in the order in which they were sent.
     pub fn as_slice(&self) -> &[Body]
         ensures { result.now ≡ self.now }
     {
-        match &self.held {
-            Held::One(body) => slice::from_ref(body),
-            Held::Several(bodies) => bodies.as_slice(),
-        }
+        self.bodies.as_slice()
     }
 
     /// Equal bodies, unless memory is refused.

@@ -1,8 +1,7 @@
 //! Whether a history is consistent with what a seat was told.
 
-ghost use Rattle.std.specs.Prelude.{◌≡◌, ◌↔◌, ◌≤◌, ◌==◌, drop, length, take, slice_get, IfOk};
-ghost use Rattle.std.specs.Prelude.{IfSome};
-ghost use Rattle.std.specs.Prelude.{IsTrue};
+ghost use Rattle.std.specs.Prelude.{◌≡◌, ◌↔◌, ◌≤◌, ◌==◌, [], ◌∷◌, drop, length, take, slice_get};
+ghost use Rattle.std.specs.Prelude.{IfOk, IfSome, IsTrue};
 ghost use Rattle.std.specs.List.{All, AllPairs, count_by};
 ghost use Rattle.pay_member.specs.Events.{events};
 ghost use Rattle.pay_member.specs.Legal.{Legal};
@@ -11,15 +10,18 @@ ghost use Rattle.pay_node.specs.Judging.{AreConsistent, EachConsistent, IsNextCo
 ghost use Rattle.pay_node.specs.Receipts.{IsConsistent, entries_after, has_entry, shown_of};
 ghost use Rattle.pay_node.specs.Seats.{HasItsEntries, Right};
 
+use crate::call::Call;
 use crate::question::Question;
-use crate::receipt::{Call, Receipt};
+use crate::receipt::{KeptCall, Receipt};
 use crate::replaying::{anew, replay_to};
-use crate::same::{is_same_event, is_same_shown};
+use crate::same::{is_same_body, is_same_event, is_same_shown, is_taken};
 use crate::seat::Seat;
 use crate::showing::show;
 use crate::shown::Shown;
 use pay_book::Settle;
 use pay_echo::Instance;
+use pay_frame::Body;
+use pay_link::Checked;
 use pay_member::{Event, HistoryEntry, Member, MemberFault, Reply};
 use std::alloc::{AllocError, Global};
 
@@ -91,7 +93,7 @@ fn entries_told(receipts: &[Receipt]) -> usize
 {
     let mut count = 0;
     for receipt in receipts {
-        if is_of_entry(&receipt.call) {
+        if receipt.has_entry() {
             count += 1;
         }
     }
@@ -110,7 +112,7 @@ fn are_in_order(base: usize, receipts: &[Receipt]) -> bool
         let Some(after) = after(receipt) else {
             return false;
         };
-        if receipt.seen < least {
+        if receipt.history_len() < least {
             return false;
         }
         least = after;
@@ -122,19 +124,10 @@ fn are_in_order(base: usize, receipts: &[Receipt]) -> bool
 fn after(receipt: &Receipt) -> Option<usize>
     ensures { IfSome result (λ count. count ≡ entries_after receipt.now) }
 {
-    if is_of_entry(&receipt.call) {
-        receipt.seen.checked_add(1)
+    if receipt.has_entry() {
+        receipt.history_len().checked_add(1)
     } else {
-        Some(receipt.seen)
-    }
-}
-
-fn is_of_entry(call: &Call) -> bool
-    ensures { result ≡ has_entry call.now }
-{
-    match call {
-        Call::Handed { answer: Ok(_), .. } => true,
-        Call::Handed { answer: Err(_), .. } | Call::Read { .. } => false,
+        Some(receipt.history_len())
     }
 }
 
@@ -178,7 +171,7 @@ fn is_next_consistent<I: Instance + Drop, B: Settle + Drop>(
     ensures taken { IfOk result (λ says. IsTrue says → member.new
         ≡ record member.old { history = take (entries_after receipt.now) history.now }) }
 {
-    let seen = receipt.seen;
+    let seen = receipt.history_len();
     if seen < member.history().len() || seen > history.len() {
         return Ok(false);
     }
@@ -186,7 +179,7 @@ fn is_next_consistent<I: Instance + Drop, B: Settle + Drop>(
     if !is_consistent_here(alloc, member, history, stamp, receipt)? {
         return Ok(false);
     }
-    if is_of_entry(&receipt.call) {
+    if receipt.has_entry() {
         replay_to(alloc, member, history, seen + 1)?;
     }
     Ok(true)
@@ -208,16 +201,75 @@ pub(crate) fn is_consistent_here<I: Instance + Drop, B: Settle + Drop>(
         receipt.now.seen receipt.now.call) }
     ensures same { IfOk result (λ says. IsTrue says → member.new ≡ member.old) }
 {
-    match &receipt.call {
+    let seen = receipt.history_len();
+    match receipt.kept_call() {
+        KeptCall::Taken { frame, took } => {
+            Ok(has_taken_at(history, seen, stamp, frame, Reply::Took(*took)))
+        }
+        KeptCall::Sent { number, body } => Ok(has_sent_at(member, *number, body.body())),
+        KeptCall::Other(call) => is_call_consistent(alloc, member, history, stamp, seen, call),
+    }
+}
+
+// The same, of a call.
+fn is_call_consistent<I: Instance + Drop, B: Settle + Drop>(
+    alloc: Global,
+    member: &mut Member<I, B>,
+    history: &[HistoryEntry],
+    stamp: u16,
+    seen: usize,
+    call: &Call,
+) -> Result<bool, AllocError>
+    requires here { member.old.history ≡ take seen history.now }
+    requires within { seen ≤ length history.now }
+    ensures says { IfOk result (λ says. IsTrue says
+        ↔ IsConsistent (record member.old { history = history.now }) stamp seen call.now) }
+    ensures same { IfOk result (λ says. IsTrue says → member.new ≡ member.old) }
+{
+    match call {
         Call::Handed {
             event,
             answer: Ok(reply),
-        } => Ok(has_entry_at(history, receipt.seen, stamp, event, *reply)),
+        } => Ok(has_entry_at(history, seen, stamp, event, *reply)),
         Call::Handed {
             event,
             answer: Err(fault),
         } => is_refused(alloc, member, event, *fault),
         Call::Read { question, shown } => is_shown(alloc, member, *question, shown),
+    }
+}
+
+// Whether the entry of a frame that was taken stands at a place.
+fn has_taken_at(
+    history: &[HistoryEntry],
+    place: usize,
+    stamp: u16,
+    frame: &Checked,
+    reply: Reply,
+) -> bool
+    ensures { IsTrue result ↔ (slice_get history.now place
+        ≡ Some (record { stamp = stamp; event = Event.Taken frame.now; reply = reply })) }
+{
+    match history.get(place) {
+        Some(entry) => {
+            entry.stamp == stamp && is_taken(&entry.event, frame) && entry.reply == reply
+        }
+        None => false,
+    }
+}
+
+// Whether a member sent a body at a place of all.
+fn has_sent_at<I: Instance + Drop, B: Settle + Drop>(
+    member: &Member<I, B>,
+    number: usize,
+    body: &Body,
+) -> bool
+    ensures { IsTrue result
+        ↔ (Shown.Sent (body.now ∷ []) ≡ shown_of member.now (Question.Sent number 1)) }
+{
+    match member.sent(number as u64) {
+        Some(sent) => is_same_body(sent, body),
+        None => false,
     }
 }
 

@@ -5,7 +5,7 @@
 //! with these very calls.
 //!
 //! ```
-//! let Ok((node, mut seats)) = Node::<_, _, NoHistory>::new(alloc, member, 2) else { .. };
+//! let Ok((node, mut seats)) = Node::<_, _, S>::new(alloc, member, 2) else { .. };
 //! let seq = node.ask(&rt, alloc, &mut seats[1], value)?;
 //! let Ok(member) = node.close(alloc, seats.as_slice()) else { .. };
 //! ```
@@ -14,6 +14,7 @@
 mod beginning;
 mod begun;
 mod bodies;
+mod call;
 mod close_fault;
 mod closing;
 mod gate;
@@ -32,14 +33,15 @@ mod showing;
 mod shown;
 mod stopped;
 
-pub use beginning::{Beginning, NoHistory};
+pub use beginning::Beginning;
 pub use bodies::Bodies;
+pub use call::Call;
 pub use close_fault::CloseFault;
 pub use gate::{Gate, OpenGate};
 pub use gatherer::Gatherer;
 pub use node::{MOST_SEATS, Node};
 pub use question::Question;
-pub use receipt::{Call, Receipt};
+pub use receipt::Receipt;
 pub use seat::Seat;
 pub use shown::{SettledCounts, Shown};
 pub use stopped::Stopped;

@@ -4,10 +4,11 @@ ghost use Rattle.pay_node.specs.Keeping.{mark_of};
 use std::alloc::{AllocError, Global};
 use std::marker::Model;
 
-/// Places among a seat's receipts, by number. Contracts see them as a list.
+/// Places among a seat's receipts, by number. Contracts see them as a list. A place from 2^32 on
+/// can't be marked: so many receipts take more memory than there is.
 #[derive(Drop)]
 pub(crate) struct Marks {
-    places: Vec<Option<usize>>,
+    places: Vec<Option<u32>>,
 }
 
 impl Model for Marks {
@@ -33,7 +34,8 @@ impl Marks {
         ensures { result ≡ mark_of self.now number }
     {
         match self.places.get(number) {
-            Some(place) => *place,
+            Some(Some(place)) => Some(*place as usize),
+            Some(None) => None,
             None => None,
         }
     }
@@ -46,6 +48,9 @@ impl Marks {
         ensures len { OnOk result (length self.new ≡ max (length self.old) (number + 1)) }
         ensures err { OnErr result (self.new ≡ self.old) }
     {
+        let Ok(place) = u32::try_from(place) else {
+            return Err(AllocError);
+        };
         if number >= self.places.len() {
             self.places.resize(number.saturating_add(1), None)?;
         }

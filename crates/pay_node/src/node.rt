@@ -1,6 +1,5 @@
-ghost use Rattle.std.specs.Prelude.{◌≡◌, ◌≢◌, ◌↔◌, ◌+◌, ◌<◌, ◌≤◌, ◌^◌, Ok, Err, IfOk, IfErr};
-ghost use Rattle.std.specs.Prelude.{IfSome};
-ghost use Rattle.std.specs.Prelude.{IsTrue, OnErr, OnOk, false, length};
+ghost use Rattle.std.specs.Prelude.{◌≡◌, ◌≢◌, ◌+◌, ◌<◌, ◌≤◌, ◌^◌, Ok, Err, IfOk, IfErr, IfSome};
+ghost use Rattle.std.specs.Prelude.{OnErr, OnOk, length};
 ghost use Rattle.pay_frame.specs.declared.limits.TheConstants.{MOST_MEMBERS};
 ghost use Rattle.pay_frame.specs.Frame.{FrameFields};
 ghost use Rattle.pay_frame.specs.Lent.{fields_of};
@@ -9,13 +8,12 @@ ghost use Rattle.pay_link.specs.Keys.{IsPeer};
 ghost use Rattle.pay_member.specs.declared.event.Event.TheVariants.{Ask, Query, Taken};
 ghost use Rattle.pay_member.specs.Answer.{answer_of_ask, answer_of_take, answer_of_query};
 ghost use Rattle.pay_member.specs.Legal.{Legal};
-ghost use Rattle.std.specs.Sync.Mutex.{mutex_guard_value};
 ghost use Rattle.pay_node.specs.Closing.{AllReconciled, IsCloseFault};
 ghost use Rattle.pay_node.specs.Gathering.{IsGathered};
 ghost use Rattle.pay_node.specs.Keeping.{HasFetched, IsFetched};
 ghost use Rattle.pay_node.specs.Sending.{HasSent};
 ghost use Rattle.pay_node.specs.Nodes.{AreFresh, IsAnswered, IsBrought, IsMessage, IsOwn};
-ghost use Rattle.pay_node.specs.Nodes.{IsReceived, IsShown, IsTaken, base_of, next_of};
+ghost use Rattle.pay_node.specs.Nodes.{IsReceived, IsShown, IsTaken, base_of, next_of, node_with};
 ghost use Rattle.pay_node.specs.Nodes.{outcome_of_take};
 
 use crate::beginning::Beginning;
@@ -33,9 +31,9 @@ use crate::stopped::Stopped;
 use pay_book::{Excerpt, Settle, Statement};
 use pay_channel::laws::{one_event_more, taken_in_order};
 use pay_echo::Instance;
-use pay_frame::{Body, Bytes, FrameRef, Kind, read_one};
+use pay_frame::{Body, Bytes, FrameRef, Kind, SharedBody, read_one};
 use pay_hmac::Tagger;
-use pay_link::{Checked, Genesis, Keys, LinkFault, Opened};
+use pay_link::{Checked, Keys, LinkFault, Opened};
 use pay_member::laws::events_in_order;
 use pay_member::{
     AskFault, Brought, Incoming, Member, Outcome, PaymentState, QueryFault, Received, TakeFault,
@@ -44,7 +42,7 @@ use pay_member::{
 use std::alloc::{AllocError, Global};
 use std::marker::Model;
 use std::sync::atomic::{AtomicBool, AtomicU64, Ordering};
-use std::sync::{Condvar, Mutex, MutexGuard, Wait};
+use std::sync::{Condvar, Mutex, Wait};
 
 /// How many seats a node has at most.
 pub const MOST_SEATS: u16 = 256;
@@ -52,33 +50,27 @@ pub const MOST_SEATS: u16 = 256;
 /// One member that many threads call, each from a seat of its own.
 ///
 /// A call locks the member for one event or one reading. Bytes are read, opened and answered
-/// outside of the lock, with the node's own keys. Whatever is answered is answered by a member of
-/// the node's own group that has its keys.
+/// outside of the lock, with a copy of the member's keys. All is answered by the member that the
+/// node began with, as it went on.
 #[derive(Drop)]
 pub struct Node<I: Instance + Drop, B: Settle + Drop, S: Beginning> {
     member: Mutex<Begun<I, B, S>>,
     changed: Condvar,
     // how many bodies the member sent, as whoever had the lock last left it
     sent: AtomicU64,
-    genesis: Genesis,
     keys: Keys,
     seats: u16,
 }
 
 impl<I: Instance + Drop, B: Settle + Drop, S: Beginning> Model for Node<I, B, S> {
-    ghost use Rattle.pay_member.specs.Legal.{Legal};
-    ghost use Rattle.pay_node.specs.Closing.{AllReconciled, IsCloseFault};
-    ghost use Rattle.pay_node.specs.Keeping.{IsFetched};
-    ghost use Rattle.pay_node.specs.Nodes.{NodeFields};
+    ghost use Rattle.std.specs.Prelude.{◌≡◌};
+    ghost use Rattle.pay_node.specs.Nodes.{NodeFields, node_with};
 
     ghost Value = { NodeFields };
 
-    ghost view = { λ n. record {
-      genesis = n.genesis;
-      keys = n.keys;
-      seats = n.seats;
-      beginning = S.beginning;
-    } };
+    ghost view = { λ n. node_with S.beginning n.seats };
+
+    ghost invariant = { λ n. n.keys ≡ S.beginning.keys };
 }
 
 impl<I: Instance + Drop, B: Settle + Drop, S: Beginning> Node<I, B, S> {
@@ -89,47 +81,31 @@ impl<I: Instance + Drop, B: Settle + Drop, S: Beginning> Node<I, B, S> {
         member: Member<I, B>,
         seats: u16,
     ) -> Result<(Node<I, B, S>, Vec<Seat>), (Member<I, B>, AllocError)>
-        requires beginning { member.history ≡ S.beginning }
+        requires beginning { member ≡ S.beginning }
         requires few { seats ≤ MOST_SEATS }
-        ensures node { IfOk result (λ made. made.0 ≡ record {
-          genesis = member.genesis;
-          keys = member.keys;
-          seats = seats;
-          beginning = member.history;
-        }) }
+        ensures node { IfOk result (λ made. made.0 ≡ node_with member seats) }
         ensures seats { IfOk result (λ made. AreFresh seats made.1.items) }
         ensures err { IfErr result (λ back. back.0 ≡ member) }
     {
         match parts(alloc, &member, seats) {
-            Ok((genesis, keys, made)) => {
+            Ok((keys, made)) => {
                 let begun = Begun::new(member);
-                Ok((Node::of_parts(begun, genesis, keys, seats), made))
+                Ok((Node::of_parts(begun, keys, seats), made))
             }
             Err(error) => Err((member, error)),
         }
     }
 
-    /// A node whose lock holds this member. No call answers where the genesis or the keys aren't
-    /// the member's.
-    pub(crate) fn of_parts(
-        begun: Begun<I, B, S>,
-        genesis: Genesis,
-        keys: Keys,
-        seats: u16,
-    ) -> Node<I, B, S>
-        ensures { result ≡ record {
-          genesis = genesis;
-          keys = keys;
-          seats = seats;
-          beginning = S.beginning;
-        } }
+    /// A node whose lock holds this member, with a copy of its keys.
+    pub(crate) fn of_parts(begun: Begun<I, B, S>, keys: Keys, seats: u16) -> Node<I, B, S>
+        requires { keys ≡ S.beginning.keys }
+        ensures { result ≡ node_with S.beginning seats }
     {
         let sent = begun.member().sent_len();
         Node {
             member: Mutex::new(begun),
             changed: Condvar::new(),
             sent: AtomicU64::new(sent),
-            genesis,
             keys,
             seats,
         }
@@ -169,7 +145,7 @@ impl<I: Instance + Drop, B: Settle + Drop, S: Beginning> Node<I, B, S> {
         };
         let from = frame.from();
         let received = self.bring_frame(rt, alloc, seat, tagger, gate, frame)?;
-        Ok(received.with_want(tagger, &self.keys, from))
+        Ok(received.with_want(tagger, self.keys(), from))
     }
 
     /// The same of a frame that was read already, without the WANT: the answer has the number that
@@ -191,7 +167,7 @@ impl<I: Instance + Drop, B: Settle + Drop, S: Beginning> Node<I, B, S> {
         ensures err { OnErr result (seat.new ≡ seat.old) }
         ensures memory { OnErr result (IsMessage self.now.keys (fields_of frame.entry)) }
     {
-        match open_frame(tagger, &self.keys, frame) {
+        match open_frame(tagger, self.keys(), frame) {
             Ok(Incoming::Message(opened)) => self.take_opened(rt, alloc, seat, gate, &opened),
             Ok(Incoming::Want { from, number }) => {
                 Ok(Received::at_once(Outcome::Wanted { from, number }))
@@ -213,8 +189,8 @@ impl<I: Instance + Drop, B: Settle + Drop, S: Beginning> Node<I, B, S> {
         ensures memory { result ≡ Err AskFault.Memory → seat.new ≡ seat.old }
     {
         let copy = value.copy(alloc)?;
-        seat.make_room()?;
-        let mut begun = self.lock_member(rt);
+        seat.make_room(alloc)?;
+        let mut begun = self.member.lock(rt);
         let answer = begun.hand_in(alloc, seat, value, copy);
         self.count_sent(&begun);
         drop(begun);
@@ -237,8 +213,8 @@ impl<I: Instance + Drop, B: Settle + Drop, S: Beginning> Node<I, B, S> {
             → IsAnswered self.now seat.old seat.new (Query account) (answer_of_query result) }
         ensures memory { result ≡ Err QueryFault.Memory → seat.new ≡ seat.old }
     {
-        seat.make_room()?;
-        let mut begun = self.lock_member(rt);
+        seat.make_room(alloc)?;
+        let mut begun = self.member.lock(rt);
         let account = Account(account);
         begun.hand_in(alloc, seat, account, account)
     }
@@ -256,8 +232,8 @@ impl<I: Instance + Drop, B: Settle + Drop, S: Beginning> Node<I, B, S> {
             IsShown self.now seat.old seat.new question shown) }
         ensures err { OnErr result (seat.new ≡ seat.old) }
     {
-        seat.make_room()?;
-        let begun = self.lock_member(rt);
+        seat.make_room(alloc)?;
+        let begun = self.member.lock(rt);
         let member = begun.member();
         let shown = show(alloc, member, question)?;
         seat.note(alloc, member, question, &shown)?;
@@ -278,8 +254,8 @@ impl<I: Instance + Drop, B: Settle + Drop, S: Beginning> Node<I, B, S> {
             (Question.Sent from max) (Shown.Sent bodies.items)) }
         ensures err { OnErr result (seat.new ≡ seat.old) }
     {
-        seat.make_room()?;
-        let begun = self.lock_member(rt);
+        seat.make_room(alloc)?;
+        let begun = self.member.lock(rt);
         let member = begun.member();
         let bodies = member.fetch(alloc, from, max)?;
         let shown = Shown::Sent(Bodies::from_slice(alloc, bodies.as_slice())?);
@@ -287,37 +263,21 @@ impl<I: Instance + Drop, B: Settle + Drop, S: Beginning> Node<I, B, S> {
         Ok(bodies)
     }
 
-    /// A copy of the body that the member sent at a place of all, if it is there. However often it
-    /// is fetched from a seat, one receipt is kept of it.
+    /// The body that the member sent at a place of all, if it is there. However often it is fetched
+    /// from a seat, one receipt is kept of it.
     pub fn fetch_once<R: Wait>(
         &self,
         rt: &R,
         alloc: Global,
         seat: &mut Seat,
         number: usize,
-    ) -> Result<Option<Body>, AllocError>
+    ) -> Result<Option<SharedBody>, AllocError>
         ensures fetched { IfOk result (λ found.
             IsFetched self.now seat.old seat.new number found) }
         ensures err { OnErr result (seat.new ≡ seat.old) }
     {
-        seat.make_room()?;
-        let begun = self.lock_member(rt);
-        self.note_body(alloc, &begun, seat, number)
-    }
-
-    // Fetches a body while the member is locked.
-    fn note_body(
-        &self,
-        alloc: Global,
-        begun: &Begun<I, B, S>,
-        seat: &mut Seat,
-        number: usize,
-    ) -> Result<Option<Body>, AllocError>
-        requires { IsOwn self.now begun.now }
-        ensures fetched { IfOk result (λ found.
-            IsFetched self.now seat.old seat.new number found) }
-        ensures err { OnErr result (seat.new ≡ seat.old) }
-    {
+        seat.make_room(alloc)?;
+        let begun = self.member.lock(rt);
         seat.note_once(alloc, begun.member(), number)
     }
 
@@ -333,17 +293,17 @@ impl<I: Instance + Drop, B: Settle + Drop, S: Beginning> Node<I, B, S> {
         seat: &Mutex<Seat>,
         number: u64,
         stop: &AtomicBool,
-    ) -> Result<Option<Body>, AllocError>
+    ) -> Result<Option<SharedBody>, AllocError>
         ensures { IfOk result (λ found. HasFetched self.now number found) }
     {
-        seat.lock(rt).make_room()?;
+        seat.lock(rt).make_room(alloc)?;
         let begun = self.changed.wait_while(
             rt,
             self.member.lock(rt),
             |begun| self.has_to_wait(begun, number, stop),
         );
         let mut seat = seat.lock(rt);
-        self.note_body(alloc, &begun, &mut seat, number as usize)
+        seat.note_once(alloc, begun.member(), number as usize)
     }
 
     /// How far the payment under a number of an account has come.
@@ -446,7 +406,7 @@ impl<I: Instance + Drop, B: Settle + Drop, S: Beginning> Node<I, B, S> {
     pub fn lend<R: Wait, G: Gatherer>(&self, rt: &R, gatherer: &mut G) -> Result<(), AllocError>
         ensures { OnOk result (IsGathered G.gathers self.now gatherer.old gatherer.new) }
     {
-        let begun = self.lock_member(rt);
+        let begun = self.member.lock(rt);
         let member = begun.member();
         // for its clause alone: the history is legal
         let _history = member.history();
@@ -464,13 +424,9 @@ impl<I: Instance + Drop, B: Settle + Drop, S: Beginning> Node<I, B, S> {
         self.sent.store(begun.member().sent_len(), Ordering::SeqCst);
     }
 
-    // Whether a body at a place has still to be waited for. Whose member it is is looked at last,
-    // which no wake-up in vain comes to.
-    fn has_to_wait(&self, begun: &Begun<I, B, S>, place: u64, stop: &AtomicBool) -> bool
-        ensures { result ≡ false → IsOwn self.now begun.now }
-    {
-        let is_sent = begun.member().sent(place).is_some();
-        (!is_sent && !stop.load(Ordering::SeqCst)) || !self.is_own(begun)
+    // Whether a body at a place has still to be waited for.
+    fn has_to_wait(&self, begun: &Begun<I, B, S>, place: u64, stop: &AtomicBool) -> bool {
+        begun.member().sent(place).is_none() && !stop.load(Ordering::SeqCst)
     }
 
     /// Tells those to stop who wait for what the member has still to send: a writer then has no
@@ -480,22 +436,6 @@ impl<I: Instance + Drop, B: Settle + Drop, S: Beginning> Node<I, B, S> {
         stop.store(true, Ordering::SeqCst);
         drop(begun);
         self.changed.notify_all();
-    }
-
-    // Locks the member, which is the node's own: whoever found another one there would wait for it.
-    fn lock_member<R: Wait>(&self, rt: &R) -> MutexGuard<'_, Begun<I, B, S>>
-        ensures { IsOwn self.now (mutex_guard_value result) }
-    {
-        self.changed
-            .wait_while(rt, self.member.lock(rt), |begun| !self.is_own(begun))
-    }
-
-    // Whether a member is of the node's group, and has its keys.
-    fn is_own(&self, begun: &Begun<I, B, S>) -> bool
-        ensures { IsTrue result ↔ IsOwn self.now begun.now }
-    {
-        let member = begun.member();
-        self.genesis.is_same(member.genesis()) && self.keys.is_same(member.keys())
     }
 
     /// Takes the member out of the lock, once no thread calls the node any more.
@@ -508,7 +448,6 @@ impl<I: Instance + Drop, B: Settle + Drop, S: Beginning> Node<I, B, S> {
         let _history = member.member().history();
         Stopped {
             member,
-            genesis: self.genesis,
             keys: self.keys,
             seats: self.seats,
         }
@@ -564,7 +503,7 @@ impl<I: Instance + Drop, B: Settle + Drop, S: Beginning> Node<I, B, S> {
         ensures memory { result ≡ Err TakeFault.Memory → seat.new ≡ seat.old }
     {
         let copy = checked.copy()?;
-        seat.make_room()?;
+        seat.make_room(alloc)?;
         gate.pass(seat.stamp());
         let answer = self.take_locked(rt, alloc, seat, checked, copy);
         gate.answered(seat.stamp());
@@ -590,7 +529,7 @@ impl<I: Instance + Drop, B: Settle + Drop, S: Beginning> Node<I, B, S> {
         ensures memory { result ≡ Err TakeFault.Memory → seat.new ≡ seat.old }
     {
         taken_in_order();
-        let mut begun = self.lock_member(rt);
+        let mut begun = self.member.lock(rt);
         let answer = begun.hand_in(alloc, seat, checked, copy);
         // as many frames came from one member as there are entries at most, and these can be
         // counted
@@ -614,24 +553,22 @@ fn has_sent(answer: &Result<Took, TakeFault>) -> bool
     }
 }
 
-// Copies of the member's genesis and keys, and the seats.
+// A copy of the member's keys, and the seats.
 #[tactic(auto, using(crate::proofs::Fresh::none_fresh, crate::proofs::Fresh::fresh_more))]
 fn parts<I: Instance + Drop, B: Settle + Drop>(
     alloc: Global,
     member: &Member<I, B>,
     seats: u16,
-) -> Result<(Genesis, Keys, Vec<Seat>), AllocError>
-    ensures genesis { IfOk result (λ parts. parts.0 ≡ member.now.genesis) }
-    ensures keys { IfOk result (λ parts. parts.1 ≡ member.now.keys) }
-    ensures seats { IfOk result (λ parts. AreFresh seats parts.2.items) }
+) -> Result<(Keys, Vec<Seat>), AllocError>
+    ensures keys { IfOk result (λ parts. parts.0 ≡ member.now.keys) }
+    ensures seats { IfOk result (λ parts. AreFresh seats parts.1.items) }
 {
-    let genesis = member.genesis().copy(alloc)?;
     let keys = member.keys().copy(alloc)?;
     let mut made = Vec::new(alloc);
     for stamp in 0..seats {
         made.push(Seat::new(alloc, stamp))?;
     }
-    Ok((genesis, keys, made))
+    Ok((keys, made))
 }
 
 // The answer to a frame of a number that opened, by the member's.

@@ -107,7 +107,7 @@ fn count_from<I: Instance + Drop, B: Settle + Drop>(
     let receipts = seat.receipts();
     for k in first..receipts.len() {
         let receipt = &receipts[k];
-        if receipt.seen != member.history().len() {
+        if receipt.history_len() != member.history().len() {
             return Ok(Some(k));
         }
         if !is_consistent_here(alloc, member, history, seat.stamp(), receipt)? {

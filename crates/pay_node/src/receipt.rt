@@ -1,48 +1,138 @@
-ghost use Rattle.std.specs.Prelude.{◌≡◌, ◌↔◌, [], ◌∷◌, IsTrue};
-ghost use Rattle.pay_node.specs.Receipts.{ShowsAlone, reading};
+ghost use Rattle.std.specs.Prelude.{◌≡◌, ◌↔◌, [], ◌∷◌, IfOk, IsTrue};
+ghost use Rattle.pay_node.specs.Receipts.{ShowsAlone, call_in, fault_of_call, has_entry, reading};
 
+use crate::call::{Call, is_alone};
 use crate::question::Question;
-use crate::same::{is_same_body, is_same_shown};
+use crate::same::is_same_body;
 use crate::shown::Shown;
-use pay_frame::Body;
-use pay_member::{Event, MemberFault, Reply};
+use pay_frame::{Body, SharedBody};
+use pay_link::Checked;
+use pay_member::{Event, MemberFault, Reply, Took};
+use std::alloc::{AllocError, Global};
+use std::marker::Model;
 
-/// What was called, and what was answered.
+/// A call as a receipt keeps it. Nearly all are a frame that was taken or a body that was served,
+/// which share what the member has.
 #[derive(Drop)]
-pub enum Call {
-    /// An event was handed in: the member's reply, or why it was refused.
-    Handed {
-        event: Event,
-        answer: Result<Reply, MemberFault>,
-    },
-    /// Something was read.
-    Read {
-        question: Question,
-        shown: Shown,
-    },
+pub(crate) enum KeptCall {
+    /// The member took this frame.
+    Taken { frame: Checked, took: Took },
+    /// It showed this body alone at a place of all that it sent.
+    Sent { number: usize, body: SharedBody },
+    /// Any other call.
+    Other(Box<Call>),
 }
 
-/// One answered call of a seat.
+/// One answered call of a seat. Contracts see it as how many entries the history had before the
+/// call, and the call with its answer.
 #[derive(Drop)]
 pub struct Receipt {
-    /// How many entries the history had before the call. It is the place of the call's own entry,
-    /// if it has one.
-    pub seen: usize,
-    /// What the call was, with its answer.
-    pub call: Call,
+    seen: usize,
+    call: KeptCall,
+}
+
+impl Model for Receipt {
+    ghost use Rattle.pay_node.specs.Receipts.{ReceiptFields, call_in};
+
+    ghost Value = { ReceiptFields };
+
+    ghost view = { λ r. record { seen = r.seen; call = call_in r.call } };
 }
 
 impl Receipt {
+    /// Of an event that was handed in, which is put in the room unless it was a frame that was
+    /// taken: then the room comes back.
+    pub(crate) fn of_event(
+        room: Box<Call>,
+        seen: usize,
+        event: Event,
+        answer: Result<Reply, MemberFault>,
+    ) -> (Receipt, Option<Box<Call>>)
+        ensures { result.0 ≡ record { seen = seen; call = Call.Handed event answer } }
+    {
+        match (event, answer) {
+            (Event::Taken(frame), Ok(Reply::Took(took))) => {
+                let call = KeptCall::Taken { frame, took };
+                (Receipt { seen, call }, Some(room))
+            }
+            (event, answer) => {
+                let mut room = room;
+                *room = Call::Handed { event, answer };
+                let call = KeptCall::Other(room);
+                (Receipt { seen, call }, None)
+            }
+        }
+    }
+
+    /// Of a question and a copy of its answer.
+    pub(crate) fn of_reading(
+        alloc: Global,
+        seen: usize,
+        question: Question,
+        shown: &Shown,
+    ) -> Result<Receipt, AllocError>
+        ensures { IfOk result (λ receipt. receipt ≡ reading seen question shown.now) }
+    {
+        let shown = shown.copy(alloc)?;
+        let call = KeptCall::Other(Box::new(alloc, Call::Read { question, shown })?);
+        Ok(Receipt { seen, call })
+    }
+
+    /// Of the body at a number, which was shown alone.
+    pub(crate) fn of_body(seen: usize, number: usize, body: SharedBody) -> Receipt
+        ensures { result ≡ reading seen (Question.Sent number 1) (Shown.Sent (body ∷ [])) }
+    {
+        let call = KeptCall::Sent { number, body };
+        Receipt { seen, call }
+    }
+
+    /// How many entries the history had before the call. It is the place of the call's own entry,
+    /// if it has one.
+    pub fn history_len(&self) -> usize
+        ensures { result ≡ self.now.seen }
+    {
+        self.seen
+    }
+
+    /// Whether the call has an entry in the history.
+    pub fn has_entry(&self) -> bool
+        ensures { result ≡ has_entry self.now.call }
+    {
+        match &self.call {
+            KeptCall::Taken { .. } => true,
+            KeptCall::Sent { .. } => false,
+            KeptCall::Other(call) => call.has_entry(),
+        }
+    }
+
+    /// Why what was handed in was refused, if it was.
+    pub fn fault(&self) -> Option<MemberFault>
+        ensures { result ≡ fault_of_call self.now.call }
+    {
+        match &self.call {
+            KeptCall::Other(call) => call.fault(),
+            KeptCall::Taken { .. } | KeptCall::Sent { .. } => None,
+        }
+    }
+
+    /// The call, as it is kept.
+    pub(crate) fn kept_call(&self) -> &KeptCall
+        ensures { call_in result.now ≡ self.now.call }
+    {
+        &self.call
+    }
+
     /// Whether it shows this body alone, as that of a number.
     pub(crate) fn shows_alone(&self, number: usize, body: &Body) -> bool
         ensures { IsTrue result ↔ ShowsAlone self.now number body.now }
     {
         match &self.call {
-            Call::Read {
-                question: Question::Sent { from, max },
-                shown: Shown::Sent(bodies),
-            } => *from == number && *max == 1 && is_alone(bodies.as_slice(), body),
-            _ => false,
+            KeptCall::Sent {
+                number: shown,
+                body: sent,
+            } => *shown == number && is_same_body(sent.body(), body),
+            KeptCall::Other(call) => call.shows_alone(number, body),
+            KeptCall::Taken { .. } => false,
         }
     }
 
@@ -50,19 +140,23 @@ impl Receipt {
     pub(crate) fn is_reading(&self, seen: usize, question: Question, shown: &Shown) -> bool
         ensures { IsTrue result ↔ (self.now ≡ reading seen question shown.now) }
     {
-        match &self.call {
-            Call::Read {
-                question: asked,
-                shown: told,
-            } => self.seen == seen && *asked == question && is_same_shown(told, shown),
-            Call::Handed { .. } => false,
+        self.seen == seen && self.is_of(question, shown)
+    }
+
+    // Whether it is of this question with this answer.
+    fn is_of(&self, question: Question, shown: &Shown) -> bool
+        ensures { IsTrue result ↔ (self.now.call ≡ Call.Read question shown.now) }
+    {
+        match (&self.call, shown) {
+            (KeptCall::Other(call), _) => call.is_of(question, shown),
+            (KeptCall::Sent { number, body }, Shown::Sent(bodies)) => {
+                let asked = Question::Sent {
+                    from: *number,
+                    max: 1,
+                };
+                question == asked && is_alone(bodies.as_slice(), body.body())
+            }
+            _ => false,
         }
     }
-}
-
-// Whether bodies are this one alone.
-fn is_alone(bodies: &[Body], body: &Body) -> bool
-    ensures { IsTrue result ↔ (bodies.now ≡ body.now ∷ []) }
-{
-    bodies.len() == 1 && is_same_body(&bodies[0], body)
 }

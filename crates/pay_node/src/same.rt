@@ -21,6 +21,16 @@ pub(crate) fn is_same_event(a: &Event, b: &Event) -> bool
     }
 }
 
+/// Whether an event is that this frame came.
+pub(crate) fn is_taken(event: &Event, frame: &Checked) -> bool
+    ensures { IsTrue result ↔ (event.now ≡ Event.Taken frame.now) }
+{
+    match event {
+        Event::Taken(taken) => is_same_frame(taken, frame),
+        Event::Ask(_) | Event::Query(_) => false,
+    }
+}
+
 fn is_same_frame(a: &Checked, b: &Checked) -> bool
     ensures { IsTrue result ↔ (a.now ≡ b.now) }
 {

@@ -1,5 +1,5 @@
-ghost use Rattle.std.specs.Prelude.{◌≡◌, ◌≢◌, ◌↔◌, ◌+◌, ◌<◌, ℕ, Some, Err, [], ◌++◌, IfOk, IsTrue};
-ghost use Rattle.std.specs.Prelude.{OnErr, OnOk, length, max, vec_len, vec_capacity};
+ghost use Rattle.std.specs.Prelude.{◌≡◌, ◌≢◌, ◌↔◌, ◌+◌, ◌<◌, ℕ, Some, Err, [], ◌∷◌, ◌++◌, IfOk};
+ghost use Rattle.std.specs.Prelude.{IsTrue, OnErr, OnOk, length, max, vec_len, vec_capacity};
 ghost use Rattle.std.specs.List.{Contains};
 ghost use Rattle.pay_member.specs.Answer.{IsAnswer};
 ghost use Rattle.pay_member.specs.Legal.{Legal};
@@ -10,14 +10,15 @@ ghost use Rattle.pay_node.specs.Seats.{KeepsReceipt, SeatFields, StaysRight, lat
 ghost use Rattle.pay_node.specs.Seats.{with_receipts};
 
 use crate::bodies::Bodies;
+use crate::call::Call;
 use crate::marks::Marks;
 use crate::question::Question;
-use crate::receipt::{Call, Receipt};
+use crate::receipt::Receipt;
 use crate::request::Request;
 use crate::shown::Shown;
 use pay_book::Settle;
 use pay_echo::Instance;
-use pay_frame::Body;
+use pay_frame::{Body, SharedBody};
 use pay_member::{Event, Member, MemberFault, Reply};
 use std::alloc::{AllocError, Global};
 use std::marker::Model;
@@ -32,6 +33,8 @@ pub struct Seat {
     stamp: u16,
     receipts: Vec<Receipt>,
     marks: Marks,
+    // for the next call that a receipt can't keep by sharing
+    room: Option<Box<Call>>,
 }
 
 impl Model for Seat {
@@ -55,6 +58,7 @@ impl Seat {
             stamp,
             receipts: Vec::new(alloc),
             marks: Marks::new(alloc),
+            room: None,
         }
     }
 
@@ -74,10 +78,22 @@ impl Seat {
     }
 
     /// Makes room for one receipt, so that none has to be made while others wait.
-    pub(crate) fn make_room(&mut self) -> Result<(), AllocError>
+    pub(crate) fn make_room(&mut self, alloc: Global) -> Result<(), AllocError>
         ensures { self.new ≡ self.old }
     {
+        let room = self.take_room(alloc)?;
+        self.room = Some(room);
         self.receipts.reserve(1)
+    }
+
+    // The room for a call, made where there is none.
+    fn take_room(&mut self, alloc: Global) -> Result<Box<Call>, AllocError>
+        ensures { self.new ≡ self.old }
+    {
+        match self.room.take() {
+            Some(room) => Ok(room),
+            None => Ok(Box::new(alloc, Call::none(alloc))?),
+        }
     }
 
     /// Hands a request to a member, and keeps the receipt of the answer with a copy of the request.
@@ -103,12 +119,16 @@ impl Seat {
             → StaysRight member.old seat member.new seat }
     {
         let seen = member.history().len();
+        let Ok(room) = self.take_room(alloc) else {
+            return Err(Q::memory());
+        };
         if self.receipts.reserve(1).is_err() {
             return Err(Q::memory());
         }
         let answer = request.hand_in(alloc, self.stamp, member);
-        keep(
+        self.room = keep(
             &mut self.receipts,
+            room,
             seen,
             copy.into_event(),
             Q::answer_of(answer),
@@ -137,11 +157,8 @@ impl Seat {
         if has_reading(self.latest(), seen, question, shown) {
             return Ok(());
         }
-        let shown = shown.copy(alloc)?;
-        self.receipts.push(Receipt {
-            seen,
-            call: Call::Read { question, shown },
-        })?;
+        let receipt = Receipt::of_reading(alloc, seen, question, shown)?;
+        self.receipts.push(receipt)?;
         Ok(())
     }
 
@@ -153,14 +170,14 @@ impl Seat {
         &self.receipts[first..]
     }
 
-    /// A copy of the body that a member sent at a place of all, if it is there. Where a receipt is
-    /// kept that shows this body, no second one is left. What was right stays so.
+    /// The body that a member sent at a place of all, if it is there. Where a receipt is kept that
+    /// shows this body, no second one is left. What was right stays so.
     pub(crate) fn note_once<I: Instance + Drop, B: Settle + Drop>(
         &mut self,
         alloc: Global,
         member: &Member<I, B>,
         number: usize,
-    ) -> Result<Option<Body>, AllocError>
+    ) -> Result<Option<SharedBody>, AllocError>
         ensures noted { IfOk result (λ found.
             IsNoted member.now self.old self.new number found) }
         ensures err { OnErr result (self.new ≡ self.old) }
@@ -169,7 +186,7 @@ impl Seat {
         ensures own { StaysRight member.now self.old member.now self.new }
     {
         let seen = member.history().len();
-        match member.sent(number as u64) {
+        match member.sent_shared(number as u64) {
             // no mark, for it may still come
             None => {
                 let question = Question::Sent {
@@ -181,12 +198,11 @@ impl Seat {
                 Ok(None)
             }
             Some(body) => {
-                let found = body.copy(alloc)?;
-                if self.keeps(number, body) {
+                let found = body.copy()?;
+                if self.keeps(number, body.body()) {
                     return Ok(Some(found));
                 }
-                let bodies = Bodies::alone(alloc, body)?;
-                self.keep_body(seen, number, bodies)?;
+                self.keep_body(seen, number, body.copy()?)?;
                 Ok(Some(found))
             }
         }
@@ -206,10 +222,10 @@ impl Seat {
     }
 
     // Keeps the receipt of a number's body, and marks it.
-    fn keep_body(&mut self, seen: usize, number: usize, bodies: Bodies) -> Result<(), AllocError>
+    fn keep_body(&mut self, seen: usize, number: usize, body: SharedBody) -> Result<(), AllocError>
         ensures stamp { self.new.stamp ≡ self.old.stamp }
         ensures receipt { OnOk result (self.new.receipts ≡ self.old.receipts
-            ++ reading_receipt seen (Question.Sent number 1) (Shown.Sent bodies)) }
+            ++ reading_receipt seen (Question.Sent number 1) (Shown.Sent (body ∷ []))) }
         ensures mark { OnOk result
             (mark_of self.new.marks number ≡ Some (length self.old.receipts)) }
         ensures others { OnOk result ((k : ℕ) → k ≢ number
@@ -220,16 +236,8 @@ impl Seat {
     {
         self.receipts.reserve(1)?;
         self.marks.set(number, self.receipts.len())?;
-        self.receipts.push_reserved(Receipt {
-            seen,
-            call: Call::Read {
-                question: Question::Sent {
-                    from: number,
-                    max: 1,
-                },
-                shown: Shown::Sent(bodies),
-            },
-        });
+        self.receipts
+            .push_reserved(Receipt::of_body(seen, number, body));
         Ok(())
     }
 }
@@ -248,15 +256,21 @@ fn has_reading(receipts: &[Receipt], seen: usize, question: Question, shown: &Sh
 }
 
 // Keeps the receipt of an event that was handed in, for which there is room; refused memory has
-// none.
-fn keep(receipts: &mut Vec<Receipt>, seen: usize, event: Event, answer: Result<Reply, MemberFault>)
+// none. The room for its call comes back if it wasn't used.
+fn keep(
+    receipts: &mut Vec<Receipt>,
+    room: Box<Call>,
+    seen: usize,
+    event: Event,
+    answer: Result<Reply, MemberFault>,
+) -> Option<Box<Call>>
     requires { vec_len receipts.old < vec_capacity receipts.old }
     ensures { receipts.new.items ≡ receipts.old.items ++ receipts_of seen event answer }
 {
-    if answer != Err(MemberFault::Memory) {
-        receipts.push_reserved(Receipt {
-            seen,
-            call: Call::Handed { event, answer },
-        });
+    if answer == Err(MemberFault::Memory) {
+        return Some(room);
     }
+    let (receipt, room) = Receipt::of_event(room, seen, event, answer);
+    receipts.push_reserved(receipt);
+    room
 }

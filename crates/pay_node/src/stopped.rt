@@ -1,4 +1,4 @@
-ghost use Rattle.std.specs.Prelude.{◌≡◌, ◌↔◌, IfErr, IfOk, IsTrue};
+ghost use Rattle.std.specs.Prelude.{◌≡◌, IfErr, IfOk};
 ghost use Rattle.pay_node.specs.Closing.{AllReconciled, IsCount, IsCloseFault};
 ghost use Rattle.pay_node.specs.Nodes.{IsOwn, base_of};
 
@@ -10,7 +10,7 @@ use crate::node::Node;
 use crate::seat::Seat;
 use pay_book::Settle;
 use pay_echo::Instance;
-use pay_link::{Genesis, Keys};
+use pay_link::Keys;
 use pay_member::Member;
 use std::alloc::Global;
 use std::marker::Model;
@@ -20,25 +20,19 @@ use std::marker::Model;
 #[derive(Drop)]
 pub struct Stopped<I: Instance + Drop, B: Settle + Drop, S: Beginning> {
     pub(crate) member: Begun<I, B, S>,
-    pub(crate) genesis: Genesis,
     pub(crate) keys: Keys,
     pub(crate) seats: u16,
 }
 
 impl<I: Instance + Drop, B: Settle + Drop, S: Beginning> Model for Stopped<I, B, S> {
-    ghost use Rattle.pay_node.specs.Nodes.{StoppedFields};
+    ghost use Rattle.std.specs.Prelude.{◌≡◌};
+    ghost use Rattle.pay_node.specs.Nodes.{StoppedFields, node_with};
 
     ghost Value = { StoppedFields };
 
-    ghost view = { λ s. record {
-      member = s.member;
-      node = record {
-        genesis = s.genesis;
-        keys = s.keys;
-        seats = s.seats;
-        beginning = S.beginning;
-      };
-    } };
+    ghost view = { λ s. record { member = s.member; node = node_with S.beginning s.seats } };
+
+    ghost invariant = { λ s. s.keys ≡ S.beginning.keys };
 }
 
 impl<I: Instance + Drop, B: Settle + Drop, S: Beginning> Stopped<I, B, S> {
@@ -60,30 +54,26 @@ impl<I: Instance + Drop, B: Settle + Drop, S: Beginning> Stopped<I, B, S> {
     pub fn start(self) -> Node<I, B, S>
         ensures { result ≡ self.node }
     {
-        Node::of_parts(self.member, self.genesis, self.keys, self.seats)
+        Node::of_parts(self.member, self.keys, self.seats)
     }
 
     /// Holds the receipts of all seats against the history, and gives the member out where they
     /// agree.
     ///
     /// Where they don't, the least stamp that is missing, doubled, not of this node or wrong is
-    /// named, and the node comes back as it was. A member of another group, or with other keys, is
-    /// consistent with no seat.
+    /// named, and the node comes back as it was.
     pub fn close(
         self,
         alloc: Global,
         seats: &[Seat],
     ) -> Result<Member<I, B>, (CloseFault, Stopped<I, B, S>)>
         ensures member { IfOk result (λ member. member ≡ self.member) }
-        ensures own { IfOk result (λ _. IsOwn self.node self.member) }
+        ensures own { IsOwn self.node self.member }
         ensures closed { IfOk result (λ _. AllReconciled self.member (base_of self.node)
             self.node.seats seats.now) }
         ensures fault { IfErr result (λ back. IsCloseFault self.node self.member seats.now back.0) }
         ensures back { IfErr result (λ back. back.1 ≡ self) }
     {
-        if !self.has_own() {
-            return Err((CloseFault::Mismatch(0), self));
-        }
         let base = self.member.base();
         match least_wrong(alloc, self.member.member(), base, self.seats, seats) {
             Ok(None) => Ok(self.member.into_member()),
@@ -99,13 +89,5 @@ impl<I: Instance + Drop, B: Settle + Drop, S: Beginning> Stopped<I, B, S> {
             result }
     {
         least_uncounted(self.member.member(), self.member.base(), self.seats, seats)
-    }
-
-    // Whether the member is the node's own.
-    fn has_own(&self) -> bool
-        ensures { IsTrue result ↔ IsOwn self.now.node self.now.member }
-    {
-        let member = self.member.member();
-        self.genesis.is_same(member.genesis()) && self.keys.is_same(member.keys())
     }
 }

@@ -18,9 +18,9 @@ use Rattle.pay_member.specs.declared.reply.Reply.{Reply}
 use Rattle.pay_member.specs.Answer.{answer_of_take}
 use Rattle.pay_member.specs.Bringing.{incoming_at}
 use Rattle.pay_link.specs.Checked.{checked_fields}
-use Rattle.pay_node.specs.declared.receipt.Call.{Call}
-use Rattle.pay_node.specs.declared.receipt.Call.TheVariants.{Handed}
-use Rattle.pay_node.specs.declared.receipt.Receipt.{Receipt}
+use Rattle.pay_node.specs.declared.call.Call.{Call}
+use Rattle.pay_node.specs.declared.call.Call.TheVariants.{Handed}
+use Rattle.pay_node.specs.Receipts.{ReceiptFields}
 use Rattle.pay_node.specs.Nodes.{IsAnsweredAs, NodeFields}
 use Rattle.pay_node.specs.Receipts.{receipts_of}
 use Rattle.pay_node.specs.Seats.{SeatFields, with_receipts}
@@ -34,28 +34,28 @@ use Rattle.pay_peers.proofs.Wants.{OpenedIs}
 pub grows_on : (peer : ℕ) (a b c : SeatFields) → SeatGrows peer a b → SeatGrows peer b c → SeatGrows peer a c
 grows_on peer a b c one two = record {
   more = one.more ++ two.more;
-  is = two.is ∙ ap (λ (s : SeatFields). with_receipts s two.more) one.is ∙ ap (λ (l : List Receipt). record a { receipts = l }) (append_assoc a.receipts one.more two.more);
-  each = All-append (λ (r : Receipt). HandsFrameOf peer r.call) one.more two.more one.each two.each;
+  is = two.is ∙ ap (λ (s : SeatFields). with_receipts s two.more) one.is ∙ ap (λ (l : List ReceiptFields). record a { receipts = l }) (append_assoc a.receipts one.more two.more);
+  each = All-append (λ (r : ReceiptFields). HandsFrameOf peer r.call) one.more two.more one.each two.each;
 }
 
 pub same_grows : (peer : ℕ) (a b : SeatFields) → b ≡ a → SeatGrows peer a b
 same_grows peer a b same = record {
   more = [];
-  is = same ∙ ap (λ (l : List Receipt). record a { receipts = l }) (sym (append-nil a.receipts));
+  is = same ∙ ap (λ (l : List ReceiptFields). record a { receipts = l }) (sym (append-nil a.receipts));
   each = All-nil _;
 }
 
 -- all receipts of an answer are of the event that was handed in
 all_of : (P : Call → Type 0) (seen : ℕ) (event : Event) (answer : Result Reply MemberFault)
-    → ((a : Result Reply MemberFault) → P (Handed event a)) → All (λ (r : Receipt). P r.call) (receipts_of seen event answer)
-all_of P seen event (Ok reply) each = All-cons (λ (r : Receipt). P r.call) _ [] (each (Ok reply)) (All-nil _)
+    → ((a : Result Reply MemberFault) → P (Handed event a)) → All (λ (r : ReceiptFields). P r.call) (receipts_of seen event answer)
+all_of P seen event (Ok reply) each = All-cons (λ (r : ReceiptFields). P r.call) _ [] (each (Ok reply)) (All-nil _)
 all_of P seen event (Err fault.Memory) each = All-nil _
-all_of P seen event (Err fault.Spent) each = All-cons (λ (r : Receipt). P r.call) _ [] (each (Err fault.Spent)) (All-nil _)
-all_of P seen event (Err fault.TooLong) each = All-cons (λ (r : Receipt). P r.call) _ [] (each (Err fault.TooLong)) (All-nil _)
-all_of P seen event (Err (fault.Repeat next)) each = All-cons (λ (r : Receipt). P r.call) _ [] (each (Err (fault.Repeat next))) (All-nil _)
-all_of P seen event (Err (fault.Gap next)) each = All-cons (λ (r : Receipt). P r.call) _ [] (each (Err (fault.Gap next))) (All-nil _)
-all_of P seen event (Err fault.WrongKey) each = All-cons (λ (r : Receipt). P r.call) _ [] (each (Err fault.WrongKey)) (All-nil _)
-all_of P seen event (Err fault.NoAccount) each = All-cons (λ (r : Receipt). P r.call) _ [] (each (Err fault.NoAccount)) (All-nil _)
+all_of P seen event (Err fault.Spent) each = All-cons (λ (r : ReceiptFields). P r.call) _ [] (each (Err fault.Spent)) (All-nil _)
+all_of P seen event (Err fault.TooLong) each = All-cons (λ (r : ReceiptFields). P r.call) _ [] (each (Err fault.TooLong)) (All-nil _)
+all_of P seen event (Err (fault.Repeat next)) each = All-cons (λ (r : ReceiptFields). P r.call) _ [] (each (Err (fault.Repeat next))) (All-nil _)
+all_of P seen event (Err (fault.Gap next)) each = All-cons (λ (r : ReceiptFields). P r.call) _ [] (each (Err (fault.Gap next))) (All-nil _)
+all_of P seen event (Err fault.WrongKey) each = All-cons (λ (r : ReceiptFields). P r.call) _ [] (each (Err fault.WrongKey)) (All-nil _)
+all_of P seen event (Err fault.NoAccount) each = All-cons (λ (r : ReceiptFields). P r.call) _ [] (each (Err fault.NoAccount)) (All-nil _)
 
 answered_grows :
     OpenedIs → (n : NodeFields) (peer : ℕ) (before after : SeatFields) (f : FrameFields) (i : Result Incoming LinkFault) (r : Received)

@@ -2,9 +2,9 @@
 use Rattle.std.specs.Prelude.{◌≡◌, ℕ, ◌<◌, List, length, slice_index_or}
 use Rattle.std.specs.List.{All}
 use Rattle.pay_member.specs.declared.event.Event.TheVariants.{Ask, Query, Taken}
-use Rattle.pay_node.specs.declared.receipt.Call.{Call}
-use Rattle.pay_node.specs.declared.receipt.Call.TheVariants.{Handed, Read}
-use Rattle.pay_node.specs.declared.receipt.Receipt.{Receipt}
+use Rattle.pay_node.specs.declared.call.Call.{Call}
+use Rattle.pay_node.specs.declared.call.Call.TheVariants.{Handed, Read}
+use Rattle.pay_node.specs.Receipts.{ReceiptFields}
 use Rattle.pay_node.specs.Seats.{SeatFields, with_receipts}
 use Rattle.pay_peers.specs.declared.asking.Asking.{Asking}
 
@@ -17,7 +17,7 @@ HandsFrameOf peer (Read question shown) = ⊥
 
 -- the same seat, with some receipts more, each of a frame of this peer
 pub record SeatGrows (peer : ℕ) (old new : SeatFields) : Type 0 where
-  pub more : List Receipt
+  pub more : List ReceiptFields
   pub is : new ≡ with_receipts old more
   pub each : All (λ r. HandsFrameOf peer r.call) more
 

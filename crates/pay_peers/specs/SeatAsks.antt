@@ -6,20 +6,20 @@ use Rattle.pay_desk.specs.Calls as desk
 use Rattle.pay_desk.specs.Calls.{values_asked_by}
 use Rattle.pay_desk.specs.declared.teller_fault.TellerFault.TheVariants as teller
 use Rattle.pay_node.specs.declared.question.Question.{Question}
-use Rattle.pay_node.specs.declared.receipt.Receipt.{Receipt}
+use Rattle.pay_node.specs.Receipts.{ReceiptFields}
 use Rattle.pay_node.specs.declared.shown.Shown.{Shown}
 use Rattle.pay_node.specs.Nodes.{NodeFields}
 use Rattle.pay_node.specs.Receipts.{reading}
 use Rattle.pay_node.specs.Seats.{KeepsReceipt, SeatFields, with_receipts}
 use Rattle.pay_peers.specs.Telling.{SeatSays, value_told, values_told}
 
-more_told : (seat : SeatFields) (more : List Receipt)
+more_told : (seat : SeatFields) (more : List ReceiptFields)
     → values_told (with_receipts seat more).receipts ≡ values_told seat.receipts ++ values_told more
 unfolding values_told
 more_told seat more = filter_map-append (λ r. value_told r.call) seat.receipts more
 
 -- a seat with some receipts more
-told_after : (old new : SeatFields) (more : List Receipt) (values : List (List ℕ))
+told_after : (old new : SeatFields) (more : List ReceiptFields) (values : List (List ℕ))
     → new ≡ with_receipts old more
     → values_told more ≡ values → values_told new.receipts ≡ values_told old.receipts ++ values
 told_after old new more values is told =

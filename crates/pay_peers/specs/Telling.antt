@@ -8,9 +8,9 @@ use Rattle.pay_member.specs.declared.fault.MemberFault.TheVariants as fault
 use Rattle.pay_member.specs.declared.query_fault.QueryFault.TheVariants as query
 use Rattle.pay_member.specs.declared.reply.Reply.TheVariants as reply
 use Rattle.pay_node.specs.declared.question.Question.TheVariants as question
-use Rattle.pay_node.specs.declared.receipt.Call.{Call}
-use Rattle.pay_node.specs.declared.receipt.Call.TheVariants.{Handed, Read}
-use Rattle.pay_node.specs.declared.receipt.Receipt.{Receipt}
+use Rattle.pay_node.specs.declared.call.Call.{Call}
+use Rattle.pay_node.specs.declared.call.Call.TheVariants.{Handed, Read}
+use Rattle.pay_node.specs.Receipts.{ReceiptFields}
 use Rattle.pay_node.specs.declared.shown.Shown.TheVariants as shown
 use Rattle.pay_node.specs.Nodes.{IsAnswered, IsShown, NodeFields}
 use Rattle.pay_node.specs.Seats.{SeatFields}
@@ -114,5 +114,5 @@ value_told (Handed (event.Query account) answer) = None
 value_told (Read question shown) = None
 
 -- the values that were broadcast from a seat, oldest first
-unfoldable pub values_told : List Receipt → List (List ℕ)
+unfoldable pub values_told : List ReceiptFields → List (List ℕ)
 values_told receipts = filter_map (λ r. value_told r.call) receipts

@@ -41,7 +41,7 @@ where
     match found {
         Some(body) => {
             let keys = context.node.keys();
-            let frame = seal(alloc, context.tagger, keys, *to, wanted.number, &body)?;
+            let frame = seal(alloc, context.tagger, keys, *to, wanted.number, body.body())?;
             Ok(Some(frame))
         }
         None => Ok(None),

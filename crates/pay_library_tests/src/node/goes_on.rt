@@ -32,7 +32,7 @@ fn goes_on<S: Beginning, R: Wait>(
     alloc: Global,
     member: OwnMember,
 ) -> Option<(u32, Option<CloseFault>)>
-    requires { member.history ≡ S.beginning }
+    requires { member ≡ S.beginning }
 {
     let (node, mut seats) = Node::<MaskInstance, PlainBook, S>::new(alloc, member, 2).ok()?;
     let seat = seats.first_mut()?;

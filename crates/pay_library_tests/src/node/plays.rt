@@ -1,19 +1,22 @@
 //! Calls at a node, and seats held against its history.
 
+ghost use Rattle.std.specs.Prelude.{◌≡◌};
+
 use crate::node::rows::{FOUR, HANDED, PAYMENT, ROWS};
 use crate::node::step::{Group, Row, Step, Whose};
-use crate::node::trial::{Tried, fault_at_closing, meets, node_of};
+use crate::node::trial::{OwnMember, Tried, fault_at_closing, meets, member_of, node_of};
 use pay_book::PlainBook;
 use pay_echo::MaskInstance;
-use pay_node::{CloseFault, NoHistory, Seat, Stopped};
+use pay_node::{Beginning, CloseFault, Seat, Stopped};
 use std::alloc::Global;
+use std::marker::Brand;
 use std::sync::Wait;
 
 // The place of the first call that isn't answered so from this seat, if there is one.
-fn unmet_in<R: Wait>(
+fn unmet_in<S: Beginning, R: Wait>(
     rt: &R,
     alloc: Global,
-    node: &Tried,
+    node: &Tried<S>,
     seat: &mut Seat,
     steps: &[Step],
 ) -> Option<usize> {
@@ -25,17 +28,24 @@ fn unmet_in<R: Wait>(
     None
 }
 
-// A node and its seats, tried once more where memory is refused.
-fn fresh(alloc: Global, group: Group) -> Option<(Tried, Vec<Seat>)> {
-    match node_of(alloc, group) {
-        None => node_of(alloc, group),
+// A group's member, tried once more where memory is refused.
+fn fresh(alloc: Global, group: Group) -> Option<OwnMember> {
+    match member_of(alloc, group) {
+        None => member_of(alloc, group),
         made => made,
     }
 }
 
-// The same from the first seat of a row's fresh node, or after the calls the node's closing.
-fn unmet<R: Wait>(rt: &R, alloc: Global, row: &Row) -> Option<usize> {
-    let Some((node, mut seats)) = fresh(alloc, row.group) else {
+// The same from the first seat of a member's fresh node, or after the calls the node's closing.
+fn unmet_by<S: Beginning, R: Wait>(
+    rt: &R,
+    alloc: Global,
+    member: OwnMember,
+    row: &Row,
+) -> Option<usize>
+    requires { member ≡ S.beginning }
+{
+    let Some((node, mut seats)) = node_of::<S>(alloc, member, row.group.seats) else {
         return Some(0);
     };
     let unmet = match seats.first_mut() {
@@ -44,6 +54,14 @@ fn unmet<R: Wait>(rt: &R, alloc: Global, row: &Row) -> Option<usize> {
     };
     let fault = fault_at_closing(alloc, node, seats.as_slice());
     unmet.or(fault.is_some().then_some(row.steps.len()))
+}
+
+// The same of a row's member.
+fn unmet<R: Wait>(rt: &R, alloc: Global, row: &Row) -> Option<usize> {
+    match fresh(alloc, row.group) {
+        Some(member) => unmet_by::<Brand, R>(rt, alloc, member, row),
+        None => Some(0),
+    }
 }
 
 #[test]
@@ -78,10 +96,18 @@ fn hand_in(
     Some(())
 }
 
-// The seats of another node with eight.
-fn others(alloc: Global) -> Option<Vec<Seat>> {
-    let (_node, seats) = node_of(alloc, Group { seats: 8, ..FOUR })?;
+// The seats of a node with eight.
+fn eight_seats<S: Beginning>(alloc: Global, member: OwnMember) -> Option<Vec<Seat>>
+    requires { member ≡ S.beginning }
+{
+    let (_node, seats) = node_of::<S>(alloc, member, 8)?;
     Some(seats)
+}
+
+// Those of another node.
+fn others(alloc: Global) -> Option<Vec<Seat>> {
+    let member = member_of(alloc, FOUR)?;
+    eight_seats::<Brand>(alloc, member)
 }
 
 // The seats that are handed in, of a node with these seats and of another one with eight.
@@ -97,8 +123,14 @@ fn seats_handed_in(
 }
 
 // A node of two seats, whose first one asked.
-fn node_asked_once<R: Wait>(rt: &R, alloc: Global) -> Option<(Tried, Vec<Seat>)> {
-    let (node, mut seats) = node_of(alloc, FOUR)?;
+fn node_asked_once<S: Beginning, R: Wait>(
+    rt: &R,
+    alloc: Global,
+    member: OwnMember,
+) -> Option<(Tried<S>, Vec<Seat>)>
+    requires { member ≡ S.beginning }
+{
+    let (node, mut seats) = node_of::<S>(alloc, member, FOUR.seats)?;
     let asks = match seats.first_mut() {
         Some(seat) => meets(rt, alloc, &node, seat, &Step::Ask(&[], Ok(0))),
         None => false,
@@ -107,14 +139,26 @@ fn node_asked_once<R: Wait>(rt: &R, alloc: Global) -> Option<(Tried, Vec<Seat>)>
 }
 
 // What closing that node answers with these seats, if there are such.
+fn fault_by<S: Beginning, R: Wait>(
+    rt: &R,
+    alloc: Global,
+    member: OwnMember,
+    handed: &[(Whose, usize)],
+) -> Option<Option<CloseFault>>
+    requires { member ≡ S.beginning }
+{
+    let (node, mut own) = node_asked_once::<S, R>(rt, alloc, member)?;
+    let seats = seats_handed_in(alloc, handed, &mut own)?;
+    Some(fault_at_closing(alloc, node, seats.as_slice()))
+}
+
 fn fault_of<R: Wait>(
     rt: &R,
     alloc: Global,
     handed: &[(Whose, usize)],
 ) -> Option<Option<CloseFault>> {
-    let (node, mut own) = node_asked_once(rt, alloc)?;
-    let seats = seats_handed_in(alloc, handed, &mut own)?;
-    Some(fault_at_closing(alloc, node, seats.as_slice()))
+    let member = member_of(alloc, FOUR)?;
+    fault_by::<Brand, R>(rt, alloc, member, handed)
 }
 
 #[test]
@@ -128,20 +172,20 @@ fn seats_agree_or_not(rt: HostRuntime) {
 
 // Closes a node with the seats of another one, if that is refused: the fault, and the node after
 // it.
-fn refused_close(
+fn refused_close<S: Beginning>(
     alloc: Global,
-    node: Tried,
-) -> Option<(CloseFault, Stopped<MaskInstance, PlainBook, NoHistory>)> {
+    node: Tried<S>,
+) -> Option<(CloseFault, Stopped<MaskInstance, PlainBook, S>)> {
     let others = others(alloc)?;
     node.close(alloc, others.as_slice()).err()
 }
 
 // Whether a node is asked once more from its first seat, and what closing it with its seats answers
 // then.
-fn asked_again<R: Wait>(
+fn asked_again<S: Beginning, R: Wait>(
     rt: &R,
     alloc: Global,
-    node: Tried,
+    node: Tried<S>,
     seats: &mut [Seat],
 ) -> (bool, Option<CloseFault>) {
     let asks = match seats.first_mut() {
@@ -153,14 +197,25 @@ fn asked_again<R: Wait>(
 
 // A node that asked is closed with the seats of another one, starts again, asks once more, and is
 // closed with its own seats: both faults, if both asks were answered.
+fn faults_of_two<S: Beginning, R: Wait>(
+    rt: &R,
+    alloc: Global,
+    member: OwnMember,
+) -> Option<(Option<CloseFault>, Option<CloseFault>)>
+    requires { member ≡ S.beginning }
+{
+    let (node, mut seats) = node_asked_once::<S, R>(rt, alloc, member)?;
+    let (fault, stopped) = refused_close(alloc, node)?;
+    let (asks, again) = asked_again(rt, alloc, stopped.start(), seats.as_mut_slice());
+    asks.then_some((Some(fault), again))
+}
+
 fn started_again<R: Wait>(
     rt: &R,
     alloc: Global,
 ) -> Option<(Option<CloseFault>, Option<CloseFault>)> {
-    let (node, mut seats) = node_asked_once(rt, alloc)?;
-    let (fault, stopped) = refused_close(alloc, node)?;
-    let (asks, again) = asked_again(rt, alloc, stopped.start(), seats.as_mut_slice());
-    asks.then_some((Some(fault), again))
+    let member = member_of(alloc, FOUR)?;
+    faults_of_two::<Brand, R>(rt, alloc, member)
 }
 
 #[test]

@@ -1,45 +1,66 @@
 //! A node that is given steps from one of its seats.
 
+ghost use Rattle.std.specs.Prelude.{◌≡◌};
+
 use crate::node::step::{Group, Said, Step};
 use pay_book::{Line, PlainBook};
 use pay_echo::MaskInstance;
-use pay_frame::{Body, Bytes};
+use pay_frame::{Body, Bytes, SharedBody};
 use pay_hmac::HmacSha256;
 use pay_link::{Genesis, test_keys};
 use pay_member::{AskFault, Member, Outcome, QueryFault};
-use pay_node::{Call, CloseFault, MOST_SEATS, NoHistory, Node, OpenGate, Receipt, Seat, Stopped};
+use pay_node::{Beginning, CloseFault, MOST_SEATS, Node, OpenGate, Receipt, Seat, Stopped};
 use std::alloc::Global;
 use std::sync::Wait;
 
-pub(crate) type Tried = Node<MaskInstance, PlainBook, NoHistory>;
+pub(crate) type OwnMember = Member<MaskInstance, PlainBook>;
 
-/// The node of a group's member, and its seats, if there is such a member and memory isn't refused.
-pub(crate) fn node_of(alloc: Global, group: Group) -> Option<(Tried, Vec<Seat>)> {
+pub(crate) type Tried<S> = Node<MaskInstance, PlainBook, S>;
+
+/// A group's member that took nothing, if there is such a member and memory isn't refused.
+pub(crate) fn member_of(alloc: Global, group: Group) -> Option<OwnMember> {
     let members = group.opening.len() as u64;
     let genesis = Genesis::new(alloc, members, group.faults, group.opening).ok()?;
-    if group.own >= genesis.members() || group.seats > MOST_SEATS {
+    if group.own >= genesis.members() {
         return None;
     }
     let keys = test_keys(alloc, &genesis, group.own).ok()?;
-    let member = Member::new(alloc, genesis, keys).ok()?;
-    Node::new(alloc, member, group.seats).ok()
+    Member::new(alloc, genesis, keys).ok()
+}
+
+/// The node of a member, and its seats, if there may be so many and memory isn't refused.
+pub(crate) fn node_of<S: Beginning>(
+    alloc: Global,
+    member: OwnMember,
+    seats: u16,
+) -> Option<(Tried<S>, Vec<Seat>)>
+    requires { member ≡ S.beginning }
+{
+    if seats > MOST_SEATS {
+        return None;
+    }
+    Node::new(alloc, member, seats).ok()
 }
 
 /// What closing a node answers with these seats, once more where memory is refused; nothing, where
 /// they agree.
-pub(crate) fn fault_at_closing(alloc: Global, node: Tried, seats: &[Seat]) -> Option<CloseFault> {
+pub(crate) fn fault_at_closing<S: Beginning>(
+    alloc: Global,
+    node: Tried<S>,
+    seats: &[Seat],
+) -> Option<CloseFault> {
     let (fault, stopped) = node.close(alloc, seats).err()?;
     let (fault, _stopped) = refused_at_last(alloc, fault, stopped, seats)?;
     Some(fault)
 }
 
 // A node that didn't close, with why; it is closed once more where memory was refused.
-fn refused_at_last(
+fn refused_at_last<S: Beginning>(
     alloc: Global,
     fault: CloseFault,
-    node: Stopped<MaskInstance, PlainBook, NoHistory>,
+    node: Stopped<MaskInstance, PlainBook, S>,
     seats: &[Seat],
-) -> Option<(CloseFault, Stopped<MaskInstance, PlainBook, NoHistory>)> {
+) -> Option<(CloseFault, Stopped<MaskInstance, PlainBook, S>)> {
     if fault == CloseFault::Memory {
         node.close(alloc, seats).err()
     } else {
@@ -49,10 +70,10 @@ fn refused_at_last(
 
 /// Takes a step, once more where memory is refused, and says whether the answer is the one
 /// expected.
-pub(crate) fn meets<R: Wait>(
+pub(crate) fn meets<S: Beginning, R: Wait>(
     rt: &R,
     alloc: Global,
-    node: &Tried,
+    node: &Tried<S>,
     seat: &mut Seat,
     step: &Step,
 ) -> bool {
@@ -63,10 +84,10 @@ pub(crate) fn meets<R: Wait>(
 }
 
 // Whether the answer to a step is the one expected; nothing, where memory is refused.
-fn is_met<R: Wait>(
+fn is_met<S: Beginning, R: Wait>(
     rt: &R,
     alloc: Global,
-    node: &Tried,
+    node: &Tried<S>,
     seat: &mut Seat,
     step: &Step,
 ) -> Option<bool> {
@@ -104,10 +125,10 @@ fn is_met<R: Wait>(
 
 /// Whether this came of a frame, and whether it is answered with a WANT; nothing, where memory is
 /// refused.
-pub(crate) fn brings<R: Wait>(
+pub(crate) fn brings<S: Beginning, R: Wait>(
     rt: &R,
     alloc: Global,
-    node: &Tried,
+    node: &Tried<S>,
     seat: &mut Seat,
     bytes: &[u8],
     outcome: Outcome,
@@ -119,10 +140,10 @@ pub(crate) fn brings<R: Wait>(
     Some(brought.outcome == outcome && brought.want.is_some() == wants)
 }
 
-fn asks<R: Wait>(
+fn asks<S: Beginning, R: Wait>(
     rt: &R,
     alloc: Global,
-    node: &Tried,
+    node: &Tried<S>,
     seat: &mut Seat,
     value: &[u8],
     answer: Result<u32, AskFault>,
@@ -132,10 +153,10 @@ fn asks<R: Wait>(
     (found != Err(AskFault::Memory)).then_some(found == answer)
 }
 
-fn states<R: Wait>(
+fn states<S: Beginning, R: Wait>(
     rt: &R,
     alloc: Global,
-    node: &Tried,
+    node: &Tried<S>,
     seat: &mut Seat,
     account: u16,
     lines: &[Line],
@@ -147,10 +168,10 @@ fn states<R: Wait>(
     }
 }
 
-fn settles<R: Wait>(
+fn settles<S: Beginning, R: Wait>(
     rt: &R,
     alloc: Global,
-    node: &Tried,
+    node: &Tried<S>,
     seat: &mut Seat,
     fronts: &[u32],
 ) -> Option<bool> {
@@ -160,9 +181,9 @@ fn settles<R: Wait>(
     }
 }
 
-fn is_fetched(found: Option<Body>, said: Option<&Said>) -> bool {
+fn is_fetched(found: Option<SharedBody>, said: Option<&Said>) -> bool {
     match (found, said) {
-        (Some(body), Some(said)) => is_said(&body, said),
+        (Some(body), Some(said)) => is_said(body.body(), said),
         (None, None) => true,
         _ => false,
     }
@@ -171,7 +192,7 @@ fn is_fetched(found: Option<Body>, said: Option<&Said>) -> bool {
 fn entries_in(receipts: &[Receipt]) -> usize {
     receipts
         .iter()
-        .filter(|receipt| matches!(receipt.call, Call::Handed { answer: Ok(_), .. }))
+        .filter(|receipt| receipt.has_entry())
         .count()
 }
 

@@ -1,15 +1,17 @@
 //! Whose a connection is: told once, when its first WANT opens; and what becomes of the WANTs that
 //! come on it.
 
-use crate::node::step::Group;
-use crate::node::trial::{Tried, node_of};
+ghost use Rattle.std.specs.Prelude.{◌≡◌};
+
+use crate::node::trial::{OwnMember, Tried, member_of, node_of};
 use crate::peers::rows::{FOUR, PAYMENT, SEND, WANT, WANT_FROM_2, WANT_OF_0, WANT_OF_2};
 use pay_frame::Bytes;
 use pay_hmac::HmacSha256;
 use pay_io::{Output, Reader, Writer};
-use pay_node::Seat;
+use pay_node::{Beginning, Seat};
 use pay_peers::{Admission, NodeContext, write_peer};
 use std::alloc::Global;
+use std::marker::Brand;
 use std::sync::atomic::{AtomicBool, AtomicU64, Ordering};
 use std::sync::{Mutex, Wait};
 
@@ -184,7 +186,12 @@ fn join_frames(alloc: Global, frames: &[&[u8]]) -> Option<Vec<u8>> {
 }
 
 // Whether a node is asked for two payments.
-fn asks_twice<R: Wait>(rt: &R, alloc: Global, node: &Tried, seat: &mut Seat) -> bool {
+fn asks_twice<S: Beginning, R: Wait>(
+    rt: &R,
+    alloc: Global,
+    node: &Tried<S>,
+    seat: &mut Seat,
+) -> bool {
     for _ in 0..2 {
         let Ok(value) = Bytes::from_slice(alloc, PAYMENT) else {
             return false;
@@ -197,10 +204,10 @@ fn asks_twice<R: Wait>(rt: &R, alloc: Global, node: &Tried, seat: &mut Seat) -> 
 }
 
 // The number of bytes that a node writes for those that come, and in how many calls.
-fn write_frames<R: Wait>(
+fn write_frames<S: Beginning, R: Wait>(
     rt: &R,
     alloc: Global,
-    node: &Tried,
+    node: &Tried<S>,
     seats: &[(u16, Mutex<Seat>)],
     admissions: &Admissions,
     frames: &[u8],
@@ -225,10 +232,10 @@ fn receipts_in<R: Wait>(rt: &R, seat: &Mutex<Seat>) -> usize {
 }
 
 // What comes of a connection to a node.
-fn came_of<R: Wait>(
+fn came_of<S: Beginning, R: Wait>(
     rt: &R,
     alloc: Global,
-    node: &Tried,
+    node: &Tried<S>,
     writing: &[(u16, Mutex<Seat>); 2],
     row: &Row,
 ) -> Option<Came> {
@@ -254,7 +261,12 @@ fn writing_of(seats: &mut Vec<Seat>) -> Option<[(u16, Mutex<Seat>); 2]> {
 }
 
 // Whether a node is asked for two payments from its last seat, which is left out then.
-fn asks_from_last<R: Wait>(rt: &R, alloc: Global, node: &Tried, seats: &mut Vec<Seat>) -> bool {
+fn asks_from_last<S: Beginning, R: Wait>(
+    rt: &R,
+    alloc: Global,
+    node: &Tried<S>,
+    seats: &mut Vec<Seat>,
+) -> bool {
     match seats.pop() {
         Some(mut seat) => asks_twice(rt, alloc, node, &mut seat),
         None => false,
@@ -262,10 +274,10 @@ fn asks_from_last<R: Wait>(rt: &R, alloc: Global, node: &Tried, seats: &mut Vec<
 }
 
 // The same of a node with three seats, from the last of which two payments were asked for.
-fn came_behind_asks<R: Wait>(
+fn came_behind_asks<S: Beginning, R: Wait>(
     rt: &R,
     alloc: Global,
-    node: &Tried,
+    node: &Tried<S>,
     seats: &mut Vec<Seat>,
     row: &Row,
 ) -> Option<Came> {
@@ -276,10 +288,22 @@ fn came_behind_asks<R: Wait>(
     came_of(rt, alloc, node, &writing, row)
 }
 
-// The same of a fresh node.
-fn outcome<R: Wait>(rt: &R, alloc: Global, row: &Row) -> Option<Came> {
-    let (node, mut seats) = node_of(alloc, Group { seats: 3, ..FOUR })?;
+// The same of a member's fresh node.
+fn outcome_by<S: Beginning, R: Wait>(
+    rt: &R,
+    alloc: Global,
+    member: OwnMember,
+    row: &Row,
+) -> Option<Came>
+    requires { member ≡ S.beginning }
+{
+    let (node, mut seats) = node_of::<S>(alloc, member, 3)?;
     came_behind_asks(rt, alloc, &node, &mut seats, row)
+}
+
+fn outcome<R: Wait>(rt: &R, alloc: Global, row: &Row) -> Option<Came> {
+    let member = member_of(alloc, FOUR)?;
+    outcome_by::<Brand, R>(rt, alloc, member, row)
 }
 
 #[test]

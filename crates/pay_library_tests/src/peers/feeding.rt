@@ -1,19 +1,22 @@
 //! A node that is fed from a peer's stream, of which no frame is asked for ahead.
 
-use crate::node::trial::{Tried, fault_at_closing, node_of};
+ghost use Rattle.std.specs.Prelude.{◌≡◌};
+
+use crate::node::trial::{OwnMember, Tried, fault_at_closing, member_of, node_of};
 use crate::peers::rows::{FED, FOUR, WANTED};
 use pay_hmac::HmacSha256;
 use pay_io::{Output, Reader, Writer};
-use pay_node::{OpenGate, Seat};
+use pay_node::{Beginning, OpenGate, Seat};
 use pay_peers::read_peer;
 use std::alloc::Global;
+use std::marker::Brand;
 use std::sync::Wait;
 
 // Writes what a node asks for at the bytes of member 0, and says whether the stream ends well.
-fn feeds<R: Wait>(
+fn feeds<S: Beginning, R: Wait>(
     rt: &R,
     alloc: Global,
-    node: &Tried,
+    node: &Tried<S>,
     seat: &mut Seat,
     bytes: &[u8],
     writer: &mut Writer<Vec<u8>>,
@@ -38,7 +41,12 @@ fn feeds<R: Wait>(
 
 // Whether a node that is fed a frame twice asks for the first, and then for the next one twice; and
 // how many receipts its first seat has then.
-fn feed_twice<R: Wait>(rt: &R, alloc: Global, node: &Tried, seats: &mut [Seat]) -> (bool, usize) {
+fn feed_twice<S: Beginning, R: Wait>(
+    rt: &R,
+    alloc: Global,
+    node: &Tried<S>,
+    seats: &mut [Seat],
+) -> (bool, usize) {
     let Some(seat) = seats.first_mut() else {
         return (false, 0);
     };
@@ -48,12 +56,23 @@ fn feed_twice<R: Wait>(rt: &R, alloc: Global, node: &Tried, seats: &mut [Seat]) 
     (ends && asks, seat.receipts().len())
 }
 
-// The same of a node that closes with its seats.
-fn fed_and_closed<R: Wait>(rt: &R, alloc: Global) -> Option<(bool, usize)> {
-    let (node, mut seats) = node_of(alloc, FOUR)?;
+// The same of a member's node that closes with its seats.
+fn fed_and_closed_by<S: Beginning, R: Wait>(
+    rt: &R,
+    alloc: Global,
+    member: OwnMember,
+) -> Option<(bool, usize)>
+    requires { member ≡ S.beginning }
+{
+    let (node, mut seats) = node_of::<S>(alloc, member, FOUR.seats)?;
     let came = feed_twice(rt, alloc, &node, seats.as_mut_slice());
     let closes = fault_at_closing(alloc, node, seats.as_slice()).is_none();
     closes.then_some(came)
+}
+
+fn fed_and_closed<R: Wait>(rt: &R, alloc: Global) -> Option<(bool, usize)> {
+    let member = member_of(alloc, FOUR)?;
+    fed_and_closed_by::<Brand, R>(rt, alloc, member)
 }
 
 #[test]

@@ -1,16 +1,19 @@
 //! Two workers at one node: while one is held as its frame is opened, or then, the other one's
 //! frame is taken.
 
+ghost use Rattle.std.specs.Prelude.{◌≡◌};
+
 use crate::node::step::ECHOED;
-use crate::node::trial::{Tried, brings, fault_at_closing, node_of};
+use crate::node::trial::{OwnMember, Tried, brings, fault_at_closing, member_of, node_of};
 use crate::peers::rows::{FOUR, SEND, SEND_OF_2};
 use crate::peers::told::Told;
 use pay_hmac::{HmacSha256, Tagger};
 use pay_io::{Reader, Writer};
 use pay_member::MemberFault;
-use pay_node::{Call, Gate, Receipt, Seat};
+use pay_node::{Beginning, Gate, Receipt, Seat};
 use pay_peers::{Ahead, Asking, Dial, Dialed, Dials, NodeContext, run_readers};
 use std::alloc::Global;
+use std::marker::Brand;
 use std::sync::Wait;
 use std::sync::atomic::{AtomicBool, Ordering};
 use std::thread;
@@ -134,13 +137,7 @@ fn are_told(seats: &[Seat], held: u16, repeats: bool) -> bool {
 // Whether there are so many receipts, of which the second is that of a repeat.
 fn is_told(receipts: &[Receipt], count: usize) -> bool {
     let is_repeat = match receipts.get(1) {
-        Some(receipt) => matches!(
-            receipt.call,
-            Call::Handed {
-                answer: Err(MemberFault::Repeat(1)),
-                ..
-            }
-        ),
+        Some(receipt) => receipt.fault() == Some(MemberFault::Repeat(1)),
         None => true,
     };
     receipts.len() == count && is_repeat
@@ -152,10 +149,10 @@ fn peer_of(seat: &Seat) -> u16 {
 }
 
 // Brings its one frame from the held seat before any worker does, and says whether it was taken.
-fn takes_first<R: Wait>(
+fn takes_first<S: Beginning, R: Wait>(
     rt: &R,
     alloc: Global,
-    node: &Tried,
+    node: &Tried<S>,
     seats: &mut [Seat],
     held: u16,
 ) -> bool {
@@ -187,10 +184,10 @@ fn seats_of(alloc: Global, pairs: Vec<(u16, Asking)>) -> Option<Vec<Seat>> {
 }
 
 // Runs the workers, of which one is held, and says whether that was let go in time.
-fn run<R: Threads + Wait + Clock + Sync>(
+fn run<S: Beginning + Send + Sync, R: Threads + Wait + Clock + Sync>(
     rt: &R,
     alloc: Global,
-    node: &Tried,
+    node: &Tried<S>,
     held: u16,
     at_tag: bool,
     pairs: &mut [(u16, Asking)],
@@ -228,10 +225,10 @@ fn run<R: Threads + Wait + Clock + Sync>(
 }
 
 // The seats after two workers of which one was held, if that was let go in time.
-fn held_seats<R: Threads + Wait + Clock + Sync>(
+fn held_seats<S: Beginning + Send + Sync, R: Threads + Wait + Clock + Sync>(
     rt: &R,
     alloc: Global,
-    node: &Tried,
+    node: &Tried<S>,
     held: u16,
     at_tag: bool,
     seats: Vec<Seat>,
@@ -285,7 +282,12 @@ const ROWS: &[Row] = &[
 ];
 
 // Whether a node closes with these seats, and each was told what it has to be.
-fn is_closed(alloc: Global, node: Tried, seats: Option<Vec<Seat>>, row: Row) -> bool {
+fn is_closed<S: Beginning>(
+    alloc: Global,
+    node: Tried<S>,
+    seats: Option<Vec<Seat>>,
+    row: Row,
+) -> bool {
     match seats {
         Some(seats) => {
             fault_at_closing(alloc, node, seats.as_slice()).is_none()
@@ -296,11 +298,21 @@ fn is_closed(alloc: Global, node: Tried, seats: Option<Vec<Seat>>, row: Row) -> 
 }
 
 // Whether the held worker was let go in time, and both frames were answered.
-fn overlaps<R: Threads + Wait + Clock + Sync>(rt: &R, alloc: Global, row: Row) -> Option<bool> {
-    let (node, mut seats) = node_of(alloc, FOUR)?;
+fn overlaps_at<S, R>(rt: &R, alloc: Global, member: OwnMember, row: Row) -> Option<bool>
+where
+    S: Beginning + Send + Sync,
+    R: Threads + Wait + Clock + Sync,
+    requires { member ≡ S.beginning }
+{
+    let (node, mut seats) = node_of::<S>(alloc, member, FOUR.seats)?;
     let is_ready = !row.repeats || takes_first(rt, alloc, &node, seats.as_mut_slice(), row.held);
     let seats = held_seats(rt, alloc, &node, row.held, row.at_tag, seats);
     Some(is_closed(alloc, node, seats, row) && is_ready)
+}
+
+fn overlaps<R: Threads + Wait + Clock + Sync>(rt: &R, alloc: Global, row: Row) -> Option<bool> {
+    let member = member_of(alloc, FOUR)?;
+    overlaps_at::<Brand, R>(rt, alloc, member, row)
 }
 
 #[test]

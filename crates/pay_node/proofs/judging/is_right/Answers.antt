@@ -1,6 +1,6 @@
 use Rattle.std.proofs.Common.{◌≡◌, ◌≤◌, false, refl, subst, rules}
 use Rattle.std.specs.List.{All, AllPairs}
-use Rattle.pay_node.specs.declared.receipt.Receipt.{Receipt}
+use Rattle.pay_node.specs.Receipts.{ReceiptFields}
 use Rattle.pay_node.specs.Judging.{EachConsistent}
 use Rattle.pay_node.specs.Receipts.{entries_after}
 use Rattle.pay_node.specs.Seats.{HasItsEntries, Right}
@@ -16,8 +16,8 @@ pub returns-then-are_in_order : goal.returns-then-are_in_order
 returns-then-are_in_order g c =
     let its : HasItsEntries c.args.member.now c.args.base c.args.seat.now = search rules in
     let rs = c.receipts-receipts.ensures in
-    let since = subst (All (λ (r : Receipt). c.args.base ≤ r.seen)) rs (c.are_in_order.ensures.since (search rules)) in
-    let ordered = subst (AllPairs (λ (r later : Receipt). entries_after r ≤ later.seen)) rs (c.are_in_order.ensures.ordered (search rules)) in
+    let since = subst (All (λ (r : ReceiptFields). c.args.base ≤ r.seen)) rs (c.are_in_order.ensures.since (search rules)) in
+    let ordered = subst (AllPairs (λ (r later : ReceiptFields). entries_after r ≤ later.seen)) rs (c.are_in_order.ensures.ordered (search rules)) in
     let known : EachConsistent c.args.member.now c.args.seat.now = c.requires.known (search rules) in
     let right : Right c.args.member.now c.args.base c.args.seat.now = known_right _ _ _ its (λ k d within. (since k d within, known k d within)) ordered in
     ((λ _. right), (λ _. refl))

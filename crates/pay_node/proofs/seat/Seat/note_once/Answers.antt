@@ -33,7 +33,7 @@ returns-in_ok-keep_body-in-Some-clause-noted g c =
     let unkept : ¬ (IsKeptFor c.args.self.now c.args.number body) = search rules in
     let does = c.in_ok-keep_body-in-Some.ensures in
     let receipt : c.keep_body.new.self.receipts ≡ c.args.self.now.receipts ++ reading_receipt (length m.history) (question.Sent c.args.number 1) (shown.Sent (body ∷ [])) = search rules in
-    subst (λ (x : BodyFields). IsKeptOnce m c.args.self.now c.keep_body.new.self c.args.number x) (sym c.in_ok-found-in-Some.ensures.value)
+    subst (λ (x : BodyFields). IsKeptOnce m c.args.self.now c.keep_body.new.self c.args.number x) (sym c.in_ok-found-in-Some.ensures)
     (kept_now m c.args.self.now c.keep_body.new.self c.args.number body sent unkept does.stamp receipt does.mark does.others does.room)
 
 pub returns-in_ok-keep_body-in-Some-clause-own : goal.returns-in_ok-keep_body-in-Some-clause-own
