@@ -28,7 +28,8 @@ pub(crate) fn member_of(alloc: Global, group: Group) -> Option<OwnMember> {
     Member::new(alloc, genesis, keys).ok()
 }
 
-/// The node of a member, and its seats, if there may be so many and memory isn't refused.
+/// The node of a member, and its seats, if there may be so many. Where memory is refused, the
+/// member comes back, and it is tried once more.
 pub(crate) fn node_of<S: Beginning>(
     alloc: Global,
     member: OwnMember,
@@ -39,7 +40,10 @@ pub(crate) fn node_of<S: Beginning>(
     if seats > MOST_SEATS {
         return None;
     }
-    Node::new(alloc, member, seats).ok()
+    match Node::new(alloc, member, seats) {
+        Ok(made) => Some(made),
+        Err((member, _)) => Node::new(alloc, member, seats).ok(),
+    }
 }
 
 /// What closing a node answers with these seats, once more where memory is refused; nothing, where
