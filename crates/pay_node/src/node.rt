@@ -460,6 +460,7 @@ impl<I: Instance + Drop, B: Settle + Drop, S: Beginning> Node<I, B, S> {
         seats: &[Seat],
     ) -> Result<Member<I, B>, (CloseFault, Stopped<I, B, S>)>
         ensures own { IfOk result (IsOwn self) }
+        ensures own_back { IfErr result (λ back. IsOwn self back.1.member) }
         ensures closed { IfOk result (λ member.
             AllReconciled member (base_of self) self.seats seats.now) }
         ensures fault { IfErr result (λ back. IsCloseFault self back.1.member seats.now back.0) }
