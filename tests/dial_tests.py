@@ -7,6 +7,7 @@ import subprocess
 import tempfile
 import time
 
+from frames import SEND, frame
 from nodes import PATIENCE, Group, free_ports, told_apart, until, write_json
 from peers import Strangers
 from runs import GENESIS, PAYD, SECONDS, key_texts, same, shows, test, with_files
@@ -93,6 +94,30 @@ def a_thousand_dials_unless_said():
         times = dials(peer, most=1100, silence=3)
         same(len(times), 1000, "dials without the option")
         same(statistics.median(pauses(times)) < 0.3, True, "no pause grows")
+
+
+def old_frames(peer, most):
+    """When a node dialed: on each connection the same frame comes, the first time as a new one, and then the end."""
+    text = frame(SEND, 1, 0, 0, 1)
+    times = []
+    for _ in range(most):
+        stream = peer.accept()[0]
+        times.append(time.monotonic())
+        with stream:
+            stream.sendall(text)
+            stream.shutdown(socket.SHUT_WR)
+            while stream.recv(65536):
+                pass
+    return times
+
+
+@test
+def old_frames_do_not_shorten_the_pauses():
+    for options in (ALWAYS, []):
+        with dialing(options, [(1, "met")]) as peer:
+            measured = pauses(old_frames(peer, most=8))
+        least, late = [0.04, 0.08, 0.16, 0.32], 0.02
+        same([pause >= wanted - late for pause, wanted in zip(measured[3:], least)], 4 * [True], f"pauses {measured}")
 
 
 # ---- what is said of peers

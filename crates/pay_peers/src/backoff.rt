@@ -1,7 +1,10 @@
 //! How long a worker goes on dialing a peer that it doesn't meet.
 
-ghost use Rattle.std.specs.Prelude.{◌≡◌, ◌+◌, min, if◌then◌else◌};
-ghost use Rattle.pay_peers.specs.Dialing.{growing, is_spent, pause_behind};
+ghost use Rattle.std.specs.Prelude.{◌≡◌};
+ghost use Rattle.pay_peers.specs.Dialing.{growing, idle_behind, is_spent, pause_behind};
+ghost use Rattle.pay_peers.specs.Dialing.{stale_behind};
+
+use crate::gain::Gain;
 
 /// How often in a row, without a frame that opened, a worker dials with [`Dials::Usual`].
 pub const MOST_IDLE: u64 = 1_000;
@@ -27,19 +30,26 @@ pub enum Dials {
     Always,
 }
 
-/// What a worker's dials came to since the last frame that opened.
+/// What a worker's dials came to.
 #[derive(Drop)]
 pub(crate) struct Backoff {
     dials: Dials,
+    // how many in a row brought no frame that opened
     idle: u64,
+    // how many in a row brought no frame that was taken
+    stale: u64,
 }
 
 impl Backoff {
     /// No dial was made yet.
     pub(crate) fn new(dials: Dials) -> Backoff
-        ensures { result ≡ record { dials = dials; idle = 0 } }
+        ensures { result ≡ record { dials = dials; idle = 0; stale = 0 } }
     {
-        Backoff { dials, idle: 0 }
+        Backoff {
+            dials,
+            idle: 0,
+            stale: 0,
+        }
     }
 
     /// Whether the worker has dialed for the last time.
@@ -53,25 +63,33 @@ impl Backoff {
         }
     }
 
-    /// Counts a dial, and begins anew where it met the peer. Answers for how many milliseconds the
-    /// worker pauses then.
-    pub(crate) fn note(&mut self, met: bool) -> u64
+    /// Counts a dial, and answers for how many milliseconds the worker pauses then. The count of
+    /// idle dials begins anew with a frame that opens, and the pauses with one that is taken.
+    pub(crate) fn note(&mut self, gain: Gain) -> u64
         ensures dials { self.new.dials ≡ self.old.dials }
-        ensures idle { self.new.idle ≡ (if met then 0 else min (self.old.idle + 1) u64.MAX) }
-        ensures pause { result ≡ pause_behind self.new.dials self.new.idle }
+        ensures idle { self.new.idle ≡ idle_behind self.old.idle gain }
+        ensures stale { self.new.stale ≡ stale_behind self.old.stale gain }
+        ensures pause { result ≡ pause_behind self.new.dials self.new.idle self.new.stale }
     {
-        self.idle = if met { 0 } else { self.idle.saturating_add(1) };
+        self.idle = match gain {
+            Gain::Nothing => self.idle.saturating_add(1),
+            Gain::Refused | Gain::Taken => 0,
+        };
+        self.stale = match gain {
+            Gain::Nothing | Gain::Refused => self.stale.saturating_add(1),
+            Gain::Taken => 0,
+        };
         match self.dials {
-            Dials::Usual => PAUSE_MILLIS,
-            Dials::Counted(_) | Dials::Always => growing(self.idle),
+            Dials::Usual if self.idle > 0 => PAUSE_MILLIS,
+            _ => growing(self.stale),
         }
     }
 }
 
-// The pause behind so many dials in a row.
-fn growing(idle: u64) -> u64
-    ensures { result ≡ growing idle }
+// The pause behind so many dials in a row that brought nothing new.
+fn growing(stale: u64) -> u64
+    ensures { result ≡ growing stale }
 {
-    let place = idle.saturating_sub(1) as usize;
+    let place = stale.saturating_sub(1) as usize;
     FIRST_MILLIS.get(place).copied().unwrap_or(LONGEST_MILLIS)
 }

@@ -17,6 +17,7 @@ mod backoff;
 mod batches;
 mod context;
 mod feeding;
+mod gain;
 pub mod laws;
 mod observer;
 mod readers;

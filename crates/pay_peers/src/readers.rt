@@ -1,11 +1,13 @@
 //! Workers that read from peers, each in a thread of its own.
 
-ghost use Rattle.std.specs.Prelude.{◌≡◌, ◌↔◌, ◌<◌, IsTrue, length};
+ghost use Rattle.std.specs.Prelude.{◌≡◌, drop, length};
+ghost use Rattle.pay_peers.specs.Dialing.{gain_by};
 ghost use Rattle.pay_peers.specs.Growing.{EachGrows, SeatGrows, HasGrown};
 
 use crate::asking::Asking;
 use crate::backoff::{Backoff, Dials};
 use crate::context::NodeContext;
+use crate::gain::Gain;
 use crate::observer::{Hearing, Observer, PeerEvent};
 use crate::reading_ahead::read_ahead;
 use crate::window::Ahead;
@@ -117,31 +119,31 @@ where
                 self.observer.observe(peer, PeerEvent::GaveUp);
                 return;
             }
-            let met = match self.dial.dial(peer) {
+            let gain = match self.dial.dial(peer) {
                 Dialed::Stop => return,
-                Dialed::Failed => false,
+                Dialed::Failed => Gain::Nothing,
                 Dialed::Streams(reader, writer) => self.feed(peer, asking, reader, writer),
             };
-            if !met {
+            if gain == Gain::Nothing {
                 self.observer.observe(peer, PeerEvent::Missed);
             }
-            thread::sleep(self.context.rt, Duration::from_millis(backoff.note(met)));
+            thread::sleep(self.context.rt, Duration::from_millis(backoff.note(gain)));
         }
     }
 
-    // Feeds the node from one connection. Answers whether a frame came that was handed in.
-    fn feed<In, Out>(&self, peer: u16, asking: &mut Asking, reader: In, writer: Out) -> bool
+    // Feeds the node from one connection.
+    fn feed<In, Out>(&self, peer: u16, asking: &mut Asking, reader: In, writer: Out) -> Gain
     where
         In: Input + Drop,
         Out: Output + Drop,
         ensures seat { SeatGrows peer asking.old.seat asking.new.seat }
-        ensures met { IsTrue result
-            ↔ (length asking.old.seat.receipts < length asking.new.seat.receipts) }
+        ensures gain { result
+            ≡ gain_by (drop (length asking.old.seat.receipts) asking.new.seat.receipts) }
     {
         // a law that the proof stands on: the call does nothing
         judgement_opens();
         if !self.context.node.keys().is_peer(peer) {
-            return false;
+            return Gain::Nothing;
         }
         let mut reader = reader;
         let mut writer = writer;
@@ -156,6 +158,6 @@ where
             &mut reader,
             &mut writer,
         );
-        asking.seat.receipts().len() > before
+        Gain::behind(before, asking.seat.receipts())
     }
 }
