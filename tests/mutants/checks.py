@@ -10,7 +10,7 @@ import subprocess
 import tempfile
 from dataclasses import dataclass, field
 
-from edits import INVARIANT, Mutant, Place, in_batches
+from edits import INVARIANT, Place
 from stubs import stub_out
 from kit import rtlib
 from sources import TRUE, cut, item, named, proof_folders, read_file, with_answers_to, with_one_clause, write_files
@@ -253,11 +253,4 @@ def try_batch(crate, batch: list[Place]) -> Tally:
             tally.add(try_batch(crate, part))
     else:
         tally.outcomes = [verdict_of(crate, it, report) for it in batch]
-    return tally
-
-
-def try_mutants(crate, mutants: list[Mutant]) -> Tally:
-    tally = Tally()
-    for batch in in_batches(mutants):
-        tally.add(try_batch(crate, batch))
     return tally

@@ -4,9 +4,9 @@ from __future__ import annotations
 
 import tempfile
 
-from checks import BAD_EDIT, ELSEWHERE, KILLED, SURVIVED, Outcome, is_whole_answer, try_mutants
+from checks import BAD_EDIT, ELSEWHERE, KILLED, SURVIVED, Outcome, Tally, is_whole_answer, try_batch
 from coverage import faults_of_promises
-from edits import read_mutants
+from edits import in_batches, read_mutants
 from kit import rtlib
 from sources import write_files
 
@@ -179,8 +179,9 @@ def try_edits(top: str) -> list[str]:
     mutants, bad = read_mutants(crate)
     # (what can't be read has its batch halved again and again, so that few stand in it)
     of_same = [it for it in mutants if it.function == "same"]
-    tally = try_mutants(crate, [it for it in mutants if it not in of_same])
-    tally.add(try_mutants(crate, of_same))
+    tally = Tally()
+    for batch in in_batches([it for it in mutants if it not in of_same]) + in_batches(of_same):
+        tally.add(try_batch(crate, batch))
     came = tally.outcomes + [Outcome(name, BAD_EDIT, why) for name, why in bad.items()]
     if sorted(it.mutant for it in came) != sorted(EDITS):
         return ["some edits have no verdict, or two"]
