@@ -1,10 +1,8 @@
 """What the benches share: the words that they are called with, programs, and what a run of one uses."""
 
 import argparse
-import functools
 import os
 import re
-import shutil
 import subprocess
 import sys
 
@@ -12,9 +10,9 @@ sys.dont_write_bytecode = True
 
 TOP = os.path.dirname(os.path.dirname(os.path.realpath(__file__)))
 TICKS = os.sysconf("SC_CLK_TCK")
-sys.path[:0] = [os.path.join(TOP, it) for it in ("examples", "tests", "tools")]
+sys.path[:0] = [os.path.join(TOP, it) for it in ("examples", "tests/models", "tests/support", "tools")]
 
-import programs  # noqa: E402
+import building  # noqa: E402
 
 
 def read_numbers(text, usual, quick):
@@ -27,18 +25,15 @@ def read_numbers(text, usual, quick):
     return given.numbers + list(left_out[len(given.numbers) :])
 
 
-@functools.lru_cache(None)
 def payd():
-    """The path of the proved program, which is proved first where it isn't."""
-    return programs.proved_program()
+    """The path of the proved program, which is proved first where it isn't, and which nodes run from then on."""
+    return os.environ.setdefault("PAYD_PROGRAM", building.proved_program())
 
 
 def chosen():
     """The path of the program that ./payd runs, which may be one that nothing proved, and what is to be said of it."""
-    words = [os.path.join(TOP, "tools", "choose-program"), shutil.which("rt") or ""]
-    lines = subprocess.run(words, stdin=subprocess.DEVNULL, stdout=subprocess.PIPE, text=True, check=True).stdout
-    path, said = lines.splitlines()
-    return os.path.join(TOP, path), said
+    path, said = building.chosen()
+    return os.environ.setdefault("PAYD_PROGRAM", path), said
 
 
 def program(name):

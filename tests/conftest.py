@@ -1,26 +1,63 @@
-"""Has pytest take what tests/black-box takes: functions marked with @test, of a program that is proved."""
+"""What the tests are given, whether pytest runs them or what stands in for it (tests/fallback)."""
 
+import os
+import shutil
+import signal
 import sys
-
-import pytest
+import tempfile
 
 sys.dont_write_bytecode = True
+TESTS = os.path.dirname(os.path.realpath(__file__))
+sys.path[:0] = [TESTS, *(os.path.join(TESTS, it) for it in ("models", "support", "../examples", "../tools"))]
 
-from collected import is_proved, needs_program  # noqa: E402
-import runs  # noqa: E402
+import pytest  # noqa: E402
 
-runs.heed_signals()
+import damaged_logs  # noqa: E402
+import hostile  # noqa: E402
+import stand_in  # noqa: E402
+
+# Children take each signal as usual. Run in the background or by nohup this process ignores some, and its children
+# would too, but for those that it takes itself. (Two of them Python ignores, and gives its children as usual.)
+for number in signal.valid_signals() - {signal.SIGPIPE, signal.SIGXFSZ}:
+    if signal.getsignal(number) is signal.SIG_IGN:
+        signal.signal(number, lambda *_: None)
 
 
-def pytest_pycollect_makeitem(collector, name, obj):
-    """A test where this file marks one, and nothing else, whatever its name is."""
-    if obj not in runs.TESTS or obj.__module__ != collector.module.__name__:
-        return []
-    return [pytest.Function.from_parent(collector, name=name)]
+def pytest_configure(config):
+    config.addinivalue_line("markers", "needs(programs): skipped where there is none of them")
 
 
-# (once those that weren't chosen are taken out)
-@pytest.hookimpl(trylast=True)
-def pytest_collection_modifyitems(items):
-    if any(needs_program(it.function) for it in items) and not is_proved():
-        pytest.exit("the program is not proved: ./payd-prove proves it", returncode=1)
+def pytest_runtest_setup(item):
+    """Skips a test that needs a program which only some machines have, and this one doesn't."""
+    for mark in item.iter_markers("needs"):
+        if not any(map(shutil.which, mark.args)):
+            pytest.skip(f"no {' or '.join(mark.args)}")
+
+
+def pytest_terminal_summary(terminalreporter):
+    """The line by which ./test counts."""
+    passed, failed, errors, skipped = (
+        len(terminalreporter.stats.get(it, [])) for it in ("passed", "failed", "error", "skipped")
+    )
+    terminalreporter.write_line(f"{passed} passed, {failed + errors} failed, {skipped} skipped")
+
+
+@pytest.fixture
+def library():
+    """The library that refuses what a run asks for, which says how often."""
+    with hostile.Hostile() as made:
+        yield made
+        for kind, count in made.refused.items():
+            print(f"{kind}: {count} refused in turn")
+
+
+@pytest.fixture
+def damage():
+    with damaged_logs.damage_of_a_log() as made:
+        yield made
+
+
+@pytest.fixture
+def repository():
+    with tempfile.TemporaryDirectory() as folder:
+        yield stand_in.Repository(folder)

@@ -7,7 +7,11 @@ import shutil
 import subprocess
 import sys
 
-from programs import BuildError
+TOP = os.path.dirname(os.path.dirname(os.path.realpath(__file__)))
+
+
+class BuildError(Exception):
+    """Why there is no program to run."""
 
 
 def load_rt():

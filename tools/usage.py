@@ -1,5 +1,7 @@
 """What a script says of how it is called."""
 
+import contextlib
+import os
 import sys
 
 # As argparse ends where words are wrong.
@@ -20,7 +22,9 @@ def read_words(text, takes=lambda words: not words):
 
 def refuse(why):
     """Ends the script for its words."""
-    print(why, file=sys.stderr)
+    with contextlib.suppress(OSError):
+        # (so that it ends with its own status where nobody can read that)
+        os.write(2, f"{why}\n".encode())
     sys.exit(WRONG_USAGE)
 
 

@@ -1,0 +1,62 @@
+"""Stands in for pytest where it isn't installed, with what ./test and the tests use of it."""
+
+import contextlib
+import glob
+import importlib
+import inspect
+import io
+import multiprocessing
+import os
+import re
+import sys
+import traceback
+from collections import Counter
+from types import SimpleNamespace
+from unittest import SkipTest
+
+TESTS = os.path.dirname(os.path.dirname(os.path.realpath(__file__)))
+fixture = contextlib.contextmanager
+mark = SimpleNamespace(needs=lambda *args: lambda test: vars(test).setdefault("marks", []).append(args) or test)
+
+
+def skip(reason):
+    raise SkipTest(reason)
+
+
+def begin(numbers, count):
+    with numbers.get_lock():
+        os.environ.update(PYTEST_XDIST_WORKER=f"gw{numbers.value}", PYTEST_XDIST_WORKER_COUNT=f"{count}")
+        numbers.value += 1
+    sys.path.insert(0, TESTS)
+    importlib.import_module("conftest")
+
+
+def outcome_of(job):
+    """What came of a test, and what is said of it."""
+    name, said = "::".join(job), io.StringIO()
+    try:
+        with contextlib.ExitStack() as given, contextlib.redirect_stdout(said):
+            conftest, test = sys.modules["conftest"], getattr(importlib.import_module(job[0]), job[1])
+            marks = [SimpleNamespace(args=it) for it in vars(test).get("marks", [])]
+            conftest.pytest_runtest_setup(SimpleNamespace(iter_markers=lambda _: marks))
+            test(**{it: given.enter_context(getattr(conftest, it)()) for it in inspect.signature(test).parameters})
+    except SkipTest as reason:
+        return "skipped", f"SKIPPED {name}: {reason}"
+    except Exception:
+        return "failed", f"FAILED {name}\n{said.getvalue()}{traceback.format_exc()}"
+    return "passed", f"PASSED {name}"
+
+
+if __name__ == "__main__":
+    asked, jobs, counts = dict(zip(sys.argv[1::2], sys.argv[2::2])), [], Counter()
+    for path in sorted(glob.glob(f"{TESTS}/test_*.py")):
+        with open(path, encoding="utf-8") as file:
+            jobs += [(os.path.basename(path)[:-3], it) for it in re.findall(r"(?m)^def (test_\w+)\(", file.read())]
+    jobs = [it for it in jobs if asked.get("-k", "") in "::".join(it)]
+    processes = int(asked["-n"])
+    with multiprocessing.Pool(processes, begin, (multiprocessing.Value("i", 0), processes)) as pool:
+        for outcome, line in pool.imap_unordered(outcome_of, jobs):
+            counts[outcome] += 1
+            print(line, flush=True)
+    print(", ".join(f"{counts[it]} {it}" for it in ("passed", "failed", "skipped")))
+    sys.exit(1 if counts["failed"] else 0)

@@ -1,0 +1,69 @@
+"""Runs to which the system is hostile: each growth of memory, each read and each write refused in its turn.
+
+A small library stands between the program and the C library (hostile.c).
+"""
+
+import os
+import re
+import subprocess
+import tempfile
+from collections import Counter
+
+from nodes import IN_MEMORY, started
+from runs import SECONDS, payd, same
+
+SOURCE = os.path.join(os.path.dirname(os.path.realpath(__file__)), "hostile.c")
+MEMORY = re.compile("payd: (engine|genesis|keys|ports|export|close) 0 Memory\n|error: .*memory.*\n", re.DOTALL)
+
+# Where this is refused more often than any run has calls of its kind, a loop over these has no end.
+MOST_CALLS = 100_000
+MOST_READS = 1_000_000
+# How often a read is tried that the system interrupts.
+MOST_TRIES = 1_000
+
+
+class Hostile:
+    """The library, in a folder of its own, and of each command how many calls of each kind it refused in turn."""
+
+    def __enter__(self):
+        self.refused = Counter()
+        self.place = tempfile.TemporaryDirectory()
+        self.library = os.path.join(self.place.name, "hostile.so")
+        # (where there is no C compiler these tests fail: Debian's package gcc has one)
+        words = ["cc", "-O1", "-shared", "-fPIC", "-o", self.library, SOURCE, "-ldl"]
+        subprocess.run(words, check=True, timeout=SECONDS)
+        return self
+
+    def __exit__(self, *_):
+        self.place.cleanup()
+
+    def given(self, **wanted):
+        """The environment of a run from which this is withheld."""
+        given = {f"HOSTILE_{name.upper()}": f"{value}" for name, value in wanted.items()}
+        return given | {"LD_PRELOAD": self.library, "HOSTILE_MARK": os.path.join(self.place.name, "mark")}
+
+    def was_refused(self):
+        """Whether it was, in the last run."""
+        mark = os.path.join(self.place.name, "mark")
+        was_refused = os.path.exists(mark)
+        if was_refused:
+            os.unlink(mark)
+        return was_refused
+
+    def run(self, words, stream, **wanted):
+        """Status, output and errors of a run from which this is withheld, and whether it was."""
+        how = {"input": stream, "capture_output": True, "timeout": SECONDS, "cwd": self.place.name}
+        done = subprocess.run([payd(), *words], env={**os.environ, **self.given(**wanted)}, **how)
+        errors = started(done.stderr.decode()).removeprefix(IN_MEMORY)
+        return (done.returncode, done.stdout.decode("ascii"), errors), self.was_refused()
+
+    def each(self, words, stream, name, **more):
+        """A run for each call of this kind that a run has, each with one refused."""
+        for place in range(1, MOST_CALLS):
+            was, was_refused = self.run(words, stream, **{name: place}, **more)
+            if not was_refused:
+                same(place > 1, True, f"{words}: nothing was refused")
+                return
+            self.refused[f"{words[0]} {name}"] += 1
+            yield place, was
+        raise AssertionError(f"{words}: no end of calls to refuse")

@@ -1,0 +1,279 @@
+"""Running nodes for the black-box tests: each a process of its own, and its desk on pipes.
+
+Nothing here waits for a fixed time: answers are asked for again until they are as wanted, at most PATIENCE seconds.
+"""
+
+import json
+import os
+import random
+import re
+import select
+import socket
+import subprocess
+import tempfile
+import time
+
+from runs import key_texts, payd, same, with_files
+
+PATIENCE = 60
+PAUSE = 0.01
+
+# Below the ports that the system gives to those who dial, so that no dialing takes one of them; of these every process
+# that runs tests has its own, by the names that pytest-xdist has for it.
+WORKER = int(os.environ.get("PYTEST_XDIST_WORKER", "gw0").strip("gw"))
+PORTS = range(10000, 32000)[WORKER :: int(os.environ.get("PYTEST_XDIST_WORKER_COUNT", "1"))]
+
+
+def free_ports(count):
+    """So many ports of the loopback that nobody has."""
+    taken = []
+    try:
+        while len(taken) < count:
+            one = socket.socket()
+            try:
+                one.bind(("127.0.0.1", random.choice(PORTS)))
+                taken.append(one)
+            except OSError:
+                one.close()
+        return [one.getsockname()[1] for one in taken]
+    finally:
+        for one in taken:
+            one.close()
+
+
+def until(ask, wanted, of):
+    """Asks again and again until the answer is the wanted one."""
+    deadline = time.monotonic() + PATIENCE
+    while (was := ask()) != wanted:
+        if time.monotonic() > deadline:
+            raise AssertionError(f"{of}: {was!r} in place of {wanted!r} after {PATIENCE} s")
+        time.sleep(PAUSE)
+
+
+# what a node without a folder says first
+IN_MEMORY = "payd: without --data the member lives in memory alone: what ends the node before its input does "
+IN_MEMORY += "loses its account\n"
+
+# what a node says of itself, before that
+START = re.compile(r"payd: member (\d+) of (\d+), genesis ([0-9a-f]{8}), port (\d+)\n")
+
+# what it says of its peers on standard error
+UNOPENED = "sends frames that don't open: another key or another group"
+NEWS = re.compile(rf"payd: peer (\d+) (met|lost|given up|{UNOPENED})\n")
+
+
+def started(errors):
+    """What standard error says behind the line in which a node says who it is."""
+    return START.sub("", errors, count=1)
+
+
+def told_apart(errors):
+    """What standard error says of peers, and all else that is there but who the node is, and that a member is in memory
+    alone."""
+    said = started(errors).removeprefix(IN_MEMORY)
+    return [(int(peer), word) for peer, word in NEWS.findall(said)], NEWS.sub("", said)
+
+
+def in_memory(was):
+    """Status, output and errors of a node without a folder, without what it says of itself and of that, which is to be
+    there."""
+    status, output, errors = was
+    same(bool(START.match(errors)), True, f"what is said of the node in {errors!r}")
+    errors = started(errors)
+    same(errors.startswith(IN_MEMORY), True, f"what is said of memory in {errors!r}")
+    return status, output, errors.removeprefix(IN_MEMORY)
+
+
+def write_json(folder, name, value):
+    with open(os.path.join(folder, name), "w", encoding="ascii") as file:
+        json.dump(value, file)
+
+
+class Ended(AssertionError):
+    """A node ended that was to answer."""
+
+
+class Node:
+    """A running node, and its desk. Another command may run it, and with more in its environment."""
+
+    def __init__(self, own, folder, ports="ports", options=(), prefix=(), given=(), command=None):
+        files = ["--genesis", "genesis", "--keys", f"keys-{own}", "--ports", ports]
+        words, pipe = [*prefix, *(command or [payd(), "node", *files, *options])], subprocess.PIPE
+        how = {"cwd": folder, "env": {**os.environ, **dict(given)}, "bufsize": 0}
+        self.child = subprocess.Popen(words, stdin=pipe, stdout=pipe, stderr=pipe, **how)
+        self.own = own
+        self.held = b""
+        self.said = b""
+
+    def write(self, text):
+        self.child.stdin.write(text.encode())
+
+    def line(self):
+        """The next line that the desk wrote."""
+        deadline = time.monotonic() + PATIENCE
+        while b"\n" not in self.held:
+            left = deadline - time.monotonic()
+            if left <= 0 or not select.select([self.child.stdout], [], [], left)[0]:
+                raise AssertionError(f"node {self.own} didn't answer within {PATIENCE} s, but {self.held!r}")
+            piece = os.read(self.child.stdout.fileno(), 65536)
+            if piece == b"":
+                self.said += self.child.stderr.read()
+                raise Ended(f"node {self.own} ended with {self.said!r} behind {self.held!r}")
+            self.held += piece
+        line, _, self.held = self.held.partition(b"\n")
+        return line.decode("ascii")
+
+    def ask(self, line):
+        """The answer to a line that has one line of it."""
+        self.write(f"{line}\n")
+        return self.line()
+
+    def statement(self, account):
+        return self.lines_of(f"STATEMENT {account}")
+
+    def lines_of(self, line):
+        """The answer to a line whose last line begins with `end`."""
+        self.write(f"{line}\n")
+        lines = [self.line()]
+        while not lines[-1].startswith("end "):
+            lines.append(self.line())
+        return lines
+
+    def front(self):
+        return [int(word) for word in self.ask("FRONT").split()[1:]]
+
+    def balances(self):
+        answers = [self.ask(f"BALANCE {account}") for account in range(len(self.front()))]
+        return [int(answer.split()[2]) for answer in answers]
+
+    def status(self, name):
+        """A number that the system has of the program: `Threads`, or kibibytes, as `VmRSS`."""
+        with open(f"/proc/{self.child.pid}/status", encoding="ascii") as lines:
+            return next(int(line.split()[1]) for line in lines if line.startswith(f"{name}:"))
+
+    def threads(self):
+        return self.status("Threads")
+
+    def open_files(self):
+        return len(os.listdir(f"/proc/{self.child.pid}/fd"))
+
+    def news(self):
+        """What standard error said of peers so far."""
+        while not self.child.stderr.closed and select.select([self.child.stderr], [], [], 0)[0]:
+            piece = os.read(self.child.stderr.fileno(), 65536)
+            if piece == b"":
+                break
+            self.said += piece
+        return told_apart(self.said.decode())[0]
+
+    def end(self):
+        """Waits for the node's end: its status, what it still wrote, and its errors, without what it says of peers."""
+        output, errors = self.child.communicate(timeout=PATIENCE)
+        self.said += errors
+        return self.child.returncode, (self.held + output).decode("ascii"), told_apart(self.said.decode())[1]
+
+    def stop(self):
+        """Ends the input, and waits for the node's end."""
+        self.child.stdin.close()
+        self.child.stdin = None
+        return self.end()
+
+    def kill(self):
+        """Ends the process as it stands, if it hasn't ended."""
+        self.child.kill()
+        self.child.wait()
+        for stream in (self.child.stdin, self.child.stdout, self.child.stderr):
+            if stream is not None:
+                stream.close()
+
+
+class Group:
+    """A folder with the files of a group with the test keys, and those of its members that run.
+
+    After its `with` no process is left, however it ends.
+    """
+
+    def __init__(self, opening, running=None, ports=None, options=()):
+        self.members = len(opening)
+        self.opening = opening
+        self.faults = (self.members - 1) // 3
+        self.ports = ports or free_ports(self.members)
+        self.options = options
+        self.nodes = {}
+        self.running = range(self.members) if running is None else running
+
+    def __enter__(self):
+        self.place = tempfile.TemporaryDirectory()
+        genesis = {"members": self.members, "faults": self.faults, "opening": self.opening}
+        write_json(self.place.name, "genesis", genesis)
+        write_json(self.place.name, "ports", {"ports": self.ports})
+        for own in range(self.members):
+            write_json(self.place.name, f"keys-{own}", {"own": own, "keys": key_texts(own, self.members)})
+        try:
+            # all at once, for a reader doesn't dial for ever
+            for own in self.running:
+                self.start(own)
+            for node in self.nodes.values():
+                node.front()
+        except BaseException:
+            self.__exit__()
+            raise
+        return self
+
+    def __exit__(self, *_):
+        for node in self.nodes.values():
+            node.kill()
+        self.place.cleanup()
+
+    def start(self, own, ports="ports", options=()):
+        self.nodes[own] = Node(own, self.place.name, ports, [*self.options, *options])
+        return self.nodes[own]
+
+    def kill(self, own):
+        self.nodes.pop(own).kill()
+
+    def pay(self, own, order, payee, amount, seq):
+        same(self.nodes[own].ask(f"PAY {order} {payee} {amount}"), f"asked {order} seq {seq}", f"payment by {own}")
+
+    def settle(self, front, balances=None):
+        """Waits until all that run have settled just this."""
+        for own, node in self.nodes.items():
+            until(node.front, front, of=f"the front at {own}")
+            if balances is not None:
+                same(node.balances(), balances, f"the balances at {own}")
+
+    def stop(self):
+        """Stops all that run, and audits their exports, which are handed back."""
+        exports = {}
+        for own in list(self.nodes):
+            # (a node that fails to stop is still among those that are killed)
+            status, output, errors = self.nodes[own].stop()
+            same((status, errors), (0, ""), f"the end of node {own}")
+            exports[own] = json.loads(output)
+            same(output, f"{compact(exports[own])}\n", f"the export of node {own}")
+            same(exports[own]["member"], own, f"whose export node {own} writes")
+        audited(list(exports.values()))
+        return exports
+
+
+def compact(export):
+    """An export's only encoding."""
+    return json.dumps(export, separators=(",", ":"), sort_keys=True)
+
+
+def audited(exports):
+    """The exports are clean, as the program says and as a look at their lists does."""
+    files = {f"export-{place}": export for place, export in enumerate(exports)}
+    same(with_files(files, ["audit", *files]), (0, "clean\n", ""), "the audit")
+    for owner in range(exports[0]["members"]):
+        longest = max((export["lists"][owner] for export in exports), key=len)
+        for export in exports:
+            values = export["lists"][owner]
+            same(values, longest[: len(values)], f"what {export['member']} has of {owner}")
+
+
+def export_text(own, opening, lists, front, balances):
+    """The line of an export of a group with as many liars allowed as may be."""
+    members = len(opening)
+    export = {"members": members, "faults": (members - 1) // 3, "opening": opening, "member": own}
+    return compact({**export, "lists": lists, "front": front, "balances": balances}) + "\n"

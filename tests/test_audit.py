@@ -1,0 +1,195 @@
+"""Black-box tests of `audit`: its verdicts, and the faults of exports."""
+
+import json
+import os
+import random
+import subprocess
+import tempfile
+import threading
+
+import audits
+from audits import audit
+from frames import payment
+from runs import SECONDS, of_file, payd, run, same, shows, with_files
+from scripts import RandomScripts
+
+
+def test_each_verdict():
+    for purpose, exports, line in audits.ROWS:
+        shows(audit(exports), 0 if line == "clean" else 1, f"{line}\n", of=purpose)
+        same(audits.verdict(exports), line, f"the model: {purpose}")
+
+
+def test_random_exports_as_the_model_has_them():
+    seeded = random.Random(20)
+    for turn in range(300):
+        exports = audits.random_exports(seeded)
+        line = audits.verdict(exports)
+        shows(audit(exports), 0 if line == "clean" else 1, f"{line}\n", of=f"turn {turn}, {exports}")
+
+
+def test_all_that_is_wrong():
+    """Four of a group, of whom one has another payment, one a wrong front, and one nothing yet; and a stranger."""
+    stranger = audits.export([7], [[]], [0], [7])
+    behind = {**audits.PAID, "front": [0, 0, 0, 0]}
+    shows(
+        audit([audits.PAID, audits.FRESH, audits.FORKED, behind, stranger], "--all"),
+        1,
+        "1 genesis 4\n"
+        "1 genesis in 4.json\n"
+        "2 front account 3 says 0 right 1 in 3.json\n"
+        "4 fork owner 3 seq 0 to 0 amount 5 exports 2 in 0.json 3.json\n"
+        "4 fork owner 3 seq 0 to 1 amount 5 exports 1 in 2.json\n",
+    )
+    shows(audit([audits.PAID, audits.FRESH], "--all"), 0, "clean\n")
+    files = {"two": audits.TWO_ENTRIES, "two again": {**audits.TWO_ENTRIES, "balances": [1, 2, 3, 4]}}
+    shows(
+        with_files(files, ["audit", "--jobs", "2", "--all", *files]),
+        1,
+        "3 balance 1 account 0\n"
+        "3 balance account 0 says 1 right 100 in two again\n"
+        "3 balance account 1 says 2 right 5 in two again\n"
+        "3 balance account 2 says 3 right 0 in two again\n"
+        "3 balance account 3 says 4 right 45 in two again\n",
+        of="the names of files may have blanks",
+    )
+
+
+def test_all_that_is_wrong_with_random_exports():
+    seeded = random.Random(21)
+    for turn in range(300):
+        exports = audits.random_exports(seeded)
+        lines = audits.findings([(f"{place}.json", given) for place, given in enumerate(exports)])
+        text = "".join(f"{line}\n" for line in lines)
+        shows(audit(exports, "--all"), 0 if text == "clean\n" else 1, text, of=f"turn {turn}, {exports}")
+
+
+def test_each_fault_of_an_export():
+    for wrong, members, fault in audits.FAULTS:
+        files = {"good": audits.PAID, "bad": audits.changed(members)}
+        shows(with_files(files, ["audit", "good", "bad"]), 2, "", of_file(f"export {fault}", "bad"), of=wrong)
+    for text in ("", "{", "nan", b"\xef\xbb\xbf{}", b'"\xff"', json.dumps(audits.PAID) + "x"):
+        shows(with_files({"bad": text}, ["audit", "bad"]), 2, "", of_file("export 1 BadJson", "bad"), of=f"{text}")
+    for text in ("[]", "7", "{}"):
+        shows(with_files({"bad": text}, ["audit", "bad"]), 2, "", of_file("export 2 BadShape", "bad"), of=text)
+
+
+def test_longest_lists_and_values():
+    for texts, front in ((65536 * [""], 65536), ([1024 * "fF"], 1)):
+        given = audits.export([7], [texts], [front], [7])
+        shows(audit([given, given]), 0, "clean\n", of=f"{len(texts)} values")
+
+
+def test_chains_of_debts_settle():
+    """Each account but the last pays on what it doesn't have, until the first one, which has it, pays."""
+    for members in (64, 128):
+        opening = [10] + [0] * (members - 1)
+        owed = [[payment(payee=payer + 1, amount=10).hex()] for payer in range(members - 1)] + [[]]
+        settled = audits.export(opening, owed, [1] * (members - 1) + [0], opening[::-1])
+        waiting = audits.export(opening, [[]] + owed[1:], [0] * members, opening)
+        shows(audit([settled, waiting]), 0, "clean\n", of=f"{members} members")
+        short = {**settled, "front": [1] * (members - 2) + [0, 0]}
+        shows(audit([short]), 1, f"2 front 0 account {members - 2}\n", of=f"{members} members, and one is missed")
+
+
+def test_first_fault_of_exports():
+    good, bad = audits.PAID, audits.changed({"front": None})
+    for files, words, errors in (
+        ({"a": bad}, ["a", "gone"], of_file("export 2 BadShape", "a")),
+        ({"a": good}, ["a", "gone"], "payd: file gone\n"),
+        ({"a": bad}, ["gone", "a"], "payd: file gone\n"),
+        ({"a": good}, ["a", "."], "payd: file .\n"),
+        ({"a": "{", "b": bad}, ["a", "b"], of_file("export 1 BadJson", "a")),
+    ):
+        shows(with_files(files, ["audit", *words]), 2, "", errors, of=f"{words}")
+
+
+def test_a_fault_of_a_file_comes_before_each_verdict():
+    files = {
+        "paid": audits.PAID,
+        "forked": audits.FORKED,
+        "other": {**audits.FRESH, "opening": [0, 0, 0, 51]},
+        "front": {**audits.PAID, "front": [0, 0, 0, 0]},
+        "balance": {**audits.PAID, "balances": [0, 0, 0, 50]},
+        "bad": audits.changed({"front": None}),
+        "text": "{",
+    }
+    for wrong in ("forked", "other", "front", "balance"):
+        for words, errors in (
+            (["paid", wrong, "bad"], of_file("export 2 BadShape", "bad")),
+            ([wrong, "paid", "text", "bad"], of_file("export 1 BadJson", "text")),
+            (["paid", wrong, "gone", "text"], "payd: file gone\n"),
+        ):
+            shows(with_files(files, ["audit", *words]), 2, "", errors, of=f"{words}")
+
+
+def audit_of_pipes(contents, meanwhile):
+    """The audit of a file `first`, and after it of pipes, each of which gives its content to one reader. As soon as
+    the first pipe is opened, the file's content is another."""
+    with tempfile.TemporaryDirectory() as folder:
+        first = os.path.join(folder, "first")
+        pipes = [os.path.join(folder, f"{place}.pipe") for place in range(1, len(contents))]
+        with open(first, "w", encoding="ascii") as file:
+            json.dump(contents[0], file)
+        for pipe in pipes:
+            os.mkfifo(pipe)
+
+        def write():
+            for pipe, content in zip(pipes, contents[1:]):
+                with open(pipe, "w", encoding="ascii") as file:
+                    if pipe == pipes[0]:
+                        with open(first, "w", encoding="ascii") as changed:
+                            changed.write(meanwhile)
+                    json.dump(content, file)
+
+        writer = threading.Thread(target=write, daemon=True)
+        writer.start()
+        words = [payd(), "audit", "--jobs", "1", first, *pipes]
+        done = subprocess.run(words, capture_output=True, timeout=SECONDS)
+        writer.join(SECONDS)
+    return done.returncode, done.stdout.decode("ascii"), done.stderr.decode()
+
+
+def test_each_file_is_read_once():
+    paid, fresh, forked = audits.PAID, audits.FRESH, audits.FORKED
+    for contents in ([paid, forked, fresh], [fresh, fresh, paid, paid, forked], [forked, fresh, paid], [paid, fresh]):
+        line = audits.verdict(contents)
+        for meanwhile in ("{", json.dumps(contents[1])):
+            shows(audit_of_pipes(contents, meanwhile), 0 if line == "clean" else 1, f"{line}\n", of=line)
+
+
+def test_words_of_audit():
+    same(with_files({}, ["audit"])[:2], (2, ""), "no file")
+    shows(with_files({"--x": audits.PAID}, ["audit", "--", "--x"]), 0, "clean\n", of="a name behind --")
+    shows(with_files({"a": audits.PAID}, ["audit", "a", "a", "a"]), 0, "clean\n", of="one file three times")
+    status, output, errors = run(["audit", "--help"])
+    same((status, errors, "fork" in output), (0, "", True), "help")
+
+
+def test_exports_of_runs():
+    """Members export before the last frames are brought, and after them; then one value of one list is another."""
+    seeded, clean, others = random.Random(31), 0, set()
+    for seed in range(20):
+        *commands, bring_all, show = RandomScripts(seed).script().decode("ascii").splitlines()
+        world = audits.played(commands)
+        if world is None:
+            continue
+        exports = audits.exports_in(world, [*commands, show])
+        world.run_line(bring_all)
+        exports += audits.exports_in(world, [*commands, bring_all, show])
+        shows(audit(exports), 0, "clean\n", of=f"exports of random script {seed}")
+        clean += 1
+        values = [
+            (place, owner, seq)
+            for place, given in enumerate(exports)
+            for owner, texts in enumerate(given["lists"])
+            for seq in range(len(texts))
+        ]
+        if values:
+            place, owner, seq = seeded.choice(values)
+            exports[place]["lists"][owner][seq] = seeded.choice(["01", payment(payee=1, amount=2).hex()])
+            line = audits.verdict(exports)
+            of = f"{place} {owner} {seq} of script {seed}"
+            shows(audit(exports), 0 if line == "clean" else 1, f"{line}\n", of=of)
+            others.add(line[0])
+    same((clean > 10, {"2", "3", "4"} <= others), (True, True), f"{clean} runs, and verdicts {others}")

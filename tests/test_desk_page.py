@@ -1,0 +1,360 @@
+"""Black-box tests of tools/desk-page: what it answers to whom, and the page in a real browser."""
+
+import http.client
+import json
+import os
+import re
+import subprocess
+from contextlib import contextmanager
+from urllib.parse import urlsplit
+
+import pytest
+from browser import BROWSERS, ENTER, ESCAPE, TAB, Driver
+from nodes import PATIENCE, until, write_json
+from restarts import Folders
+from runs import SECONDS, TOP, same
+
+PAGE = os.path.join(TOP, "tools", "desk-page")
+NAMES = ["Ada", "Bo", "Cy", "Dee"]
+SPACE = "\u2009"
+
+
+class Served:
+    """A page of one member of a group, and requests to it."""
+
+    def __init__(self, group, own, named=True):
+        folder = group.place.name
+        words = [PAGE, "--keys", f"{folder}/keys-{own}", "--data", f"{folder}/data-{own}"]
+        if named:
+            write_json(folder, "names", {"names": NAMES})
+            words += ["--group", f"{folder}/names"]
+        self.child = subprocess.Popen(words, stdout=subprocess.PIPE, text=True)
+        self.address = self.child.stdout.readline().strip()
+        self.token = self.address.partition("token=")[2]
+        self.host = urlsplit(self.address).netloc
+
+    def request(self, method, path, body=None, **headers):
+        """Status, headers and content of an answer. A header that is None isn't sent."""
+        line = http.client.HTTPConnection(self.host, timeout=PATIENCE)
+        given = {"Host": self.host, "X_Token": self.token, "Origin": f"http://{self.host}", **headers}
+        content = json.dumps(body).encode() if isinstance(body, dict) else body
+        line.putrequest(method, path, skip_host=True)
+        for name, value in given.items():
+            if value is not None:
+                line.putheader(name.replace("_", "-"), value)
+        if content is not None:
+            line.putheader("Content-Length", str(len(content)))
+        line.endheaders(content)
+        answer = line.getresponse()
+        said = answer.status, dict(answer.getheaders()), answer.read().decode()
+        line.close()
+        return said
+
+    def state(self):
+        status, _, text = self.request("GET", "/state", Origin=None)
+        same(status, 200, text)
+        return json.loads(text)
+
+    def pay(self, order, to, amount, agreed=""):
+        """Status and value of what comes of a form."""
+        form = {"id": str(order), "to": str(to), "amount": str(amount), "agreed": agreed}
+        status, _, text = self.request("POST", "/pay", form)
+        return status, json.loads(text)
+
+    def end(self):
+        self.child.kill()
+        self.child.wait()
+        self.child.stdout.close()
+
+
+@contextmanager
+def served(opening, *owns, **how):
+    """A group, and the pages of these members."""
+    with Folders(opening) as group:
+        pages = []
+        try:
+            for own in owns:
+                pages.append(Served(group, own, **how))
+            yield (group, *pages)
+        finally:
+            for page in pages:
+                page.end()
+
+
+# ---- without a browser
+
+
+def test_page_is_given_to_whom_it_belongs():
+    """Only with its token, by its own names, and never to another page."""
+    with served([100, 0, 0, 50], 0) as (_, page):
+        port = page.host.partition(":")[2]
+        for host in (page.host, f"localhost:{port}"):
+            status, headers, text = page.request("GET", f"/?token={page.token}", Host=host, X_Token=None, Origin=None)
+            same((status, text.startswith("<!DOCTYPE html>")), (200, True), f"the page by the name {host}")
+            same(headers["Content-Security-Policy"].startswith("default-src 'none';"), True, "what it may load")
+        wrong = (
+            {"Host": f"evil.example:{port}"},
+            {"Host": None},
+            {"Host": "127.0.0.1"},
+            {"Origin": "http://evil.example"},
+            {"Origin": "null"},
+            {"Origin": f"http://localhost:{port}"},
+            {"X_Token": None},
+            {"X_Token": page.token[:-1]},
+            {"X_Token": f"{page.token}x"},
+        )
+        form = {"id": "1", "to": "1", "amount": "30", "agreed": ""}
+        for headers in (*wrong, {"Origin": None}):
+            same(page.request("POST", "/pay", form, **headers)[0], 403, f"a payment with {headers}")
+        for headers in wrong:
+            same(page.request("GET", "/state", **headers)[0], 403, f"the state with {headers}")
+        for path in ("/", "/?token=", f"/?token={page.token[:-1]}", "/?x"):
+            same(page.request("GET", path, Origin=None)[0], 403, f"the page at {path}")
+        for method, path in (("GET", "/pay"), ("GET", "/../desk-page"), ("POST", "/state"), ("POST", "/")):
+            path = path + (f"?token={page.token}" if path == "/" else "")
+            same(page.request(method, path)[0], 404, f"{method} {path}")
+        same(page.state()["waiting"], [], "what was paid")
+
+
+def test_page_loads_nothing_from_elsewhere():
+    folder = os.path.join(TOP, "tools", "desk_page")
+    for name in sorted(os.listdir(folder)):
+        with open(os.path.join(folder, name), encoding="utf-8") as file:
+            same(re.findall(r"https?:|url\(|@import|src=\"[^\"]*/|//[\w.]+/", file.read()), [], f"addresses in {name}")
+
+
+def test_forms_pay_once():
+    """By an id of their own, however often they are sent; and by none of what isn't a form."""
+    with served([100, 0, 0, 50], 0) as (group, page):
+        same(page.pay(7, 1, 30), (200, {"seq": "0", "again": False}), "a covered payment")
+        same(page.pay(7, 1, 30), (200, {"seq": "0", "again": True}), "the same form")
+        status, said = page.pay(7, 2, 30)
+        same((status, said["refused"]), (200, "4 IdUsed"), "another payment by it")
+        same(page.pay(8, 0, 1)[1]["refused"], "3 ZeroOrSelf", "a payment to itself")
+        same(page.pay(8, 4, 1)[1]["refused"], "2 NoAccount", "a payment to nobody")
+        same(page.pay(8, 1, 0)[1]["refused"], "3 ZeroOrSelf", "a payment of nothing")
+        for amount in ("01", "-1", "1.0", "1e3", " 1", "", "x", 2**64, "1\nPAY 9 1 1"):
+            same(page.pay(8, 1, amount)[0], 400, f"the amount {amount!r}")
+        for body in (b"", b"{", b"[]", b"\xff", b'{"id": 1}', b"9" * 2000):
+            same(page.request("POST", "/pay", body)[0] in (400, 413), True, f"the form {body[:20]!r}")
+        group.settle([1, 0, 0, 0], [70, 30, 0, 50])
+
+
+def test_uncovered_forms_are_held_back():
+    """Against what the balance leaves once all that waits is paid, and against what the group owns."""
+    with served([100, 0, 0, 50], 0) as (group, page):
+        same(page.pay(1, 1, 101), (200, {"needs": "uncovered", "short": "1"}), "one more than there is")
+        same(page.pay(1, 1, 151)[1]["needs"], "beyond", "more than the group owns")
+        same(page.pay(1, 1, 151, "uncovered")[1]["needs"], "beyond", "agreed to as less")
+        same(page.pay(1, 1, 120, "uncovered")[1]["seq"], "0", "agreed to")
+        # all that waits counts, and not the balance alone
+        same(page.pay(2, 1, 1), (200, {"needs": "uncovered", "short": "21"}), "behind what waits")
+        until(lambda: page.state()["short"], "20", of="what the first is short of")
+        group.pay(3, 1, 0, 40, 0)
+        group.settle([1, 0, 0, 1], [20, 120, 0, 10])
+        same(page.pay(2, 1, 21)[1]["needs"], "uncovered", "one more than is left")
+        same(page.pay(2, 1, 20)[1], {"seq": "1", "again": False}, "all that is left")
+        same(page.pay(3, 2, 2**64 - 1, "beyond")[1]["seq"], "2", "more than the group owns, agreed to")
+        same(page.state()["total"], "150", "what the group owns")
+
+
+def test_page_tells_what_the_node_tells():
+    """Of many entries the newest, those that wait, and all of an account that had them before the page began."""
+    with Folders([5000, 0, 0, 0]) as group:
+        orders = range(1100)
+        group.nodes[0].write("".join(f"PAY {it} {1 + it % 3} 1\n" for it in orders))
+        for it in orders:
+            same(group.nodes[0].line(), f"asked {it} seq {it}", "a payment")
+        group.settle([1100, 0, 0, 0])
+        pages = [Served(group, own, named=False) for own in (0, 1)]
+        try:
+            state = pages[0].state()
+            same([it["entry"] for it in state["entries"]], [*range(1099, 599, -1)], "the newest entries")
+            same((state["entries_cut"], state["balance"], state["names"]), (True, "3900", []), "and else")
+            state = pages[1].state()
+            # those of the last 1,000 of an account are looked through
+            wanted = [it for it in range(1099, 99, -1) if it % 3 == 0]
+            same([it["entry"] for it in state["entries"]], wanted, "what came to account 1")
+            same((state["entries_cut"], state["balance"]), (True, "367"), "that there are earlier ones")
+            group.pay(1, 5, 0, 7, 0)
+            group.settle([1100, 1, 0, 0])
+            newest = pages[1].state()["entries"][0]
+            same(newest.pop("seen") is not None, True, "when it was seen")
+            same(newest, {"account": 1, "entry": 0, "seq": 0, "to": 0, "amount": "7"}, "the newest")
+        finally:
+            for page in pages:
+                page.end()
+
+
+def test_pages_words():
+    for words, status, said in (
+        (["--data", "x", "--keys", "/none"], 1, "/none: No such file"),
+        (["--data", "x", "--keys", f"{TOP}/examples/genesis.json"], 1, "it is no file of keys"),
+        (["--data", "x", "--keys", f"{TOP}/examples/keys-0.json", "--port", "70000"], 1, "port 70000"),
+        (["--data", "x", "--keys", f"{TOP}/examples/keys-0.json", "--socket", "y"], 2, "not allowed with"),
+        (["--keys", f"{TOP}/examples/keys-0.json"], 2, "--data --socket is required"),
+        ([], 2, "--keys"),
+    ):
+        done = subprocess.run([PAGE, *words], capture_output=True, text=True, timeout=SECONDS)
+        same((done.returncode, said in done.stderr), (status, True), f"{words}: {done.stderr}")
+
+
+# ---- in a browser
+
+
+def fill(tab, to, amount):
+    tab.run("const to = arguments[0]; document.getElementById('to').value = to", to)
+    tab.run("document.getElementById('to').dispatchEvent(new Event('input'))")
+    tab.run("document.getElementById('amount').value = ''")
+    tab.write("#amount", amount)
+
+
+def in_browser(test):
+    return pytest.mark.needs("chromedriver")(pytest.mark.needs(*BROWSERS)(test))
+
+
+def shows(tab, place, text):
+    until(lambda: tab.text(place), text, of=place)
+
+
+@in_browser
+def test_payment_settles_at_the_payees_page():
+    """Asked for by keys alone; both pages show it by themselves."""
+    with Driver() as driver, served([100, 0, 0, 50], 0, 1) as (group, payer, payee):
+        ada, bo = driver.tab(payer.address), driver.tab(payee.address)
+        shows(ada, "#balance", "100")
+        shows(bo, "#owner", "Bo, account 1")
+        ada.press(TAB, ENTER)
+        until(lambda: ada.run("return location.hash"), "#pay", of="the link to the form")
+        ada.press(TAB, "B", TAB, *"30")
+        shows(ada, "#hint", "Covered: 70 stay free.")
+        ada.press(ENTER)
+        until(lambda: ada.text("#outcome").startswith("Asked: 30 to Bo. It is seq 0 of account 0"), True, of="it")
+        shows(ada, "#balance", "70")
+        shows(bo, "#balance", "30")
+        same(ada.text("#why-waits"), "Nothing waits.", "what waits")
+        for tab, who, amount in ((ada, "to Bo", "\u221230"), (bo, "from Ada", "+30")):
+            (row,) = tab.rows("#entries")
+            same([row[0], row[1], row[3]], [who, "account 0, seq 0", amount], "the entry")
+            same(re.fullmatch(r"\d\d:\d\d:\d\d", row[2]) is not None, True, f"when it was seen: {row[2]}")
+        same(ada.rows("#accounts")[0], ["0", "Ada", "1"], "the account's entries")
+        group.settle([1, 0, 0, 0], [70, 30, 0, 50])
+
+
+@in_browser
+def test_uncovered_payment_wants_a_second_click():
+    with Driver() as driver, served([100, 0, 0, 50], 0) as (group, page):
+        tab = driver.tab(page.address)
+        shows(tab, "#balance", "100")
+        fill(tab, "3", "120")
+        shows(tab, "#hint", "Not covered by what is free: it would wait.")
+        for leave in (lambda: tab.click("#leave"), lambda: tab.press(ESCAPE)):
+            tab.click("#ask")
+            until(lambda: tab.is_shown("#second"), True, of="the question")
+            same((tab.focused(), tab.is_shown("#ask")), ("second-head", False), "where the keys are")
+            same(tab.text("#why").startswith("It is 20 more than what is free."), True, "why it asks")
+            leave()
+            shows(tab, "#outcome", "Nothing was asked for.")
+        same(page.state()["waiting"], [], "what was asked for")
+        tab.click("#ask")
+        until(lambda: tab.is_shown("#second"), True, of="the question")
+        tab.click("#agree")
+        shows(tab, "#why-waits", "The first waits for 20 more on this account.")
+        same(tab.rows("#waiting"), [["Dee", "0", "120"]], "what waits")
+        same(tab.text("#free"), "What waits needs 20 more.", "what is free")
+        fill(tab, "1", "1 000 000")
+        shows(tab, "#hint", "Not covered, ever: the whole group owns 150.")
+        tab.click("#ask")
+        until(lambda: tab.is_shown("#second"), True, of="the question")
+        same(tab.text("#why").startswith("It is more than the 150 that the whole group owns."), True, "why it asks")
+        tab.click("#leave")
+        group.pay(3, 1, 0, 20, 0)
+        shows(tab, "#why-waits", "Nothing waits.")
+        shows(tab, "#balance", "0")
+        same([row[0] for row in tab.rows("#entries")], ["to Dee", "from Dee"], "what came and went")
+        tab.click("#ask")
+        until(lambda: tab.is_shown("#second"), True, of="the question")
+        tab.click("#agree")
+        shows(tab, "#why-waits", "The first never settles: the whole group owns 150.")
+
+
+@in_browser
+def test_node_ends_and_starts_behind_the_page():
+    """The page says so and goes on. What was sent meanwhile is sent again by the same form, and paid once."""
+    with Driver() as driver, served([100, 0, 0, 50], 0) as (group, page):
+        tab = driver.tab(page.address)
+        shows(tab, "#balance", "100")
+        group.kill(0)
+        until(lambda: tab.text("#node").partition(" at ")[0], "The node doesn’t answer: nobody listens", of="it")
+        same((tab.text("#balance"), "What is shown was so at" in tab.text("#node")), ("100", True), "what it knew")
+        fill(tab, "1", "30")
+        tab.click("#ask")
+        until(lambda: "this form pays once" in tab.text("#outcome"), True, of="what comes of it")
+        order = tab.run("return sessionStorage.getItem('order')")
+        tab.reload()
+        group.start(0)
+        shows(tab, "#node", "The node answers.")
+        # asked for under the form's id meanwhile, as by a page whose answer was lost
+        same(page.pay(order, 1, 30)[1]["seq"], "0", "the payment")
+        until(lambda: tab.run("return document.getElementById('to').value"), "1", of="the form")
+        shows(tab, "#balance", "70")
+        tab.click("#ask")
+        until(lambda: tab.text("#outcome").endswith("It had been asked for before, and is paid once."), True, of="it")
+        same(tab.run("return sessionStorage.getItem('order')"), None, "the form's id")
+        group.settle([1, 0, 0, 0], [70, 30, 0, 50])
+        page.end()
+        until(lambda: tab.text("#node").startswith("tools/desk-page doesn’t answer"), True, of="what it says")
+
+
+@in_browser
+def test_page_fits_and_is_told():
+    """A phone's width, dark colours, and what a reader of the screen goes by."""
+    with Driver() as driver, served([2**62, 0, 0, 50], 0) as (group, page):
+        tab = driver.tab(page.address)
+        shows(tab, "#balance", SPACE.join("4 611 686 018 427 387 904".split()))
+        group.pay(0, 1, 1, 2**61, 0)
+        group.pay(0, 2, 2, 2**62, 1)
+        until(lambda: len(tab.rows("#entries")), 1, of="the entries")
+        for width in (320, 390, 1200):
+            tab.emulate("setDeviceMetricsOverride", width=width, height=900, deviceScaleFactor=1, mobile=width < 900)
+            until(lambda: tab.run("return innerWidth"), width, of="the screen")
+            beyond = "const page = document.documentElement; return page.scrollWidth - page.clientWidth"
+            same(tab.run(beyond), 0, f"how much wider it is than {width}")
+        for scheme, ground in (("light", "rgb(244, 245, 247)"), ("dark", "rgb(20, 23, 26)")):
+            tab.emulate("setEmulatedMedia", features=[{"name": "prefers-color-scheme", "value": scheme}])
+            same(tab.run("return getComputedStyle(document.body).backgroundColor"), ground, f"the ground in {scheme}")
+            for place in ("#second", "#outcome", "#renew", "#waiting-cut"):
+                tab.run("document.querySelector(arguments[0]).hidden = false", place)
+            faint = [it for it in tab.run(CONTRASTS) if it[1] < LEAST_CONTRAST]
+            same(faint, [], f"texts that are hard to read in {scheme}")
+        told = tab.told()
+        for wanted in TOLD:
+            same(told.count(wanted), 1, f"{wanted} for a reader of the screen, of {told}")
+
+
+# WCAG 2.1, level AA, and the contrast of each text to what it stands on, by its formula.
+LEAST_CONTRAST = 4.5
+CONTRASTS = """
+const parts = (color) => color.match(/[\\d.]+/g).map(Number);
+const light = (color) => {
+  const [red, green, blue] = parts(color).slice(0, 3).map((it) => it / 255)
+    .map((it) => (it <= 0.03928 ? it / 12.92 : ((it + 0.055) / 1.055) ** 2.4));
+  return 0.2126 * red + 0.7152 * green + 0.0722 * blue;
+};
+const ground = (it) => {
+  const color = getComputedStyle(it).backgroundColor;
+  return (parts(color)[3] ?? 1) === 1 ? color : ground(it.parentElement);
+};
+const texts = [...document.body.querySelectorAll("*")].filter((it) => it.checkVisibility() && !it.disabled &&
+  [...it.childNodes].some((node) => node.nodeType === 3 && node.data.trim() !== ""));
+return texts.map((it) => {
+  const [low, high] = [light(getComputedStyle(it).color), light(ground(it))].sort((one, other) => one - other);
+  return [it.textContent.trim(), (high + 0.05) / (low + 0.05)];
+});
+"""
+# What a reader of the screen has to find once.
+TOLD = [("main", ""), ("banner", ""), ("heading", "Ada, account 0"), ("combobox", "To"), ("textbox", "Amount")]
+TOLD += [("region", it) for it in ("Balance", "Pay", "What waits", "What came and went", "The group")]
+TOLD += [("table", it) for it in ("What waits", "What came and went", "The group")]
+TOLD += [("columnheader", it) for it in ("Who", "Account and seq", "Seen", "Seq", "Whose")]
+TOLD += [("button", "Pay"), ("link", "To the form to pay"), ("alertdialog", "Pay all the same?")]

@@ -1,0 +1,232 @@
+"""Black-box tests of how often a node dials its peers, for how long, and what it says of them."""
+
+import contextlib
+import socket
+import statistics
+import subprocess
+import tempfile
+import time
+
+from frames import SEND, frame
+from nodes import PATIENCE, Group, free_ports, told_apart, until, write_json
+from peers import Strangers
+from runs import GENESIS, SECONDS, key_texts, payd, same, shows, with_files
+
+OPENING = GENESIS["opening"]
+
+# How many seconds after the others a peer starts: more than a thousand dials take, 10 milliseconds apart.
+LATE = 15
+
+PAIR = {"members": 2, "faults": 0, "opening": [5, 5]}
+
+
+ALWAYS = ["--dials", "always"]
+
+
+@contextlib.contextmanager
+def dialing(options, wanted):
+    """A node of two, whose peer's port is held here; and what it is to say of its peer."""
+    peer = socket.create_server(("127.0.0.1", 0))
+    peer.settimeout(PATIENCE)
+    ports = [*free_ports(1), peer.getsockname()[1]]
+    with tempfile.TemporaryDirectory() as folder, peer:
+        write_json(folder, "g", PAIR)
+        write_json(folder, "k", {"own": 0, "keys": key_texts(0, 2)})
+        write_json(folder, "p", {"ports": ports})
+        words = [payd(), "node", "--genesis", "g", "--keys", "k", "--ports", "p", *options]
+        pipe = subprocess.PIPE
+        with subprocess.Popen(words, cwd=folder, stdin=pipe, stdout=subprocess.DEVNULL, stderr=pipe) as child:
+            try:
+                yield peer
+            except AssertionError as fault:
+                raise AssertionError(f"{fault}, and standard error has {said_by(child)!r}") from fault
+            same(told_apart(said_by(child))[0], wanted, f"what is said with {options}")
+
+
+def said_by(child):
+    """Ends a node by the end of its input: what it wrote to standard error."""
+    try:
+        return child.communicate(timeout=SECONDS)[1].decode()
+    except subprocess.TimeoutExpired:
+        child.kill()
+        raise
+
+
+def dials(peer, most, silence):
+    """When a node dialed: each connection is ended at once, until none comes for so long or so many came."""
+    peer.settimeout(PATIENCE)  # a busy machine may take long to start the node
+    times = []
+    while len(times) < most:
+        try:
+            peer.accept()[0].close()
+        except socket.timeout:
+            break
+        times.append(time.monotonic())
+        peer.settimeout(silence)
+    return times
+
+
+def pauses(times):
+    return [after - before for before, after in zip(times, times[1:])]
+
+
+def test_a_peer_is_given_up_behind_so_many_dials():
+    for count in (1, 2, 5):
+        with dialing(["--dials", f"{count}"], [(1, "given up")]) as peer:
+            same(len(dials(peer, most=9, silence=3)), count, f"dials of {count}")
+
+
+def test_pauses_between_dials_grow():
+    with dialing(ALWAYS, []) as peer:
+        measured = pauses(dials(peer, most=11, silence=PATIENCE))
+    # a pause is never shorter than it should be, but for what the peer saw too late of the dial before: of the first
+    # two, of 10 and 20 ms, that would say nothing
+    least, late = [0.04, 0.08, 0.16, 0.32, 0.64, 1, 1, 1], 0.02
+    same([pause >= wanted - late for pause, wanted in zip(measured[2:], least)], 8 * [True], f"pauses {measured}")
+    same(max(measured) < 2, True, f"the longest of {measured}")
+
+
+def test_a_thousand_dials_unless_said():
+    with dialing([], [(1, "given up")]) as peer:
+        times = dials(peer, most=1100, silence=3)
+        same(len(times), 1000, "dials without the option")
+        same(statistics.median(pauses(times)) < 0.3, True, "no pause grows")
+
+
+def old_frames(peer, most):
+    """When a node dialed: on each connection the same frame comes, the first time as a new one, and then the end."""
+    text = frame(SEND, 1, 0, 0, 1)
+    times = []
+    for _ in range(most):
+        stream = peer.accept()[0]
+        times.append(time.monotonic())
+        with stream:
+            stream.sendall(text)
+            stream.shutdown(socket.SHUT_WR)
+            while stream.recv(65536):
+                pass
+    return times
+
+
+def test_old_frames_do_not_shorten_the_pauses():
+    for options in (ALWAYS, []):
+        with dialing(options, [(1, "met")]) as peer:
+            measured = pauses(old_frames(peer, most=8))
+        # (the first pause is behind the new frame; of the two behind that one, of 10 and 20 ms, see above)
+        least, late = [0.04, 0.08, 0.16, 0.32], 0.02
+        same([pause >= wanted - late for pause, wanted in zip(measured[3:], least)], 4 * [True], f"pauses {measured}")
+
+
+# ---- what is said of peers
+
+
+def said_of(node, peer):
+    """What a node said of a peer so far."""
+    return [word for of, word in node.news() if of == peer]
+
+
+def test_late_peer_is_met():
+    """It starts long after the others, and all that it and they have paid settles."""
+    with Group(OPENING, running=[]) as group:
+        for own in range(3):
+            group.start(own, options=ALWAYS)
+        group.pay(0, 7, payee=1, amount=30, seq=0)
+        group.settle([1, 0, 0, 0], [70, 30, 0, 50])
+        time.sleep(LATE)
+        for own, node in group.nodes.items():
+            same(sorted(node.news()), [(peer, "met") for peer in range(3) if peer != own], f"said by {own} before")
+        late = group.start(3, options=ALWAYS)
+        group.pay(3, 7, payee=0, amount=20, seq=0)
+        group.settle([1, 0, 0, 1], [90, 30, 0, 30])
+        for own in range(3):
+            until(lambda: said_of(group.nodes[own], 3), ["met"], of=f"said by {own} of the late one")
+        until(lambda: sorted(late.news()), [(peer, "met") for peer in range(3)], of="said by the late one")
+        group.stop()
+
+
+def test_peer_that_goes_and_comes_back():
+    """Each says once that it is lost and once that it is met again, before anything was paid."""
+    with Group(OPENING, running=[]) as group:
+        for own in range(4):
+            group.start(own, options=ALWAYS)
+        words = ["met"]
+        for _ in range(2):
+            for own in range(3):
+                until(lambda: said_of(group.nodes[own], 3), words, of=f"said by {own}")
+            group.kill(3)
+            words += ["lost"]
+            for own in range(3):
+                until(lambda: said_of(group.nodes[own], 3), words, of=f"said by {own}")
+            group.start(3, options=ALWAYS)
+            words += ["met"]
+        group.pay(3, 7, payee=0, amount=20, seq=0)
+        group.settle([0, 0, 0, 1], [120, 0, 0, 30])
+        for own in range(3):
+            same(said_of(group.nodes[own], 3), words, f"said by {own} in the end")
+            for peer in set(range(3)) - {own}:
+                same(said_of(group.nodes[own], peer), ["met"], f"said by {own} of {peer}")
+        group.stop()
+
+
+def test_peer_that_never_comes():
+    with Group([7, 7], running=[]) as group:
+        node = group.start(0, options=["--dials", "3"])
+        until(node.news, [(1, "given up")], of="said of nobody")
+        time.sleep(1)
+        same(node.ask("FRONT"), "front 0 0", "its desk")
+        same(node.stop()[0], 0, "its end")
+        same(node.news(), [(1, "given up")], "all that it said")
+
+
+def test_peer_that_comes_and_goes_in_haste():
+    """It dials and asks, again and again, and can't be dialed: it is met and lost once a second at most."""
+    with Group([7, 7], running=[]) as group:
+        node = group.start(0, options=ALWAYS)
+        # it listens before it answers
+        node.front()
+        begun = time.monotonic()
+        with Strangers(1, 0, group.ports[0]) as strangers:
+            while time.monotonic() < begun + 5:
+                stream = strangers.dial()
+                stream.sendall(strangers.want(0))
+                time.sleep(0.02)
+                strangers.streams.pop().close()
+        until(lambda: node.news()[-1:], [(1, "lost")], of="said in the end")
+        pairs = len(node.news()) // 2
+        same(node.news(), pairs * [(1, "met"), (1, "lost")], "what is said, in turns")
+        same(1 <= pairs <= 1 + time.monotonic() - begun, True, f"{pairs} times in {time.monotonic() - begun} s")
+        group.stop()
+
+
+def test_what_cannot_be_said_stops_nothing():
+    """Standard error is full: no peer can be spoken of, and all settles."""
+    with Group([7, 7], running=[1]) as group, open("/dev/full", "w", encoding="ascii") as full:
+        words = [payd(), "node", "--genesis", "genesis", "--keys", "keys-0", "--ports", "ports"]
+        pipe = subprocess.PIPE
+        child = subprocess.Popen(words, cwd=group.place.name, stdin=pipe, stdout=pipe, stderr=full)
+        try:
+            until(lambda: said_of(group.nodes[1], 0), ["met"], of="said by the other")
+            group.pay(1, 7, payee=0, amount=5, seq=0)
+            group.settle([0, 1], [12, 2])
+            output = child.communicate(b"FRONT\n", timeout=SECONDS)[0].decode()
+        finally:
+            child.kill()
+            child.wait()
+        same((child.returncode, output.split("\n")[0]), (0, "front 0 1"), "the end of the silent one")
+
+
+def test_words_that_say_no_dials():
+    files = {"g": PAIR, "k": {"own": 0, "keys": key_texts(0, 2)}, "p": {"ports": free_ports(2)}}
+    words = ["node", "--genesis", "g", "--keys", "k", "--ports", "p"]
+    for word in ("0", "", "00", "05", "+5", "5 ", "1.5", "1e3", "0x5", "five", "Always", "always ", f"{2**64}"):
+        errors = f"payd: dials {word}: neither a count from 1 on nor always\n"
+        was = with_files(files, [*words, f"--dials={word}"], b"FRONT\n")
+        shows(was, 2, "", errors, of=f"{word!r}")
+        was = with_files({}, [*words, f"--dials={word}"])
+        shows(was, 2, "", errors, of=f"{word!r} before the files")
+    for more in (["--dials"], ["--dials", "-1"], ["--dials", "5", "--dials", "5"], ["--dials", "5", "5"]):
+        status, output, errors = with_files(files, [*words, *more], b"FRONT\n")
+        same((status, output, errors != ""), (2, "", True), f"{more}")
+    for word in ("1", "1000", "always", f"{2**64 - 1}"):
+        status, output, errors = with_files(files, [*words, "--dials", word], b"FRONT\n")
+        same((status, output.split("\n")[0], told_apart(errors)[1]), (0, "front 0 0", ""), f"{word!r}")

@@ -1,0 +1,434 @@
+"""Tests of tools/group: what it writes, what it refuses, and that a group's keys open nothing of another group."""
+
+import contextlib
+import hashlib
+import json
+import os
+import socket
+import stat
+import struct
+import subprocess
+import sys
+import tempfile
+import threading
+
+import group_model
+from frames import payment
+from nodes import UNOPENED, Node, free_ports, until, write_json
+from peers import ended
+from runs import SECONDS, TOP, same
+
+import groups
+
+TOOL = os.path.join(TOP, "tools", "group")
+MEMBERS = 4
+
+
+def tool(folder, *words):
+    done = subprocess.run([sys.executable, TOOL, *words], cwd=folder, capture_output=True, text=True, timeout=SECONDS)
+    return done.returncode, done.stdout, done.stderr
+
+
+def does(folder, *words):
+    status, output, errors = tool(folder, *words)
+    same((status, errors), (0, ""), f"tools/group {' '.join(words)}")
+    return output
+
+
+def put(folder, name, text):
+    with open(os.path.join(folder, name), "w", encoding="utf-8") as file:
+        file.write(text)
+
+
+@contextlib.contextmanager
+def set_up():
+    """A folder with the secrets of four members, and the group's file made of what they handed over."""
+    with tempfile.TemporaryDirectory() as folder:
+        public = [does(folder, "new", f"{own}.secret").strip() for own in range(MEMBERS)]
+        ports = ",".join(map(str, free_ports(MEMBERS)))
+        words = ["--faults", "1", "--opening", "100,0,0,50", "--ports", ports]
+        put(folder, "group.json", does(folder, "make", *words, *public))
+        yield folder
+
+
+def read(folder, name):
+    with open(os.path.join(folder, name), encoding="ascii") as file:
+        return file.read()
+
+
+def secret_of(folder, own):
+    return bytes.fromhex(read(folder, f"{own}.secret").strip())
+
+
+# ---- the functions that keys are made by
+
+
+def test_keys_are_agreed_as_rfc_7748_says():
+    rows = [
+        (
+            "a546e36bf0527c9d3b16154b82465edd62144c0ac1fc5a18506a2244ba449ac4",
+            "e6db6867583030db3594c1a424b15f7c726624ec26b3353b10a903a6d0ab1c4c",
+            "c3da55379de9c6908e94ea4df28d084f32eccf03491c71f754b4075577a28552",
+        ),
+        (
+            "4b66e9d4d1b4673c5ad22691957d6af5c11b6421e0ea01d42ca4169e7918ba0d",
+            "e5210f12786811d3f4b7959d0538ae2c31dbe7106fc03c3efc4cd549c715a493",
+            "95cbde9476e8907d7aade45cb4b873f88b595a68799fa152e6f8f7647aac7957",
+        ),
+    ]
+    for made in (groups.shared_by, group_model.x25519):
+        for row in rows:
+            secret, public, shared = map(bytes.fromhex, row)
+            same(made(secret, public), shared, f"{made.__module__}: what {row[0]} shares")
+    bob = "5dab087e624a8a4b79e17f8b83800ee66f3bb1292618b6fd1c2f8b27ff88e0eb"
+    public = "de9edb7d7b7dc1b4d35b61c2ece435373f8343c85b78674dadfc7e146f882b4f"
+    same(groups.public_of(bytes.fromhex(bob)).hex(), public, "the public key of a secret")
+    same(groups.shared_by(bytes.fromhex(bob), bytes(32)), None, "what is shared with the point of order 1")
+
+
+def test_keys_are_derived_as_rfc_5869_says():
+    secret, salt, info = bytes([0x0B] * 22), bytes(range(13)), bytes(range(0xF0, 0xFA))
+    whole = (
+        "3cb25f25faacd57a90434f64d0362f2a2d2d0a90cf1a5a4c5db02d56ecc4c5bf34007208d5b887185865"  # 42 bytes
+    )
+    same(group_model.hkdf(secret, salt, info, 42).hex(), whole, "the model's derived key")
+    same(groups.derived(secret, salt, info).hex(), whole[:64], "a derived key")
+
+
+# ---- what is written
+
+
+def test_each_member_derives_its_own_file_of_keys():
+    """As the model has it, alike for both of a pair, and for each pair another key."""
+    with set_up() as folder:
+        group = json.loads(read(folder, "group.json"))
+        made = [json.loads(does(folder, "keys", "group.json", f"{own}.secret")) for own in range(MEMBERS)]
+        for own in range(MEMBERS):
+            same(made[own], group_model.keys(group, own, secret_of(folder, own)), f"the keys of member {own}")
+            for peer in range(MEMBERS):
+                same(made[own]["keys"][peer], made[peer]["keys"][own], f"the key of {own} and {peer}")
+        same(len({key for it in made for key in it["keys"]}), 1 + MEMBERS * (MEMBERS - 1) // 2, "different keys")
+
+
+def test_a_fingerprint_is_of_all_but_ports_and_names():
+    with set_up() as folder:
+        group = json.loads(read(folder, "group.json"))
+        was = does(folder, "show", "group.json").splitlines()[-1]
+        same(was, f"fingerprint {group_model.fingerprint(group)}", "the fingerprint")
+        put(folder, "other.json", json.dumps({**group, "ports": [1, 2, 3, 4], "names": ["a", "b", "ç", "d"]}))
+        same(does(folder, "show", "other.json").splitlines()[-1], was, "that with other ports and names")
+        public = group["public"]
+        others = {
+            "faults": 0,
+            "opening": [101, 0, 0, 50],
+            "group": "0" * 64,
+            "public": [public[1], public[0], *public[2:]],
+        }
+        for name, value in others.items():
+            put(folder, "other.json", json.dumps({**group, name: value}))
+            other = does(folder, "show", "other.json").splitlines()[-1]
+            same(other != was, True, f"the fingerprint tells {name} apart")
+
+
+def test_a_file_shows_who_is_in_the_group():
+    with set_up() as folder:
+        group = {**json.loads(read(folder, "group.json")), "ports": [7, 8, 9, 10], "names": ["Ann", "Bob", "Cy", "Di"]}
+        put(folder, "named.json", json.dumps(group))
+        lines = does(folder, "show", "named.json").splitlines()[:-1]
+        digest = hashlib.sha256(struct.pack(">HH4Q", 4, 1, 100, 0, 0, 50)).hexdigest()
+        wanted = [
+            "4 members, of whom 1 may lie; 150 in all",
+            "member 0 Ann: opens with 100, port 7",
+            "member 1 Bob: opens with 0, port 8",
+            "member 2 Cy: opens with 0, port 9",
+            "member 3 Di: opens with 50, port 10",
+            f"genesis {digest[:8]}, which a node says at its start",
+        ]
+        same(lines, wanted, "what is shown")
+
+
+def test_secrets_and_keys_are_for_their_owner_alone():
+    """Whatever files are made that others may read otherwise."""
+    with set_up() as folder:
+        path = os.path.join(folder, "keys.json")
+        with open(path, "w", encoding="ascii") as file:
+            os.fchmod(file.fileno(), 0o644)
+            words = [sys.executable, TOOL, "keys", "group.json", "0.secret"]
+            subprocess.run(words, cwd=folder, stdout=file, check=True)
+        for name in ("0.secret", "keys.json"):
+            same(stat.S_IMODE(os.stat(os.path.join(folder, name)).st_mode), 0o600, f"who may read {name}")
+
+
+# ---- what is refused
+
+
+def test_nothing_is_written_over():
+    with set_up() as folder:
+        was = read(folder, "0.secret")
+        same(tool(folder, "new", "0.secret"), (1, "", "tools/group: 0.secret: File exists\n"), "a second secret")
+        same(read(folder, "0.secret"), was, "the first one")
+
+
+def test_a_file_that_is_no_group_is_refused():
+    with set_up() as folder:
+        group = json.loads(read(folder, "group.json"))
+        public, digits = group["public"], "32 bytes in hexadecimal, in small letters"
+        members = "for each of the 4 members"
+        rows = [
+            ({"members": 0}, "a group has 1 to 128 members"),
+            ({"members": True}, "a group has 1 to 128 members"),
+            ({"faults": 2}, "faults has to be fewer than a third of the members"),
+            ({"opening": [100, 0, 0]}, f"opening has to be a list with one {members}"),
+            ({"opening": [100, 0, -1, 50]}, "opening: that of member 2 isn't a balance"),
+            ({"opening": [2**63 - 1, 1, 0, 0]}, f"the openings come to more than {2**63 - 1}"),
+            ({"ports": [1, 2, 3, 65536]}, "ports: that of member 3 isn't a port"),
+            ({"names": ["a", "b", "c"]}, f"names has to be a list with one {members}"),
+            ({"names": ["a", "b", "c\n", "d"]}, "names: that of member 2 isn't a name"),
+            ({"group": "00"}, f"group has to be {digits}"),
+            ({"public": [*public[:3], "aa"]}, f"public: that of member 3 isn't {digits}"),
+            ({"public": [*public[:3], public[1]]}, "members 1 and 3 have one public key"),
+            (
+                {"public": [*public[:3], "00" * 32]},
+                "the public key of member 3 is none: anyone would know this member's keys",
+            ),
+        ]
+        for change, why in rows:
+            put(folder, "other.json", json.dumps({**group, **change}))
+            for words in (["show", "other.json"], ["keys", "other.json", "0.secret"]):
+                same(tool(folder, *words), (1, "", f"tools/group: other.json: {why}\n"), f"{words[0]} of {change}")
+        put(folder, "other.json", read(folder, "group.json").replace("{\n", '{"faults": 0,\n', 1))
+        twice = "tools/group: other.json: an object in it names something twice\n"
+        same(tool(folder, "show", "other.json"), (1, "", twice), "a member that stands twice")
+
+
+def test_a_secret_of_nobody_has_no_keys():
+    with set_up() as folder:
+        does(folder, "new", "other.secret")
+        none = "tools/group: other.secret: the secret's public key is none of the group's\n"
+        same(tool(folder, "keys", "group.json", "other.secret"), (1, "", none), "the keys of another's secret")
+        no = "tools/group: group.json: it is no secret that 'new' wrote\n"
+        same(tool(folder, "keys", "group.json", "group.json"), (1, "", no), "keys of what is no secret")
+
+
+# ---- the next group
+
+# What the members of the group that `set_up` makes export: 0 has paid 30 to 1, and 3 waits for 10 more. Member 2 alone
+# lists a payment of 5 to itself.
+PAID, WAITS, CLAIM = (payment(payee=payee, amount=amount).hex() for payee, amount in ((1, 30), (0, 60), (2, 5)))
+SETTLED = {"members": MEMBERS, "faults": 1, "opening": [100, 0, 0, 50], "front": [1, 0, 0, 0]}
+SETTLED.update(lists=[[PAID], [], [], [WAITS]], balances=[70, 30, 0, 50])
+
+
+def put_exports(folder, own):
+    for member in own:
+        given = {**SETTLED, "member": member}
+        if member == 2:
+            given["lists"] = [[PAID], [], [], [WAITS, CLAIM]]
+        write_json(folder, f"export-{member}", given)
+    return [f"export-{member}" for member in own]
+
+
+def test_the_next_group_opens_with_the_balances_of_the_book():
+    with set_up() as folder:
+        group = json.loads(read(folder, "group.json"))
+        status, text, errors = tool(folder, "next", "group.json", *put_exports(folder, (0, 2, 3)))
+        told = "not settled, by the old numbers: "
+        lines = ["waits account 3 entry 0 seq 0 to 0 amount 60 short 10", "beyond 1 account 3 seq 1 (export-2)"]
+        same((status, errors), (0, "".join(f"{told}{line}\n" for line in lines)), "what is told")
+        put(folder, "next.json", text)
+        after = json.loads(text)
+        wanted = {**group, "opening": [70, 30, 0, 50], "group": after["group"]}
+        same(after, wanted, "all but openings and `group` stays")
+        same(after["group"] != group["group"], True, "`group` is another one")
+        keys = [json.loads(does(folder, "keys", name, "0.secret"))["keys"] for name in ("group.json", "next.json")]
+        same(set(keys[0]) & set(keys[1]), {""}, "keys that both groups have")
+
+
+def test_a_member_that_leaves_gives_its_balance_to_an_heir():
+    with set_up() as folder:
+        named = {**json.loads(read(folder, "group.json")), "names": ["Ann", "Bob", "Cy", "Di"]}
+        put(folder, "named.json", json.dumps(named))
+        exports = put_exports(folder, (0, 1))
+        words = ["--leaves", "0:1", "--faults", "0", "named.json", *exports]
+        status, text, errors = tool(folder, "next", *words)
+        after = json.loads(text)
+        told = (status, after["members"], after["opening"], after["names"])
+        same(told, (0, 3, [100, 0, 50], named["names"][1:]), "who is in the next group")
+        same((after["public"], after["ports"]), (named["public"][1:], named["ports"][1:]), "of those that stay")
+        lines = ["member 0 leaves: its balance goes to member 1"]
+        lines += [f"member {it} is member {it - 1} now" for it in (1, 2, 3)]
+        same(errors.splitlines()[:4], lines, "what is told")
+
+
+def test_no_next_group():
+    with set_up() as folder:
+        exports = put_exports(folder, (0, 1))
+        other = {**json.loads(read(folder, "group.json")), "opening": [101, 0, 0, 50]}
+        put(folder, "other.json", json.dumps(other))
+        for words, why in (
+            (["group.json", exports[0]], "these exports have no book: 6 few 1"),
+            (["group.json", exports[0], "gone"], "these exports have no book: payd: file gone"),
+            (["group.json", *exports, exports[0]], "these exports have no book: 5 twice 0 2 (export-0, export-0)"),
+            (["other.json", *exports], "these exports are of another group than other.json"),
+            (["--leaves", "0:4", "group.json", *exports], "there is no member 4"),
+            (
+                ["--leaves", "0:1", "--leaves", "1:2", "group.json", *exports],
+                "member 1, who is to get the balance of member 0, leaves too",
+            ),
+            (["--leaves", "0:1", "--leaves", "0:2", "group.json", *exports], "a member leaves twice"),
+            (["--leaves", "0:1", "group.json", *exports], "faults has to be fewer than a third of the members"),
+        ):
+            same(tool(folder, "next", *words), (1, "", f"tools/group: {why}\n"), f"{words}")
+
+
+# ---- nodes
+
+
+def nodes_of(stack, folder, ports, running=range(MEMBERS)):
+    """Nodes that run on the keys of their own files, which are told apart by a file of keys each."""
+    found = {}
+    for own in running:
+        node = Node(own, folder, ports)
+        stack.callback(node.kill)
+        found[own] = node
+    return found
+
+
+def write_keys(folder, own, group="group.json"):
+    put(folder, f"keys-{own}", does(folder, "keys", group, f"{own}.secret"))
+
+
+def test_nodes_run_on_a_groups_file():
+    """It is their genesis and their ports."""
+    with set_up() as folder, contextlib.ExitStack() as stack:
+        os.symlink("group.json", os.path.join(folder, "genesis"))
+        for own in range(MEMBERS):
+            write_keys(folder, own)
+        nodes = nodes_of(stack, folder, "group.json")
+        same(nodes[0].ask("PAY 1 1 30"), "asked 1 seq 0", "a payment")
+        for own, node in nodes.items():
+            until(node.front, [1, 0, 0, 0], of=f"the front at {own}")
+            same(node.balances(), [70, 30, 0, 50], f"the balances at {own}")
+
+
+def test_a_member_with_another_file_meets_nobody():
+    """Its file opens an account with one more, and all others settle without it."""
+    with set_up() as folder, contextlib.ExitStack() as stack:
+        os.symlink("group.json", os.path.join(folder, "genesis"))
+        put(folder, "other.json", read(folder, "group.json").replace("[100, 0, 0, 50]", "[100, 0, 0, 51]"))
+        for own in range(MEMBERS):
+            write_keys(folder, own, "other.json" if own == 3 else "group.json")
+        nodes = nodes_of(stack, folder, "group.json")
+        same(nodes[0].ask("PAY 1 1 30"), "asked 1 seq 0", "a payment")
+        for own in range(3):
+            until(nodes[own].front, [1, 0, 0, 0], of=f"the front at {own}")
+            told = {**{peer: "met" for peer in range(3) if peer != own}, 3: UNOPENED}
+            until(lambda node=nodes[own]: dict(node.news()), told, of=f"what {own} says of its peers")
+        unopened = [(peer, UNOPENED) for peer in range(3)]
+        until(lambda: sorted(nodes[3].news()), unopened, of="what the other one says of its peers")
+        same(nodes[3].front(), [0, 0, 0, 0], "what it settled")
+
+
+class Tunnel:
+    """Leads from a port to another one, and records what comes back; or answers with what was recorded."""
+
+    def __init__(self, port, to=None, recorded=b""):
+        self.to, self.recorded, self.streams, self.left = to, bytearray(recorded), [], 0
+        self.listener = socket.create_server(("127.0.0.1", port))
+        self.threads = [threading.Thread(target=self.accept, daemon=True)]
+        self.threads[0].start()
+
+    def close(self):
+        for stream in [self.listener, *self.streams]:
+            ended(stream)
+
+    def accept(self):
+        with contextlib.suppress(OSError):
+            while True:
+                near, _ = self.listener.accept()
+                self.streams.append(near)
+                if self.to is None:
+                    self.answer(near)
+                    continue
+                try:
+                    far = socket.create_connection(("127.0.0.1", self.to))
+                except OSError:
+                    # (nobody listens there yet: the one that dialed dials again)
+                    ended(near)
+                    continue
+                self.streams.append(far)
+                for ends in ((near, far, False), (far, near, True)):
+                    threading.Thread(target=self.carry, args=ends, daemon=True).start()
+
+    def answer(self, stream):
+        """Sends what was recorded, and waits until the other one leaves."""
+        with contextlib.suppress(OSError):
+            stream.sendall(self.recorded)
+            while stream.recv(65536):
+                pass
+        self.left += 1
+
+    def carry(self, source, sink, is_recorded):
+        with contextlib.suppress(OSError):
+            while piece := source.recv(65536):
+                if is_recorded:
+                    self.recorded += piece
+                sink.sendall(piece)
+
+
+def frames_in(stream):
+    count = at = 0
+    while at < len(stream):
+        count, at = count + 1, at + 2 + int.from_bytes(stream[at : at + 2], "big")
+    return count
+
+
+def recorded_group(folder):
+    """What member 1 read from each of its peers, while member 0 paid it 30."""
+    with contextlib.ExitStack() as stack:
+        ports, found = json.loads(read(folder, "group.json"))["ports"], {}
+        tunneled = [port if own == 1 else it for own, (port, it) in enumerate(zip(ports, free_ports(MEMBERS)))]
+        write_json(folder, "tunneled", {"ports": tunneled})
+        for own in range(MEMBERS):
+            write_keys(folder, own)
+            if own != 1:
+                found[own] = Tunnel(tunneled[own], ports[own])
+                stack.callback(found[own].close)
+        ports_of = {1: "tunneled"}
+        nodes = {own: Node(own, folder, ports_of.get(own, "group.json")) for own in range(MEMBERS)}
+        for node in nodes.values():
+            stack.callback(node.kill)
+        same(nodes[0].ask("PAY 1 1 30"), "asked 1 seq 0", "a payment of the first group")
+        until(nodes[1].front, [1, 0, 0, 0], of="the front of member 1")
+        # (each of the three sends an ECHO and a READY; a node leaves a stream at a frame that isn't the next one)
+        until(lambda: [frames_in(it.recorded) >= 2 for it in found.values()], 3 * [True], of="whether enough came")
+        return {own: bytes(it.recorded) for own, it in found.items()}
+
+
+@contextlib.contextmanager
+def replayed(folder, recorded):
+    """Member 1 alone, whose tunnels answer with what was recorded."""
+    with contextlib.ExitStack() as stack:
+        ports = free_ports(MEMBERS)
+        write_json(folder, "replayed", {"ports": ports})
+        tunnels = [Tunnel(ports[own], recorded=text) for own, text in recorded.items()]
+        for tunnel in tunnels:
+            stack.callback(tunnel.close)
+        node = Node(1, folder, "replayed", ["--dials", "always"])
+        stack.callback(node.kill)
+        yield node, tunnels
+
+
+def test_what_was_recorded_of_a_group_opens_nothing_of_the_next():
+    """The same members, secrets and openings, and another `group`. With the first group's keys it is settled again."""
+    with set_up() as folder:
+        os.symlink("group.json", os.path.join(folder, "genesis"))
+        recorded = recorded_group(folder)
+        with replayed(folder, recorded) as (node, _):
+            until(node.front, [1, 0, 0, 0], of="the front of member 1 in a group with the same keys")
+        group = json.loads(read(folder, "group.json"))
+        put(folder, "next.json", json.dumps({**group, "group": f"{1:064x}"}))
+        write_keys(folder, 1, "next.json")
+        with replayed(folder, recorded) as (node, tunnels):
+            until(lambda: [it.left > 0 for it in tunnels], [True] * 3, of="whether the node left each tunnel")
+            same((node.front(), node.news()), ([0, 0, 0, 0], []), "what is settled of it, and met")

@@ -1,0 +1,163 @@
+"""Black-box tests of refused memory and broken devices: each growth, each read and each write of a run in its turn.
+
+Where there is no C compiler to make the library that refuses, these tests fail.
+"""
+
+import os
+
+import audits
+import desks
+from frames import SEND, frame
+from hostile import MEMORY, MOST_READS, MOST_TRIES
+from nodes import free_ports, write_json
+from runs import EXAMPLE_GENESIS, GENESIS, TOP, example_keys, key_texts, run, same
+from scripts import WORKED, script_of
+
+def streams():
+    """Words of a command and its input."""
+    files = ["--genesis", EXAMPLE_GENESIS, "--keys", example_keys(1)]
+    with open(os.path.join(TOP, "examples", "frames.bin"), "rb") as frames:
+        yield ["check", *files], frames.read()
+    for name, world, commands, _, _ in WORKED:
+        if name in ("plain payment", "split vote settles", "circular debts", "a forged frame", "no such command"):
+            yield ["sim"], script_of(world, commands)
+    lines = "".join(f"{line}\n" for line, _ in desks.EXCHANGE).encode()
+    yield ["desk", "--genesis", EXAMPLE_GENESIS, "--keys", example_keys(0)], lines
+
+
+def test_each_growth_refused(library):
+    """Memory is the answer, or that with ample memory; what was written is a prefix of it."""
+    for words, stream in streams():
+        if words[0] == "desk":
+            continue
+        ample = run(words, stream)
+        for place, was in library.each(words, stream, "growth"):
+            if was != ample:
+                status, text, errors = was
+                same((status, MEMORY.fullmatch(errors) is not None), (3, True), f"{words}, growth {place}: {was}")
+                same(ample[1].startswith(text), True, f"{words}, growth {place}: a prefix")
+
+
+def test_each_growth_of_an_audit_refused(library):
+    for place, (_, exports, line) in enumerate(audits.ROWS[:8]):
+        names = []
+        for number, export in enumerate(exports):
+            names.append(f"{place}-{number}.json")
+            write_json(library.place.name, names[-1], export)
+        status, all_lines = 0 if line == "clean" else 1, audits.findings(list(zip(names, exports)))
+        for words, lines in ((["--jobs", "1"], [line]), (["--all"], all_lines)):
+            ample = (status, "".join(f"{it}\n" for it in lines), "")
+            for growth, was in library.each(["audit", *words, *names], b"", "growth"):
+                refused = was[:2] == (3, "") and MEMORY.fullmatch(was[2]) is not None
+                same(was == ample or refused, True, f"{line}, {words}, growth {growth}: {was}")
+
+
+def test_each_growth_of_a_desk_refused(library):
+    """A line that is refused memory changes nothing: given again, it has its answer, and no payment is lost."""
+    words = ["desk", "--genesis", EXAMPLE_GENESIS, "--keys", example_keys(0)]
+    lines = [line for line, _ in desks.EXCHANGE for _ in range(2)]
+    stream = "".join(f"{line}\n" for line in lines).encode()
+    model = desks.Desk(0, GENESIS["opening"])
+    ample = [model.answer(line.encode()) for line in lines]
+    refusals = 0
+    for place, (status, text, errors) in library.each(words, stream, "growth"):
+        if status == 3:
+            same(MEMORY.fullmatch(errors) is not None, True, f"growth {place}: {errors}")
+            same("".join(f"{it}\n" for it in ample).startswith(text), True, f"growth {place}: a prefix")
+            continue
+        answers = text.splitlines()
+        same(len(answers), len(ample), f"growth {place}: the lines answered")
+        differ = [it for it, (answer, wanted) in enumerate(zip(answers, ample)) if answer != wanted]
+        same((status, errors, len(differ) <= 1), (0, "", True), f"growth {place}: lines {differ}")
+        for it in differ:
+            same(answers[it], "refused 0 Memory", f"growth {place}: {lines[it]}")
+            refusals += 1
+    same(refusals > 10, True, f"{refusals} lines were refused memory")
+
+
+def test_each_growth_of_a_node_refused(library):
+    """A node without peers, whose threads grow in any order: nothing but its answers, its export, and Memory."""
+    genesis = {"members": 4, "faults": 1, "opening": GENESIS["opening"]}
+    write_json(library.place.name, "g", genesis)
+    write_json(library.place.name, "k", {"own": 0, "keys": key_texts(0)})
+    write_json(library.place.name, "p", {"ports": free_ports(4)})
+    words = ["node", "--genesis", "g", "--keys", "k", "--ports", "p"]
+    lines = ["PAY 7 1 30", "PAY 7 1 30", "FRONT"]
+    stream = "".join(f"{line}\n" for line in lines).encode()
+    ample = run_ample(library, words, stream)
+    same(ample[0], 0, f"{ample}")
+    unjudged = 0
+    for place in range(1, 400):
+        (status, text, errors), was_refused = library.run(words, stream, growth=place)
+        if not was_refused:
+            same(unjudged > 0, True, "no growth of the close was refused")
+            return
+        library.refused["node growth"] += 1
+        of = f"growth {place}: {status} {text} {errors}"
+        if errors == "payd: close 0 Memory\n":
+            # (what was answered isn't judged, and the export is written all the same)
+            unjudged += 1
+            same((status, text), (3, ample[1]), of)
+        elif status == 0:
+            *answers, export = text.splitlines()
+            same(len(answers), len(lines), of)
+            for answer, wanted in zip(answers, ample[1].splitlines()):
+                same(answer in (wanted, "refused 0 Memory"), True, of)
+            paid = "asked 7 seq 0" in answers
+            same((export.startswith("{"), errors), (True, ""), of)
+            same(answers[0] == "refused 0 Memory" or paid, True, of)
+        else:
+            # (only on the way: a node that has answered all its lines writes its export without memory)
+            same((status, MEMORY.fullmatch(errors) is not None), (3, True), of)
+            same(len(text.splitlines()) < len(lines), True, of)
+    raise AssertionError("no end of growths")
+
+
+def run_ample(library, words, stream):
+    return library.run(words, stream)[0]
+
+
+def test_each_read_fails(library):
+    for words, stream in streams():
+        ample = run(words, stream)
+        for size in (len(stream), 40):
+            # (a script or a stream may end before its input does, and a read that it doesn't make can't fail)
+            for place, was in library.each(words, stream, "read", read_size=size):
+                status, text, errors = was
+                same((status, errors), (3, "payd: engine 2 Read\n"), f"{words}, read {place}: {was}")
+                same(ample[1].startswith(text), True, f"{words}, read {place}: a prefix")
+
+
+def test_an_interrupted_read_is_tried_again(library):
+    for words, stream in streams():
+        ample = run(words, stream)
+        for times, wanted in ((MOST_TRIES - 1, ample), (MOST_TRIES, (3, "", "payd: engine 2 Read\n"))):
+            same(library.run(words, stream, interrupted=times)[0], wanted, f"{words}, interrupted {times} times")
+
+
+def test_each_write_fails_or_takes_nothing(library):
+    for words, stream in streams():
+        ample = run(words, stream)
+        for more in ({}, {"write_takes_nothing": 1}, {"write_size": 30}):
+            for place, was in library.each(words, stream, "write", **more):
+                status, text, errors = was
+                same((status, errors), (3, "payd: engine 3 Write\n"), f"{words}, write {place} {more}: {was}")
+                same(ample[1].startswith(text), True, f"{words}, write {place}: a prefix")
+
+
+def test_a_byte_at_a_time(library):
+    for words, stream in streams():
+        ample = run(words, stream)
+        for name in ("read_size", "write_size"):
+            same(library.run(words, stream, **{name: 1})[0], ample, f"{words}, {name} 1")
+
+
+def test_reads_have_a_bound(library):
+    """A frame over and over, a byte a read: a million reads, and the lines of as many frames."""
+    bad_tag = frame(SEND, 0, 1, 0)[:-32] + bytes(32)
+    whole = MOST_READS // len(bad_tag)
+    stream = (whole + 2) * bad_tag
+    (status, text, errors), _ = library.run(["check"], stream, read_size=1)
+    same((status, errors), (3, "payd: engine 4 Bound\n"), "the end")
+    lines = "".join(f"{place} refused 4 BadTag\n" for place in range(1, whole + 1))
+    same((whole, lines.startswith(text)), (17_857, True), f"{len(text)} bytes of its text")

@@ -1,0 +1,421 @@
+"""Black-box tests of nodes whose members live in folders: killed at any moment, and started again with the same words.
+
+What a log has to have is written down in tests/models/logs.py. tests/kills kills more often, and damages each bit.
+"""
+
+import hashlib
+import os
+import random
+import re
+import resource
+import signal
+import struct
+import subprocess
+from collections import Counter
+
+from frames import SEND, frame, payment
+from damaged_logs import OPENING, bits, cuts, export, made_folder, read
+from logs import HEADER_LEN, QUERY, Log
+from nodes import IN_MEMORY, export_text, free_ports, started, until, write_json
+from peers import Liar, Strangers, connected, received
+from restarts import NEW, Folders, killed_and_started_again, told
+from runs import GENESIS, SECONDS, key_texts, payd, same, shows, with_files
+
+FRESH = [[], [], [], []]
+DISK, HELD = "payd: log 1 Disk\n", "payd: log 2 Held\n"
+UNWRITTEN = "payd: engine 3 Write\n"
+REFUSED = re.compile("payd: (log|engine|genesis|keys|ports|close) 0 Memory\n|error: .*memory.*\n", re.DOTALL)
+
+# ---- killed and started again
+
+
+def test_members_of_four_are_killed():
+    payments, starts = killed_and_started_again(4, kills=60, seed=1)
+    print(f"{payments} payments, {starts} starts behind a kill")
+
+
+def test_members_of_seven_are_killed():
+    payments, starts = killed_and_started_again(7, kills=40, seed=2)
+    print(f"{payments} payments, {starts} starts behind a kill")
+
+
+def test_a_member_goes_on_where_it_was():
+    """Its own payments, those of others, and what the export says; a line given again has its old answer."""
+    with Folders(OPENING) as group:
+        group.pay(0, 7, payee=1, amount=30, seq=0)
+        group.pay(3, 7, payee=0, amount=20, seq=0)
+        group.settle([1, 0, 0, 1], [90, 30, 0, 30])
+        for own in range(4):
+            group.kill(own)
+        for own in range(4):
+            group.start(own)
+        same(group.nodes[0].ask("PAY 7 1 30"), "asked 7 seq 0", "the line given again")
+        same(group.nodes[0].ask("PAY 7 1 31"), "refused 4 IdUsed", "the id with another amount")
+        group.settle([1, 0, 0, 1], [90, 30, 0, 30])
+        group.pay(0, 8, payee=2, amount=5, seq=1)
+        group.settle([2, 0, 0, 1], [85, 30, 5, 30])
+        same(group.nodes[1].statement(0), ["out 0 to 1 30", "out 1 to 2 5", "in 3 0 20", "end 0 balance 85"], "it")
+        exports = group.stop()
+        lists = [[payment(1, 30).hex(), payment(2, 5).hex()], [], [], [payment(0, 20).hex()]]
+        for own, text in exports.items():
+            same(text, export_text(own, OPENING, lists, [2, 0, 0, 1], [85, 30, 5, 30]), f"the export of {own}")
+            shows(export(group.place.name, own), 0, text, of=f"the export of the folder of {own}")
+
+
+def test_a_node_says_what_its_log_has():
+    with Folders(OPENING, running=[0]) as group:
+        for line in ("PAY 7 1 30", "PAY 8 1 30", "FRONT", "BALANCE 2"):
+            group.nodes[0].ask(line)
+        same(group.nodes[0].stop()[2], NEW, "a new folder")
+        entries = len(Log(GENESIS, 0).records(group.log(0)))
+        same(entries >= 2, True, f"{entries} entries of two payments")
+        group.start(0)
+        said = group.nodes[0].stop()
+        again = f"payd: log: {entries} entries of 0 payments, started again\n"
+        same((said[0], said[2]), (0, again), "the folder again")
+
+
+def test_a_node_says_who_it_is_and_that_it_is_in_memory_alone():
+    with Folders(OPENING, running=[]) as group:
+        words = ["node", "--genesis", "genesis", "--keys", "keys-0", "--ports", "ports"]
+        how = {"input": b"", "cwd": group.place.name, "capture_output": True, "timeout": SECONDS}
+        done = subprocess.run([payd(), *words], **how)
+        digest = hashlib.sha256(struct.pack(">HH4Q", 4, 1, *OPENING)).hexdigest()
+        line = f"payd: member 0 of 4, genesis {digest[:8]}, port {group.ports[0]}\n"
+        same((done.returncode, done.stderr.decode()), (0, line + IN_MEMORY), "it")
+        same(sorted(os.listdir(group.place.name)), ["genesis", *(f"keys-{own}" for own in range(4)), "ports"], "files")
+
+
+def test_a_node_stays():
+    """At the end of its lines, with a folder, until it is killed; without one it can't."""
+    with Folders(OPENING, running=[]) as group:
+        for own in range(4):
+            group.start(own, options=["--stay"] if own == 3 else [])
+        group.pay(3, 1, payee=0, amount=20, seq=0)
+        group.nodes[3].child.stdin.close()
+        group.pay(0, 1, payee=1, amount=110, seq=0)
+        for own in range(3):
+            until(group.nodes[own].front, [1, 0, 0, 1], of=f"the front at {own}")
+        same(group.nodes[3].child.poll(), None, "the status of a node that stays")
+        group.nodes[3].child.stdin = None
+        group.kill(3)
+        group.start(3)
+        group.settle([1, 0, 0, 1], [10, 110, 0, 30])
+        group.stop()
+    files = {"g": GENESIS, "k": {"own": 0, "keys": key_texts(0)}, "p": {"ports": free_ports(4)}}
+    words = ["node", "--genesis", "g", "--keys", "k", "--ports", "p", "--stay"]
+    shows(with_files(files, words), 2, "", "payd: stay: only with --data\n")
+
+
+# ---- folders
+
+
+def node_on(place, own, folder, text=b"", **how):
+    """What a node without peers does with a folder."""
+    words = ["--genesis", "genesis", "--keys", f"keys-{own}", "--ports", "ports", "--data", folder]
+    how = {"input": text, "cwd": place, "capture_output": True, "timeout": SECONDS, **how}
+    done = subprocess.run([payd(), "node", *words], **how)
+    return done.returncode, done.stdout.decode("ascii"), started(done.stderr.decode())
+
+
+def test_one_node_has_a_folder():
+    with Folders(OPENING, running=[0]) as group:
+        group.pay(0, 7, payee=1, amount=30, seq=0)
+        shows(node_on(group.place.name, 0, "data-0"), 3, "", HELD, of="another node")
+        shows(export(group.place.name, 0), 3, "", HELD, of="an export of a held folder")
+        group.pay(0, 8, payee=1, amount=30, seq=1)
+        group.kill(0)
+        text = export_text(0, OPENING, FRESH, [0, 0, 0, 0], OPENING)
+        shows(export(group.place.name, 0), 0, text, of="once it is free")
+
+
+def test_folders_of_others():
+    """A log of another member, of another group, under other keys, or that is none, is left alone."""
+    with Folders(OPENING, running=[0]) as group:
+        place = group.place.name
+        group.pay(0, 7, payee=1, amount=30, seq=0)
+        group.kill(0)
+        log = group.log(0)
+        other = {**GENESIS, "opening": [100, 0, 0, 51]}
+        write_json(place, "other-genesis", other)
+        write_json(place, "other-keys", {"own": 0, "keys": ["", *3 * ["ab" * 32]]})
+        for words, name in (
+            ({"own": 1, "folder": "data-0"}, "Member"),
+            ({"own": 0, "genesis": "other-genesis"}, "Genesis"),
+            ({"own": 0, "keys": "other-keys"}, "Keys"),
+        ):
+            shows(export(place, **words), 2, "", f"payd: log 3 Foreign {name}\n", of=f"{words}")
+        for content, name in ((b"", "NoLog"), (log[: HEADER_LEN - 1], "NoLog"), (b"x" + log[1:], "NoLog"),
+                              (log[:8] + b"\x02" + log[9:], "Version")):
+            made = made_folder(place, "made", content)
+            shows(export(place, 0, "made"), 2, "", f"payd: log 3 Foreign {name}\n", of=f"a file of {content[:9]!r}")
+            shows(node_on(place, 0, "made"), 2, "", f"payd: log 3 Foreign {name}\n", of=f"a node on {content[:9]!r}")
+            same(read(made), content, "the file")
+        for folder in ("away", "empty"):
+            if folder == "empty":
+                os.mkdir(os.path.join(place, folder))
+            shows(export(place, 0, folder), 2, "", "payd: log 3 Foreign NoLog\n", of=f"an export of a folder {folder}")
+        same(os.path.exists(os.path.join(place, "away")), False, "a folder that an export made")
+        write_json(place, os.path.join("empty", "something"), 1)
+        shows(node_on(place, 0, "empty"), 2, "", "payd: log 3 Foreign NoLog\n", of="a folder with something in it")
+        shows(node_on(place, 0, "genesis"), 3, "", DISK, of="a file in place of a folder")
+
+
+def test_killed_while_the_folder_is_made():
+    """A folder with less than a whole log in it is one that was killed at its first start."""
+    with Folders(OPENING, running=[]) as group:
+        header = Log(GENESIS, 0).header()
+        begun = [{"lock": b"", "log.new": header[:length]} for length in (0, 1, 74, 75)]
+        for place, files in enumerate([{}, {"lock": b""}, *begun]):
+            folder = f"made-{place}"
+            os.mkdir(os.path.join(group.place.name, folder), 0o700)
+            for name, content in files.items():
+                with open(os.path.join(group.place.name, folder, name), "wb") as file:
+                    file.write(content)
+            was = node_on(group.place.name, 0, folder)
+            shows(was, 0, export_text(0, OPENING, FRESH, [0, 0, 0, 0], OPENING), NEW, of=f"{files}")
+            same(read(os.path.join(group.place.name, folder, "log")), header, "the new log")
+            same(sorted(os.listdir(os.path.join(group.place.name, folder))), ["lock", "log"], "what is in the folder")
+
+
+# ---- damage
+
+
+def sampled(seeded, cases, share):
+    return ((of, file) for of, file in cases if seeded.random() < share)
+
+
+def test_a_log_cut_anywhere(damage):
+    near = {end + by for end in damage.ends for by in (-1, 0, 1)}
+    for length, (of, file) in enumerate(cuts(damage)):
+        if length in near or length % 17 == 0:
+            damage.judge(file, of)
+
+
+def test_a_log_with_a_bit_turned(damage):
+    for of, file in sampled(random.Random(6), bits(damage), 300 / (8 * len(damage.file))):
+        damage.judge(file, of)
+
+
+def test_a_log_with_chunks_moved(damage):
+    """A chunk left out, doubled, swapped with the next, or put at the end, fits nowhere."""
+    chunks = [damage.file[start:end] for start, end in zip(damage.ends, damage.ends[1:])]
+    header = damage.file[:HEADER_LEN]
+    for place in range(len(chunks) - 1):
+        for name, changed in (
+            ("left out", chunks[:place] + chunks[place + 1 :]),
+            ("doubled", chunks[: place + 1] + chunks[place:]),
+            ("swapped", chunks[:place] + [chunks[place + 1], chunks[place]] + chunks[place + 2 :]),
+        ):
+            damage.judge(header + b"".join(changed), f"chunk {place} {name}")
+    damage.judge(damage.file + chunks[0], "the first chunk at the end once more")
+    damage.judge(damage.file + damage.log.chunk(len(damage.file), b""), "an empty chunk behind the end")
+
+
+def test_a_record_of_another_program(damage):
+    """Chunks that fit, with what this member never had there, name the record; nothing is cut."""
+    records = damage.log.records(damage.file)
+    count = len(records)
+    for payload, of in (
+        (b"\x00", "a kind that isn't one"),
+        (b"\x01\x00\x00", "half a record"),
+        (bytes([QUERY]) + bytes(2) + b"\x00\x03" + bytes(8 + 4 + 4), "a query with another answer"),
+        (bytes([QUERY]) + bytes(2) + b"\x00\x09" + bytes(8 + 4 + 4), "a query for nobody"),
+        (b"\x02" + bytes(7) + frame(SEND, 1, 0, 10**6, owner=1), "a frame out of turn"),
+        (b"\x02" + bytes(7) + frame(SEND, 1, 0, 0, owner=1, key=bytes(32)), "a frame under another key"),
+        (b"\x01" + bytes(2) + bytes(8) + b"\x00\x00\x00\x09" + b"\x00\x00", "an ask with another number"),
+    ):
+        file = damage.file + damage.log.chunk(len(damage.file) - HEADER_LEN, payload)
+        path = made_folder(damage.place, "illegal", file)
+        shows(export(damage.place, 0, "illegal"), 2, "", f"payd: log 5 Illegal {count}\n", of=of)
+        same(read(path), file, f"{of}: the log")
+    twice = b"\x01" + bytes(2) + struct.pack(">QIH", 7, 2, 11) + payment(1, 1)
+    made_folder(damage.place, "twice", damage.file + damage.log.chunk(len(damage.file) - HEADER_LEN, twice))
+    was = node_on(damage.place, 0, "twice")
+    shows(was, 2, "", f"payd: log 5 Illegal {count + 1}\n", of="an id that two payments have")
+
+
+# ---- a disk that fails
+
+
+def with_room(size):
+    """What a child does at its start, so that none of its files gets more bytes than this."""
+
+    def limit():
+        signal.signal(signal.SIGXFSZ, signal.SIG_IGN)
+        resource.setrlimit(resource.RLIMIT_FSIZE, (size, resource.RLIM_INFINITY))
+
+    return limit
+
+
+def without_figures(errors):
+    """What a node says on standard error, except that it can't write its figures either."""
+    return re.sub(r"^payd: \S+/status\.prom can't be written\n", "", errors, flags=re.MULTILINE)
+
+
+LINES = b"".join(b"PAY %d 1 %d\n" % (order, order + 1) for order in range(12))
+ANSWERS = "".join(f"asked {order} seq {order}\n" for order in range(12))
+
+
+def test_a_full_disk_that_gets_room_again():
+    """With room for each number of bytes: what was answered is there again, and nothing is paid twice."""
+    with Folders(OPENING, running=[]) as group:
+        place = group.place.name
+        wanted = ANSWERS + export_text(0, OPENING, FRESH, [0, 0, 0, 0], OPENING)
+        shows(node_on(place, 0, "ample", LINES), 0, wanted, NEW, of="room for all")
+        whole = len(read(os.path.join(place, "ample", "log")))
+        for size in sorted({0, 1, 74, 75, 76, *range(80, whole + 40, 23)}):
+            made = os.path.join(place, f"room-{size}")
+            status, output, errors = node_on(place, 0, f"room-{size}", LINES, preexec_fn=with_room(size))
+            of = f"room for {size} of {whole} bytes: {(status, output, errors)}"
+            if size < HEADER_LEN:
+                same((status, output, errors), (3, "", DISK), of)
+            elif status != 0:
+                same((status, without_figures(errors)), (3, NEW + DISK + UNWRITTEN), of)
+                same(ANSWERS.startswith(output) and output[-1:] in ("", "\n"), True, of)
+            kept = Log(GENESIS, 0).member(read(os.path.join(made, "log")))[1] if size >= HEADER_LEN else []
+            same(kept[: output.count("\n")], list(range(min(output.count("\n"), 12))), f"{of}: what was answered")
+            # (asked for the other way round, so that what isn't kept gets another number)
+            back = b"".join(reversed(LINES.splitlines(keepends=True)))
+            answers = node_on(place, 0, f"room-{size}", back)[1].splitlines()[:12]
+            numbers = [*kept, *range(11, len(kept) - 1, -1)]
+            due = [f"asked {order} seq {numbers.index(order)}" for order in range(11, -1, -1)]
+            same(answers, due, f"{of}: with room again")
+
+
+def test_nothing_leaves_that_is_not_kept():
+    """A peer gets no frame of a payment for which there is no room, and no answer of it comes out."""
+    with Folders(OPENING, running=[]) as group, Strangers(1, 0, group.ports[0]) as strangers:
+        words = ["--genesis", "genesis", "--keys", "keys-0", "--ports", "ports", "--data", "full"]
+        child = subprocess.Popen(
+            [payd(), "node", *words], cwd=group.place.name, stdin=subprocess.PIPE, stdout=subprocess.PIPE,
+            stderr=subprocess.PIPE, preexec_fn=with_room(HEADER_LEN), bufsize=0,
+        )
+        try:
+            until(lambda: is_there(group.ports[0]), True, of="whether the node listens")
+            stream = strangers.dial()
+            stream.sendall(strangers.want(0))
+            output, errors = child.communicate(b"PAY 7 1 30\n", timeout=SECONDS)
+            news = told(without_figures(errors.decode()))[1].splitlines()
+            same((child.returncode, output), (3, b""), f"a node without room: {errors}")
+            same([line for line in news if "peer" not in line], ["payd: log 1 Disk", "payd: engine 3 Write"], "it says")
+            same(received(stream), None, "what a peer was told")
+        finally:
+            child.kill()
+            child.wait()
+
+
+def is_there(port):
+    try:
+        connected(port).close()
+    except OSError:
+        return False
+    return True
+
+
+def words_in(library):
+    """The words of a node whose files stand beside the library, up to its folder."""
+    write_json(library.place.name, "genesis", GENESIS)
+    write_json(library.place.name, "keys", {"own": 0, "keys": key_texts(0)})
+    write_json(library.place.name, "ports", {"ports": free_ports(4)})
+    return ["node", "--genesis", "genesis", "--keys", "keys", "--ports", "ports", "--data"]
+
+
+def with_a_fault(library, name, **more):
+    """A run for each call of this kind, each with one failed: what was answered is kept, once the node is started
+    again, and each id is asked for once. (Some three lines are read at once.)"""
+    words = words_in(library)
+    kinds = Counter()
+    for place in range(1, 1000):
+        folder = f"{name}-{place}-{more.get('placed_size', 0)}"
+        given = {name: place, "read_size": 40, **more}
+        (status, output, errors), was_refused = library.run([*words, folder], LINES, **given)
+        if not was_refused:
+            same((status, place > 3), (0, True), f"{kinds} of {name}, and then {(status, output, errors)}")
+            return
+        of = f"{name} {place} {more}: {(status, output, errors)}"
+        kinds[(status, errors)] += 1
+        same((status, errors) in ((3, DISK), (3, NEW + DISK + UNWRITTEN)), True, of)
+        same(ANSWERS.startswith(output) and output[-1:] in ("", "\n"), True, of)
+        status, again, errors = library.run([*words, folder], LINES)[0]
+        same((status, again.startswith(ANSWERS), told(errors)[1]), (0, True, ""), f"{of}, and then {(again, errors)}")
+        library.refused[f"node --data {name}"] += 1
+
+
+def test_each_sync_fails(library):
+    with_a_fault(library, "sync")
+
+
+def test_each_write_of_a_log_fails(library):
+    for more in ({}, {"placed_size": 1}, {"placed_size": 50}):
+        with_a_fault(library, "placed", **more)
+
+
+def test_each_growth_of_a_kept_node_refused(library):
+    """In a folder that is there, and in new ones: nothing but its answers, its export and what says that memory was
+    refused. Where that ended it, it has all that it answered once it is started again."""
+    words = words_in(library)
+    lines = LINES.splitlines(keepends=True)[:3]
+    wanted = ANSWERS.splitlines()[:3]
+    same(library.run([*words, "kept"], b"".join(lines))[0][0], 0, "ample memory")
+    for of in ("kept", "new"):
+        for place in range(1, 1000):
+            folder = of if of == "kept" else f"new-{place}"
+            (status, text, errors), was_refused = library.run([*words, folder], b"".join(lines), growth=place)
+            of_run = f"{folder}, growth {place}: {(status, text, errors)}"
+            answers = text.splitlines()[:3]
+            said = told(without_figures(errors))[1]
+            if not was_refused:
+                same((status, answers, place > 50), (0, wanted, True), of_run)
+                break
+            library.refused[f"node --data {of} growth"] += 1
+            same(status == 3 or said == "", True, of_run)
+            same(status == 0 or said == UNWRITTEN or REFUSED.fullmatch(said) is not None, True, of_run)
+            asked = [order for order, it in enumerate(answers) if it != "refused 0 Memory"]
+            due = [wanted[order] if of == "kept" else f"asked {order} seq {seq}" for seq, order in enumerate(asked)]
+            same([answers[order] for order in asked], due, of_run)
+            if status == 0:
+                continue
+            again = library.run([*words, folder], b"".join(reversed(lines)))[0]
+            same(again[0], 0, f"{of_run}, and then {again}")
+            told_again = dict(line.split()[1::2] for line in again[1].splitlines()[:3])
+            kept = [line.split()[1::2] for line in answers if line.startswith("asked")]
+            same([told_again[order] for order, _ in kept], [seq for _, seq in kept], f"{of_run}, and then {again}")
+
+
+# ---- what was said before
+
+
+def test_old_messages_are_the_same():
+    """Each frame that a peer took before a kill is the same when it asks again; one that a peer sent again, otherwise,
+    is not taken."""
+    honest, lie = payment(payee=0, amount=5), payment(payee=0, amount=6)
+    first = [(SEND, 3, 0, honest)]
+    stories = {0: [first], 1: [first], 2: [first]}
+    with Folders(OPENING, running=[0, 1, 2]) as group, Liar(3, group.ports[3], stories) as liar:
+        for order in range(5):
+            group.pay(0, order, payee=1, amount=order + 1, seq=order)
+        group.settle([5, 0, 0, 1])
+        with Strangers(3, 0, group.ports[0]) as strangers:
+            before = frames_of(strangers, 12)
+            group.kill(0)
+            liar.stories = {peer: [[(SEND, 3, 0, lie)]] for peer in stories}
+            liar.turns = {peer: 0 for peer in stories}
+            group.start(0)
+            same(group.nodes[0].front(), [5, 0, 0, 1], "the front behind a start")
+            same(frames_of(strangers, 12), before, "what was said once more")
+        group.pay(0, 5, payee=1, amount=6, seq=5)
+        group.settle([6, 0, 0, 1])
+        lists = [[payment(1, order + 1).hex() for order in range(6)], [], [], [honest.hex()]]
+        text = export_text(0, OPENING, lists, [6, 0, 0, 1], [84, 21, 0, 45])
+        same(group.stop()[0], text, "the export")
+
+
+def frames_of(strangers, count):
+    """The first frames of a member, as it tells them to this one."""
+    stream, found = strangers.dial(), []
+    for number in range(count):
+        stream.sendall(strangers.want(number))
+        found.append(received(stream))
+    stream.close()
+    return found

@@ -1,0 +1,164 @@
+"""Black-box tests of scripts that `payd sim` plays."""
+
+import os
+import random
+
+from frames import ECHO, SEND, frame, payment
+from model import MOST_MEMBERS, play
+from runs import TOP, run, run_byte_by_byte, same, shows
+from scripts import FOUR_ONE_LIAR, LONG, WORKED, RandomScripts, script_of, world_of
+
+LIMIT = 1_000_000
+
+
+def sim(script, of):
+    """A script that is played prints what the model prints, and nothing on standard error."""
+    text, status = play(script)
+    shows(run(["sim"], script), status, text, of=of)
+
+
+def text_of(lines):
+    return "".join(f"{line}\n" for line in lines)
+
+
+def test_worked_scripts_are_played():
+    for name, world, commands, lines, status in WORKED + LONG:
+        shows(run(["sim"], script_of(world, commands)), status, text_of(lines), of=name)
+
+
+def test_model_plays_worked_scripts():
+    for name, world, commands, lines, status in WORKED:
+        same(play(script_of(world, commands)), (text_of(lines), status), name)
+
+
+def test_random_scripts_as_the_model_plays_them():
+    for seed in range(150):
+        sim(RandomScripts(seed).script(), of=f"random script {seed}")
+
+
+def test_examples_of_scripts():
+    for name, status in (("honest-day", 0), ("split-votes", 1), ("circular-debts", 0)):
+        with open(os.path.join(TOP, "examples", f"{name}.txt"), "rb") as script:
+            lines = script.read()
+        with open(os.path.join(TOP, "examples", f"{name}-answers.txt"), encoding="ascii") as answers:
+            text = answers.read()
+        shows(run(["sim"], lines), status, text, of=name)
+        same(play(lines), (text, status), f"the model of {name}")
+
+
+def voted(commands, last):
+    """These frames, of which the last makes something known."""
+    return [(it, "took") for it in commands[:-1]] + [(it, f"took {last}") for it in commands[-1:]]
+
+
+def thresholds(members, faults):
+    """A payment of member 0, of whose votes one after the other is brought, and what comes of each.
+
+    The last member takes only the READYs of others, and the ECHOs that come before these, and so is READY by them.
+    """
+    quorum, settles = (members + faults) // 2 + 1, "deliver settle 1"
+    others = range(1, members - 1)
+    yield "ask 0 1 5", "asked 0 seq 0"
+    for member in others:
+        yield f"bring 0 {member} 0", "took echo"
+    # with its own ECHO a quorum; with its own READY as many as deliver, where nobody lies
+    quorum_said = "ready" if faults else f"ready {settles}"
+    yield from voted([f"bring {it} 0 0" for it in others[: quorum - 1]], quorum_said)
+    senders = others[: max(2 * faults, 1)]
+    for member in senders:
+        echoes = [f"bring {it} {member} {0 if it else 1}" for it in (0, *others) if it != member]
+        yield from voted(echoes[: quorum - 1], quorum_said)
+    for heard, member in enumerate(senders, 1):
+        amplified, delivered = heard == faults + 1, heard == len(senders)
+        yield f"bring {member} {members - 1} 0", "took"
+        said = ["took", *["ready"] * amplified, *[settles] * delivered]
+        yield f"bring {member} {members - 1} 1", " ".join(said)
+
+
+def test_thresholds_of_each_size():
+    """A quorum of ECHOs, more than f READYs and more than 2f of them, in groups of each size."""
+    for members in range(3, MOST_MEMBERS + 1):
+        most = (members - 1) // 3
+        for faults in range(most + 1) if members < 20 else (0, most):
+            commands, lines = zip(*thresholds(members, faults))
+            world = world_of(faults, 5, *[0] * (members - 1))
+            shows(run(["sim"], script_of(world, commands)), 0, text_of(lines), of=f"{members} members, {faults} liars")
+
+
+def with_a_bit_turned(frame):
+    """The frame with each of its bits turned, one at a time."""
+    number = int.from_bytes(frame, "big")
+    return [(number ^ 1 << bit).to_bytes(len(frame), "big") for bit in range(8 * len(frame))]
+
+
+def test_each_bit_turned():
+    sent = [frame(kind, 0, 1, number, value=payment(1, 30)) for number, kind in enumerate([SEND, ECHO])]
+    for place, right in enumerate(sent):
+        before = ["ask 0 1 30", *(f"raw 1 {it.hex()}" for it in sent[:place])]
+        turned = [f"raw 1 {it.hex()}" for it in with_a_bit_turned(right)]
+        script = script_of(FOUR_ONE_LIAR, [*before, *turned, f"raw 1 {right.hex()}", "all", "show"])
+        sim(script, of=f"frame {place}, each bit turned")
+        replies = run(["sim"], script)[1].splitlines()[len(before) :]
+        taken = [place for place, reply in enumerate(replies[: len(turned)]) if not reply.startswith("refused ")]
+        same((taken, replies[len(turned)].startswith("took")), ([], True), f"frame {place}, and as it is")
+
+
+def test_script_in_pieces():
+    script = script_of(FOUR_ONE_LIAR, ["ask 0 1 30", "", "all", "show"])
+    wanted = run(["sim"], script)
+    same(run_byte_by_byte(script, ["sim"]), wanted, "byte by byte")
+    same(run(["sim"], script[:-1]), wanted, "the last line without its end")
+
+
+def test_script_cut_at_every_place():
+    script = script_of(FOUR_ONE_LIAR, ["ask 0 1 30", "bring 0 1 0", "raw 1 00"])
+    for size in range(len(script)):
+        sim(script[:size], of=f"the first {size} bytes")
+
+
+def test_script_with_one_byte_changed():
+    script = script_of(FOUR_ONE_LIAR, ["ask 0 1 30", "bring 0 1 0", "all", "show"])
+    seeded = random.Random(17)
+    for place in range(0, len(script), 2):
+        changed = bytearray(script)
+        changed[place] = seeded.choice(b" 0129\n\r-{}[],:\"ask\x00\xff")
+        sim(bytes(changed), of=f"byte {place} is {changed[place]}")
+
+
+def test_lines_of_the_bound():
+    # JSON takes blanks after the group, so that its line can be of any length
+    for size in (4095, 4096, 4097, 8192, 70000):
+        sim(FOUR_ONE_LIAR.encode().ljust(size) + b"\nshow\n", of=f"a first line of {size} bytes")
+        for line in (b"raw 0 " + b"00" * 4096, b"show", b""):
+            sim(FOUR_ONE_LIAR.encode() + b"\n" + line[:size].ljust(size, b"0"), of=f"a line of {size} bytes")
+
+
+def test_no_more_than_a_million_events():
+    script = script_of(FOUR_ONE_LIAR, ["raw 9 -"] * LIMIT + ["show", "bring 0 1 0", "", "all"])
+    shown = text_of(f"member {it} fronts 0 0 0 0 balances 100 0 0 50" for it in range(3))
+    text = LIMIT * "ignored\n" + shown + "absent\nbrought 0\nconverged\n"
+    shows(run(["sim"], script), 0, text, of="a million events")
+    for line, last, status in (
+        ("raw 9 -", "limit", 3),
+        ("lie 0 1 next send 0 0 -", "limit", 3),
+        ("ask 0 1 30", "limit", 3),
+        ("raw 9", f"bad line {LIMIT + 6}", 2),
+    ):
+        shows(run(["sim"], script + f"{line}\n".encode()), status, f"{text}{last}\n", of=line)
+
+
+def test_all_that_meets_the_limit():
+    script = script_of(FOUR_ONE_LIAR, ["ask 0 1 30", *["raw 9 -"] * (LIMIT - 14), "all", "show"])
+    text = text_of(["asked 0 seq 0", *["ignored"] * (LIMIT - 14), "limit"])
+    shows(run(["sim"], script), 3, text, of="a frame too many")
+    script = script_of(FOUR_ONE_LIAR, ["ask 0 1 30", *["raw 9 -"] * (LIMIT - 15), "all"])
+    text = text_of(["asked 0 seq 0", *["ignored"] * (LIMIT - 15), "brought 14", "converged"])
+    shows(run(["sim"], script), 0, text, of="just as many frames")
+
+
+def test_words_of_scripts():
+    status, output, errors = run(["sim", "--help"])
+    same((status, errors, "converged" in output), (0, "", True), "help")
+    for words in (["sim", "fly"], ["sim", "--genesis", "g"], ["sims"]):
+        status, output, errors = run(words)
+        same((status, output, errors != ""), (2, "", True), f"{words}")

@@ -1,0 +1,91 @@
+"""Whether the Python files keep to the rules in pyproject.toml, as far as what is at hand can tell."""
+
+import ast
+import os
+import re
+import shutil
+import subprocess
+
+import pytest
+from runs import SECONDS, TOP, same
+
+OF_TESTS = (f"tests/{it}" for it in ("fallback", "models", "mutants", "support"))
+FOLDERS = (".", "bench", "examples", "tests", *OF_TESTS, "tools")
+LONGEST = 120
+LINTERS = "ruff", "pyflakes3", "pyflakes"
+
+# The oldest Python that the program's scripts run with; of what it doesn't have, what is likely to be called; and the
+# scripts, with what they import of tests/.
+OLDEST = (3, 8)
+NEWER = re.compile(
+    r"\.(?:removeprefix|removesuffix|randbytes|waitstatus_to_exitcode)\(|\bfunctools\.cache\b|, strict="
+)
+OF_PROGRAM = ("examples/", "payd-prove", "tests/models/", "tests/support/runs.py", "tools/")
+
+
+def is_python(path):
+    with open(path, "rb") as file:
+        return path.endswith(".py") or file.readline().startswith(b"#!/usr/bin/env python3")
+
+
+def python_files():
+    for folder in FOLDERS:
+        paths = (os.path.join(TOP, folder, it) for it in sorted(os.listdir(os.path.join(TOP, folder))))
+        yield from (os.path.normpath(it) for it in paths if os.path.isfile(it) and is_python(it))
+
+
+def faults_of(path):
+    """The lines of a file that break a rule which needs no linter."""
+    with open(path, encoding="utf-8") as file:
+        text = file.read()
+    for number, line in enumerate(text.splitlines(), 1):
+        if len(line) > LONGEST or line != line.rstrip() or "\t" in line:
+            yield f"{os.path.relpath(path, TOP)}:{number}"
+    if not text.endswith("\n") or text.endswith("\n\n"):
+        yield f"{os.path.relpath(path, TOP)}: its end"
+
+
+def test_lines_keep_their_length():
+    same([it for path in python_files() for it in faults_of(path)], [], f"lines longer than {LONGEST}, tabs, spaces")
+
+
+def test_oldest_python_reads_all_files():
+    for path in python_files():
+        with open(path, encoding="utf-8") as file:
+            text, name = file.read(), os.path.relpath(path, TOP)
+        try:
+            ast.parse(text, feature_version=OLDEST)
+        except SyntaxError as error:
+            raise AssertionError(f"{name}:{error.lineno}: {error.msg}") from error
+        if name.startswith(OF_PROGRAM):
+            same(NEWER.findall(text), [], f"{name}: what Python {OLDEST} doesn't have")
+
+
+@pytest.mark.needs(*LINTERS)
+def test_linter_finds_nothing():
+    """By ruff with the rules of pyproject.toml, else by pyflakes alone."""
+    linter = next(filter(shutil.which, LINTERS))
+    words = [linter, "check", "--no-cache"] if linter == "ruff" else [linter]
+    done = subprocess.run([*words, *python_files()], cwd=TOP, capture_output=True, text=True, timeout=SECONDS)
+    same(done.returncode, 0, f"{linter}: {done.stdout}{done.stderr}")
+
+
+# Lines of Rattle, except attributes, which `rt fmt` keeps on one line, and texts: those of --help, and tests' data.
+LONGEST_OF_RATTLE = 100
+TEXTS = ("crates/pay_cli/src/helps.rt", "crates/pay_library_tests/src/")
+
+
+def long_lines():
+    """The lines of src/ and specs/ that are too long, by their places."""
+    for folder, inner, files in os.walk(os.path.join(TOP, "crates")):
+        inner[:] = [it for it in inner if it not in ("out", "proofs")]
+        for path in (os.path.relpath(os.path.join(folder, it), TOP) for it in files):
+            if path.endswith((".rt", ".antt")) and not path.startswith(TEXTS):
+                with open(os.path.join(TOP, path), encoding="utf-8") as file:
+                    for number, line in enumerate(file, 1):
+                        if len(line.rstrip("\n")) > LONGEST_OF_RATTLE and not line.lstrip().startswith("#["):
+                            yield f"{path}:{number}"
+
+
+def test_lines_of_rattle_keep_their_length():
+    same(sorted(long_lines()), [], f"lines longer than {LONGEST_OF_RATTLE}")
