@@ -13,23 +13,14 @@ use crate::judging::Judged;
 use crate::progress::Progress;
 use crate::turns::push_parts;
 use pay_engine::{FrameHandler, GREATEST_READ};
-use pay_frame::{CUTTER_ROOM, FrameFault, FrameRef, frame_sizes};
+use pay_frame::{FrameFault, FrameRef, frame_sizes};
 use pay_hmac::Tagger;
 use std::alloc::{AllocError, Global};
 use std::marker::Model;
 use std::mem;
 
-/// How many bytes are judged as one part at least.
-const LEAST_PART: usize = 1 << 14;
-
-/// How many parts there are for each thread at most, so that one that has to wait for a processor
-/// has fewer.
-const PARTS_OF_ONE: usize = 4;
-
-/// In how many parts so many bytes are judged by so many threads.
-pub(crate) fn parts_of(jobs: usize, bytes: usize) -> usize {
-    jobs.saturating_mul(PARTS_OF_ONE).min(bytes / LEAST_PART)
-}
+/// How many bytes a thread judges at least. Fewer take no longer than to start it.
+pub(crate) const LEAST_PART: usize = 24 << 10;
 
 /// What `check` knows between two lines, and the memory that threads write to.
 #[derive(Drop)]
@@ -62,7 +53,6 @@ impl Shared {
 /// starts.
 #[derive(Drop)]
 pub(crate) struct OverCores<'a, T, F> {
-    pub(crate) jobs: usize,
     pub(crate) judge: &'a F,
     pub(crate) checking: Checking<'a, T>,
 }
@@ -91,13 +81,9 @@ where
         usize::MAX
     }
 
-    // One thread reads no more than it always did; several need more to share.
+    // As much as there may be, so that there is something to share.
     fn buffer_size(&self) -> usize {
-        if self.jobs > 1 {
-            GREATEST_READ
-        } else {
-            CUTTER_ROOM
-        }
+        GREATEST_READ
     }
 
     fn handle(
@@ -120,16 +106,23 @@ where
     ) -> Result<bool, AllocError> {
         // a law that the proof stands on: the call does nothing
         frame_sizes();
-        if self.jobs < 2 || frames.len() < 2 * LEAST_PART {
+        if frames.len() < 2 * LEAST_PART {
             return self
                 .checking
                 .handle_batch(alloc, &mut shared.progress, frames, out);
         }
         let before = mem::replace(&mut shared.judged, Vec::new(alloc));
-        let judged = (self.judge)(frames, before)?;
-        push_parts(out, &mut shared.progress, judged.as_slice())?;
-        shared.judged = judged;
-        Ok(true)
+        match (self.judge)(frames, before) {
+            Ok(judged) => {
+                push_parts(out, &mut shared.progress, judged.as_slice())?;
+                shared.judged = judged;
+                Ok(true)
+            }
+            // they may still be judged one by one, which takes less memory
+            Err(_) => self
+                .checking
+                .handle_batch(alloc, &mut shared.progress, frames, out),
+        }
     }
 
     fn end(&self, shared: &Shared, fault: FrameFault, out: &mut Vec<u8>) -> Result<(), AllocError> {

@@ -1,14 +1,12 @@
 //! The words of the program, and the engine of its command `check`: a line for each frame of a
-//! stream, judged by several threads.
+//! stream, which several threads may judge.
 //!
 //! ```
 //! let job = job_of(alloc, words.as_slice())?;
-//! let jobs = Jobs { rt: &rt, count: 4 };
-//! run_check(jobs, alloc, &tagger, &genesis, &keys, &mut reader, &mut writer)?;
+//! run_check(alloc, &tagger, &genesis, &keys, &mut reader, &mut writer)?;
 //! ```
 #![tactic(auto)]
 
-mod board;
 mod check;
 mod checking;
 mod cores;
@@ -23,9 +21,8 @@ mod progress;
 mod sharing;
 mod turns;
 mod words;
-mod workers;
 
-pub use check::run_check;
+pub use check::{run_check, run_check_by};
 pub use helps::NOT_UTF8;
 pub use job::{Job, NodeWords, SendWords};
 pub use jobs::Jobs;

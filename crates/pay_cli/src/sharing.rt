@@ -1,6 +1,7 @@
-//! Frames in parts, and what is found of them.
+//! Judging frames by several threads.
 
 ghost use Rattle.std.specs.Prelude.{◌≡◌, ◌++◌, ◌≤◌, List, [], length, IfOk};
+ghost use denote.Param.Send.{IsSync};
 ghost use Rattle.pay_frame.specs.Frame.{FrameFields};
 ghost use Rattle.pay_frame.specs.Stream.{IsFramesThen};
 ghost use Rattle.pay_cli.specs.Findings.{AreHalves, IsCut, JudgesAll};
@@ -10,12 +11,47 @@ use pay_frame::{frame_sizes, read, read_again};
 use pay_hmac::Tagger;
 use pay_link::Keys;
 use std::alloc::{AllocError, Global};
+use std::thread::{Threads, join};
+
+/// Judges the frames that the bytes are, in so many parts, each in a thread of its own where one
+/// can be made. The memory of what was judged before is used again.
+pub(crate) fn judge_parts<R: Threads + Sync, T: Tagger + Sync>(
+    rt: &R,
+    alloc: Global,
+    t: &T,
+    keys: &Keys,
+    frames: &[u8],
+    parts: usize,
+    mut before: Vec<Judged>,
+) -> Result<Vec<Judged>, AllocError>
+    requires whole { (fs : List FrameFields) × IsFramesThen frames.now fs [] }
+    ensures judged { JudgesAll keys.now frames.now result }
+{
+    if parts < 2 {
+        return judge_one(alloc, t, keys, frames, before);
+    }
+    let low = parts / 2;
+    let high = parts - low;
+    let behind = before.split_off(before.len() / 2)?;
+    let (front, back) = split_frames(frames, frames.len() / parts * low);
+    let (first, rest) = join(
+        rt,
+        move || -> Result<Vec<Judged>, AllocError>
+            requires { IsSync R.row × IsSync T.row
+                × ((fs : List FrameFields) × IsFramesThen front.now fs []) }
+            ensures { JudgesAll keys.entry.now front.entry.now result }
+        { judge_parts(rt, alloc, t, keys, front, low, before) },
+        move || -> Result<Vec<Judged>, AllocError>
+            requires { IsSync R.row × IsSync T.row
+                × ((fs : List FrameFields) × IsFramesThen back.now fs []) }
+            ensures { JudgesAll keys.entry.now back.entry.now result }
+        { judge_parts(rt, alloc, t, keys, back, high, behind) },
+    );
+    append_parts(first?, rest?)
+}
 
 /// The parts of some frames and of those that follow.
-pub(crate) fn append_parts(
-    mut first: Vec<Judged>,
-    mut rest: Vec<Judged>,
-) -> Result<Vec<Judged>, AllocError>
+fn append_parts(mut first: Vec<Judged>, mut rest: Vec<Judged>) -> Result<Vec<Judged>, AllocError>
     ensures { IfOk result (λ all. all.items ≡ first.items ++ rest.items) }
 {
     first.append(&mut rest)?;
@@ -23,7 +59,7 @@ pub(crate) fn append_parts(
 }
 
 /// Judges the frames that the bytes are, as one part.
-pub(crate) fn judge_one<T: Tagger>(
+fn judge_one<T: Tagger>(
     alloc: Global,
     t: &T,
     keys: &Keys,
@@ -44,7 +80,7 @@ pub(crate) fn judge_one<T: Tagger>(
 }
 
 /// The frames that end up to about a place, and the others.
-pub(crate) fn split_frames(frames: &[u8], place: usize) -> (&[u8], &[u8])
+fn split_frames(frames: &[u8], place: usize) -> (&[u8], &[u8])
     requires whole { (fs : List FrameFields) × IsFramesThen frames.now fs [] }
     ensures front { (fs : List FrameFields) × IsFramesThen result.0.now fs [] }
     ensures back { (fs : List FrameFields) × IsFramesThen result.1.now fs [] }
@@ -56,7 +92,7 @@ pub(crate) fn split_frames(frames: &[u8], place: usize) -> (&[u8], &[u8])
 
 /// Where the first frame ends that ends at a place or after it, and where the last one does if
 /// none does.
-pub(crate) fn cut_behind(frames: &[u8], place: usize) -> usize
+fn cut_behind(frames: &[u8], place: usize) -> usize
     ensures cut { (fs : List FrameFields) → IsFramesThen frames.now fs []
         → IsCut fs result }
     ensures within { result ≤ length frames.now }

@@ -30,7 +30,7 @@ use files::{NamedFiles, export_of, genesis_of, keys_of};
 use jobs::jobs_of;
 use nodes::{export, serve_node};
 use pay_audit::Verdict;
-use pay_cli::{Job, Jobs, NOT_UTF8, job_of, run_check};
+use pay_cli::{Job, Jobs, NOT_UTF8, job_of, run_check, run_check_by};
 use pay_desk::{Desk, OneMember, Teller, run_desk};
 use pay_echo::MaskInstance;
 use pay_engine::EngineFault;
@@ -46,7 +46,6 @@ use sending::call;
 use std::alloc::{AllocError, AllocGlobal, Global};
 use std::process::ExitCode;
 use std::rt::{Env, Files};
-use std::sync::Wait;
 use std::thread::Threads;
 use std::time::Clock;
 use std::{env, io, thread};
@@ -120,7 +119,7 @@ fn words_given(rt: &(impl Env + AllocGlobal)) -> io::Result<Vec<String>> {
 /// Judges the frames on standard input, once the files are read.
 fn check<'a>(
     alloc: Global,
-    rt: &(impl Files + Input + Print + Threads + Wait + Sync),
+    rt: &(impl Files + Input + Print + Threads + Sync),
     genesis: Option<&'a str>,
     keys: Option<&'a str>,
     jobs: Option<&'a str>,
@@ -134,7 +133,7 @@ fn check<'a>(
 /// Judges them as the member with these keys.
 fn judge_frames(
     alloc: Global,
-    rt: &(impl Input + Print + Threads + Wait + Sync),
+    rt: &(impl Input + Print + Threads + Sync),
     jobs: usize,
     genesis: &Genesis,
     keys: &Keys,
@@ -144,8 +143,11 @@ fn judge_frames(
     let tagger = tagger_of(alloc, keys)?;
     let mut reader = Reader::new(rt.reader());
     let mut writer = Writer::new(io::writer(rt));
+    if jobs < 2 {
+        return run_check(alloc, &tagger, genesis, keys, &mut reader, &mut writer);
+    }
     let jobs = Jobs { rt, count: jobs };
-    run_check(
+    run_check_by(
         jobs,
         alloc,
         &tagger,

@@ -1,12 +1,9 @@
 use Rattle.std.proofs.Common.{◌≡◌, ◌≤◌, [], Err, length, sym, subst, arith, rules}
-use Rattle.pay_engine.specs.Exact.{exactly}
-use Rattle.pay_engine.specs.Handling.{StepsPrefix}
 use Rattle.pay_cli.specs.declared.progress.Progress.{Progress}
-use Rattle.pay_cli.specs.CheckText.{checking}
 use Rattle.pay_cli.specs.Engine.{HasRoom}
 use Rattle.pay_cli.specs.Findings.{AreJudged}
 use Rattle.pay_cli.proofs.Cuts.{told_of}
-use Rattle.pay_cli.proofs.Findings.{batch_failed, batch_pushed, none_handled}
+use Rattle.pay_cli.proofs.Findings.{batch_failed, batch_pushed}
 use Rattle.pay_cli.proofs.cores.OverCoresFrameHandlerShared.handle_batch.Goals as goal
 
 pub push_parts-requires : goal.push_parts-requires
@@ -16,34 +13,26 @@ push_parts-requires g c =
     let count = c.frame_sizes.ensures.count c.args.frames.now [] whole.0 whole.1 in
     let few : length whole.0 ≤ length c.args.frames.now = omega arith in
     let told = ((c.requires.room 0 (omega arith)).1 c.args.frames whole c.replace-before.result).1 c.judge.result c.judge.ensures whole.0 whole.1 in
-    let judged : AreJudged k whole.0 c.in_ok-judged.judged.items = told_of (λ parts. AreJudged k whole.0 parts.items) c.judge.result c.in_ok-judged.judged (search rules) told in
+    let judged : AreJudged k whole.0 c.in-Ok.judged.items = told_of (λ parts. AreJudged k whole.0 parts.items) c.judge.result c.in-Ok.judged (search rules) told in
     let known : c.shared.inside.progress ≡ c.args.shared.now = search rules in
     record { room = (k, whole.0, rw c.as_slice.ensures.value judged, subst (λ (p : Progress). HasRoom k p (length whole.0)) (sym known) (c.requires.room (length whole.0) few).0) }
 
-pub returns-in_err-judged : goal.returns-in_err-judged
-returns-in_err-judged g c =
-    let k = c.args.self.now.checking.keys.now in
-    let e = c.in_err-judged.field-0.0 in
-    let same : c.from_residual.result ≡ Err e = search rules in
-    let known : c.shared.inside.progress ≡ c.args.shared.now = search rules in
-    rw same (record { handles = λ fs cut. subst (λ (p : Progress). StepsPrefix (exactly (checking k)) c.args.shared.now p fs) (sym known) (none_handled k c.args.shared.now fs) })
-
-pub returns-in_err-push_parts : goal.returns-in_err-push_parts
-returns-in_err-push_parts g c =
+pub returns-in_err-push_parts-in-Ok : goal.returns-in_err-push_parts-in-Ok
+returns-in_err-push_parts-in-Ok g c =
     let k = c.args.self.now.checking.keys.now in
     let whole = c.requires.whole in
     let told = ((c.requires.room 0 (omega arith)).1 c.args.frames whole c.replace-before.result).1 c.judge.result c.judge.ensures in
-    let e = c.in_err-push_parts.field-0.0 in
-    let same : c.from_residual-in_err-push_parts.result ≡ Err e = search rules in
+    let e = c.in_err-push_parts-in-Ok.field-0.0 in
+    let same : c.from_residual.result ≡ Err e = search rules in
     let known : c.shared.inside.progress ≡ c.args.shared.now = search rules in
     rw same (record {
       handles = λ fs cut.
           batch_failed k c.args.shared.now c.push_parts.new.progress fs c.args.out.now.items c.push_parts.new.out.items e
-          (rw known at (c.in_err-push_parts.ensures.pushes k fs (rw c.as_slice.ensures.value (told_of (λ parts. AreJudged k fs parts.items) c.judge.result c.in_ok-judged.judged (search rules) (told fs cut)))));
+          (rw known at (c.in_err-push_parts-in-Ok.ensures.pushes k fs (rw c.as_slice.ensures.value (told_of (λ parts. AreJudged k fs parts.items) c.judge.result c.in-Ok.judged (search rules) (told fs cut)))));
     })
 
-pub returns : goal.returns
-returns g c =
+pub returns-in_ok-push_parts-in-Ok : goal.returns-in_ok-push_parts-in-Ok
+returns-in_ok-push_parts-in-Ok g c =
     let k = c.args.self.now.checking.keys.now in
     let whole = c.requires.whole in
     let told = ((c.requires.room 0 (omega arith)).1 c.args.frames whole c.replace-before.result).1 c.judge.result c.judge.ensures in
@@ -51,5 +40,5 @@ returns g c =
     record {
       handles = λ fs cut.
           batch_pushed k c.args.shared.now c.push_parts.new.progress fs c.args.out.now.items c.push_parts.new.out.items
-          (rw known at (c.in_ok-push_parts.ensures.pushes k fs (rw c.as_slice.ensures.value (told_of (λ parts. AreJudged k fs parts.items) c.judge.result c.in_ok-judged.judged (search rules) (told fs cut)))));
+          (rw known at (c.in_ok-push_parts-in-Ok.ensures.pushes k fs (rw c.as_slice.ensures.value (told_of (λ parts. AreJudged k fs parts.items) c.judge.result c.in-Ok.judged (search rules) (told fs cut)))));
     }
