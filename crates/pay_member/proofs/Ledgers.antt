@@ -3,7 +3,7 @@ use Rattle.std.specs.Result.{OnErr}
 use Rattle.std.proofs.lemmas.List.{take_more, take_all, get_or-drop}
 use Rattle.std.proofs.lemmas.Option.{slice_get_within, slice_get_cases, get_or_from_slice_get}
 use Rattle.pay_frame.specs.Frame.{BodyFields}
-use Rattle.std.proofs.Common.{drop, take, slice_get, None, Some, inl, inr, length-drop, ◌+◌, ◌≡◌, ℕ, ◌<◌, ◌≤◌, Bool, Result, Ok, Err, List, [], ◌∷◌, ◌++◌, length, sum, slice_index, refl, sym, ap, ◌∙◌, subst, arith}
+use Rattle.std.proofs.Common.{drop, take, slice_get, None, Some, inl, inr, length-drop, ◌+◌, ◌≡◌, ℕ, ◌<◌, ◌≤◌, Bool, false, Result, Ok, Err, List, [], ◌∷◌, ◌++◌, length, sum, slice_index, refl, sym, ap, ◌∙◌, subst, arith}
 use Rattle.pay_frame.specs.declared.limits.TheConstants.{MOST_MEMBERS}
 use Rattle.pay_echo.specs.Broadcast.{Group}
 use Rattle.pay_channel.specs.Source.{GrowsOnly}
@@ -28,7 +28,7 @@ use Rattle.pay_member.specs.Ledger.{LedgerFields, IsLedger, Tracks, Grows, IsSam
 pub fresh_ledger :
     EmptyAtFirst → ListsFollow → FreshBookIsSettled → (g : GenesisFields) (own : ℕ) (c : State)
     → IsGenesis g → IsStateBy c [] → c.group ≡ group_in g own
-    → Tracks g own [] (record { channel = c; book = fresh g.opening })
+    → Tracks g own [] (record { channel = c; book = fresh g.opening; has_forgotten = false })
 fresh_ledger empty lists settled g own c limits follows group =
     let members = ap (λ (x : Group). x.members) group in
     record {
@@ -44,9 +44,10 @@ fresh_ledger empty lists settled g own c limits follows group =
 
 -- where nothing changed that can be seen
 pub same_ledger :
-    UnchangedLists → SameListsStaySettled → (old new : State) (book : Standing)
-    → IsAsBefore old new → IsLedger (record { channel = old; book = book }) → IsLedger (record { channel = new; book = book })
-same_ledger unchanged stays old new book same ledger =
+    UnchangedLists → SameListsStaySettled → (old new : State) (book : Standing) (forgot : Bool)
+    → IsAsBefore old new → IsLedger (record { channel = old; book = book; has_forgotten = forgot })
+    → IsLedger (record { channel = new; book = book; has_forgotten = forgot })
+same_ledger unchanged stays old new book forgot same ledger =
     record {
       few = subst (λ (g : Group). g.members ≤ MOST_MEMBERS) (sym same.group) ledger.few;
       accounts = ledger.accounts ∙ ap (λ (g : Group). g.members) (sym same.group);
@@ -55,19 +56,19 @@ same_ledger unchanged stays old new book same ledger =
 
 -- one list grew: the book can settle
 pub grown_can_settle :
-    ListsOfAreShort → GroupListsAreCountable → GrownListCanSettle → (old new : State) (book : Standing) (owner : ℕ)
-    → IsLedger (record { channel = old; book = book }) → GrowsOnly (channel_lists old) (channel_lists new) owner → owner < old.group.members
+    ListsOfAreShort → GroupListsAreCountable → GrownListCanSettle → (old new : State) (book : Standing) (forgot : Bool) (owner : ℕ)
+    → IsLedger (record { channel = old; book = book; has_forgotten = forgot }) → GrowsOnly (channel_lists old) (channel_lists new) owner → owner < old.group.members
     → CanSettle (channel_lists new) book owner
-grown_can_settle short countable can old new book owner ledger grows member =
+grown_can_settle short countable can old new book forgot owner ledger grows member =
     can (channel_lists old) (channel_lists new) book owner ledger.settled grows (subst (λ n. owner < n) (sym ledger.accounts) member)
     (countable (channel_lists new) book (λ a _. short new a) (subst (λ n. n ≤ MOST_MEMBERS) (sym ledger.accounts) ledger.few))
 
 -- and after it settled
 pub settled_ledger :
-    (old new : State) (before after : Standing) → IsLedger (record { channel = old; book = before })
+    (old new : State) (before after : Standing) (forgot forgets : Bool) → IsLedger (record { channel = old; book = before; has_forgotten = forgot })
     → new.group ≡ old.group → after.opening ≡ before.opening → IsSettled (channel_lists new) after
-    → IsLedger (record { channel = new; book = after })
-settled_ledger old new before after ledger group opening settled =
+    → IsLedger (record { channel = new; book = after; has_forgotten = forgets })
+settled_ledger old new before after forgot forgets ledger group opening settled =
     record {
       few = subst (λ (g : Group). g.members ≤ MOST_MEMBERS) (sym group) ledger.few;
       accounts = ap length opening ∙ ledger.accounts ∙ ap (λ (g : Group). g.members) (sym group);

@@ -5,4 +5,5 @@ pub mod Ledgers
 pub mod KnownLists
 pub mod Members
 pub mod Openings
+pub mod Rememberings
 pub mod Servings

@@ -1,6 +1,6 @@
 -- A member's history with one entry more, and what a member shows of its ledger.
-use Rattle.std.proofs.Common.{◌≡◌, ◌≢◌, ℕ, ◌+◌, ◌<◌, ◌≤◌, ◌⊎◌, inl, inr, Bool, true, false, cond, eqb, ltb, ◌&&◌, Option, Some, None, List, [], ◌∷◌, ◌++◌, length, replicate, set, slice_index, refl, sym, ap, ◌∙◌, subst, arith, rules, append-nil}
-use Rattle.std.specs.List.{filter_map}
+use Rattle.std.proofs.Common.{◌≡◌, ◌≢◌, ℕ, ◌+◌, ◌<◌, ◌≤◌, ◌⊎◌, inl, inr, Bool, true, false, cond, eqb, ltb, ◌&&◌, Option, Some, None, List, [], ◌∷◌, ◌++◌, length, replicate, set, slice_index, refl, sym, ap, ◌∙◌, subst, arith, rules, append-nil, true≢false}
+use Rattle.std.specs.List.{All, filter_map}
 use Rattle.std.specs.Option.{option_to_list}
 use Rattle.std.proofs.lemmas.List.Elements.{filter_map-append}
 use Rattle.std.proofs.lemmas.List.Sums.{count_by-le-length}
@@ -8,11 +8,14 @@ use Rattle.std.proofs.lemmas.List.{get_or-set_same, get_or-set_other, get_or-rep
 use Rattle.std.proofs.lemmas.Bool.{cases_eq, ne_eqb, eq-eqb, cond-true, cond-false}
 use Rattle.pay_frame.specs.declared.limits.TheConstants.{GREATEST_VALUE, SEQS}
 use Rattle.pay_frame.specs.Frame.{BodyFields}
+use Rattle.pay_echo.specs.Broadcast.{Group}
 use Rattle.pay_channel.specs.History as channel
-use Rattle.pay_channel.specs.History.{asks}
+use Rattle.pay_channel.specs.History.{IsEvent, asks}
 use Rattle.pay_channel.specs.Taken.{is_from, next}
 use Rattle.pay_channel.specs.TakenLaws.{NothingTakenAtFirst, NextByOneMore, NextIsCount}
 use Rattle.pay_channel.specs.FollowLaws.{ChannelFollows, ListsFollow}
+use Rattle.pay_channel.specs.ListLaws.{ListsGrow, EmptyAtFirst}
+use Rattle.pay_channel.specs.SentLaws.{AskedGrows, OwnEchoIsAsk}
 use Rattle.pay_channel.specs.State.{channel_lists}
 use Rattle.pay_channel.specs.History.{list_of}
 use Rattle.pay_book.specs.Places.{place_of}
@@ -36,7 +39,10 @@ use Rattle.pay_member.specs.Reply.{told_of}
 use Rattle.pay_member.specs.Reading.{state_of}
 use Rattle.pay_member.specs.declared.standing.PaymentState.{PaymentState}
 use Rattle.pay_member.specs.declared.standing.PaymentState.TheVariants.{Unknown, Asked, Waiting, Settled}
+use Rattle.pay_member.specs.Remembering.{TellsForgetting}
+use Rattle.pay_member.proofs.Histories.{events_may_come}
 use Rattle.pay_member.proofs.Ledgers.{tracks_more, lists_are, book_is}
+use Rattle.pay_member.proofs.Rememberings.{remembers_none, tells_more}
 
 -- ---- one entry more
 
@@ -117,18 +123,29 @@ legal_none g k = record { each = λ before y after is. absurd (nil_middle before
 -- ---- the member with one entry more
 
 pub member_more :
-    ChannelFollows → (m : MemberFields) (old new : LedgerFields) (fronts later : List ℕ) (x : HistoryEntry) (e : channel.Event) (took : Took)
+    ChannelFollows → ListsFollow → ListsGrow → AskedGrows → OwnEchoIsAsk → (m : MemberFields) (old new : LedgerFields) (fronts later : List ℕ) (x : HistoryEntry) (e : channel.Event) (took : Took)
     → IsMember m old fronts → Grows old new e took → channel_event x.event ≡ Some e → IsOwed m.genesis m.keys (events m.history) x
     → length later ≡ m.genesis.members
     → ((p : ℕ) → p < m.genesis.members → slice_index later p ≡ next p (events m.history ++ e ∷ []))
     → IsMember (with_entry m x) new later
-member_more more m old new fronts later x e took is grows event owed places turns =
+member_more more follow longer asked echo m old new fronts later x e took is grows event owed places turns =
     let now = events-push m.history x e event in
+    let legal = legal_more m.genesis m.keys m.history x is.legal owed in
+    let g : Group = group_in m.genesis m.keys.own in
+    let group : new.channel.group ≡ g = grows.group ∙ is.tracks.group in
+    let tracks = tracks_more more m.genesis m.keys.own (events m.history) old new e took is.tracks grows in
+    let may_come : All (IsEvent new.channel.group) (events m.history ++ e ∷ []) =
+    subst (λ (h : List channel.Event). All (IsEvent new.channel.group) h) now
+    (subst (λ (y : Group). All (IsEvent y) (events (m.history ++ x ∷ []))) (sym group) (events_may_come m.genesis m.keys (m.history ++ x ∷ []) is.keys legal)) in
+    let tells : TellsForgetting new.channel.group (events m.history ++ e ∷ []) new.has_forgotten =
+    tells_more longer asked follow echo old.channel new.channel (events m.history) e is.tracks.follows tracks.follows grows.group may_come old.has_forgotten new.has_forgotten
+    (subst (λ (y : Group). TellsForgetting y (events m.history) old.has_forgotten) (sym group) is.tells) grows.noticed in
     record {
       genesis = is.genesis;
       keys = is.keys;
-      legal = legal_more m.genesis m.keys m.history x is.legal owed;
-      tracks = subst (λ h. Tracks m.genesis m.keys.own h new) (sym now) (tracks_more more m.genesis m.keys.own (events m.history) old new e took is.tracks grows);
+      legal = legal;
+      tracks = subst (λ h. Tracks m.genesis m.keys.own h new) (sym now) tracks;
+      tells = subst (λ h. TellsForgetting g h new.has_forgotten) (sym now) (subst (λ (y : Group). TellsForgetting y (events m.history ++ e ∷ []) new.has_forgotten) group tells);
       one_for_each = places;
       turns = λ p member. turns p member ∙ ap (next p) (sym now);
     }
@@ -144,6 +161,7 @@ member_queried m ledger fronts x is event owed =
       keys = is.keys;
       legal = legal_more m.genesis m.keys m.history x is.legal owed;
       tracks = subst (λ h. Tracks m.genesis m.keys.own h ledger) (sym now) is.tracks;
+      tells = subst (λ h. TellsForgetting (group_in m.genesis m.keys.own) h ledger.has_forgotten) (sym now) is.tells;
       one_for_each = is.one_for_each;
       turns = λ p member. is.turns p member ∙ ap (next p) (sym now);
     }
@@ -198,16 +216,17 @@ frame_taken g k before c front is now above below = search rules
 -- ---- a member that took nothing
 
 pub member_fresh :
-    NothingTakenAtFirst → (g : GenesisFields) (k : KeyFields) (own : ℕ) (ledger : LedgerFields) (fronts : List ℕ)
-    → IsGenesis g → IsKeysOf g k → own ≡ k.own → Tracks g own [] ledger → fronts ≡ replicate g.members 0
+    NothingTakenAtFirst → EmptyAtFirst → (g : GenesisFields) (k : KeyFields) (own : ℕ) (ledger : LedgerFields) (fronts : List ℕ)
+    → IsGenesis g → IsKeysOf g k → own ≡ k.own → Tracks g own [] ledger → ledger.has_forgotten ≡ false → fronts ≡ replicate g.members 0
     → IsMember (record { genesis = g; keys = k; history = [] }) ledger fronts
 unfolding events
-member_fresh nothing g k own ledger fronts limits of_genesis mine tracks zeros =
+member_fresh nothing empty g k own ledger fronts limits of_genesis mine tracks fresh zeros =
     record {
       genesis = limits;
       keys = of_genesis;
       legal = legal_none g k;
       tracks = subst (λ o. Tracks g o [] ledger) mine tracks;
+      tells = record { remembers = λ _. remembers_none empty (group_in g k.own); forgot = λ yes. absurd (true≢false (sym yes ∙ fresh)) };
       one_for_each = ap length zeros ∙ length-replicate g.members 0;
       turns = λ p member. ap (λ (f : List ℕ). slice_index f p) zeros ∙ get_or-replicate g.members p 0 0 member ∙ sym (ap length (nothing p));
     }

@@ -6,6 +6,7 @@ pub mod Refusal
 pub mod RefusalLaws
 pub mod Faults
 pub mod Legal
+pub mod Remembering
 pub mod Ledger
 pub mod Member
 pub mod Answer

@@ -7,6 +7,8 @@ use Rattle.pay_member.specs.declared.entry.HistoryEntry.{HistoryEntry}
 use Rattle.pay_member.specs.Events.{events}
 use Rattle.pay_member.specs.Ledger.{LedgerFields, Tracks}
 use Rattle.pay_member.specs.Legal.{Legal}
+use Rattle.pay_member.specs.Group.{group_in}
+use Rattle.pay_member.specs.Remembering.{TellsForgetting}
 
 pub record MemberFields : Type 0 where
   pub genesis : GenesisFields
@@ -24,5 +26,7 @@ pub record IsMember (m : MemberFields) (ledger : LedgerFields) (fronts : List �
   pub keys : IsKeysOf m.genesis m.keys
   pub legal : Legal m.genesis m.keys m.history
   pub tracks : Tracks m.genesis m.keys.own (events m.history) ledger
+  pub tells :
+      TellsForgetting (group_in m.genesis m.keys.own) (events m.history) ledger.has_forgotten
   pub one_for_each : length fronts ≡ m.genesis.members
   pub turns : (p : ℕ) → p < m.genesis.members → slice_index fronts p ≡ next p (events m.history)

@@ -1,5 +1,5 @@
-ghost use Rattle.std.specs.Prelude.{true, ◌≡◌, ◌<◌, ◌≤◌, [], drop, take, length};
-ghost use Rattle.std.specs.Prelude.{slice_get, slice_index, IfOk, OnErr};
+ghost use Rattle.std.specs.Prelude.{true, false, ◌≡◌, ◌<◌, ◌≤◌, ◌↔◌, [], drop, take, length};
+ghost use Rattle.std.specs.Prelude.{slice_get, slice_index, IfOk, OnErr, IsTrue};
 ghost use Rattle.std.specs.Option.{option_copied};
 ghost use Rattle.pay_channel.specs.History.{IsEvent, is_ask, owner_of, seqs};
 ghost use Rattle.pay_channel.specs.State.{channel_lists, meaning_at};
@@ -9,7 +9,7 @@ ghost use Rattle.pay_book.specs.Places.{place_of};
 ghost use Rattle.pay_book.specs.Statement.{statement_of};
 ghost use Rattle.pay_channel.specs.Applied.{event_of_ref};
 ghost use Rattle.pay_frame.specs.declared.limits.TheConstants.{MOST_MEMBERS};
-ghost use Rattle.pay_member.specs.Ledger.{Tracks, IsSameLedger, Grows};
+ghost use Rattle.pay_member.specs.Ledger.{Tracks, IsSameLedger, Grows, IsListedAsEchoed, IsNoticed};
 
 use crate::took::Took;
 use pay_book::laws::{
@@ -25,12 +25,14 @@ use pay_link::Genesis;
 use std::alloc::{AllocError, Global};
 use std::marker::Model;
 
-/// A member's channel, and the book of its lists, in which all is settled that they allow.
+/// A member's channel, the book of its lists, in which all is settled that they allow, and whether
+/// its own list ever had a value that it wasn't asked for.
 /// It stands apart so that the member's own proofs never speak of settling.
 #[derive(Drop)]
 pub struct Ledger<I: Instance + Drop, B: Settle + Drop> {
     channel: Channel<I>,
     book: B,
+    has_forgotten: bool,
 }
 
 impl<I: Instance + Drop, B: Settle + Drop> Model for Ledger<I, B> {
@@ -38,23 +40,33 @@ impl<I: Instance + Drop, B: Settle + Drop> Model for Ledger<I, B> {
 
     ghost Value = { LedgerFields };
 
-    ghost view = { λ l. record { channel = l.channel; book = B.shows l.book } };
+    ghost view = { λ l.
+        record { channel = l.channel; book = B.shows l.book; has_forgotten = l.has_forgotten } };
 
-    ghost invariant = { λ l. IsLedger (record { channel = l.channel; book = B.shows l.book }) };
+    ghost invariant = { λ l. IsLedger (record {
+      channel = l.channel;
+      book = B.shows l.book;
+      has_forgotten = l.has_forgotten;
+    }) };
 }
 
 impl<I: Instance + Drop, B: Settle + Drop> Ledger<I, B> {
     /// The ledger of a member that took nothing.
     pub fn new(alloc: Global, genesis: &Genesis, own: u16) -> Result<Ledger<I, B>, AllocError>
         requires own { own < genesis.now.members }
-        ensures { IfOk result (λ ledger. Tracks genesis.now own [] ledger) }
+        ensures tracks { IfOk result (λ ledger. Tracks genesis.now own [] ledger) }
+        ensures fresh { IfOk result (λ ledger. ledger.has_forgotten ≡ false) }
     {
         nothing_at_first();
         a_channel_follows();
         fresh_book_is_settled();
         let channel = Channel::new(alloc, genesis.members(), genesis.faults(), own)?;
         let book = B::new(alloc, genesis)?;
-        Ok(Ledger { channel, book })
+        Ok(Ledger {
+            channel,
+            book,
+            has_forgotten: false,
+        })
     }
 
     /// How many values of its own the member broadcast.
@@ -64,12 +76,20 @@ impl<I: Instance + Drop, B: Settle + Drop> Ledger<I, B> {
         self.channel.asks()
     }
 
-    /// Takes an event and settles what it lets settle. Memory is refused before the first change.
-    pub fn apply(&mut self, alloc: Global, event: EventRef, owner: u16) -> Result<Took, AllocError>
+    /// Takes an event, settles what it lets settle, and looks at each value by which the member's
+    /// own list grew. Memory is refused before the first change.
+    pub fn apply(
+        &mut self,
+        alloc: Global,
+        event: EventRef,
+        owner: u16,
+        own: u16,
+    ) -> Result<Took, AllocError>
         requires event { IsEvent self.old.channel.group (event_of_ref event) }
         requires number { is_ask (event_of_ref event) ≡ true → self.old.channel.asks < seqs }
         requires owner { owner ≡ owner_of self.old.channel.group.own (event_of_ref event) }
         requires member { owner < self.old.channel.group.members }
+        requires own { own ≡ self.old.channel.group.own }
         ensures grows { IfOk result (Grows self.old self.new (event_of_ref event.entry)) }
         ensures err { OnErr result (IsSameLedger self.old self.new) }
     {
@@ -77,14 +97,23 @@ impl<I: Instance + Drop, B: Settle + Drop> Ledger<I, B> {
         group_lists_are_countable();
         grown_list_can_settle();
         same_lists_stay_settled();
+        let from = self.channel.in_order(own);
         let applied = self.channel.apply(alloc, event)?;
         let settled = self.book.settle(&self.channel, owner);
+        self.has_forgotten = has_noticed(&self.channel, own, from, self.has_forgotten);
         Ok(Took {
             echo: applied.echo,
             ready: applied.ready,
             deliver: applied.deliver,
             settled,
         })
+    }
+
+    /// Whether the member's own list ever had a value that it wasn't asked for.
+    pub fn has_forgotten(&self) -> bool
+        ensures { result ≡ self.now.has_forgotten }
+    {
+        self.has_forgotten
     }
 
     /// The body at a place of all that the member sent to all.
@@ -230,5 +259,37 @@ impl<I: Instance + Drop, B: Settle + Drop> Ledger<I, B> {
         ensures { option_copied result ≡ (meaning_at self.now.channel owner seq).echoed }
     {
         self.channel.echoed(owner, seq)
+    }
+}
+
+// Whether a value of an account's list isn't the one echoed: it was known before, or one from a
+// place on isn't.
+fn has_noticed<I: Instance + Drop>(
+    channel: &Channel<I>,
+    account: u16,
+    from: u32,
+    before: bool,
+) -> bool
+    ensures { IsNoticed channel.now account from before result }
+{
+    if before {
+        return true;
+    }
+    for seq in from..channel.in_order(account) {
+        if !is_listed_as_echoed(channel, account, seq) {
+            return true;
+        }
+    }
+    false
+}
+
+// Whether the value at a place of an account's list is the one echoed in that broadcast.
+fn is_listed_as_echoed<I: Instance + Drop>(channel: &Channel<I>, account: u16, seq: u32) -> bool
+    requires { seq < length (channel_lists channel.now account) }
+    ensures { IsTrue result ↔ IsListedAsEchoed channel.now account seq }
+{
+    match channel.echoed(account, seq) {
+        Some(value) => value == channel.at(account, seq),
+        None => false,
     }
 }

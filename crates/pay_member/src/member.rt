@@ -1,6 +1,6 @@
-ghost use Rattle.std.specs.Prelude.{◌≡◌, ◌≢◌, ◌<◌, ◌≤◌, ◌&&◌, ◌++◌, nat_lt, min, []};
+ghost use Rattle.std.specs.Prelude.{false, ◌≡◌, ◌≢◌, ◌<◌, ◌≤◌, ◌↔◌, ◌&&◌, ◌++◌, nat_lt, min, []};
 ghost use Rattle.std.specs.Prelude.{length, slice_get, slice_index, Some, None};
-ghost use Rattle.std.specs.Prelude.{MatchOption, IfOk, IfSome, OnOk, OnErr, IsOkUnless};
+ghost use Rattle.std.specs.Prelude.{MatchOption, IfOk, IfSome, OnOk, OnErr, IsOkUnless, IsTrue};
 ghost use Rattle.std.specs.Option.{option_and_then, option_copied, option_map, option_to_list};
 ghost use Rattle.pay_link.specs.Keys.{IsKeysOf, IsPeer};
 ghost use Rattle.pay_link.specs.Opening.{judgement};
@@ -21,6 +21,7 @@ ghost use Rattle.pay_member.specs.Answer.{IsAnswer, answer_of_ask, answer_of_tak
 ghost use Rattle.pay_member.specs.Reading.{entries_shown, fetched_bodies, state_of, values_known};
 ghost use Rattle.pay_member.specs.Reading.{waiting_shown};
 ghost use Rattle.pay_member.specs.Legal.{Legal};
+ghost use Rattle.pay_member.specs.Remembering.{Remembers, HasForgotten};
 ghost use Rattle.pay_member.specs.Member.{with_entry};
 ghost use Rattle.pay_member.specs.Bringing.{IsOutcome, answer_to, event_in, event_of_frame};
 ghost use Rattle.pay_member.specs.Bringing.{incoming_at};
@@ -49,7 +50,7 @@ use pay_book::laws::settled_book_is_one;
 use pay_book::{Excerpt, Line, Settle};
 use pay_channel::EventRef;
 use pay_channel::laws::{
-    a_channel_follows, nothing_at_first, one_event_more, sends_are_asks, taken_in_order,
+    a_channel_follows, lists_grow, nothing_at_first, one_event_more, sends_are_asks, taken_in_order,
 };
 use pay_echo::Instance;
 use pay_frame::{
@@ -124,6 +125,8 @@ impl<I: Instance + Drop, B: Settle + Drop> Member<I, B> {
     {
         one_event_more();
         taken_in_order();
+        lists_grow();
+        sends_are_asks();
         a_channel_follows();
         settled_book_is_one();
         if value.len() > usize::from(GREATEST_VALUE) {
@@ -134,8 +137,9 @@ impl<I: Instance + Drop, B: Settle + Drop> Member<I, B> {
             return Err(AskFault::Spent);
         }
         self.history.reserve(1)?;
+        let own = self.keys.own();
         self.ledger
-            .apply(alloc, EventRef::Ask(value.as_slice()), self.keys.own())?;
+            .apply(alloc, EventRef::Ask(value.as_slice()), own, own)?;
         asked_is_kept(&value);
         self.history.push_reserved(HistoryEntry {
             stamp,
@@ -164,6 +168,8 @@ impl<I: Instance + Drop, B: Settle + Drop> Member<I, B> {
     {
         one_event_more();
         taken_in_order();
+        lists_grow();
+        sends_are_asks();
         a_channel_follows();
         settled_book_is_one();
         if !checked.is_for(&self.keys) {
@@ -180,9 +186,12 @@ impl<I: Instance + Drop, B: Settle + Drop> Member<I, B> {
         self.history.reserve(1)?;
         taken_is_kept(&checked);
         let body = checked.body();
-        let took = self
-            .ledger
-            .apply(alloc, EventRef::From(from, body), body.owner())?;
+        let took = self.ledger.apply(
+            alloc,
+            EventRef::From(from, body),
+            body.owner(),
+            self.keys.own(),
+        )?;
         self.history.push_reserved(HistoryEntry {
             stamp,
             event: Event::Taken(checked),
@@ -507,6 +516,18 @@ impl<I: Instance + Drop, B: Settle + Drop> Member<I, B> {
             from (min max MOST_FETCHED)) }
     {
         self.ledger.fetch(alloc, from, max.min(MOST_FETCHED))
+    }
+
+    /// Whether the member has forgotten what it sent: its own list had a value under a number under
+    /// which it hadn't been asked for that one. Each value is looked at once, as it is listed.
+    pub fn has_forgotten(&self) -> bool
+        ensures evidence { IsTrue result
+            ↔ HasForgotten (group_in self.now.genesis self.now.keys.own)
+            (events self.now.history) }
+        ensures remembers { (result ≡ false)
+            ↔ Remembers (group_in self.now.genesis self.now.keys.own) (events self.now.history) }
+    {
+        self.ledger.has_forgotten()
     }
 
     /// The number that the next frame from a member has.

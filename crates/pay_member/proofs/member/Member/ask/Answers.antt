@@ -25,7 +25,7 @@ invariant_of-self-2 g c =
     let fits : length c.args.value ≤ GREATEST_VALUE = omega arith in
     let left : asks (events h) < SEQS = omega arith in
     subst At (sym items)
-    (member_more c.a_channel_follows.ensures.event m c.self.inside.ledger c.apply.new.self c.self.inside.fronts c.self.inside.fronts x (channel.Ask c.args.value) c.in_ok-apply.field-0
+    (member_more c.a_channel_follows.ensures.event c.a_channel_follows.ensures.lists c.lists_grow.ensures.many c.lists_grow.ensures.asked c.sends_are_asks.ensures.echo m c.self.inside.ledger c.apply.new.self c.self.inside.fronts c.self.inside.fronts x (channel.Ask c.args.value) c.in_ok-apply.field-0
     c.self.invariant grows refl
     (record { kept = c.asked_is_kept.ensures; taken = ask_taken m.genesis m.keys (events h) c.args.value fits left; reply = ap Asked asked })
     c.self.invariant.one_for_each

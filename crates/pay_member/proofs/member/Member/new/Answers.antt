@@ -8,6 +8,6 @@ pub invariant_of-result : goal.invariant_of-result
 invariant_of-result g c =
     let At : List HistoryEntry → Type 0 = λ h. IsMember (record { genesis = c.args.genesis; keys = c.args.keys; history = h }) c.in_ok-ledger.ledger c.in_ok-fronts.fronts in
     subst At (sym c.new-3.ensures.items)
-    (member_fresh c.nothing_at_first.ensures.taken c.args.genesis c.args.keys c.own.result c.in_ok-ledger.ledger c.in_ok-fronts.fronts
-    c.members.ensures.limits c.requires c.own.ensures.value c.in_ok-ledger.ensures
+    (member_fresh c.nothing_at_first.ensures.taken c.nothing_at_first.ensures.lists c.args.genesis c.args.keys c.own.result c.in_ok-ledger.ledger c.in_ok-fronts.fronts
+    c.members.ensures.limits c.requires c.own.ensures.value c.in_ok-ledger.ensures.tracks c.in_ok-ledger.ensures.fresh
     (c.in_ok-fronts.ensures ∙ ap (λ n. replicate n 0) c.members.ensures.value))

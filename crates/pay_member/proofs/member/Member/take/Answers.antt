@@ -45,7 +45,7 @@ invariant_of-self-2 g c =
     let above : c.next-next.result ≤ c.args.checked.frame.number = omega arith in
     let below : c.args.checked.frame.number ≤ c.next-next.result = omega arith in
     subst At (sym items)
-    (member_more c.a_channel_follows.ensures.event m c.self.inside.ledger c.apply.new.self c.self.inside.fronts c.advance.new.self x (channel.From from body) c.in_ok-took.took
+    (member_more c.a_channel_follows.ensures.event c.a_channel_follows.ensures.lists c.lists_grow.ensures.many c.lists_grow.ensures.asked c.sends_are_asks.ensures.echo m c.self.inside.ledger c.apply.new.self c.self.inside.fronts c.advance.new.self x (channel.From from body) c.in_ok-took.took
     c.self.invariant grows refl
     (record {
       kept = c.taken_is_kept.ensures;

@@ -1,0 +1,28 @@
+-- What a member can tell by its own history alone: whether it has forgotten what it sent.
+use Rattle.std.specs.Prelude.{◌≡◌, ◌≢◌, ℕ, Bool, true, false, List, slice_get, Some}
+use Rattle.pay_echo.specs.Broadcast.{Group}
+use Rattle.pay_channel.specs.History.{Event, list_of}
+use Rattle.pay_channel.specs.Asked.{asked_values}
+use Rattle.pay_channel.specs.Prefix.{IsPrefix}
+
+-- At every moment, all that was in the list of its own account it had been asked for, in that
+-- order.
+pub record Remembers (g : Group) (history : List Event) : Type 0 where
+  pub each :
+      (before : List Event) → IsPrefix before history
+      → IsPrefix (list_of g before g.own) (asked_values before)
+
+-- The contrary, by its evidence: at some moment its own list had a value under a number under which
+-- it hadn't been asked for that value. No later ask takes that back.
+pub record HasForgotten (g : Group) (history : List Event) : Type 0 where
+  pub before : List Event
+  pub earlier : IsPrefix before history
+  pub seq : ℕ
+  pub value : List ℕ
+  pub listed : slice_get (list_of g before g.own) seq ≡ Some value
+  pub unasked : slice_get (asked_values before) seq ≢ Some value
+
+-- an answer says which of the two is so
+pub record TellsForgetting (g : Group) (history : List Event) (answer : Bool) : Type 0 where
+  pub remembers : answer ≡ false → Remembers g history
+  pub forgot : answer ≡ true → HasForgotten g history
