@@ -1,5 +1,5 @@
 -- Where each correct member took all that the others sent, they know the same.
-use Rattle.std.proofs.Common.{◌≡◌, ◌≢◌, ◌⊎◌, inl, inr, ℕ, ◌+◌, ◌*◌, ◌<◌, ◌≤◌, Bool, true, not, ◌&&◌, List, length, slice_get, Option, None, Some, Contains, refl, sym, ap, ◌∙◌, subst, arith}
+use Rattle.std.proofs.Common.{◌≡◌, ◌≢◌, ◌⊎◌, inl, inr, ℕ, ◌+◌, ◌*◌, ◌<◌, ◌≤◌, Bool, true, false, not, ◌&&◌, List, [], ◌++◌, length, slice_get, Option, None, Some, Contains, refl, sym, ap, ◌∙◌, subst, arith, append-nil, true≢false}
 use Rattle.std.proofs.lemmas.Bool.{cases_eq, and_parts, not-true}
 use Rattle.pay_frame.specs.Frame.{BodyFields}
 use Rattle.pay_frame.specs.declared.kind.Kind.TheVariants.{Send, Echo, Ready}
@@ -7,6 +7,7 @@ use Rattle.pay_echo.specs.Broadcast.{size, echoed, echo_of, echo_set, other_read
 use Rattle.pay_channel.specs.History.{Event, From, body_of, out, seqs, delivered_at, list_of}
 use Rattle.pay_channel.specs.Asked.{asked_values}
 use Rattle.pay_channel.specs.Taken.{taken_bodies}
+use Rattle.pay_channel.specs.Prefix.{IsPrefix}
 use Rattle.pay_world.specs.Setting.{Setting, group_at, IsCorrect, HasFewFaulty}
 use Rattle.pay_world.specs.Stands.{votes_at, HasQuorum, Stands}
 use Rattle.pay_world.specs.Convergence.{AllTaken}
@@ -152,6 +153,42 @@ module _ (below : Below) (w : Setting) (histories : ℕ → List Event) (stands 
       ready.1
       ∙ ap Some
       (one_value below w histories stands few a s ready.0 v (stands.ruled k a s ready.0 ck ready.1) (delivered_has_quorum below w histories stands few i a s v ci is))
+
+  -- ---- and at whoever took all of the correct members
+
+  pub listener :
+      (i j a s : ℕ) (v : List ℕ) → IsCorrect w j → w.faulty i ≡ true
+      → ((k : ℕ) → IsCorrect w k → taken_bodies k (histories i) ≡ out (group_at w k) (histories k))
+      → delivered_at (group_at w j) (histories j) a s ≡ Some v → delivered_at (group_at w i) (histories i) a s ≡ Some v
+  listener i j a s v cj bad took_all is =
+      let votes = votes_at histories i a s in
+      let set = ready_set (group_at w i) votes v in
+      let large = all_correct set (λ p cp. (below.one.in_ready_set (group_at w i) votes v p).1 (reaches p cp)) in
+      let many : 3 * w.faults < w.members = few.many in
+      let known = below.one.readys_deliver (group_at w i) votes v (omega arith) in
+      let value = there (delivered (group_at w i) votes) known in
+      let why = below.one.why_delivered (group_at w i) votes value.0 value.1 in
+      let most : size w.members w.faulty ≤ w.faults = few.few in
+      let found = below.sets.larger_has_another w.members (ready_set (group_at w i) votes value.0) w.faulty (omega arith) in
+      let p = found.0 in
+      let cp : IsCorrect w p = record { member = found.1; honest = found.3 } in
+      let heard = (below.one.in_ready_set (group_at w i) votes value.0 p).0 found.2 in
+      let said = heard_ready below w histories i p a s value.0 (hears p cp) heard in
+      below.channel.delivered_is (group_at w i) (histories i) a s ∙ value.1
+      ∙ ap Some (some_same value.0 v (sym said ∙ delivered_ready j p a s v cj cp is)) where
+        hears : (p : ℕ) → IsCorrect w p → IsPrefix (taken_bodies p (histories i)) (out (group_at w p) (histories p))
+        hears p cp = subst (λ l. IsPrefix (taken_bodies p (histories i)) l) (took_all p cp) (record { rest = []; is = sym (append-nil (taken_bodies p (histories i))) })
+
+        reaches : (p : ℕ) → IsCorrect w p → ready_of (group_at w i) (votes_at histories i a s) p ≡ Some v
+        reaches p cp =
+            let differs : p ≢ i = λ same. true≢false (sym bad ∙ ap w.faulty (sym same) ∙ cp.honest) in
+            let ready = delivered_ready j p a s v cj cp is in
+            let sent = (below.channel.ready_is_said (group_at w p) (histories p) a s v).1 ready in
+            let taken = (below.channel.taken_is_from p (histories i) (body_of Ready a s v)).0 (subst (λ l. Contains l (body_of Ready a s v)) (sym (took_all p cp)) sent) in
+            let came = (below.channel.ready_is_taken i a s (histories i) p v).1 taken in
+            let heard = there (ready_of (group_at w i) (votes_at histories i a s) p) (below.one.ready_counts (group_at w i) (votes_at histories i a s) p v differs came) in
+            let same = some_same heard.0 v (sym (heard_ready below w histories i p a s heard.0 (hears p cp) heard.1) ∙ ready) in
+            heard.1 ∙ ap Some same
 
   pub totality :
       (i j a s : ℕ) (v : List ℕ) → IsCorrect w i → IsCorrect w j

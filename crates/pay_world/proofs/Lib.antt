@@ -4,6 +4,7 @@ pub mod Heard
 pub mod StandInduction
 pub mod Agreeing
 pub mod Converging
+pub mod Noticing
 pub mod Happening
 pub mod Telling
 pub mod Booking

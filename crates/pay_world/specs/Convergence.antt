@@ -1,7 +1,7 @@
--- The moment at which nothing is under way between correct members.
+-- The moment at which nothing is under way between correct members, or from them to another one.
 use Rattle.std.specs.Prelude.{◌≡◌, ◌≢◌, ℕ, List, length}
 use Rattle.pay_channel.specs.History.{Event, out}
-use Rattle.pay_channel.specs.Taken.{next}
+use Rattle.pay_channel.specs.Taken.{taken_bodies, next}
 use Rattle.pay_world.specs.Setting.{Setting, group_at, IsCorrect}
 
 -- Member i took all that member j sent, where these are two and both are correct.
@@ -13,3 +13,9 @@ HasTaken w histories i j =
 -- Each correct member took all that each other correct one sent.
 pub record AllTaken (w : Setting) (histories : ℕ → List Event) : Type 0 where
   pub each : (i j : ℕ) → HasTaken w histories i j
+
+-- Member i, which may be faulty, took all that each correct member sent, as it was sent.
+abbrev pub HasHeardAll : Setting → (ℕ → List Event) → ℕ → Type 0
+HasHeardAll w histories i =
+    (k : ℕ) → IsCorrect w k
+    → taken_bodies k (histories i) ≡ out (group_at w k) (histories k)

@@ -128,3 +128,22 @@ in_bytes =
     Ask 1 B ∷ Ask 0 A
     ∷ Bring 1 (frame_bytes sealed_send) ∷ Bring 1 (frame_bytes sealed_send)
     ∷ []
+
+-- ---- with a member that has forgotten
+
+-- Member 3 sent A to all others, who echoed it, are READY for it and deliver it. Then it is asked
+-- for B under the same number, and is brought all that they sent.
+abbrev pub by_a_forgetting_member : List Action
+by_a_forgetting_member =
+    of_3 Send 0 3 0 A ∷ of_3 Send 1 3 0 A ∷ of_3 Send 2 3 0 A
+    ∷ of_3 Echo 0 1 0 A ∷ of_3 Echo 0 2 0 A
+    ∷ of_3 Echo 1 0 0 A ∷ of_3 Echo 1 2 0 A
+    ∷ of_3 Echo 2 0 0 A ∷ of_3 Echo 2 1 0 A
+    ∷ of_3 Ready 0 1 1 A ∷ of_3 Ready 0 2 1 A
+    ∷ of_3 Ready 1 0 1 A ∷ of_3 Ready 1 2 1 A
+    ∷ of_3 Ready 2 0 1 A ∷ of_3 Ready 2 1 1 A
+    ∷ Asks 3 B
+    ∷ of_3 Echo 3 0 0 A ∷ of_3 Ready 3 0 1 A
+    ∷ of_3 Echo 3 1 0 A ∷ of_3 Ready 3 1 1 A
+    ∷ of_3 Echo 3 2 0 A ∷ of_3 Ready 3 2 1 A
+    ∷ []

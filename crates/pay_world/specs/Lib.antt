@@ -8,6 +8,7 @@ pub mod Liars
 pub mod Below
 pub mod ActionLaws
 pub mod StandLaws
+pub mod NoticeLaws
 pub mod Headline
 pub mod HeadlineLaws
 pub mod Examples

@@ -4,17 +4,19 @@
 ghost use Rattle.std.specs.Prelude.{◌≡◌, ◌≢◌, ◌≤◌, true, [], ◌∷◌, Some, None};
 ghost use Rattle.pay_frame.specs.declared.kind.Kind.TheVariants.{Send, Ready};
 ghost use Rattle.pay_frame.specs.Frame.{frame_bytes, frame_of_parts};
-ghost use Rattle.pay_channel.specs.History.{Ask, From, body_of};
+ghost use Rattle.pay_channel.specs.Asked.{asked_values};
+ghost use Rattle.pay_channel.specs.History.{Ask, From, body_of, list_of};
 ghost use Rattle.pay_echo.specs.Broadcast.{size};
 ghost use Rattle.pay_member.specs.Events.{events};
-ghost use Rattle.pay_world.specs.Setting.{HasFewFaulty};
+ghost use Rattle.pay_member.specs.Remembering.{HasForgotten};
+ghost use Rattle.pay_world.specs.Setting.{HasFewFaulty, group_at};
 ghost use Rattle.pay_world.specs.Actions.{Asks, history_by, actions_in};
 ghost use Rattle.pay_world.specs.Genuine.{AreGenuine, is_forged};
-ghost use Rattle.pay_world.specs.Convergence.{AllTaken};
+ghost use Rattle.pay_world.specs.Convergence.{AllTaken, HasHeardAll};
 ghost use Rattle.pay_world.specs.GroupKeys.{group_test_keys};
 ghost use Rattle.pay_world.specs.Run.{events_of, history_of};
 ghost use Rattle.pay_world.specs.Examples.{A, B, of_3, of_0, first_of, setting_of_four, two_liars};
-ghost use Rattle.pay_world.specs.Examples.{three};
+ghost use Rattle.pay_world.specs.Examples.{three, by_a_forgetting_member};
 ghost use Rattle.pay_world.specs.Examples.{with_a_liar, by_two_liars, by_a_forged_frame};
 ghost use Rattle.pay_world.specs.Examples.{of_three, stored_at_1, liar_of_four, in_bytes};
 
@@ -33,6 +35,23 @@ pub fn one_liar_of_four()
     ensures zero { first_of setting_of_four with_a_liar 0 0 ≡ Some A }
     ensures one { first_of setting_of_four with_a_liar 1 0 ≡ Some A }
     ensures two { first_of setting_of_four with_a_liar 2 0 ≡ Some A }
+{
+    forged_is_told();
+}
+
+/// A member that forgot what it sent, and is asked for another value under that number, took all
+/// that the correct members sent, who took all of each other: it has the evidence.
+pub fn forgetting_member_of_four()
+    ensures few { HasFewFaulty setting_of_four }
+    ensures genuine { AreGenuine setting_of_four by_a_forgetting_member }
+    ensures taken { AllTaken setting_of_four (history_by setting_of_four by_a_forgetting_member) }
+    ensures heard { HasHeardAll setting_of_four
+        (history_by setting_of_four by_a_forgetting_member) 3 }
+    ensures listed { list_of (group_at setting_of_four 0)
+        (history_by setting_of_four by_a_forgetting_member 0) 3 ≡ A ∷ [] }
+    ensures asked { asked_values (history_by setting_of_four by_a_forgetting_member 3) ≡ B ∷ [] }
+    ensures evidence { HasForgotten (group_at setting_of_four 3)
+        (history_by setting_of_four by_a_forgetting_member 3) }
 {
     forged_is_told();
 }

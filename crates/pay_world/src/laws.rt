@@ -11,6 +11,7 @@ ghost use Rattle.pay_world.specs.StandLaws.{GenuineStands, Agreement, StandingLi
 ghost use Rattle.pay_world.specs.StandLaws.{Integrity};
 ghost use Rattle.pay_world.specs.StandLaws.{ListIsAsked, NothingIsTakenBack, Convergence};
 ghost use Rattle.pay_world.specs.StandLaws.{ListsConverge, AsksAreDelivered, ListIsAllAsked};
+ghost use Rattle.pay_world.specs.NoticeLaws.{ListenerDelivers, ListedIsNoticed, DeliveredIsNoticed};
 ghost use Rattle.pay_world.specs.HeadlineLaws.{HeadlineHolds, BooksConverge};
 ghost use Rattle.pay_world.specs.HeadlineLaws.{NoListForks, ListWasAsked, ListStays};
 ghost use Rattle.pay_world.specs.HeadlineLaws.{ListsAreEqual, ListIsComplete};
@@ -23,8 +24,9 @@ use pay_book::laws::{
     settled_values,
 };
 use pay_channel::laws::{
-    delivered_for_good, grow_at_the_end, lists_compared, lists_grow, nothing_at_first,
-    one_event_more, sends_are_asks, taken_in_order, votes_are_taken, what_is_sent,
+    delivered_for_good, grow_at_the_end, lists_are_delivered, lists_compared, lists_grow,
+    nothing_at_first, one_event_more, sends_are_asks, taken_in_order, votes_are_taken,
+    what_is_sent,
 };
 use pay_echo::laws::{
     members_of_sets, nobody_leaves, nothing_known_at_first, quorums_can_form, quorums_share,
@@ -149,6 +151,18 @@ pub fn all_converge()
     ensures all { ListIsAllAsked }
 {
     laws_below();
+}
+
+/// There, whoever took all that the correct members sent delivered what any of them delivered, also
+/// if it is faulty. So a member that has forgotten what it sent finds the evidence: what another
+/// lists of its account, its own list has too, though it wasn't asked for that.
+pub fn forgetting_is_noticed()
+    ensures listener { ListenerDelivers }
+    ensures listed { ListedIsNoticed }
+    ensures delivered { DeliveredIsNoticed }
+{
+    laws_below();
+    lists_are_delivered();
 }
 
 /// The headline: take any actions of which none is a forged frame, in a group with few faulty
