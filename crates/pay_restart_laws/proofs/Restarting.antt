@@ -4,14 +4,17 @@ use Rattle.std.specs.List.{All}
 use Rattle.std.proofs.lemmas.Bool.{cases_eq}
 use Rattle.std.proofs.lemmas.List.{take_at}
 use Rattle.std.proofs.lemmas.List.Elements.{All-append, All-cons, All-filter, All-nil}
-use Rattle.pay_channel.specs.History.{Event}
-use Rattle.pay_world.specs.Setting.{Setting, IsCorrect}
+use Rattle.pay_channel.specs.Prefix.{IsPrefix}
+use Rattle.pay_channel.specs.History.{Event, list_of}
+use Rattle.pay_channel.specs.Asked.{asked_values}
+use Rattle.pay_world.specs.Setting.{Setting, group_at, IsCorrect}
 use Rattle.pay_world.specs.Actions.{Action, member_of, adds, history_by}
-use Rattle.pay_world.specs.ActionLaws.{NoHistoryAtFirst, HistoryByOneMore, HistoriesGrow, NoActionIsGenuine, GenuineByOneMore}
+use Rattle.pay_world.specs.ActionLaws.{NoHistoryAtFirst, HistoryByOneMore, HistoriesGrow, NoActionIsGenuine, GenuineByOneMore, PrefixIsGenuine}
 use Rattle.pay_world.specs.Genuine.{IsGenuineIn, AreGenuine}
+use Rattle.pay_world.specs.StandLaws.{GenuineStands, ListIsAsked}
 use Rattle.pay_world.specs.HeadlineLaws.{HeadlineHolds}
 use Rattle.pay_restart_laws.specs.Forgetting.{elsewhere, IsAmong, ForgettingIsNoLie}
-use Rattle.pay_restart_laws.specs.Restarts.{Step, Happens, Restarts, history_with, history_through, history_by_steps, IsStepAmong, IsFair, AreFair, RestartIsNoLie, HeadlineOfRestarts}
+use Rattle.pay_restart_laws.specs.Restarts.{Step, Happens, Restarts, history_with, history_through, history_by_steps, IsStepAmong, IsFair, AreFair, RestartIsNoLie, HeadlineOfRestarts, CorrectMembersRemember}
 use Rattle.pay_restart_laws.proofs.Forgetting.{by_push, all_front, all_back, all_last, split}
 
 -- ---- histories by steps
@@ -139,3 +142,18 @@ of_restarts none more grow no_lie headline w opening steps few are =
           s.history ∙ ap (take (length history)) (t.2 i ∙ begins.is) ∙ take_at history begins.rest (length history) refl in
           (s.first, record { rest = s.later; is = s.is }, first),
     )
+
+-- ---- a correct member remembers
+
+pub remembering : NoHistoryAtFirst → HistoryByOneMore → HistoriesGrow → PrefixIsGenuine → RestartIsNoLie → GenuineStands → ListIsAsked → CorrectMembersRemember
+remembering none more grow front no_lie stands asked w steps few are i correct =
+    let t = no_lie w steps are in
+    record {
+      each = λ before begins.
+          let s = split none more grow w i (length before) t.0 in
+          let first : history_by w s.first i ≡ before =
+          s.history ∙ ap (take (length before)) (t.2 i ∙ begins.is) ∙ take_at before begins.rest (length before) refl in
+          let genuine = front w s.first t.0 (record { rest = s.later; is = s.is }) t.1 in
+          subst (λ (h : List Event). IsPrefix (list_of (group_at w i) h i) (asked_values h)) first
+          (asked w (history_by w s.first) i i (stands w s.first few genuine) few correct correct);
+    }

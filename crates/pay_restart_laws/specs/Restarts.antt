@@ -4,7 +4,8 @@ use Rattle.std.specs.Prelude.{◌≡◌, ℕ, ◌==◌, if◌then◌else◌, Lis
 use Rattle.std.specs.List.{All}
 use Rattle.pay_channel.specs.Prefix.{IsPrefix}
 use Rattle.pay_channel.specs.History.{Event}
-use Rattle.pay_world.specs.Setting.{Setting, IsCorrect, HasFewFaulty}
+use Rattle.pay_member.specs.Remembering.{Remembers}
+use Rattle.pay_world.specs.Setting.{Setting, group_at, IsCorrect, HasFewFaulty}
 use Rattle.pay_world.specs.Actions.{Action, adds, history_by}
 use Rattle.pay_world.specs.Genuine.{IsGenuineIn, AreGenuine}
 use Rattle.pay_world.specs.Headline.{Headline}
@@ -62,3 +63,9 @@ HeadlineOfRestarts =
     × ((i : ℕ) → history_by w actions i ≡ history_by_steps w steps i)
     × ((i : ℕ) (history : List Event) → IsPrefix history (history_by_steps w steps i)
     → (one : List Action) × IsPrefix one actions × (history_by w one i ≡ history))
+
+-- A correct member remembers, however often and whichever members start again.
+abbrev pub CorrectMembersRemember : Type 0
+CorrectMembersRemember =
+    (w : Setting) (steps : List Step) → HasFewFaulty w → AreFair w steps
+    → (i : ℕ) → IsCorrect w i → Remembers (group_at w i) (history_by_steps w steps i)

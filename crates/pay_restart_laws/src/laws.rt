@@ -3,9 +3,12 @@
 
 ghost use Rattle.pay_restart_laws.specs.Forgetting.{ForgettingIsNoLie};
 ghost use Rattle.pay_restart_laws.specs.Restarts.{RestartIsNoLie, HeadlineOfRestarts};
+ghost use Rattle.pay_restart_laws.specs.Restarts.{CorrectMembersRemember};
 
 use pay_channel::laws::grow_at_the_end;
-use pay_world::laws::{genuine_actions, headline, histories_by_actions};
+use pay_world::laws::{
+    correct_members_stand, genuine_actions, headline, histories_by_actions, nothing_is_invented,
+};
 
 /// A member loses what it took after a beginning of its history. Where no frame of it beyond that
 /// was brought to a correct member, the actions without those that it lost are actions in which no
@@ -35,4 +38,17 @@ pub fn headline_of_restarts()
     histories_by_actions();
     restart_is_no_lie();
     headline();
+}
+
+/// A correct member never finds in its own account's list what it wasn't asked for, however often
+/// it starts again. So one that finds it has lost what it sent, or more than f members are faulty,
+/// or a frame is forged.
+pub fn correct_members_remember()
+    ensures { CorrectMembersRemember }
+{
+    histories_by_actions();
+    genuine_actions();
+    correct_members_stand();
+    nothing_is_invented();
+    restart_is_no_lie();
 }
