@@ -146,13 +146,12 @@ def read_state():
 
 
 def write_state(first=None, **changes):
-    """Has ./payd run what these two lines say, and changes what is known of these kinds."""
+    """Has ./payd run what these two lines say, or look anew, and changes what is known of these kinds."""
     os.makedirs(STORE, exist_ok=True)
     with open(os.path.join(STORE, "lock"), "w", encoding="utf-8") as lock:
         fcntl.flock(lock, fcntl.LOCK_EX)
-        lines, records = read_state()
-        lines, records = first or lines or ["none", ""], {**records, **changes}
-        lines = lines + [" ".join((kind, *record)) for kind, record in records.items() if record]
+        records = {**read_state()[1], **changes}
+        lines = (first or ["none", ""]) + [" ".join((kind, *record)) for kind, record in records.items() if record]
         with open(f"{STATE}.new", "w", encoding="utf-8") as file:
             file.write("".join(f"{it}\n" for it in lines))
         os.replace(file.name, STATE)

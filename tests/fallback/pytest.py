@@ -59,4 +59,4 @@ if __name__ == "__main__":
             counts[outcome] += 1
             print(line, flush=True)
     print(", ".join(f"{counts[it]} {it}" for it in ("passed", "failed", "skipped")))
-    sys.exit(1 if counts["failed"] else 0)
+    sys.exit(1 if counts["failed"] or not jobs else 0)
