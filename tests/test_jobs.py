@@ -10,8 +10,6 @@ from frames import ECHO, READY, SEND, WANT, frame
 from runs import PIECE, SECONDS, TOP, is_refused, payd, run, run_within, same, shows
 
 EACH = range(1, 9)
-# How often a run is tried in which another thread has to get at something.
-PATIENT = 100
 
 
 def run_from_file(stream, jobs):
@@ -133,14 +131,9 @@ def test_as_many_threads_as_processors_unless_said(library):
 
 
 def test_each_growth_of_a_further_thread_refused(library):
-    """What another thread can't judge for memory the one that reads does: the text is whole."""
-    stream, refused = drawn(7, 300), 0
+    """What threads can't judge side by side for memory one does alone: the text is whole."""
+    stream = drawn(7, 900)
     wanted = check(stream)
-    # (which thread judges what hangs on which is free, so one run may refuse nothing)
-    for _ in range(PATIENT):
-        for place, was in library.each(["check", "--jobs", "3"], stream, "further_growth"):
-            same(was, wanted, f"growth {place}")
-            refused += 1
-        if refused > 10:
-            return
-    raise AssertionError(f"{refused} growths of further threads were refused")
+    for place, was in library.each(["check", "--jobs", "3"], stream, "further_growth"):
+        same(was, wanted, f"growth {place}")
+    same(library.refused["check further_growth"] > 10, True, "growths were refused")

@@ -52,8 +52,12 @@ class Hostile:
 
     def run(self, words, stream, **wanted):
         """Status, output and errors of a run from which this is withheld, and whether it was."""
-        how = {"input": stream, "capture_output": True, "timeout": SECONDS, "cwd": self.place.name}
-        done = subprocess.run([payd(), *words], env={**os.environ, **self.given(**wanted)}, **how)
+        how = {"capture_output": True, "timeout": SECONDS, "cwd": self.place.name}
+        # (of a file each read gives as much as it asks for, so that runs alike make the same calls)
+        with tempfile.TemporaryFile() as file:
+            file.write(stream)
+            file.seek(0)
+            done = subprocess.run([payd(), *words], stdin=file, env={**os.environ, **self.given(**wanted)}, **how)
         errors = started(done.stderr.decode()).removeprefix(IN_MEMORY)
         return (done.returncode, done.stdout.decode("ascii"), errors), self.was_refused()
 
