@@ -1,7 +1,7 @@
 -- Seats, and when a history is consistent with all that a seat was told.
-use Rattle.std.specs.Prelude.{◌≡◌, ◌⊎◌, ℕ, ◌≤◌, ◌-◌, ◌==◌, List, [], ◌∷◌, ◌++◌, Option, drop}
-use Rattle.std.specs.Prelude.{length}
-use Rattle.std.specs.List.{All, AllPairs, Contains, count_by}
+use Rattle.std.specs.Prelude.{◌≡◌, ◌⊎◌, ℕ, ◌+◌, ◌≤◌, ◌-◌, ◌==◌, List, [], ◌∷◌, ◌++◌, Option, Some}
+use Rattle.std.specs.Prelude.{false, drop, length, slice_get}
+use Rattle.std.specs.List.{All, AllPairs, count_by}
 use Rattle.pay_member.specs.Member.{MemberFields}
 use Rattle.pay_node.specs.Receipts.{ReceiptFields}
 use Rattle.pay_node.specs.declared.seat.TheConstants.{LATEST}
@@ -21,11 +21,18 @@ with_receipts seat more = record seat { receipts = seat.receipts ++ more }
 abbrev pub latest : SeatFields → List ReceiptFields
 latest seat = drop (length seat.receipts - LATEST) seat.receipts
 
--- The seat keeps this receipt. If it was among the latest, nothing changes; else the seat has a
--- receipt more, if any.
+-- The receipt is among these, and is of now, as far as they tell: no later one saw more entries, or
+-- made one.
+pub record IsOfNow (receipts : List ReceiptFields) (r : ReceiptFields) : Type 0 where
+  pub place : ℕ
+  pub is : slice_get receipts place ≡ Some r
+  pub still : All (λ later. entries_after later ≤ r.seen) (drop (place + 1) receipts)
+
+-- The seat keeps this receipt, which is of now. If it was so among the latest, nothing changes;
+-- else the seat has a receipt more, if any.
 pub record KeepsReceipt (before after : SeatFields) (r : ReceiptFields) : Type 0 where
-  pub kept : Contains after.receipts r
-  pub once : Contains (latest before) r → after ≡ before
+  pub kept : IsOfNow after.receipts r
+  pub once : IsOfNow (latest before) r → after ≡ before
   pub more : (after ≡ before) ⊎ (after ≡ with_receipts before (r ∷ []))
 
 -- how many of the calls have an entry
@@ -56,3 +63,10 @@ pub record Right (m : MemberFields) (base : ℕ) (seat : SeatFields) : Type 0 wh
 abbrev pub StaysRight : MemberFields → SeatFields → MemberFields → SeatFields → Type 0
 StaysRight m seat now after =
     (base : ℕ) → base ≤ length m.history → Right m base seat → Right now base after
+
+-- A reading whose receipt is of now counts as one that left another: closing judges it by the same.
+abbrev pub KeptCountsAsLeft : Type 0
+KeptCountsAsLeft =
+    (m : MemberFields) (base : ℕ) (seat : SeatFields) (r : ReceiptFields)
+    → Right m base seat → IsOfNow seat.receipts r → has_entry r.call ≡ false
+    → Right m base (with_receipts seat (r ∷ []))

@@ -20,6 +20,7 @@ mod closing;
 mod gate;
 mod gatherer;
 mod judging;
+pub mod laws;
 mod marks;
 mod node;
 mod once;

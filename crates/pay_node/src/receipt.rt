@@ -1,5 +1,6 @@
-ghost use Rattle.std.specs.Prelude.{◌≡◌, ◌↔◌, [], ◌∷◌, IfOk, IsTrue};
-ghost use Rattle.pay_node.specs.Receipts.{ShowsAlone, call_in, fault_of_call, has_entry, reading};
+ghost use Rattle.std.specs.Prelude.{◌≡◌, ◌↔◌, ◌≤◌, [], ◌∷◌, IfOk, IsTrue};
+ghost use Rattle.pay_node.specs.Receipts.{ShowsAlone, call_in, entries_after, fault_of_call};
+ghost use Rattle.pay_node.specs.Receipts.{has_entry, reading};
 
 use crate::call::{Call, is_alone};
 use crate::question::Question;
@@ -103,6 +104,13 @@ impl Receipt {
             KeptCall::Sent { .. } => false,
             KeptCall::Other(call) => call.has_entry(),
         }
+    }
+
+    /// Whether the history had at most so many entries once the call was answered.
+    pub(crate) fn tells_no_more(&self, entries: usize) -> bool
+        ensures { IsTrue result ↔ (entries_after self.now ≤ entries) }
+    {
+        self.seen < entries || (self.seen == entries && !self.has_entry())
     }
 
     /// Why what was handed in was refused, if it was.

@@ -1,12 +1,11 @@
 ghost use Rattle.std.specs.Prelude.{◌≡◌, ◌≢◌, ◌↔◌, ◌+◌, ◌<◌, ℕ, Some, Err, [], ◌∷◌, ◌++◌, IfOk};
 ghost use Rattle.std.specs.Prelude.{IsTrue, OnErr, OnOk, length, max, vec_len, vec_capacity};
-ghost use Rattle.std.specs.List.{Contains};
 ghost use Rattle.pay_member.specs.Answer.{IsAnswer};
 ghost use Rattle.pay_member.specs.Legal.{Legal};
 ghost use Rattle.pay_member.specs.Member.{with_entry};
 ghost use Rattle.pay_node.specs.Keeping.{IsKeptFor, IsNoted, mark_of};
 ghost use Rattle.pay_node.specs.Receipts.{reading, reading_receipt, receipts_of, shown_of};
-ghost use Rattle.pay_node.specs.Seats.{KeepsReceipt, SeatFields, StaysRight, latest};
+ghost use Rattle.pay_node.specs.Seats.{IsOfNow, KeepsReceipt, SeatFields, StaysRight, latest};
 ghost use Rattle.pay_node.specs.Seats.{with_receipts};
 
 use crate::bodies::Bodies;
@@ -136,8 +135,8 @@ impl Seat {
         answer
     }
 
-    /// Keeps the receipt of what a member shows to a question. Where it is among the latest, no
-    /// second one is left. What was right stays so.
+    /// Keeps the receipt of what a member shows to a question. Where it is among the latest, and
+    /// none since saw more or has an entry, no second one is left. What was right stays so.
     pub(crate) fn note<I: Instance + Drop, B: Settle + Drop>(
         &mut self,
         alloc: Global,
@@ -154,7 +153,7 @@ impl Seat {
         ensures own { StaysRight member.now self.old member.now self.new }
     {
         let seen = member.history().len();
-        if has_reading(self.latest(), seen, question, shown) {
+        if is_read_now(self.latest(), seen, question, shown) {
             return Ok(());
         }
         let receipt = Receipt::of_reading(alloc, seen, question, shown)?;
@@ -243,16 +242,16 @@ impl Seat {
 }
 
 // Whether one of these receipts is of this question with this answer, at a history of so many
-// entries.
-fn has_reading(receipts: &[Receipt], seen: usize, question: Question, shown: &Shown) -> bool
-    ensures { IsTrue result ↔ Contains receipts.now (reading seen question shown.now) }
+// entries, and none behind it tells of more.
+fn is_read_now(receipts: &[Receipt], seen: usize, question: Question, shown: &Shown) -> bool
+    ensures { IsTrue result ↔ IsOfNow receipts.now (reading seen question shown.now) }
 {
+    let mut is_found = false;
     for receipt in receipts {
-        if receipt.is_reading(seen, question, shown) {
-            return true;
-        }
+        is_found = receipt.is_reading(seen, question, shown)
+            || (is_found && receipt.tells_no_more(seen));
     }
-    false
+    is_found
 }
 
 // Keeps the receipt of an event that was handed in, for which there is room; refused memory has

@@ -1,20 +1,20 @@
-use Rattle.std.proofs.Common.{◌≡◌, Contains, length, rules}
+use Rattle.std.proofs.Common.{◌≡◌, length, rules}
 use Rattle.pay_node.specs.Receipts.{reading, reading_receipt}
-use Rattle.pay_node.specs.Seats.{SeatFields, latest, with_receipts}
+use Rattle.pay_node.specs.Seats.{IsOfNow, SeatFields, latest, with_receipts}
 use Rattle.pay_node.proofs.Latest.{kept_already, kept_more}
 use Rattle.pay_node.proofs.Rights.{reading_stays}
 use Rattle.pay_node.proofs.seat.Seat.note.Goals as goal
 
-pub returns-then-has_reading-clause-receipt : goal.returns-then-has_reading-clause-receipt
-returns-then-has_reading-clause-receipt g c =
-    let found : Contains (latest c.args.self.now) (reading (length c.args.member.now.history) c.args.question c.args.shown.now) = search rules in
+pub returns-then-is_read_now-clause-receipt : goal.returns-then-is_read_now-clause-receipt
+returns-then-is_read_now-clause-receipt g c =
+    let found : IsOfNow (latest c.args.self.now) (reading (length c.args.member.now.history) c.args.question c.args.shown.now) = search rules in
     kept_already c.args.self.now (reading (length c.args.member.now.history) c.args.question c.args.shown.now) found
 
 pub returns-clause-receipt : goal.returns-clause-receipt
 returns-clause-receipt g c =
     let r = reading (length c.args.member.now.history) c.args.question c.args.shown.now in
     let after : SeatFields = record { stamp = c.self.inside.stamp; receipts = c.push.new.self.items; marks = c.self.inside.marks } in
-    let missing : ¬ (Contains (latest c.args.self.now) r) = search rules in
+    let missing : ¬ (IsOfNow (latest c.args.self.now) r) = search rules in
     let at : after ≡ with_receipts c.args.self.now (reading_receipt (length c.args.member.now.history) c.args.question c.args.shown.now) = search rules in
     kept_more c.args.self.now after r missing at
 
