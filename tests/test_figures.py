@@ -114,7 +114,7 @@ def test_figures_end_with_their_node():
     with Folders(OPENING, running=[0]) as group:
         shown(group, 0)
         same(group.end(0)[0], 0, "the node's end")
-        same(sorted(os.listdir(folder_of(group, 0))), ["lock", "log"], "what is left in the folder")
+        same(sorted(os.listdir(folder_of(group, 0))), ["ended", "log"], "what is left in the folder")
         # those that a kill left are of the next node once it writes some
         group.start(0)
         shown(group, 0)

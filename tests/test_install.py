@@ -53,7 +53,7 @@ def test_installed_program_stands_alone():
         write_json(folder, "g", ALONE)
         write_json(folder, "k", {"own": 0, "keys": key_texts(0, 1)})
         write_json(folder, "p", {"ports": free_ports(1)})
-        words = [payd, "node", "--genesis", "g", "--keys", "k", "--ports", "p", "--data", "member"]
+        words = [payd, "node", "--genesis", "g", "--keys", "k", "--ports", "p", "--data", "member", "--new"]
         export = export_text(0, [7], [[]], [0], [7])
         status, output, errors = run_in(folder, words, b"FRONT\n")
         same((status, output, started(errors)), (0, f"front 0\n{export}", "payd: log: new\n"), "a node")

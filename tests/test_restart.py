@@ -8,6 +8,7 @@ import os
 import random
 import re
 import resource
+import shutil
 import signal
 import struct
 import subprocess
@@ -16,13 +17,21 @@ from collections import Counter
 from frames import SEND, frame, payment
 from damaged_logs import OPENING, bits, cuts, export, made_folder, read
 from logs import HEADER_LEN, QUERY, Log
-from nodes import IN_MEMORY, export_text, free_ports, started, until, write_json
+from nodes import IN_MEMORY, export_text, free_ports, new_words, started, until, write_json
 from peers import Liar, Strangers, connected, received
 from restarts import NEW, Folders, killed_and_started_again, told
 from runs import GENESIS, SECONDS, key_texts, payd, same, shows, with_files
 
 FRESH = [[], [], [], []]
 DISK, HELD = "payd: log 1 Disk\n", "payd: log 2 Held\n"
+CHANGED = "payd: log 6 Changed\npayd: the log ended cleanly and isn't whole any more: put that very log back, and "
+CHANGED += "never an older one\n"
+FORGOTTEN = "payd: log 7 Forgotten\npayd: this log is older than what the group has settled for its member: never "
+FORGOTTEN += "start it again in this group; its balance goes on in the next one\n"
+MISSING = "payd: log 8 Missing\npayd: there is no log in this folder: --new makes a member there, but one that had a "
+MISSING += "log needs that very log, which may be on a disk that isn't mounted\n"
+EXISTS = "payd: log 9 Exists\npayd: there is or was a log in this folder: without --new its member goes on where it "
+EXISTS += "was\n"
 UNWRITTEN = "payd: engine 3 Write\n"
 REFUSED = re.compile("payd: (log|engine|genesis|keys|ports|close) 0 Memory\n|error: .*memory.*\n", re.DOTALL)
 
@@ -110,9 +119,10 @@ def test_a_node_stays():
 # ---- folders
 
 
-def node_on(place, own, folder, text=b"", **how):
-    """What a node without peers does with a folder."""
+def node_on(place, own, folder, text=b"", flags=None, **how):
+    """What a node without peers does with a folder, in which its member is made if there is none."""
     words = ["--genesis", "genesis", "--keys", f"keys-{own}", "--ports", "ports", "--data", folder]
+    words += new_words(place, words) if flags is None else flags
     how = {"input": text, "cwd": place, "capture_output": True, "timeout": SECONDS, **how}
     done = subprocess.run([payd(), "node", *words], **how)
     return done.returncode, done.stdout.decode("ascii"), started(done.stderr.decode())
@@ -122,11 +132,12 @@ def test_one_node_has_a_folder():
     with Folders(OPENING, running=[0]) as group:
         group.pay(0, 7, payee=1, amount=30, seq=0)
         shows(node_on(group.place.name, 0, "data-0"), 3, "", HELD, of="another node")
-        shows(export(group.place.name, 0), 3, "", HELD, of="an export of a held folder")
         group.pay(0, 8, payee=1, amount=30, seq=1)
+        linked = os.path.join(group.place.name, "linked")
+        os.mkdir(linked, 0o700)
+        os.link(os.path.join(group.place.name, "data-0", "log"), os.path.join(linked, "log"))
+        shows(node_on(group.place.name, 0, "linked"), 3, "", HELD, of="another node, by another name of the log")
         group.kill(0)
-        text = export_text(0, OPENING, FRESH, [0, 0, 0, 0], OPENING)
-        shows(export(group.place.name, 0), 0, text, of="once it is free")
 
 
 def test_folders_of_others():
@@ -151,22 +162,122 @@ def test_folders_of_others():
             shows(export(place, 0, "made"), 2, "", f"payd: log 3 Foreign {name}\n", of=f"a file of {content[:9]!r}")
             shows(node_on(place, 0, "made"), 2, "", f"payd: log 3 Foreign {name}\n", of=f"a node on {content[:9]!r}")
             same(read(made), content, "the file")
-        for folder in ("away", "empty"):
-            if folder == "empty":
-                os.mkdir(os.path.join(place, folder))
-            shows(export(place, 0, folder), 2, "", "payd: log 3 Foreign NoLog\n", of=f"an export of a folder {folder}")
-        same(os.path.exists(os.path.join(place, "away")), False, "a folder that an export made")
-        write_json(place, os.path.join("empty", "something"), 1)
-        shows(node_on(place, 0, "empty"), 2, "", "payd: log 3 Foreign NoLog\n", of="a folder with something in it")
-        shows(node_on(place, 0, "genesis"), 3, "", DISK, of="a file in place of a folder")
+        shows(node_on(place, 0, "genesis"), 4, "", DISK, of="a file in place of a folder")
+
+
+def test_a_member_is_made_by_word():
+    """Without it a folder that has no log is refused, as of a disk that isn't mounted, and with it one that has or had
+    one."""
+    with Folders(OPENING, running=[]) as group:
+        place = group.place.name
+        os.mkdir(os.path.join(place, "empty"))
+        for folder in ("away", "empty", "genesis"):
+            shows(node_on(place, 0, folder, flags=[]), 2, "", MISSING, of=f"a node on {folder}")
+            shows(export(place, 0, folder), 2, "", MISSING, of=f"an export of {folder}")
+        same((os.path.exists(os.path.join(place, "away")), os.listdir(os.path.join(place, "empty"))), (False, []), "it")
+        text = export_text(0, OPENING, FRESH, [0, 0, 0, 0], OPENING)
+        shows(node_on(place, 0, "made", b"PAY 7 1 30\n", flags=["--new"]), 0, f"asked 7 seq 0\n{text}", NEW)
+        log = os.path.join(place, "made", "log")
+        before = read(log)
+        shows(node_on(place, 0, "made", flags=["--new"]), 2, "", EXISTS, of="a folder that has a log")
+        same((read(log), sorted(os.listdir(os.path.dirname(log)))), (before, ["ended", "log"]), "it")
+        os.remove(log)
+        shows(node_on(place, 0, "made", flags=["--new"]), 2, "", EXISTS, of="a folder that had one")
+        shows(node_on(place, 0, "made", flags=[]), 2, "", MISSING, of="it, without the word")
+    files = {"g": GENESIS, "k": {"own": 0, "keys": key_texts(0)}, "p": {"ports": free_ports(4)}}
+    words = ["node", "--genesis", "g", "--keys", "k", "--ports", "p", "--new"]
+    shows(with_files(files, words), 2, "", "payd: new: only with --data\n")
+
+
+def test_an_export_changes_nothing():
+    """Beside a node, of which it says so, and of a log that may only be read."""
+    with Folders(OPENING, running=[0]) as group:
+        place = group.place.name
+        group.pay(0, 7, payee=1, amount=30, seq=0)
+        before = group.log(0)
+        text = export_text(0, OPENING, FRESH, [0, 0, 0, 0], OPENING)
+        said = "payd: log: a node has it, so this is the member as of now\n"
+        shows(export(place, 0), 0, text, said, of="an export of a log that a node has")
+        group.pay(0, 8, payee=1, amount=30, seq=1)
+        group.kill(0)
+        torn = group.log(0)[:-1]
+        log = made_folder(place, "torn", torn)
+        os.chmod(log, 0o400)
+        os.chmod(os.path.dirname(log), 0o500)
+        said = f"payd: log: {len(torn) - len(before)} bytes at its end are no part of it\n"
+        shows(export(place, 0, "torn"), 0, text, said, of="an export of a torn log that may only be read")
+        same((read(log), os.listdir(os.path.dirname(log))), (torn, ["log"]), "what is left")
+
+
+def test_an_old_copy_of_a_folder_is_refused():
+    """Put back, it settles as its own what it was never asked for, which the next start finds."""
+    with Folders(OPENING) as group:
+        folder, old = (os.path.join(group.place.name, name) for name in ("data-0", "old"))
+        shutil.copytree(folder, old, ignore=shutil.ignore_patterns("desk"))
+        group.pay(0, 7, payee=1, amount=30, seq=0)
+        group.settle([1, 0, 0, 0], [70, 30, 0, 50])
+        group.kill(0)
+        shutil.rmtree(folder)
+        shutil.move(old, folder)
+        group.start(0)
+        until(group.nodes[0].front, [1, 0, 0, 0], of="the front by an old copy")
+        group.kill(0)
+        before = read(os.path.join(folder, "log"))
+        shows(node_on(group.place.name, 0, "data-0"), 4, "", FORGOTTEN)
+        same(read(os.path.join(folder, "log")), before, "the log")
+
+
+def test_a_torn_end_is_kept():
+    """What a start leaves out of a log behind its last chunk is told of, and kept, each time behind what was before."""
+    with Folders(OPENING, running=[0]) as group:
+        place, lost = group.place.name, b""
+        group.pay(0, 7, payee=1, amount=30, seq=0)
+        group.kill(0)
+        whole = group.log(0)
+        folder = os.path.join(place, "data-0")
+        text = export_text(0, OPENING, FRESH, [0, 0, 0, 0], OPENING)
+        for torn in (b"plog", bytes(7)):
+            with open(os.path.join(folder, "log"), "ab") as log:
+                log.write(torn)
+            status, output, errors = node_on(place, 0, "data-0", b"PAY 7 1 30\n")
+            same((status, output), (0, f"asked 7 seq 0\n{text}"), "the member")
+            same(told(errors)[1], f"payd: log: {len(torn)} bytes dropped, kept in log.dropped\n", "what is said")
+            lost += torn
+            same(read(os.path.join(folder, "log.dropped")), lost, "what is kept")
+            same(read(os.path.join(folder, "log")), whole, "the log")
+            # (as a kill leaves it)
+            os.remove(os.path.join(folder, "ended"))
+
+
+def test_a_log_that_ended_cleanly_stays_whole():
+    """Where it is cut, or a bit of its end is turned, the start is refused, and nothing changes."""
+    with Folders(OPENING, running=[]) as group:
+        place = group.place.name
+        same(node_on(place, 0, "clean", LINES)[0], 0, "the end")
+        folder = os.path.join(place, "clean")
+        log, ended = (read(os.path.join(folder, name)) for name in ("log", "ended"))
+        same(ended, b"%d\n" % len(log), "the mark of the end")
+        last = Log(GENESIS, 0).ends(log)[-2]
+        turned = bytearray(log)
+        turned[last + 20] ^= 1
+        for file, of in ((log[:-1], "a byte less"), (log[:last], "a chunk less"), (bytes(turned), "a bit turned")):
+            with open(os.path.join(folder, "log"), "wb") as changed:
+                changed.write(file)
+            shows(node_on(place, 0, "clean"), 2, "", CHANGED, of=of)
+            shows(export(place, 0, "clean"), 2, "", CHANGED, of=f"an export of it, with {of}")
+            same((read(changed.name), sorted(os.listdir(folder))), (file, ["ended", "log"]), of)
+        with open(os.path.join(folder, "log"), "wb") as back:
+            back.write(log)
+        again = node_on(place, 0, "clean", LINES)
+        same((again[0], again[1].startswith(ANSWERS)), (0, True), "the log put back")
 
 
 def test_killed_while_the_folder_is_made():
-    """A folder with less than a whole log in it is one that was killed at its first start."""
+    """A folder with less than a whole log in it is one that was killed at its first start, which is given again."""
     with Folders(OPENING, running=[]) as group:
         header = Log(GENESIS, 0).header()
-        begun = [{"lock": b"", "log.new": header[:length]} for length in (0, 1, 74, 75)]
-        for place, files in enumerate([{}, {"lock": b""}, *begun]):
+        begun = [{"log.new": header[:length]} for length in (0, 1, 74, 75)]
+        for place, files in enumerate([{}, *begun]):
             folder = f"made-{place}"
             os.mkdir(os.path.join(group.place.name, folder), 0o700)
             for name, content in files.items():
@@ -175,7 +286,7 @@ def test_killed_while_the_folder_is_made():
             was = node_on(group.place.name, 0, folder)
             shows(was, 0, export_text(0, OPENING, FRESH, [0, 0, 0, 0], OPENING), NEW, of=f"{files}")
             same(read(os.path.join(group.place.name, folder, "log")), header, "the new log")
-            same(sorted(os.listdir(os.path.join(group.place.name, folder))), ["lock", "log"], "what is in the folder")
+            same(sorted(os.listdir(os.path.join(group.place.name, folder))), ["ended", "log"], "what is in the folder")
 
 
 # ---- damage
@@ -269,9 +380,9 @@ def test_a_full_disk_that_gets_room_again():
             status, output, errors = node_on(place, 0, f"room-{size}", LINES, preexec_fn=with_room(size))
             of = f"room for {size} of {whole} bytes: {(status, output, errors)}"
             if size < HEADER_LEN:
-                same((status, output, errors), (3, "", DISK), of)
+                same((status, output, errors), (4, "", DISK), of)
             elif status != 0:
-                same((status, without_figures(errors)), (3, NEW + DISK + UNWRITTEN), of)
+                same((status, without_figures(errors)), (4, NEW + DISK + UNWRITTEN), of)
                 same(ANSWERS.startswith(output) and output[-1:] in ("", "\n"), True, of)
             kept = Log(GENESIS, 0).member(read(os.path.join(made, "log")))[1] if size >= HEADER_LEN else []
             same(kept[: output.count("\n")], list(range(min(output.count("\n"), 12))), f"{of}: what was answered")
@@ -286,7 +397,7 @@ def test_a_full_disk_that_gets_room_again():
 def test_nothing_leaves_that_is_not_kept():
     """A peer gets no frame of a payment for which there is no room, and no answer of it comes out."""
     with Folders(OPENING, running=[]) as group, Strangers(1, 0, group.ports[0]) as strangers:
-        words = ["--genesis", "genesis", "--keys", "keys-0", "--ports", "ports", "--data", "full"]
+        words = ["--genesis", "genesis", "--keys", "keys-0", "--ports", "ports", "--data", "full", "--new"]
         child = subprocess.Popen(
             [payd(), "node", *words], cwd=group.place.name, stdin=subprocess.PIPE, stdout=subprocess.PIPE,
             stderr=subprocess.PIPE, preexec_fn=with_room(HEADER_LEN), bufsize=0,
@@ -297,7 +408,7 @@ def test_nothing_leaves_that_is_not_kept():
             stream.sendall(strangers.want(0))
             output, errors = child.communicate(b"PAY 7 1 30\n", timeout=SECONDS)
             news = told(without_figures(errors.decode()))[1].splitlines()
-            same((child.returncode, output), (3, b""), f"a node without room: {errors}")
+            same((child.returncode, output), (4, b""), f"a node without room: {errors}")
             same([line for line in news if "peer" not in line], ["payd: log 1 Disk", "payd: engine 3 Write"], "it says")
             same(received(stream), None, "what a peer was told")
         finally:
@@ -325,20 +436,28 @@ def with_a_fault(library, name, **more):
     """A run for each call of this kind, each with one failed: what was answered is kept, once the node is started
     again, and each id is asked for once. (Some three lines are read at once.)"""
     words = words_in(library)
+    text = export_text(0, OPENING, FRESH, [0, 0, 0, 0], OPENING)
     kinds = Counter()
     for place in range(1, 1000):
         folder = f"{name}-{place}-{more.get('placed_size', 0)}"
         given = {name: place, "read_size": 40, **more}
-        (status, output, errors), was_refused = library.run([*words, folder], LINES, **given)
+        (status, output, errors), was_refused = library.run([*words, folder, "--new"], LINES, **given)
         if not was_refused:
             same((status, place > 3), (0, True), f"{kinds} of {name}, and then {(status, output, errors)}")
             return
         of = f"{name} {place} {more}: {(status, output, errors)}"
         kinds[(status, errors)] += 1
-        same((status, errors) in ((3, DISK), (3, NEW + DISK + UNWRITTEN)), True, of)
-        same(ANSWERS.startswith(output) and output[-1:] in ("", "\n"), True, of)
-        status, again, errors = library.run([*words, folder], LINES)[0]
-        same((status, again.startswith(ANSWERS), told(errors)[1]), (0, True, ""), f"{of}, and then {(again, errors)}")
+        # (the last of them fail where the end is marked, behind the export)
+        at_end = (4, ANSWERS + text, NEW + DISK)
+        was = (status, output, errors)
+        same((status, errors) in ((4, DISK), (4, NEW + DISK + UNWRITTEN)) or was == at_end, True, of)
+        same((ANSWERS + text).startswith(output) and output[-1:] in ("", "\n"), True, of)
+        flags = new_words(library.place.name, ["--data", folder])
+        status, again, errors = library.run([*words, folder, *flags], LINES)[0]
+        same((status, again.startswith(ANSWERS)), (0, True), f"{of}, and then {(again, errors)}")
+        lost = more.get("placed_size", 0)
+        may_say = {"", f"payd: log: {lost} bytes dropped, kept in log.dropped\n"} if lost else {""}
+        same(told(errors)[1] in may_say, True, f"{of}, and then {(again, errors)}")
         library.refused[f"node --data {name}"] += 1
 
 
@@ -357,11 +476,12 @@ def test_each_growth_of_a_kept_node_refused(library):
     words = words_in(library)
     lines = LINES.splitlines(keepends=True)[:3]
     wanted = ANSWERS.splitlines()[:3]
-    same(library.run([*words, "kept"], b"".join(lines))[0][0], 0, "ample memory")
+    same(library.run([*words, "kept", "--new"], b"".join(lines))[0][0], 0, "ample memory")
     for of in ("kept", "new"):
         for place in range(1, 1000):
             folder = of if of == "kept" else f"new-{place}"
-            (status, text, errors), was_refused = library.run([*words, folder], b"".join(lines), growth=place)
+            flags = new_words(library.place.name, ["--data", folder])
+            (status, text, errors), was_refused = library.run([*words, folder, *flags], b"".join(lines), growth=place)
             of_run = f"{folder}, growth {place}: {(status, text, errors)}"
             answers = text.splitlines()[:3]
             said = told(without_figures(errors))[1]
@@ -376,7 +496,8 @@ def test_each_growth_of_a_kept_node_refused(library):
             same([answers[order] for order in asked], due, of_run)
             if status == 0:
                 continue
-            again = library.run([*words, folder], b"".join(reversed(lines)))[0]
+            flags = new_words(library.place.name, ["--data", folder])
+            again = library.run([*words, folder, *flags], b"".join(reversed(lines)))[0]
             same(again[0], 0, f"{of_run}, and then {again}")
             told_again = dict(line.split()[1::2] for line in again[1].splitlines()[:3])
             kept = [line.split()[1::2] for line in answers if line.startswith("asked")]

@@ -39,7 +39,7 @@ def test_service_manager_takes_the_unit():
     text, count = COMMAND.subn(rf"\1={harmless}", unit())
     same(count, 1, "commands of the unit")
     same(complaints(text), (0, []), "the unit")
-    for right, wrong in (("=always", "=alwys"), ("Restart=", "Restat="), ("=1 2", "=one")):
+    for right, wrong in (("=always", "=alwys"), ("Restart=", "Restat="), ("=1 2 4", "=one")):
         same((text.count(right), len(complaints(text.replace(right, wrong))[1])), (1, 1), f"{wrong} is complained of")
 
 
@@ -53,8 +53,8 @@ def test_commands_of_the_unit_run_a_node():
         [command] = [shlex.split(words) for _, words in COMMAND.findall(moved)]
         told = re.search("^# payd (send --data .* FRONT)$", moved, re.MULTILINE)[1]
         asks = [payd(), *shlex.split(told)]
-        for said in ("new", "0 entries of 0 payments, started again"):
-            errors = ended_after(asks, command, folder)
+        for flags, said in ((["--new"], "new"), ([], "0 entries of 0 payments, started again")):
+            errors = ended_after(asks, [*command, *flags], folder)
             same(started(errors), f"payd: log: {said}\n", f"what the node says in {errors!r}")
         words = [payd(), "export", "--genesis", "group.json", "--keys", "keys.json", "--data", "member"]
         done = subprocess.run(words, cwd=folder, capture_output=True, text=True, check=True, timeout=SECONDS)

@@ -51,20 +51,20 @@ class Damaged:
             _, end = self.log.payloads(file)
         except Fault as fault:
             return 2, "", f"payd: log {fault}\n"
+        behind = len(file) - end
+        said = f"payd: log: {behind} bytes at its end are no part of it\n" if behind else ""
         if end not in self.texts:
             member, _ = self.log.member(file[:end])
             front, balances = member.book()
             lists = [[value.hex() for value in values] for values in member.lists()]
             self.texts[end] = export_text(0, OPENING, lists, front, balances)
-        return 0, self.texts[end], ""
+        return 0, self.texts[end], said
 
     def judge(self, file, of):
-        """The folder's export is that which the model has, and the log is left as it was, or without a torn end."""
+        """The folder's export is that which the model has, and the log is left as it was."""
         path = made_folder(self.place, "damaged", file)
-        was, wanted = export(self.place, 0, "damaged"), self.export_of(file)
-        same(was, wanted, of)
-        left = file if wanted[0] else file[: self.log.payloads(file)[1]]
-        same(read(path), left, f"{of}: what is left of the log")
+        same(export(self.place, 0, "damaged"), self.export_of(file), of)
+        same((read(path), os.listdir(os.path.dirname(path))), (file, ["log"]), f"{of}: what is left")
 
 
 @contextlib.contextmanager

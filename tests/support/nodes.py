@@ -93,11 +93,18 @@ class Ended(AssertionError):
     """A node ended that was to answer."""
 
 
+def new_words(place, options):
+    """The flag of a node whose member is made at this start, if its folder has no log yet."""
+    folder = dict(zip(options, options[1:])).get("--data")
+    return ["--new"] if folder and not os.path.exists(os.path.join(place, folder, "log")) else []
+
+
 class Node:
     """A running node, and its desk. Another command may run it, and with more in its environment."""
 
     def __init__(self, own, folder, ports="ports", options=(), prefix=(), given=(), command=None):
         files = ["--genesis", "genesis", "--keys", f"keys-{own}", "--ports", ports]
+        options = [*options, *new_words(folder, options)]
         words, pipe = [*prefix, *(command or [payd(), "node", *files, *options])], subprocess.PIPE
         how = {"cwd": folder, "env": {**os.environ, **dict(given)}, "bufsize": 0}
         self.child = subprocess.Popen(words, stdin=pipe, stdout=pipe, stderr=pipe, **how)

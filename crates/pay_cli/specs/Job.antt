@@ -41,10 +41,11 @@ desk_app =
     (required_rule (codes "keys"))
 
 -- `node`, which needs both, and ports, and takes dials, how many frames are asked for ahead, a
--- folder, with which it may stay, and a socket
+-- folder, in which its member may be made, and with which it may stay, and a socket
 abbrev pub node_app : App
 node_app =
     with_rule
+    (with_rule
     (with_rule
     (with_rule
     (with_rule
@@ -56,6 +57,7 @@ node_app =
     (option_rule (codes "dials")))
     (option_rule (codes "ahead")))
     (option_rule (codes "data")))
+    (flag_rule (codes "new")))
     (flag_rule (codes "stay")))
     (option_rule (codes "socket"))
 
@@ -158,11 +160,12 @@ pub record IsArgument (o : Arg) (r : Rule) : Type 0 where
 -- a command, and what it is given: the names of files, of a folder and of a socket, an account, a
 -- date, lines, and the words that say the threads of a check or an audit, whether the audit names
 -- all that is wrong, how a book is written, and of a node its dials, how many frames it asks for
--- ahead, and whether it stays
+-- ahead, whether its member is made, and whether it stays
 pub data Asked : Type 0 where
   check : Option Text → Option Text → Option Text → Asked
   desk : Text → Text → Asked
-  node : Text → Text → Text → Option Text → Option Text → Option Text → Bool → Option Text → Asked
+  node : Text → Text → Text → Option Text → Option Text → Option Text → Bool → Bool → Option Text
+      → Asked
   sent : List Text → Option Text → Option Text → Asked
   exported : Text → Text → Text → Asked
   audit : List Text → Option Text → Bool → Asked
@@ -181,7 +184,7 @@ view_of_job (Node words) =
     node words.genesis.now words.keys.now words.ports.now
     (option_map (λ word. word.now) words.dials)
     (option_map (λ word. word.now) words.ahead)
-    (option_map (λ name. name.now) words.folder) words.stays
+    (option_map (λ name. name.now) words.folder) words.makes_new words.stays
     (option_map (λ name. name.now) words.socket)
 view_of_job (Send words) =
     sent (map (λ line. line.now) words.lines.items) (option_map (λ name. name.now) words.folder)
@@ -218,7 +221,7 @@ node_asked rows =
     node (required_text (codes "genesis") rows) (required_text (codes "keys") rows)
     (required_text (codes "ports") rows)
     (first_of (codes "dials") rows) (first_of (codes "ahead") rows) (first_of (codes "data") rows)
-    (is_set (codes "stay") rows) (first_of (codes "socket") rows)
+    (is_set (codes "new") rows) (is_set (codes "stay") rows) (first_of (codes "socket") rows)
 
 abbrev pub texts_of_lines : List Row → List Text
 texts_of_lines rows = unwrap_or (all_of (codes "lines") rows) []

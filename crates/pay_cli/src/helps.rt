@@ -72,10 +72,11 @@ line more, which payd audit reads.
 
 Without --data the member lives in memory alone: what ends the node before its input does, as any signal,
 loses its account.
-  --data FOLDER   the member's history is on the disk there before anything of it leaves the node. Ended
-                  in whatever way, the node is started again with the same words and goes on: no payment
-                  is made twice, and a PAY given again has its old answer. The folder is made where there
-                  is none, one node has it at a time, and payd export writes its export
+  --data FOLDER   the member's history is on the disk there, in a log, before anything of it leaves the
+                  node. Ended in whatever way, the node is started again and goes on: no payment is made
+                  twice, and a PAY given again has its old answer. One node has a log at a time, and
+                  payd export writes its export. A folder without a log is refused but with
+  --new           makes the member, its log, and the folder where there is none; for its first start
   --stay          at the end of the lines a node with a folder goes on until it is killed
 
 A node with a folder also listens on the Unix socket FOLDER/desk, which only the owner may open, for
@@ -104,7 +105,8 @@ Of each peer as many as 256 frames are asked for before the first of them is the
 
 Status: 0 at the input's end, 1 where what was told isn't consistent with the member's history, 2 for words
 or a file that can't be read, or a folder that isn't this member's, 3 where memory, a read, a write, the
-own port, the socket or the folder fails, or after 1,000,000 reads.
+own port or the socket fails, another node has the log, or after 1,000,000 reads, 4 where the disk under
+the folder failed or is full, or its log is older than what the group has settled for the member.
 
 Example: payd node --genesis examples/genesis.json --keys examples/keys-0.json --ports examples/ports.json";
 
@@ -127,13 +129,13 @@ pub(crate) const EXPORT_ABOUT: &str =
     "Writes the export of a member that a node keeps in a folder, while no node has it";
 
 pub(crate) const EXPORT_HELP: &str = "\
-Input: the folder that payd node --data was given, and its files of genesis and keys. It is read, and what
-a crash left of a last write is cut off, as a node does at its start.
+Input: the folder that payd node --data was given, and its files of genesis and keys. Nothing in it changes,
+and a node may have it: then the export is of the moment, as standard error says.
 
 Output: the export as one line, which payd audit reads.
 
 Status: 0 where it is written, 2 for words or a file that can't be read, or a folder that isn't this
-member's, 3 where memory, a read, a write or the folder fails, as where a node has it.
+member's, 3 where memory, a read or a write fails, 4 where the disk under the folder does.
 
 Example: payd export --genesis group.json --keys keys.json --data member-0";
 

@@ -64,9 +64,10 @@ pub struct NodeWords<'a> {
     /// How often a peer is dialed, and how many of its frames are asked for ahead.
     pub dials: Option<&'a str>,
     pub ahead: Option<&'a str>,
-    /// The folder in which the member is kept, if one is named, and whether it stays when the lines
-    /// end.
+    /// The folder in which the member is kept, if one is named, whether it is made there, and
+    /// whether it stays when the lines end.
     pub folder: Option<&'a str>,
+    pub makes_new: bool,
     pub stays: bool,
     /// The socket on which clients may call on its desk, if one is named.
     pub socket: Option<&'a str>,

@@ -121,6 +121,7 @@ fn node_job<'a>(node: &ArgMatches<'a>) -> Job<'a>
         dials: option_value(node, "dials"),
         ahead: option_value(node, "ahead"),
         folder: option_value(node, "data"),
+        makes_new: is_set(node, "new"),
         stays: is_set(node, "stay"),
         socket: option_value(node, "socket"),
     })
@@ -325,6 +326,7 @@ fn node<'a>(alloc: Global) -> Result<Command<'a>, AllocError>
             "FOLDER",
             "The folder in which the member is kept",
         ))?
+        .arg(flag(alloc, "new", "Makes the member in a folder without a log"))?
         .arg(flag(
             alloc,
             "stay",

@@ -4,7 +4,8 @@ use Rattle.pay_log.specs.declared.device.DeviceFault.{DeviceFault}
 use Rattle.pay_log.specs.declared.device.DeviceFault.TheVariants as device
 use Rattle.pay_log.specs.declared.fault.LogFault.{LogFault}
 use Rattle.pay_log.specs.declared.fault.LogFault.TheVariants.{Memory, Disk, Held, Foreign, Damaged}
-use Rattle.pay_log.specs.declared.fault.LogFault.TheVariants.{Illegal}
+use Rattle.pay_log.specs.declared.fault.LogFault.TheVariants.{Illegal, Changed, Forgotten}
+use Rattle.pay_log.specs.declared.fault.LogFault.TheVariants.{Missing, Exists}
 use Rattle.pay_log.specs.declared.mismatch.Mismatch.{Mismatch}
 use Rattle.pay_log.specs.declared.mismatch.Mismatch.TheVariants.{NoLog, Version, Genesis, Member}
 use Rattle.pay_log.specs.declared.mismatch.Mismatch.TheVariants.{Keys}
@@ -18,6 +19,10 @@ log_fault_number Held = 2
 log_fault_number (Foreign part) = 3
 log_fault_number (Damaged number) = 4
 log_fault_number (Illegal number) = 5
+log_fault_number Changed = 6
+log_fault_number Forgotten = 7
+log_fault_number Missing = 8
+log_fault_number Exists = 9
 
 abbrev pub log_fault_name : LogFault → List ℕ
 log_fault_name Memory = codes "Memory"
@@ -26,6 +31,10 @@ log_fault_name Held = codes "Held"
 log_fault_name (Foreign part) = codes "Foreign"
 log_fault_name (Damaged number) = codes "Damaged"
 log_fault_name (Illegal number) = codes "Illegal"
+log_fault_name Changed = codes "Changed"
+log_fault_name Forgotten = codes "Forgotten"
+log_fault_name Missing = codes "Missing"
+log_fault_name Exists = codes "Exists"
 
 abbrev pub mismatch_name : Mismatch → List ℕ
 mismatch_name NoLog = codes "NoLog"

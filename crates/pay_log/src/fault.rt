@@ -16,7 +16,7 @@ pub enum LogFault {
     Memory,
     /// A read, a write or a sync failed, or the disk is full.
     Disk,
-    /// Another node has the folder.
+    /// Another node has the log.
     Held,
     /// The file is no log of this member.
     Foreign(Mismatch),
@@ -24,6 +24,14 @@ pub enum LogFault {
     Damaged(u64),
     /// The record of this number isn't what the member has there.
     Illegal(u64),
+    /// The log ended cleanly, and is no longer as it was then.
+    Changed,
+    /// The log is older than what the group has settled for the member.
+    Forgotten,
+    /// There is no log.
+    Missing,
+    /// There is a log where a new one is to be made.
+    Exists,
 }
 
 impl LogFault {
@@ -38,6 +46,10 @@ impl LogFault {
             LogFault::Foreign(_) => (3, "Foreign"),
             LogFault::Damaged(_) => (4, "Damaged"),
             LogFault::Illegal(_) => (5, "Illegal"),
+            LogFault::Changed => (6, "Changed"),
+            LogFault::Forgotten => (7, "Forgotten"),
+            LogFault::Missing => (8, "Missing"),
+            LogFault::Exists => (9, "Exists"),
         }
     }
 
@@ -60,7 +72,13 @@ impl fmt::Display for LogFault {
         match self {
             LogFault::Foreign(part) => write!(f, " {part}"),
             LogFault::Damaged(number) | LogFault::Illegal(number) => write!(f, " {number}"),
-            LogFault::Memory | LogFault::Disk | LogFault::Held => Ok(()),
+            LogFault::Memory
+            | LogFault::Disk
+            | LogFault::Held
+            | LogFault::Changed
+            | LogFault::Forgotten
+            | LogFault::Missing
+            | LogFault::Exists => Ok(()),
         }
     }
 }

@@ -13,12 +13,27 @@ use std::os::unix::fs::FileExt;
 pub struct LogFile {
     file: File,
     len: u64,
+    is_view: bool,
 }
 
 impl LogFile {
     /// A log in a file of `len` bytes.
-    pub fn new(file: File, len: u64) -> LogFile {
-        LogFile { file, len }
+    pub(crate) fn new(file: File, len: u64) -> LogFile {
+        LogFile {
+            file,
+            len,
+            is_view: false,
+        }
+    }
+
+    /// The first `len` bytes of a file, as they are now: nothing is written there, and a cut is
+    /// one of what is seen.
+    pub(crate) fn view(file: File, len: u64) -> LogFile {
+        LogFile {
+            file,
+            len,
+            is_view: true,
+        }
     }
 }
 
@@ -41,8 +56,12 @@ impl Device for LogFile {
         if self.file.seek(SeekFrom::Start(from as u64)).is_err() {
             return Err(DeviceFault::Disk);
         }
+        let left = self.len.saturating_sub(from as u64);
         let mut bytes = Vec::new(alloc);
-        match (&self.file).take(most as u64).read_to_end(&mut bytes) {
+        match (&self.file)
+            .take(left.min(most as u64))
+            .read_to_end(&mut bytes)
+        {
             Ok(_) => Ok(bytes),
             Err(error) => Err(match error.kind() {
                 ErrorKind::OutOfMemory => DeviceFault::Memory,
@@ -52,7 +71,7 @@ impl Device for LogFile {
     }
 
     fn append(&mut self, bytes: &[u8]) -> Result<(), DiskFailed> {
-        if self.file.write_all_at(bytes, self.len).is_err() {
+        if self.is_view || self.file.write_all_at(bytes, self.len).is_err() {
             return Err(DiskFailed);
         }
         self.len = self.len.saturating_add(bytes.len() as u64);
@@ -60,7 +79,7 @@ impl Device for LogFile {
     }
 
     fn cut(&mut self, len: usize) -> Result<(), DiskFailed> {
-        if self.file.set_len(len as u64).is_err() {
+        if !self.is_view && self.file.set_len(len as u64).is_err() {
             return Err(DiskFailed);
         }
         self.len = len as u64;
@@ -68,6 +87,9 @@ impl Device for LogFile {
     }
 
     fn sync(&mut self) -> Result<(), DiskFailed> {
+        if self.is_view {
+            return Ok(());
+        }
         self.file.sync_data().map_err(|_| DiskFailed)
     }
 }

@@ -1,14 +1,18 @@
-//! The folder of a member's log. While a node runs, a lock on the file `lock` there keeps every
-//! other one out.
+//! The folder of a member's log. While a node runs, a lock on the log itself keeps every other one
+//! out.
+//!
+//! A log that was found is written anew before anything is appended to it, since what a read shows
+//! after a failed write may never have reached the disk. Only the new file loses a torn end, and it
+//! gets the log's name once it is whole.
 
+use crate::device::Device;
 use crate::fault::LogFault;
 use crate::file::LogFile;
 use crate::header::Header;
-use crate::mismatch::Mismatch;
-use std::alloc::{Alloc, Global};
-use std::fs::{DirBuilder, File, TryLockError};
+use std::alloc::Global;
+use std::fs::{DirBuilder, File, OpenOptions, TryLockError};
 use std::io::{ErrorKind, Write};
-use std::os::unix::fs::{DirBuilderExt, OpenOptionsExt};
+use std::os::unix::fs::{DirBuilderExt, MetadataExt, OpenOptionsExt};
 use std::rt::Files;
 use std::{fs, io};
 
@@ -17,74 +21,163 @@ const FOLDER_MODE: u32 = 0o700;
 
 const FILE_MODE: u32 = 0o600;
 
-const LOCK: &str = "lock";
-
 const LOG: &str = "log";
 
-/// A log whose header may not be whole, as that of a file `log` always is.
+/// A log that isn't whole yet.
 const NEW_LOG: &str = "log.new";
 
-/// A folder that no other process has until this is dropped or its process ends, in whatever way.
+/// What was left out of logs behind their last chunk.
+const DROPPED: &str = "log.dropped";
+
+/// How many bytes the log had when its node ended cleanly. While a node runs it isn't there.
+const ENDED: &str = "ended";
+
+const NEW_ENDED: &str = "ended.new";
+
+/// How many bytes that file has at most: a number and a line feed.
+const MOST_ENDED: usize = 21;
+
+/// No other process has the log until this is dropped or its process ends, in whatever way.
 #[derive(Drop)]
-pub struct Folder {
-    _lock: File,
+pub struct LogLock {
+    _log: File,
+    _found: Option<File>,
 }
 
-/// A member's log as a file, and whether it was made just now.
+/// A log that was made just now: its file, of a header alone.
 #[derive(Drop)]
-pub struct OpenedFile {
+pub struct MadeLog {
     pub file: LogFile,
-    pub is_new: bool,
+    pub lock: LogLock,
 }
 
-impl Folder {
-    /// Takes the lock of a folder, which is made where there is none.
-    pub fn lock<R: Files<File = File>>(
+/// A log that was found, and the file into which it was copied, which is still to be read and then
+/// to be settled.
+#[derive(Drop)]
+pub struct FoundLog {
+    pub copy: LogFile,
+    pub rest: FoundRest,
+}
+
+/// The log as it was found.
+#[derive(Drop)]
+pub struct FoundRest {
+    found: LogFile,
+    lock: LogLock,
+    ended: Option<u64>,
+}
+
+/// A log as it is seen from outside, also while a node has it.
+#[derive(Drop)]
+pub struct LogView {
+    pub file: LogFile,
+    pub len: u64,
+    pub ended: Option<u64>,
+    pub is_held: bool,
+}
+
+/// Makes a log with this header in a folder, which is made too where there is none. A folder that
+/// has or had a log is refused.
+pub fn make_log<R: Files<File = File>>(
+    rt: &R,
+    alloc: Global,
+    path: &str,
+    header: &Header,
+) -> Result<MadeLog, LogFault> {
+    make_folder(rt, path)?;
+    let lock = open_new(rt, alloc, path)?;
+    refuse_log(rt, alloc, path)?;
+    let mut file = LogFile::new(again(&lock)?, 0);
+    write_header(alloc, &mut file, header)?;
+    name_log(rt, alloc, path)?;
+    let lock = LogLock {
+        _log: lock,
+        _found: None,
+    };
+    Ok(MadeLog { file, lock })
+}
+
+/// Opens the log in a folder, and copies it into a new file.
+pub fn open_log<R: Files<File = File>>(
+    rt: &R,
+    alloc: Global,
+    path: &str,
+) -> Result<FoundLog, LogFault> {
+    let log = open_file(rt, alloc, path, LOG, true)?;
+    lock_file(&log)?;
+    refuse_other(rt, alloc, path, &log)?;
+    let ended = read_ended(rt, alloc, path)?;
+    let lock = open_new(rt, alloc, path)?;
+    let copied = copy_log(rt, alloc, path)?;
+    let copy = LogFile::new(again(&lock)?, copied);
+    let found = LogFile::new(again(&log)?, len_of(&log)?);
+    let lock = LogLock {
+        _log: lock,
+        _found: Some(log),
+    };
+    let rest = FoundRest { found, lock, ended };
+    Ok(FoundLog { copy, rest })
+}
+
+impl FoundRest {
+    /// Removes the copy: the folder is as it was found.
+    pub fn forget<R: Files<File = File>>(
+        self,
         rt: &R,
         alloc: Global,
         path: &str,
-    ) -> Result<Folder, LogFault> {
-        make_folder(rt, path)?;
-        let name = format!(in alloc; "{path}/{LOCK}")?;
-        let lock = File::options()
-            .write(true)
-            .create(true)
-            .mode(FILE_MODE)
-            .open(rt, name.as_str())
-            .map_err(fault_of)?;
-        match lock.try_lock() {
-            Ok(()) => Ok(Folder { _lock: lock }),
-            Err(TryLockError::WouldBlock) => Err(LogFault::Held),
-            Err(TryLockError::Error(error)) => Err(fault_of(error)),
-        }
+    ) -> Result<(), LogFault> {
+        remove(rt, alloc, path, NEW_LOG)
     }
 
-    /// Opens the log in a folder whose lock is held. Where there is none, and nothing else, makes
-    /// one with this header.
-    pub fn open_log<R: Files<File = File> + Alloc + Clone + Drop>(
-        &self,
+    /// Gives the copy the log's name, once all of it up to `end` is on the disk, and keeps what the
+    /// log had behind that, so many bytes. A log that ended cleanly elsewhere stays as it is.
+    pub fn settle<R: Files<File = File>>(
+        self,
         rt: &R,
         alloc: Global,
         path: &str,
-        header: &Header,
-    ) -> Result<OpenedFile, LogFault> {
-        let name = format!(in alloc; "{path}/{LOG}")?;
-        match open_file(rt, name.as_str()) {
-            Ok(file) => Ok(OpenedFile {
-                file,
-                is_new: false,
-            }),
-            Err(error) if error.kind() == ErrorKind::NotFound => {
-                if !is_fresh(rt, path).map_err(fault_of)? {
-                    return Err(LogFault::Foreign(Mismatch::NoLog));
-                }
-                let bytes = header.encode(alloc)?;
-                let file = make_log(rt, alloc, path, &bytes)?;
-                Ok(OpenedFile { file, is_new: true })
-            }
-            Err(error) => Err(fault_of(error)),
+        end: u64,
+    ) -> Result<(LogLock, u64), LogFault> {
+        let FoundRest { found, lock, ended } = self;
+        if ended.is_some_and(|ended| ended != end) {
+            remove(rt, alloc, path, NEW_LOG)?;
+            return Err(LogFault::Changed);
         }
+        let dropped = keep_dropped(rt, alloc, path, found, end)?;
+        if ended.is_some() {
+            remove(rt, alloc, path, ENDED)?;
+        }
+        name_log(rt, alloc, path)?;
+        Ok((lock, dropped))
     }
+}
+
+/// The log in a folder, which is only read: what it has at this moment.
+pub fn view_log<R: Files<File = File>>(
+    rt: &R,
+    alloc: Global,
+    path: &str,
+) -> Result<LogView, LogFault> {
+    let log = open_file(rt, alloc, path, LOG, false)?;
+    let is_held = is_held(rt, alloc, path)?;
+    let ended = read_ended(rt, alloc, path)?;
+    let len = len_of(&log)?;
+    Ok(LogView {
+        file: LogFile::view(log, len),
+        len,
+        ended,
+        is_held,
+    })
+}
+
+/// Notes that a node ended cleanly, with a log all of which is on the disk.
+pub fn end_log<R: Files<File = File>>(rt: &R, alloc: Global, path: &str) -> Result<(), LogFault> {
+    let log = open_file(rt, alloc, path, LOG, false)?;
+    let len = len_of(&log)?;
+    write_ended(rt, alloc, path, len)?;
+    rename(rt, alloc, path, NEW_ENDED, ENDED)?;
+    sync_folder(rt, path)
 }
 
 // Makes a folder where there is none.
@@ -96,55 +189,210 @@ fn make_folder<R: Files>(rt: &R, path: &str) -> Result<(), LogFault> {
     }
 }
 
-// Whether a folder has nothing but what is there before its log is.
-fn is_fresh<R: Files + Alloc + Clone + Drop>(rt: &R, path: &str) -> io::Result<bool> {
-    for entry in fs::read_dir(rt, path)? {
-        let entry = entry?;
-        let name = entry.file_name();
-        if name != LOCK && name != NEW_LOG {
-            return Ok(false);
-        }
+// Refuses a folder that has or had a log, and removes the new one there.
+fn refuse_log(rt: &impl Files, alloc: Global, path: &str) -> Result<(), LogFault> {
+    if has_file(rt, alloc, path, LOG)? || has_file(rt, alloc, path, ENDED)? {
+        remove(rt, alloc, path, NEW_LOG)?;
+        return Err(LogFault::Exists);
     }
-    Ok(true)
+    Ok(())
 }
 
-// Makes a log of a header alone. It stands under its name only once it is on the disk, and so does
-// the folder.
-fn make_log<R: Files<File = File>>(
+fn has_file(rt: &impl Files, alloc: Global, path: &str, file: &str) -> Result<bool, LogFault> {
+    let name = format!(in alloc; "{path}/{file}")?;
+    fs::exists(rt, name.as_str()).map_err(fault_of)
+}
+
+fn remove(rt: &impl Files, alloc: Global, path: &str, file: &str) -> Result<(), LogFault> {
+    let name = format!(in alloc; "{path}/{file}")?;
+    fs::remove_file(rt, name.as_str()).map_err(fault_of)
+}
+
+fn rename(
+    rt: &impl Files,
+    alloc: Global,
+    path: &str,
+    from: &str,
+    to: &str,
+) -> Result<(), LogFault> {
+    let from = format!(in alloc; "{path}/{from}")?;
+    let to = format!(in alloc; "{path}/{to}")?;
+    fs::rename(rt, from.as_str(), to.as_str()).map_err(fault_of)
+}
+
+// An empty file for a log that isn't whole yet, with its lock.
+fn open_new<R: Files<File = File>>(rt: &R, alloc: Global, path: &str) -> Result<File, LogFault> {
+    let name = format!(in alloc; "{path}/{NEW_LOG}")?;
+    let file = File::options()
+        .read(true)
+        .write(true)
+        .create(true)
+        .mode(FILE_MODE)
+        .open(rt, name.as_str())
+        .map_err(fault_of)?;
+    lock_file(&file)?;
+    file.set_len(0).map_err(fault_of)?;
+    Ok(file)
+}
+
+fn write_header(alloc: Global, file: &mut LogFile, header: &Header) -> Result<(), LogFault> {
+    let bytes = header.encode(alloc)?;
+    file.append(&bytes)?;
+    Ok(file.sync()?)
+}
+
+// Copies the log into the new one, and says how many bytes that has.
+fn copy_log(rt: &impl Files, alloc: Global, path: &str) -> Result<u64, LogFault> {
+    let from = format!(in alloc; "{path}/{LOG}")?;
+    let to = format!(in alloc; "{path}/{NEW_LOG}")?;
+    fs::copy(rt, from.as_str(), to.as_str()).map_err(fault_of)
+}
+
+// Gives the new log its name, which is then on the disk, and so is the folder's.
+fn name_log<R: Files<File = File>>(rt: &R, alloc: Global, path: &str) -> Result<(), LogFault> {
+    rename(rt, alloc, path, NEW_LOG, LOG)?;
+    sync_folder(rt, path)?;
+    sync_folder(rt, parent(path))
+}
+
+fn open_file<R: Files<File = File>>(
     rt: &R,
     alloc: Global,
     path: &str,
-    header: &[u8],
-) -> Result<LogFile, LogFault> {
-    let new_name = format!(in alloc; "{path}/{NEW_LOG}")?;
-    let name = format!(in alloc; "{path}/{LOG}")?;
-    write_file(rt, new_name.as_str(), header).map_err(fault_of)?;
-    fs::rename(rt, new_name.as_str(), name.as_str()).map_err(fault_of)?;
-    sync_folder(rt, path).map_err(fault_of)?;
-    sync_folder(rt, parent(path)).map_err(fault_of)?;
-    open_file(rt, name.as_str()).map_err(fault_of)
+    file: &str,
+    writes: bool,
+) -> Result<File, LogFault> {
+    let name = format!(in alloc; "{path}/{file}")?;
+    match File::options()
+        .read(true)
+        .write(writes)
+        .open(rt, name.as_str())
+    {
+        Ok(file) => Ok(file),
+        Err(error) => Err(match error.kind() {
+            ErrorKind::NotFound | ErrorKind::NotADirectory => LogFault::Missing,
+            _ => fault_of(error),
+        }),
+    }
 }
 
-fn write_file<R: Files<File = File>>(rt: &R, name: &str, bytes: &[u8]) -> io::Result<()> {
-    let mut file = File::options()
-        .write(true)
-        .create(true)
-        .truncate(true)
-        .mode(FILE_MODE)
-        .open(rt, name)?;
+// The same open file once more, with the lock that it has.
+fn again(file: &File) -> Result<File, LogFault> {
+    file.try_clone().map_err(fault_of)
+}
+
+fn len_of(file: &File) -> Result<u64, LogFault> {
+    Ok(file.metadata().map_err(fault_of)?.len())
+}
+
+// Takes a file's lock, unless another process has it.
+fn lock_file(file: &File) -> Result<(), LogFault> {
+    match file.try_lock() {
+        Ok(()) => Ok(()),
+        Err(TryLockError::WouldBlock) => Err(LogFault::Held),
+        Err(TryLockError::Error(error)) => Err(fault_of(error)),
+    }
+}
+
+// Whether another process has the log's lock.
+fn is_held<R: Files<File = File>>(rt: &R, alloc: Global, path: &str) -> Result<bool, LogFault> {
+    let log = open_file(rt, alloc, path, LOG, false)?;
+    match lock_file(&log) {
+        Ok(()) => Ok(false),
+        Err(LogFault::Held) => Ok(true),
+        Err(fault) => Err(fault),
+    }
+}
+
+// Refuses a log that has no longer its name: another process put a new one there before this one
+// had its lock.
+fn refuse_other(rt: &impl Files, alloc: Global, path: &str, log: &File) -> Result<(), LogFault> {
+    let name = format!(in alloc; "{path}/{LOG}")?;
+    let named = fs::metadata(rt, name.as_str()).map_err(fault_of)?;
+    let open = log.metadata().map_err(fault_of)?;
+    if open.dev() == named.dev() && open.ino() == named.ino() {
+        Ok(())
+    } else {
+        Err(LogFault::Held)
+    }
+}
+
+// How many bytes the log had when its node ended cleanly, if it did.
+fn read_ended<R: Files<File = File>>(
+    rt: &R,
+    alloc: Global,
+    path: &str,
+) -> Result<Option<u64>, LogFault> {
+    match open_file(rt, alloc, path, ENDED, false) {
+        Ok(file) => {
+            let bytes = LogFile::new(file, MOST_ENDED as u64).read(alloc, 0, MOST_ENDED)?;
+            number_in(&bytes)
+        }
+        Err(LogFault::Missing) => Ok(None),
+        Err(fault) => Err(fault),
+    }
+}
+
+// The number in the text of a clean end.
+fn number_in(bytes: &[u8]) -> Result<Option<u64>, LogFault> {
+    match str::from_utf8(bytes) {
+        Ok(text) => match text.trim_end().parse() {
+            Ok(len) => Ok(Some(len)),
+            Err(_) => Err(LogFault::Changed),
+        },
+        Err(_) => Err(LogFault::Changed),
+    }
+}
+
+fn write_ended<R: Files<File = File>>(
+    rt: &R,
+    alloc: Global,
+    path: &str,
+    len: u64,
+) -> Result<(), LogFault> {
+    let name = format!(in alloc; "{path}/{NEW_ENDED}")?;
+    let text = format!(in alloc; "{len}\n")?;
+    let mut options = File::options();
+    options.write(true).truncate(true);
+    write_file(rt, &mut options, name.as_str(), text.as_bytes()).map_err(fault_of)
+}
+
+// Puts what a log has behind its end behind what was dropped before, and says how many bytes it is.
+fn keep_dropped<R: Files<File = File>>(
+    rt: &R,
+    alloc: Global,
+    path: &str,
+    found: LogFile,
+    end: u64,
+) -> Result<u64, LogFault> {
+    let mut found = found;
+    let bytes = found.read(alloc, end as usize, usize::MAX)?;
+    if bytes.is_empty() {
+        return Ok(0);
+    }
+    let name = format!(in alloc; "{path}/{DROPPED}")?;
+    let mut options = File::options();
+    options.append(true);
+    write_file(rt, &mut options, name.as_str(), &bytes).map_err(fault_of)?;
+    Ok(bytes.len() as u64)
+}
+
+// Writes a file, which is made where there is none, and all of which is then on the disk.
+fn write_file<R: Files<File = File>>(
+    rt: &R,
+    options: &mut OpenOptions,
+    name: &str,
+    bytes: &[u8],
+) -> io::Result<()> {
+    let mut file = options.create(true).mode(FILE_MODE).open(rt, name)?;
     file.write_all(bytes)?;
     file.sync_all()
 }
 
-fn open_file<R: Files<File = File>>(rt: &R, name: &str) -> io::Result<LogFile> {
-    let file = File::options().read(true).write(true).open(rt, name)?;
-    let len = file.metadata()?.len();
-    Ok(LogFile::new(file, len))
-}
-
 // Puts the names in a folder on the disk.
-fn sync_folder<R: Files<File = File>>(rt: &R, path: &str) -> io::Result<()> {
-    File::open(rt, path)?.sync_all()
+fn sync_folder<R: Files<File = File>>(rt: &R, path: &str) -> Result<(), LogFault> {
+    let folder = File::open(rt, path).map_err(fault_of)?;
+    folder.sync_all().map_err(fault_of)
 }
 
 // The folder in which a path's last part stands.

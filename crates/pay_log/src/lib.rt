@@ -30,7 +30,9 @@ mod sink;
 pub use device::{Device, DeviceFault, DiskFailed};
 pub use fault::LogFault;
 pub use file::LogFile;
-pub use folder::{Folder, OpenedFile};
+pub use folder::{
+    FoundLog, FoundRest, LogLock, LogView, MadeLog, end_log, make_log, open_log, view_log,
+};
 pub use header::Header;
 pub use limits::{HEADER_LEN, MOST_PAYLOAD, SUM_LEN};
 pub use log::{Log, recover};

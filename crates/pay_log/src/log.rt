@@ -42,6 +42,13 @@ impl<D: Device> Log<D> {
         }
     }
 
+    /// Where its next chunk stands: how many bytes of chunks it has.
+    pub fn place(&self) -> u64
+        ensures { result ≡ self.now.place }
+    {
+        self.place
+    }
+
     /// The device itself.
     pub fn into_device(self) -> D
         ensures { result ≡ self.device }

@@ -4,8 +4,8 @@
 ghost use Rattle.std.specs.Prelude.{[]};
 
 use pay_log::{
-    Device, DeviceFault, DiskFailed, Folder, Header, Log, LogFault, MOST_PAYLOAD, Mismatch,
-    OpenedFile, Payloads, recover,
+    Device, DeviceFault, DiskFailed, FoundLog, HEADER_LEN, Header, Log, LogFault, LogFile,
+    MOST_PAYLOAD, MadeLog, Mismatch, Payloads, make_log, open_log, recover,
 };
 use std::alloc::Global;
 use std::fs;
@@ -190,34 +190,47 @@ fn failing_disk_loses_no_acknowledged_text(rt: HostRuntime) -> Result<(), Fail> 
     Ok(())
 }
 
+/// A log that was opened, with how many texts it has, or why it isn't.
+fn open_texts(rt: &HostRuntime) -> Result<Result<(Log<LogFile>, Option<usize>), LogFault>, Fail> {
+    let alloc = rt.alloc();
+    let FoundLog { copy, rest } = open_log(rt, alloc, FOLDER)?;
+    let mut copy = copy;
+    let mut payloads = Payloads::new(alloc);
+    match recover(alloc, &mut copy, &KEY, &HEADER, &mut payloads) {
+        Ok(place) => {
+            let end = place.saturating_add(HEADER_LEN as u64);
+            rest.settle(rt, alloc, FOLDER, end)?;
+            Ok(Ok((Log::new(copy, KEY, place), texts_in(&payloads))))
+        }
+        Err(fault) => {
+            rest.forget(rt, alloc, FOLDER)?;
+            Ok(Err(fault))
+        }
+    }
+}
+
 /// What the file on the disk reads as, and how long it is then.
 fn texts_in_file(rt: &HostRuntime) -> Result<(Result<Option<usize>, LogFault>, usize), Fail> {
-    let alloc = rt.alloc();
-    let folder = Folder::lock(rt, alloc, FOLDER)?;
-    let OpenedFile { mut file, .. } = folder.open_log(rt, alloc, FOLDER, &HEADER)?;
-    let mut payloads = Payloads::new(alloc);
-    let read = recover(alloc, &mut file, &KEY, &HEADER, &mut payloads);
-    let texts = match read {
-        Ok(_) => Ok(texts_in(&payloads)),
+    let texts = match open_texts(rt)? {
+        Ok((_, texts)) => Ok(texts),
         Err(fault) => Err(fault),
     };
     Ok((texts, fs::read(rt, FILE)?.len()))
 }
 
 /// Makes a log of all texts anew, opened again for each of them.
-fn make_log(rt: &HostRuntime) -> Result<bool, Fail> {
+fn make_texts(rt: &HostRuntime) -> Result<bool, Fail> {
     let alloc = rt.alloc();
     if fs::exists(rt, FOLDER)? {
         fs::remove_dir_all(rt, FOLDER)?;
     }
+    make_log(rt, alloc, FOLDER, &HEADER)?;
     let mut is_right = true;
     for (place, text) in TEXTS.iter().enumerate() {
-        let folder = Folder::lock(rt, alloc, FOLDER)?;
-        let OpenedFile { mut file, is_new } = folder.open_log(rt, alloc, FOLDER, &HEADER)?;
-        let mut payloads = Payloads::new(alloc);
-        let end = recover(alloc, &mut file, &KEY, &HEADER, &mut payloads)?;
-        is_right = is_right && is_new == (place == 0) && texts_in(&payloads) == Some(place);
-        append_text(alloc, &mut Log::new(file, KEY, end), text)?;
+        let (log, texts) = open_texts(rt)??;
+        is_right = is_right && texts == Some(place);
+        let mut log = log;
+        append_text(alloc, &mut log, text)?;
     }
     Ok(is_right)
 }
@@ -254,7 +267,7 @@ fn turned_reads_as(at: usize) -> (Result<Option<usize>, LogFault>, usize) {
 
 #[test]
 fn log_on_a_disk_is_cut_and_turned_at_each_byte(rt: HostRuntime) -> Result<(), Fail> {
-    assert!(rt; make_log(&rt)?);
+    assert!(rt; make_texts(&rt)?);
     let bytes = fs::read(&rt, FILE)?;
     assert_eq!(rt; bytes.len(), ENDS[3]);
     for len in 0..=bytes.len() {
@@ -280,12 +293,15 @@ fn folder_has_one_owner(rt: HostRuntime) -> Result<(), Fail> {
     if fs::exists(&rt, name)? {
         fs::remove_dir_all(&rt, name)?;
     }
-    let folder = Folder::lock(&rt, alloc, name)?;
-    let again = Folder::lock(&rt, alloc, name).err();
-    assert_eq!(rt; again, Some(LogFault::Held));
-    fs::write(&rt, "folder-of-another-log/else", "text")?;
-    let opened = folder.open_log(&rt, alloc, name, &HEADER).err();
-    assert_eq!(rt; opened, Some(LogFault::Foreign(Mismatch::NoLog)));
+    assert_eq!(rt; open_log(&rt, alloc, name).err(), Some(LogFault::Missing));
+    let MadeLog { lock, .. } = make_log(&rt, alloc, name, &HEADER)?;
+    assert_eq!(rt; open_log(&rt, alloc, name).err(), Some(LogFault::Held));
+    drop(lock);
+    assert_eq!(rt;
+        make_log(&rt, alloc, name, &HEADER).err(),
+        Some(LogFault::Exists)
+    );
+    assert!(rt; open_log(&rt, alloc, name).is_ok());
     fs::remove_dir_all(&rt, name)?;
     Ok(())
 }

@@ -41,7 +41,7 @@ use pay_link::{Genesis, Keys};
 use pay_member::Member;
 use pay_pending::WaitingBook;
 use pay_sim::{SimEnd, run_sim};
-use saying::say_place;
+use saying::{say_advice, say_place};
 use sending::call;
 use std::alloc::{AllocError, AllocGlobal, Global};
 use std::process::ExitCode;
@@ -312,6 +312,9 @@ fn status_of(rt: &impl Eprint, ended: Result<(), Stop>) -> ExitCode {
             if !matches!(stop, Stop::Engine(EngineFault::Frame(_))) {
                 let _ = eprintln!(rt; "payd: {stop}");
                 say_place(rt, stop.place());
+                if let Stop::Log(fault) = &stop {
+                    say_advice(rt, *fault);
+                }
             }
             ExitCode::from(stop.status())
         }

@@ -7,12 +7,12 @@ use crate::ahead::ahead_of;
 use crate::dials::dials_of;
 use crate::figures::FiguresFile;
 use crate::files::{genesis_of, keys_of, warn_of_keys};
-use crate::folders::{KeptMember, Opened, open_kept_member, open_member};
+use crate::folders::{FoundAs, KeptMember, Opened, Viewed, open_member, view_member};
 use crate::keeping::SayingKept;
 use crate::ports::ports_of;
-use crate::saying::{Found, Saying, say_in_memory, say_node, say_start};
+use crate::saying::{Found, Saying, say_in_memory, say_node, say_start, say_view};
 use crate::sockets::{NamedSocket, listen, socket_path};
-use crate::staying::{Lines, judge_stay};
+use crate::staying::{Lines, judge_new, judge_stay};
 use crate::stop::Stop;
 use crate::{OwnMember, tagger_of};
 use pay_audit::write_export;
@@ -22,7 +22,7 @@ use pay_hmac::PreparedHmac;
 use pay_io::{Reader, StreamFault, Writer, write_text};
 use pay_kept::{Keeper, Kept, Restarted, Unkept};
 use pay_link::{Genesis, Keys};
-use pay_log::LogFault;
+use pay_log::{LogFault, end_log};
 use pay_member::Member;
 use pay_net::{NodeConfig, NodeStart, Ports, Receipts, StartFault, run_node};
 use pay_node::CloseFault;
@@ -34,7 +34,7 @@ use std::io;
 use std::net::{Net, TcpListener, TcpStream};
 use std::rt::Files;
 use std::sync::Wait;
-use std::sync::atomic::{AtomicBool, AtomicU64};
+use std::sync::atomic::{AtomicBool, AtomicU64, Ordering};
 use std::thread::Threads;
 use std::time::{Clock, Duration};
 
@@ -105,6 +105,7 @@ where
     let dials = dials_of(words.dials)?;
     let ahead = ahead_of(words.ahead)?;
     judge_stay(&words)?;
+    judge_new(&words)?;
     let genesis = genesis_of(alloc, rt, Some(words.genesis))?;
     let keys = keys_of(alloc, rt, &genesis, Some(words.keys))?;
     let ports = ports_of(alloc, rt, &genesis, words.ports)?;
@@ -127,11 +128,11 @@ where
             // what tells others of the node is gone before another one may have the folder
             let Opened {
                 kept,
-                is_new,
-                folder: _lock,
-            } = open_member(alloc, rt, &genesis, &keys, folder)?;
+                found,
+                lock: _lock,
+            } = open_member(alloc, rt, &genesis, &keys, folder, words.makes_new)?;
             meeting.socket = listen(alloc, rt, path)?;
-            let ended = serve_kept(alloc, rt, folder, kept, is_new, &meeting, words.stays);
+            let ended = serve_kept(alloc, rt, folder, kept, found, &meeting, words.stays);
             meeting.leave(rt);
             ended
         }
@@ -184,7 +185,7 @@ fn serve_kept<'a, R>(
     rt: &R,
     folder: &str,
     kept: KeptMember,
-    is_new: bool,
+    found: FoundAs,
     meeting: &Meeting,
     stays: bool,
 ) -> Result<(), Stop<'a>>
@@ -207,9 +208,22 @@ where
         has_failed: &has_failed,
         reads: &reads,
     };
-    let ended = serve_restarted(alloc, rt, kept, is_new, meeting, &saying, lines);
+    let ended = serve_restarted(alloc, rt, kept, found, meeting, &saying, lines);
     saying.leave();
-    ended
+    if has_failed.load(Ordering::SeqCst) {
+        return Err(unkept(ended));
+    }
+    ended?;
+    Ok(end_log(rt, alloc, folder)?)
+}
+
+// How a node ended whose log failed.
+fn unkept<'a>(ended: Result<(), Stop<'a>>) -> Stop<'a> {
+    match ended {
+        Err(Stop::Engine(fault)) => Stop::Unkept(fault),
+        Err(stop) => stop,
+        Ok(()) => Stop::Log(LogFault::Disk),
+    }
 }
 
 // The same, of a member as its log has it.
@@ -217,7 +231,7 @@ fn serve_restarted<'a, R, In>(
     alloc: Global,
     rt: &R,
     kept: KeptMember,
-    is_new: bool,
+    found: FoundAs,
     meeting: &Meeting,
     saying: &Saying<'_, R>,
     lines: Lines<'_, R, In>,
@@ -235,7 +249,7 @@ where
         following,
     } = kept;
     let tagger = tagger_of(alloc, member.keys())?;
-    let found = Found::of(&member, is_new);
+    let found = Found::of(&member, found);
     say_node(alloc, rt, member.genesis(), member.keys(), &meeting.ports)?;
     let start = start_again(alloc, member, ids.as_slice())?;
     say_start(rt, found);
@@ -302,12 +316,17 @@ pub(crate) fn export<'a, R>(
     folder: &'a str,
 ) -> Result<(), Stop<'a>>
 where
-    R: Files<File = File> + Print + Alloc + Clone + Drop,
+    R: Files<File = File> + Print + Eprint + Alloc,
 {
     let genesis = genesis_of(alloc, rt, Some(genesis))?;
     let keys = keys_of(alloc, rt, &genesis, Some(keys))?;
-    let opened = open_kept_member(alloc, rt, &genesis, &keys, folder)?;
-    Ok(print_export(rt, &opened.kept.member)?)
+    let Viewed {
+        kept,
+        is_held,
+        behind,
+    } = view_member(alloc, rt, &genesis, &keys, folder)?;
+    say_view(rt, is_held, behind);
+    Ok(print_export(rt, &kept.member)?)
 }
 
 /// Writes a member's export as a line. It takes no memory, so that memory which is refused at the

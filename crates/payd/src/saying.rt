@@ -4,7 +4,9 @@ ghost use Rattle.std.specs.Prelude.{◌≡◌, length};
 
 use crate::OwnMember;
 use crate::figures::FiguresFile;
+use crate::folders::FoundAs;
 use pay_link::{Genesis, Keys};
+use pay_log::LogFault;
 use pay_net::{News, NodeFigures, Ports, Watcher};
 use pay_peers::Observer;
 use pay_record::log_header;
@@ -16,6 +18,21 @@ use std::rt::Files;
 const IN_MEMORY: &str =
     "without --data the member lives in memory alone: what ends the node before its input does \
 loses its account";
+
+const FORGOTTEN: &str =
+    "this log is older than what the group has settled for its member: never start it again \
+in this group; its balance goes on in the next one";
+
+const MISSING: &str =
+    "there is no log in this folder: --new makes a member there, but one that had a log needs \
+that very log, which may be on a disk that isn't mounted";
+
+const EXISTS: &str =
+    "there is or was a log in this folder: without --new its member goes on where it was";
+
+const CHANGED: &str =
+    "the log ended cleanly and isn't whole any more: put that very log back, and never an \
+older one";
 
 /// Says on standard error what becomes of a node's peers, a line each time, and has its figures
 /// written.
@@ -88,31 +105,65 @@ pub(crate) fn say_place(rt: &impl Eprint, place: Option<(&str, Option<u16>)>) {
 pub(crate) enum Found {
     /// It was made just now.
     Nothing,
-    /// So many entries, by which so many payments of all accounts are settled.
-    History { entries: usize, payments: u64 },
+    /// So many entries, by which so many payments of all accounts are settled; so many bytes behind
+    /// them are no part of it.
+    History {
+        entries: usize,
+        payments: u64,
+        dropped: u64,
+    },
 }
 
 impl Found {
-    /// What the log of this member has, which may be new.
-    pub(crate) fn of(member: &OwnMember, is_new: bool) -> Found {
-        if is_new {
-            return Found::Nothing;
-        }
-        Found::History {
-            entries: member.history().len(),
-            payments: settled_count(member),
+    /// What the log of this member has, as it was found.
+    pub(crate) fn of(member: &OwnMember, found: FoundAs) -> Found {
+        match found {
+            FoundAs::New => Found::Nothing,
+            FoundAs::Log { dropped } => Found::History {
+                entries: member.history().len(),
+                payments: settled_count(member),
+                dropped,
+            },
         }
     }
 }
 
 /// Says what the log had at the start.
 pub(crate) fn say_start(rt: &impl Eprint, found: Found) {
-    let _ = match found {
-        Found::Nothing => eprintln!(rt; "payd: log: new"),
-        Found::History { entries, payments } => {
-            eprintln!(rt; "payd: log: {entries} entries of {payments} payments, started again")
-        }
+    let Found::History {
+        entries,
+        payments,
+        dropped,
+    } = found
+    else {
+        let _ = eprintln!(rt; "payd: log: new");
+        return;
     };
+    let _ = eprintln!(rt; "payd: log: {entries} entries of {payments} payments, started again");
+    if dropped > 0 {
+        let _ = eprintln!(rt; "payd: log: {dropped} bytes dropped, kept in log.dropped");
+    }
+}
+
+/// Says of an export what the log that it is by has beside it.
+pub(crate) fn say_view(rt: &impl Eprint, is_held: bool, behind: u64) {
+    if is_held {
+        let _ = eprintln!(rt; "payd: log: a node has it, so this is the member as of now");
+    } else if behind > 0 {
+        let _ = eprintln!(rt; "payd: log: {behind} bytes at its end are no part of it");
+    }
+}
+
+/// Says what to do where a fault alone doesn't tell.
+pub(crate) fn say_advice(rt: &impl Eprint, fault: LogFault) {
+    let advice = match fault {
+        LogFault::Changed => CHANGED,
+        LogFault::Forgotten => FORGOTTEN,
+        LogFault::Missing => MISSING,
+        LogFault::Exists => EXISTS,
+        _ => return,
+    };
+    let _ = eprintln!(rt; "payd: {advice}");
 }
 
 // How many payments of all accounts are settled.

@@ -1,7 +1,7 @@
 //! The lines of a node that may go on behind their end.
 
 ghost use Rattle.std.specs.Prelude.{◌≡◌, IfErr, IsSome, IsTrue, None, OnOk};
-ghost use Rattle.payd.specs.declared.stop.Stop.TheVariants.{Stay};
+ghost use Rattle.payd.specs.declared.stop.Stop.TheVariants.{New, Stay};
 
 use crate::stop::Stop;
 use pay_cli::NodeWords;
@@ -22,6 +22,18 @@ pub(crate) fn judge_stay<'a>(words: &NodeWords) -> Result<(), Stop<'a>>
 {
     if words.stays && words.folder.is_none() {
         return Err(Stop::Stay);
+    }
+    Ok(())
+}
+
+/// Only in a folder a member is made.
+pub(crate) fn judge_new<'a>(words: &NodeWords) -> Result<(), Stop<'a>>
+    ensures may { OnOk result (IsTrue words.now.makes_new → IsSome words.now.folder) }
+    ensures stop { IfErr result (λ stop. (stop ≡ New) × IsTrue words.now.makes_new
+        × (words.now.folder ≡ None)) }
+{
+    if words.makes_new && words.folder.is_none() {
+        return Err(Stop::New);
     }
     Ok(())
 }

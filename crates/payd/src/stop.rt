@@ -34,6 +34,12 @@ pub(crate) enum Stop<'a> {
     /// The log in the folder isn't read, or the folder isn't to be had.
     #[error("log {0}")]
     Log(LogFault),
+    /// The node ended so because its log failed.
+    #[error("engine {0}")]
+    Unkept(EngineFault),
+    /// A member is to be made that has no folder.
+    #[error("new: only with --data")]
+    New,
     /// A node is to stay that has no folder.
     #[error("stay: only with --data")]
     Stay,
@@ -167,17 +173,19 @@ impl<'a> Stop<'a> {
             | Stop::Ports(PortsFault::Memory, _)
             | Stop::Export(ExportFault::Memory, _)
             | Stop::Close(CloseFault::Memory)
-            | Stop::Log(LogFault::Memory | LogFault::Disk | LogFault::Held)
+            | Stop::Log(LogFault::Memory | LogFault::Held)
             | Stop::Port(_)
             | Stop::Socket(_)
             | Stop::Nobody(_)
             | Stop::Unanswered
             | Stop::Clock => 3,
+            Stop::Unkept(_) | Stop::Log(LogFault::Disk | LogFault::Forgotten) => 4,
             Stop::Genesis(..)
             | Stop::Keys(..)
             | Stop::Ports(..)
             | Stop::Export(..)
             | Stop::Log(_)
+            | Stop::New
             | Stop::Stay
             | Stop::NoNode
             | Stop::LongSocket(_)

@@ -11,4 +11,5 @@ returns c =
     let five = one_argument_more _ _ _ _ _ four c.option-2.ensures c.in_ok-arg-5.ensures in
     let six = one_argument_more _ _ _ _ _ five c.option-3.ensures c.in_ok-arg-6.ensures in
     let seven = one_argument_more _ _ _ _ _ six c.flag.ensures c.in_ok-arg-7.ensures in
-    IfOk-weaker c.arg-8.result _ _ (λ r h. one_argument_more _ _ _ _ _ seven c.option-4.ensures h) c.arg-8.ensures
+    let eight = one_argument_more _ _ _ _ _ seven c.flag-2.ensures c.in_ok-arg-8.ensures in
+    IfOk-weaker c.arg-9.result _ _ (λ r h. one_argument_more _ _ _ _ _ eight c.option-4.ensures h) c.arg-9.ensures
