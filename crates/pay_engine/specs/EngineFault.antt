@@ -1,5 +1,5 @@
 -- Numbers and names of engines' faults, as programs print them.
-use Rattle.std.specs.Prelude.{ℕ, List, codes}
+use Rattle.std.specs.Prelude.{ℕ, List, ◌++◌, codes, decimal}
 use Rattle.pay_engine.specs.declared.engine_fault.EngineFault.{EngineFault}
 use Rattle.pay_engine.specs.declared.engine_fault.EngineFault.TheVariants.{Memory, Frame, Read}
 use Rattle.pay_engine.specs.declared.engine_fault.EngineFault.TheVariants.{Write, Bound}
@@ -18,6 +18,9 @@ engine_number fault = (engine_entry fault).0
 
 abbrev pub engine_name : EngineFault → List ℕ
 engine_name fault = (engine_entry fault).1
+
+abbrev pub engine_words : EngineFault → List ℕ
+engine_words fault = decimal (engine_number fault) ++ codes " " ++ engine_name fault
 
 -- what a fault of a device is among an engine's
 abbrev pub engine_of : StreamFault → EngineFault

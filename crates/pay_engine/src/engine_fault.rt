@@ -53,6 +53,11 @@ impl EngineFault {
 }
 
 impl fmt::Display for EngineFault {
+    ghost use Rattle.std.specs.Prelude.{Some};
+    ghost use Rattle.pay_engine.specs.EngineFault.{engine_words};
+
+    ghost output = { λ fault. Some (engine_words fault) };
+
     fn fmt<W: fmt::Write>(&self, f: &mut fmt::Formatter<W>) -> fmt::Result {
         write!(f, "{} {}", self.number(), self.name())
     }

@@ -1,5 +1,5 @@
 -- Numbers and names of faults, as programs print them.
-use Rattle.std.specs.Prelude.{ℕ, List, codes}
+use Rattle.std.specs.Prelude.{ℕ, List, ◌++◌, codes, decimal}
 use Rattle.pay_frame.specs.declared.fault.FrameFault.{FrameFault}
 use Rattle.pay_frame.specs.declared.fault.FrameFault.TheVariants.{BadLength, BadVersion, BadKind}
 use Rattle.pay_frame.specs.declared.fault.FrameFault.TheVariants.{BadValueLength, BadSeq, BadWant}
@@ -20,3 +20,6 @@ fault_number fault = (fault_entry fault).0
 
 abbrev pub name_of : FrameFault → List ℕ
 name_of fault = (fault_entry fault).1
+
+abbrev pub words_of : FrameFault → List ℕ
+words_of fault = decimal (fault_number fault) ++ codes " " ++ name_of fault

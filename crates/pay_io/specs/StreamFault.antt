@@ -1,5 +1,5 @@
 -- Numbers and names of the faults of devices, as programs print them.
-use Rattle.std.specs.Prelude.{ℕ, List, codes}
+use Rattle.std.specs.Prelude.{ℕ, List, ◌++◌, codes, decimal}
 use Rattle.pay_io.specs.declared.stream_fault.StreamFault.{StreamFault}
 use Rattle.pay_io.specs.declared.stream_fault.StreamFault.TheVariants.{Memory, Read, Write, Bound}
 
@@ -14,3 +14,6 @@ stream_number fault = (stream_entry fault).0
 
 abbrev pub stream_name : StreamFault → List ℕ
 stream_name fault = (stream_entry fault).1
+
+abbrev pub stream_words : StreamFault → List ℕ
+stream_words fault = decimal (stream_number fault) ++ codes " " ++ stream_name fault

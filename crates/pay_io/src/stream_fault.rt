@@ -47,6 +47,11 @@ impl StreamFault {
 }
 
 impl fmt::Display for StreamFault {
+    ghost use Rattle.std.specs.Prelude.{Some};
+    ghost use Rattle.pay_io.specs.StreamFault.{stream_words};
+
+    ghost output = { λ fault. Some (stream_words fault) };
+
     fn fmt<W: fmt::Write>(&self, f: &mut fmt::Formatter<W>) -> fmt::Result {
         write!(f, "{} {}", self.number(), self.name())
     }

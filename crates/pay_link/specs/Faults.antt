@@ -1,5 +1,5 @@
 -- The faults of this crate: the number and the name under which each is printed.
-use Rattle.std.specs.Prelude.{ℕ, List, codes}
+use Rattle.std.specs.Prelude.{ℕ, List, ◌++◌, codes, decimal}
 use Rattle.pay_link.specs.declared.genesis_fault.GenesisFault.{GenesisFault}
 use Rattle.pay_link.specs.declared.genesis_fault.GenesisFault.TheVariants as genesis
 use Rattle.pay_link.specs.declared.keys_fault.KeysFault.{KeysFault}
@@ -22,6 +22,10 @@ genesis_fault_number fault = (genesis_fault_entry fault).0
 abbrev pub genesis_fault_name : GenesisFault → List ℕ
 genesis_fault_name fault = (genesis_fault_entry fault).1
 
+abbrev pub genesis_fault_words : GenesisFault → List ℕ
+genesis_fault_words fault =
+    decimal (genesis_fault_number fault) ++ codes " " ++ genesis_fault_name fault
+
 abbrev pub keys_fault_entry : KeysFault → ℕ × List ℕ
 keys_fault_entry keys.Memory = (0, codes "Memory")
 keys_fault_entry keys.BadJson = (1, codes "BadJson")
@@ -36,6 +40,9 @@ keys_fault_number fault = (keys_fault_entry fault).0
 abbrev pub keys_fault_name : KeysFault → List ℕ
 keys_fault_name fault = (keys_fault_entry fault).1
 
+abbrev pub keys_fault_words : KeysFault → List ℕ
+keys_fault_words fault = decimal (keys_fault_number fault) ++ codes " " ++ keys_fault_name fault
+
 abbrev pub link_fault_entry : LinkFault → ℕ × List ℕ
 link_fault_entry link.NotForMe = (1, codes "NotForMe")
 link_fault_entry link.UnknownSender = (2, codes "UnknownSender")
@@ -49,3 +56,6 @@ link_fault_number fault = (link_fault_entry fault).0
 
 abbrev pub link_fault_name : LinkFault → List ℕ
 link_fault_name fault = (link_fault_entry fault).1
+
+abbrev pub link_fault_words : LinkFault → List ℕ
+link_fault_words fault = decimal (link_fault_number fault) ++ codes " " ++ link_fault_name fault

@@ -53,6 +53,11 @@ impl GenesisFault {
 }
 
 impl fmt::Display for GenesisFault {
+    ghost use Rattle.std.specs.Prelude.{Some};
+    ghost use Rattle.pay_link.specs.Faults.{genesis_fault_words};
+
+    ghost output = { λ fault. Some (genesis_fault_words fault) };
+
     fn fmt<W: fmt::Write>(&self, f: &mut fmt::Formatter<W>) -> fmt::Result {
         write!(f, "{} {}", self.number(), self.name())
     }

@@ -50,6 +50,11 @@ impl KeysFault {
 }
 
 impl fmt::Display for KeysFault {
+    ghost use Rattle.std.specs.Prelude.{Some};
+    ghost use Rattle.pay_link.specs.Faults.{keys_fault_words};
+
+    ghost output = { λ fault. Some (keys_fault_words fault) };
+
     fn fmt<W: fmt::Write>(&self, f: &mut fmt::Formatter<W>) -> fmt::Result {
         write!(f, "{} {}", self.number(), self.name())
     }

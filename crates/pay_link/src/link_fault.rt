@@ -73,6 +73,11 @@ fn push_next(out: &mut Vec<u8>, next: u64) -> Result<(), AllocError>
 }
 
 impl fmt::Display for LinkFault {
+    ghost use Rattle.std.specs.Prelude.{Some};
+    ghost use Rattle.pay_link.specs.Faults.{link_fault_words};
+
+    ghost output = { λ fault. Some (link_fault_words fault) };
+
     fn fmt<W: fmt::Write>(&self, f: &mut fmt::Formatter<W>) -> fmt::Result {
         write!(f, "{} {}", self.number(), self.name())
     }

@@ -1,5 +1,5 @@
--- The numbers and names of faults.
-use Rattle.std.specs.Prelude.{ℕ, List, codes}
+-- The numbers and names of faults, and their words.
+use Rattle.std.specs.Prelude.{ℕ, List, [], ◌++◌, codes, decimal}
 use Rattle.pay_log.specs.declared.device.DeviceFault.{DeviceFault}
 use Rattle.pay_log.specs.declared.device.DeviceFault.TheVariants as device
 use Rattle.pay_log.specs.declared.fault.LogFault.{LogFault}
@@ -42,6 +42,18 @@ mismatch_name Version = codes "Version"
 mismatch_name Genesis = codes "Genesis"
 mismatch_name Member = codes "Member"
 mismatch_name Keys = codes "Keys"
+
+-- what is printed behind a fault's name: which part differs, or the number of a chunk or a record
+abbrev pub log_fault_place : LogFault → List ℕ
+log_fault_place (Foreign part) = codes " " ++ mismatch_name part
+log_fault_place (Damaged number) = codes " " ++ decimal number
+log_fault_place (Illegal number) = codes " " ++ decimal number
+log_fault_place _ = []
+
+-- a fault as it is printed
+abbrev pub log_fault_words : LogFault → List ℕ
+log_fault_words fault =
+    decimal (log_fault_number fault) ++ codes " " ++ log_fault_name fault ++ log_fault_place fault
 
 abbrev pub fault_of_device : DeviceFault → LogFault
 fault_of_device device.Memory = Memory

@@ -67,6 +67,11 @@ impl LogFault {
 }
 
 impl fmt::Display for LogFault {
+    ghost use Rattle.std.specs.Prelude.{Some};
+    ghost use Rattle.pay_log.specs.Faults.{log_fault_words};
+
+    ghost output = { λ fault. Some (log_fault_words fault) };
+
     fn fmt<W: fmt::Write>(&self, f: &mut fmt::Formatter<W>) -> fmt::Result {
         write!(f, "{} {}", self.number(), self.name())?;
         match self {

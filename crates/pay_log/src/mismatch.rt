@@ -33,6 +33,11 @@ impl Mismatch {
 }
 
 impl fmt::Display for Mismatch {
+    ghost use Rattle.std.specs.Prelude.{Some};
+    ghost use Rattle.pay_log.specs.Faults.{mismatch_name};
+
+    ghost output = { λ part. Some (mismatch_name part) };
+
     fn fmt<W: fmt::Write>(&self, f: &mut fmt::Formatter<W>) -> fmt::Result {
         f.write_str(self.name())
     }
