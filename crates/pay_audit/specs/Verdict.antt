@@ -1,7 +1,7 @@
 -- What an auditor answers of several exports, each named by its place from 0. Whether a front and
 -- balances are right is asked of the export's own lists; nothing here says how a book is settled.
 use Rattle.std.specs.Prelude.{ℕ, ◌+◌, ◌==◌, ◌&&◌, Bool, List, [], ◌∷◌, slice_index, Option, Some}
-use Rattle.std.specs.Prelude.{None, option_map, unwrap_or, if◌then◌else◌}
+use Rattle.std.specs.Prelude.{None, option_map, unwrap_or, if◌then◌else◌, ◌++◌, codes, decimal}
 use Rattle.std.specs.Option.{option_or}
 use Rattle.std.specs.List.{zip}
 use Rattle.std.specs.Str.{bytes_eq}
@@ -86,3 +86,16 @@ unfoldable pub verdict_of : List ExportFields → Verdict
 verdict_of exports =
     unwrap_or (option_or (other_genesis exports)
     (option_or (wrong_book exports) (fork_from 0 exports))) Clean
+
+-- ---- as it is printed
+
+abbrev pub verdict_words : Verdict → List ℕ
+verdict_words Clean = codes "clean"
+verdict_words (OtherGenesis export) = codes "1 genesis " ++ decimal export
+verdict_words (WrongFront export account) =
+    codes "2 front " ++ decimal export ++ codes " account " ++ decimal account
+verdict_words (WrongBalance export account) =
+    codes "3 balance " ++ decimal export ++ codes " account " ++ decimal account
+verdict_words (Fork one other owner seq) =
+    codes "4 fork " ++ decimal one ++ codes " " ++ decimal other
+    ++ codes " owner " ++ decimal owner ++ codes " seq " ++ decimal seq

@@ -46,6 +46,11 @@ impl ExportFault {
 }
 
 impl fmt::Display for ExportFault {
+    ghost use Rattle.std.specs.Prelude.{Some};
+    ghost use Rattle.pay_audit.specs.Faults.{export_fault_words};
+
+    ghost output = { λ fault. Some (export_fault_words fault) };
+
     fn fmt<W: fmt::Write>(&self, f: &mut fmt::Formatter<W>) -> fmt::Result {
         write!(f, "{} {}", self.number(), self.name())
     }

@@ -40,6 +40,11 @@ impl ReplayFault {
 }
 
 impl fmt::Display for ReplayFault {
+    ghost use Rattle.std.specs.Prelude.{Some};
+    ghost use Rattle.pay_audit.specs.Faults.{replay_fault_words};
+
+    ghost output = { λ fault. Some (replay_fault_words fault) };
+
     fn fmt<W: fmt::Write>(&self, f: &mut fmt::Formatter<W>) -> fmt::Result {
         write!(f, "{} {}", self.number(), self.name())
     }

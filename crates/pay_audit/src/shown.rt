@@ -1,10 +1,11 @@
 //! The texts of an export and of a genesis that are there as values.
 
-ghost use Rattle.std.specs.Prelude.{◌≡◌, [], IfOk, Ok, OnOk, map};
+ghost use Rattle.std.specs.Prelude.{◌≡◌, [], Err, IfOk, IsOkUnless, MatchOption, Ok, OnOk, map};
 ghost use Rattle.std.specs.String.{string_bytes};
 ghost use Rattle.serde_json.specs.Data.{object};
 ghost use Rattle.serde_json.specs.View.{members_view, view};
 ghost use Rattle.serde_json.specs.Written.{compact_text};
+ghost use Rattle.pay_link.specs.Genesis.{genesis_fault};
 ghost use Rattle.pay_audit.specs.ByLists.{next_genesis};
 ghost use Rattle.pay_audit.specs.Export.{export_in};
 ghost use Rattle.pay_audit.specs.Exporting.{export_data, genesis_members, lists_data, numbers_data};
@@ -53,7 +54,9 @@ fn genesis_value(alloc: Global, genesis: &Genesis) -> Result<Value, AllocError>
 /// The genesis in which each account opens with its balance in an export, if its balances have a
 /// total that one can have.
 pub fn next_genesis(alloc: Global, export: &Export) -> Result<Genesis, GenesisFault>
-    ensures { IfOk result (λ genesis. genesis ≡ next_genesis export.now) }
+    ensures fault { MatchOption (genesis_fault (next_genesis export.now))
+        (IsOkUnless result GenesisFault.Memory) (λ fault. result ≡ Err fault) }
+    ensures value { IfOk result (λ genesis. genesis ≡ next_genesis export.now) }
 {
     let genesis = &export.genesis;
     Genesis::new(

@@ -29,6 +29,11 @@ pub enum Verdict {
 }
 
 impl fmt::Display for Verdict {
+    ghost use Rattle.std.specs.Prelude.{Some};
+    ghost use Rattle.pay_audit.specs.Verdict.{verdict_words};
+
+    ghost output = { λ verdict. Some (verdict_words verdict) };
+
     fn fmt<W: fmt::Write>(&self, f: &mut fmt::Formatter<W>) -> fmt::Result {
         match self {
             Verdict::Clean => write!(f, "clean"),
