@@ -1,10 +1,9 @@
 -- Lists of a group, and the export that is made of them.
-use Rattle.std.proofs.Common.{◌≡◌, ℕ, zero, suc, ◌+◌, ◌<◌, ◌≤◌, All, Bor, List, [], ◌∷◌, ◌++◌, get_or, length, length-append, map, slice_get, Option, Some, None, option_map, refl, ap, sym, subst, ◌∙◌, arith}
+use Rattle.std.proofs.Common.{◌≡◌, ℕ, zero, suc, ◌+◌, ◌<◌, ◌≤◌, All, Bor, List, [], ◌∷◌, length, length-append, map, slice_get, Some, None, refl, ap, sym, subst, ◌∙◌, arith}
 use Rattle.std.specs.List.{range_with_len}
 use Rattle.std.proofs.lemmas.List.Elements.{All-head, All-tail}
 use Rattle.std.proofs.lemmas.List.FromFn.{get_or-map-range_with_len}
 use Rattle.std.proofs.lemmas.Option.{none-some, same_Some, slice_get-get_or}
-use Rattle.pay_channel.specs.Prefix.{IsPrefix}
 use Rattle.pay_frame.specs.declared.limits.TheConstants.{SEQS}
 use Rattle.pay_link.specs.Genesis.{GenesisFields}
 use Rattle.pay_group.specs.Backing.{IsBacked, IsGroupList, IsSplit}

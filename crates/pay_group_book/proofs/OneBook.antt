@@ -1,5 +1,5 @@
 -- Exports have one book, or none.
-use Rattle.std.proofs.Common.{◌≡◌, ℕ, zero, suc, ◌<◌, ◌≤◌, List, [], ◌∷◌, length, slice_get, Option, Some, None, refl, ap, ap₂, sym, subst, ◌∙◌, arith}
+use Rattle.std.proofs.Common.{◌≡◌, ℕ, suc, ◌<◌, List, [], ◌∷◌, length, slice_get, Some, refl, ap, ap₂, sym, subst, ◌∙◌, arith}
 use Rattle.std.proofs.lemmas.Option.{same_Some}
 use Rattle.pay_link.specs.Genesis.{GenesisFields}
 use Rattle.pay_group.specs.Backing.{IsGroupList, IsSplit}
@@ -8,9 +8,8 @@ use Rattle.pay_book.specs.Settled.{settled_book}
 use Rattle.pay_audit.specs.Auditor.{first_genesis}
 use Rattle.pay_audit.specs.ByLists.{HasOwnBook}
 use Rattle.pay_audit.specs.Export.{ExportFields, list_in, lists_of}
-use Rattle.pay_group_book.specs.Book.{HasNoBook, IsGroupBook, listed_by}
+use Rattle.pay_group_book.specs.Book.{listed_by}
 use Rattle.pay_group_book.specs.Laws.{BookIsOne, NoBookOfAFault}
-use Rattle.pay_group_book.specs.declared.fault.BookFault.{BookFault}
 use Rattle.pay_group_book.specs.declared.fault.BookFault.TheVariants.{Memory, OtherGenesis, Twice, Few, Split}
 
 some_first : (exports : List ExportFields) (g : GenesisFields) → first_genesis exports ≡ Some g → (e : ExportFields) × (slice_get exports 0 ≡ Some e)

@@ -1,13 +1,13 @@
 -- Correct members vouch for a group's book.
-use Rattle.std.proofs.Common.{◌≡◌, ℕ, zero, suc, ◌+◌, ◌<◌, ◌≤◌, Bool, true, false, not, cond, List, [], ◌∷◌, map, length, slice_get, Option, Some, None, refl, ap, sym, subst, ◌∙◌, ⊎_elim, arith}
-use Rattle.std.specs.List.{count_by, range_with_len}
+use Rattle.std.proofs.Common.{◌≡◌, ℕ, zero, suc, ◌<◌, Bool, true, false, not, List, [], ◌∷◌, map, slice_get, Some, refl, ap, sym, subst, ◌∙◌, arith}
+use Rattle.std.specs.List.{count_by}
 use Rattle.std.proofs.lemmas.Option.{none-some, same_Some, slice_get-get_or}
 use Rattle.pay_channel.specs.Prefix.{IsPrefix}
 use Rattle.pay_group.specs.Backing.{IsBacked}
 use Rattle.pay_group.specs.Laws.{BackedIsVouchedFor}
-use Rattle.pay_audit.specs.Export.{ExportFields, IsExport, lists_of}
+use Rattle.pay_audit.specs.Export.{ExportFields, lists_of}
 use Rattle.pay_audit.specs.Said.{Each}
-use Rattle.pay_group_book.specs.Book.{IsGroupBook, listed_by}
+use Rattle.pay_group_book.specs.Book.{listed_by}
 use Rattle.pay_group_book.specs.Laws.{BookIsVouchedFor, IsVouchedFor, MembersVouchOnce}
 use Rattle.pay_group_book.proofs.Members.{one_size}
 use Rattle.pay_group_book.proofs.Once.{counted_more, one_if}

@@ -1,5 +1,5 @@
 -- What holds of groups' books. Each is proved as a public law.
-use Rattle.std.specs.Prelude.{◌≡◌, ℕ, ◌<◌, ◌≤◌, pos, Bool, false, List, length, slice_get}
+use Rattle.std.specs.Prelude.{◌≡◌, ℕ, ◌<◌, ◌≤◌, pos, Bool, false, List, slice_get}
 use Rattle.std.specs.Prelude.{slice_index, sum, Some, None}
 use Rattle.std.specs.List.{count_by, range_with_len}
 use Rattle.pay_channel.specs.Prefix.{IsPrefix}

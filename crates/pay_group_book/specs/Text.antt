@@ -1,6 +1,6 @@
 -- What is written of exports: the group's book, what waits, and what single exports have beyond it;
 -- or why there is no book.
-use Rattle.std.specs.Prelude.{◌≡◌, ℕ, ◌-◌, ◌==◌, nat_lt, Bool, true, false, List, [], ◌∷◌, ◌++◌}
+use Rattle.std.specs.Prelude.{◌≡◌, ◌≢◌, ℕ, ◌-◌, ◌==◌, nat_lt, Bool, true, false, List, [], ◌∷◌, ◌++◌}
 use Rattle.std.specs.Prelude.{codes, decimal, length, slice_index, sum, Option, Some, None}
 use Rattle.std.specs.Prelude.{if◌then◌else◌}
 use Rattle.std.specs.List.{flat_map, enumerate_from, range_with_len}
@@ -130,10 +130,10 @@ fault_words (Few count) = codes "6 few " ++ decimal count ++ end_of_line
 fault_words (Split account seq) =
     codes "7 split account " ++ decimal account ++ codes " seq " ++ decimal seq ++ end_of_line
 
--- What is said of exports: the text of their book, and that it is one; or the line of the fault,
--- and that there is none.
+-- What is said of exports: the text of their book, and that it is one; or the line of a fault that
+-- they have, and that there is none. Where memory was refused nothing is said.
 abbrev pub IsBookText : List ExportFields → BookForm → Bool → List ℕ → Type 0
 IsBookText exports form true text =
     (b : ExportFields) × IsGroupBook exports b × (text ≡ form_words form exports b)
 IsBookText exports form false text =
-    (fault : BookFault) × HasNoBook exports fault × (text ≡ fault_words fault)
+    (fault : BookFault) × (fault ≢ Memory) × HasNoBook exports fault × (text ≡ fault_words fault)

@@ -1,6 +1,5 @@
-use Rattle.std.proofs.Common.{◌≡◌, None, Some, slice_get, ap, rules, sym, ◌∙◌, arith}
+use Rattle.std.proofs.Common.{◌≡◌, Some, slice_get, ap, rules, sym, ◌∙◌, arith}
 use Rattle.pay_link.specs.Genesis.{GenesisFields}
-use Rattle.pay_audit.specs.Verdict.{other_genesis}
 use Rattle.pay_group_book.proofs.Members.{is_first, other_found, twice_found}
 use Rattle.pay_group_book.proofs.booking.group_book.Goals as goal
 

@@ -1,4 +1,4 @@
-use Rattle.std.proofs.Common.{◌≡◌, Bor, length, map, ap, refl, sym, subst, ◌∙◌}
+use Rattle.std.proofs.Common.{Bor, map, ap, sym, subst, ◌∙◌}
 use Rattle.std.proofs.lemmas.Option.{same_Some}
 use Rattle.pay_audit.specs.Export.{ExportFields}
 use Rattle.pay_group_book.specs.Book.{AreOfGroup}

@@ -1,4 +1,4 @@
-use Rattle.std.proofs.Common.{◌≡◌, ◌<◌, ◌≤◌, pos, slice_index, sum, ap, ap₂, sym, subst, ◌∙◌, arith}
+use Rattle.std.proofs.Common.{◌≡◌, ◌<◌, ◌≤◌, pos, slice_index, sum, ap, sym, subst, ◌∙◌}
 use Rattle.pay_book.specs.Balance.{balance_at}
 use Rattle.pay_link.specs.declared.limits.TheConstants.{GREATEST_TOTAL}
 use Rattle.pay_audit.specs.Export.{lists_of}
