@@ -1,5 +1,5 @@
 -- The numbers and names of a desk's refusals.
-use Rattle.std.specs.Prelude.{ℕ, List, codes}
+use Rattle.std.specs.Prelude.{ℕ, List, ◌++◌, codes, decimal}
 use Rattle.pay_desk.specs.declared.fault.DeskFault.{DeskFault}
 use Rattle.pay_desk.specs.declared.fault.DeskFault.TheVariants.{Memory, BadLine, NoAccount}
 use Rattle.pay_desk.specs.declared.fault.DeskFault.TheVariants.{ZeroOrSelf, IdUsed, Spent}
@@ -21,6 +21,9 @@ desk_fault_name NoAccount = codes "NoAccount"
 desk_fault_name ZeroOrSelf = codes "ZeroOrSelf"
 desk_fault_name IdUsed = codes "IdUsed"
 desk_fault_name Spent = codes "Spent"
+
+abbrev pub desk_fault_words : DeskFault → List ℕ
+desk_fault_words fault = decimal (desk_fault_number fault) ++ codes " " ++ desk_fault_name fault
 
 -- what a desk answers where its teller refuses
 abbrev pub desk_fault_of : TellerFault → DeskFault

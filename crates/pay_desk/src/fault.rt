@@ -51,6 +51,11 @@ impl DeskFault {
 }
 
 impl fmt::Display for DeskFault {
+    ghost use Rattle.std.specs.Prelude.{Some};
+    ghost use Rattle.pay_desk.specs.Faults.{desk_fault_words};
+
+    ghost output = { λ fault. Some (desk_fault_words fault) };
+
     fn fmt<W: fmt::Write>(&self, f: &mut fmt::Formatter<W>) -> fmt::Result {
         write!(f, "{} {}", self.number(), self.name())
     }

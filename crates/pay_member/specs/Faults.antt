@@ -1,5 +1,5 @@
 -- Refusals: which each call can meet, and the number and the name under which each is printed.
-use Rattle.std.specs.Prelude.{ℕ, List, codes}
+use Rattle.std.specs.Prelude.{ℕ, List, ◌++◌, codes, decimal}
 use Rattle.pay_member.specs.declared.ask_fault.AskFault.{AskFault}
 use Rattle.pay_member.specs.declared.ask_fault.AskFault.TheVariants as ask
 use Rattle.pay_member.specs.declared.take_fault.TakeFault.{TakeFault}
@@ -24,6 +24,10 @@ member_fault_number fault = (member_fault_entry fault).0
 
 abbrev pub member_fault_name : MemberFault → List ℕ
 member_fault_name fault = (member_fault_entry fault).1
+
+abbrev pub member_fault_words : MemberFault → List ℕ
+member_fault_words fault =
+    decimal (member_fault_number fault) ++ codes " " ++ member_fault_name fault
 
 -- ---- the refusals of one call among all
 

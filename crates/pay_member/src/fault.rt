@@ -56,6 +56,11 @@ impl MemberFault {
 }
 
 impl fmt::Display for MemberFault {
+    ghost use Rattle.std.specs.Prelude.{Some};
+    ghost use Rattle.pay_member.specs.Faults.{member_fault_words};
+
+    ghost output = { λ fault. Some (member_fault_words fault) };
+
     fn fmt<W: fmt::Write>(&self, f: &mut fmt::Formatter<W>) -> fmt::Result {
         write!(f, "{} {}", self.number(), self.name())
     }

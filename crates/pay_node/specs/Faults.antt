@@ -1,5 +1,5 @@
 -- The number and the name under which each fault of closing is printed.
-use Rattle.std.specs.Prelude.{ℕ, List, codes}
+use Rattle.std.specs.Prelude.{ℕ, List, ◌++◌, codes, decimal}
 use Rattle.pay_node.specs.declared.close_fault.CloseFault.{CloseFault}
 use Rattle.pay_node.specs.declared.close_fault.CloseFault.TheVariants.{Memory, Mismatch}
 
@@ -10,3 +10,6 @@ close_fault_number (Mismatch stamp) = 1
 abbrev pub close_fault_name : CloseFault → List ℕ
 close_fault_name Memory = codes "Memory"
 close_fault_name (Mismatch stamp) = codes "Mismatch"
+
+abbrev pub close_fault_words : CloseFault → List ℕ
+close_fault_words fault = decimal (close_fault_number fault) ++ codes " " ++ close_fault_name fault

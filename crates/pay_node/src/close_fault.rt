@@ -37,6 +37,11 @@ impl CloseFault {
 }
 
 impl fmt::Display for CloseFault {
+    ghost use Rattle.std.specs.Prelude.{Some};
+    ghost use Rattle.pay_node.specs.Faults.{close_fault_words};
+
+    ghost output = { λ fault. Some (close_fault_words fault) };
+
     fn fmt<W: fmt::Write>(&self, f: &mut fmt::Formatter<W>) -> fmt::Result {
         write!(f, "{} {}", self.number(), self.name())
     }

@@ -1,5 +1,5 @@
 -- The number and the name under which each fault is printed.
-use Rattle.std.specs.Prelude.{ℕ, List, codes}
+use Rattle.std.specs.Prelude.{ℕ, List, ◌++◌, codes, decimal}
 use Rattle.pay_world.specs.declared.liar_fault.LiarFault.{LiarFault}
 use Rattle.pay_world.specs.declared.liar_fault.LiarFault.TheVariants as liar
 use Rattle.pay_world.specs.declared.fault.WorldFault.{WorldFault}
@@ -17,6 +17,9 @@ liar_fault_number fault = (liar_fault_entry fault).0
 abbrev pub liar_fault_name : LiarFault → List ℕ
 liar_fault_name fault = (liar_fault_entry fault).1
 
+abbrev pub liar_fault_words : LiarFault → List ℕ
+liar_fault_words fault = decimal (liar_fault_number fault) ++ codes " " ++ liar_fault_name fault
+
 abbrev pub world_fault_entry : WorldFault → ℕ × List ℕ
 world_fault_entry world.Memory = (0, codes "Memory")
 world_fault_entry (world.Forged k) = (1, codes "Forged")
@@ -26,3 +29,7 @@ world_fault_number fault = (world_fault_entry fault).0
 
 abbrev pub world_fault_name : WorldFault → List ℕ
 world_fault_name fault = (world_fault_entry fault).1
+
+abbrev pub world_fault_words : WorldFault → List ℕ
+world_fault_words fault =
+    decimal (world_fault_number fault) ++ codes " " ++ world_fault_name fault

@@ -42,6 +42,11 @@ impl WorldFault {
 }
 
 impl fmt::Display for WorldFault {
+    ghost use Rattle.std.specs.Prelude.{Some};
+    ghost use Rattle.pay_world.specs.Faults.{world_fault_words};
+
+    ghost output = { λ fault. Some (world_fault_words fault) };
+
     fn fmt<W: fmt::Write>(&self, f: &mut fmt::Formatter<W>) -> fmt::Result {
         write!(f, "{} {}", self.number(), self.name())
     }

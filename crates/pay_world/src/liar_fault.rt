@@ -47,6 +47,11 @@ impl LiarFault {
 }
 
 impl fmt::Display for LiarFault {
+    ghost use Rattle.std.specs.Prelude.{Some};
+    ghost use Rattle.pay_world.specs.Faults.{liar_fault_words};
+
+    ghost output = { λ fault. Some (liar_fault_words fault) };
+
     fn fmt<W: fmt::Write>(&self, f: &mut fmt::Formatter<W>) -> fmt::Result {
         write!(f, "{} {}", self.number(), self.name())
     }
