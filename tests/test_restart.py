@@ -18,6 +18,7 @@ from frames import SEND, frame, payment
 from damaged_logs import OPENING, bits, cuts, export, made_folder, read
 from logs import HEADER_LEN, QUERY, Log
 from nodes import IN_MEMORY, export_text, free_ports, new_words, started, until, write_json
+from ordering import Order, OutOfOrder, noted
 from peers import Liar, Strangers, connected, received
 from restarts import NEW, Folders, killed_and_started_again, told
 from runs import GENESIS, SECONDS, key_texts, payd, same, shows, with_files
@@ -502,6 +503,43 @@ def test_each_growth_of_a_kept_node_refused(library):
             told_again = dict(line.split()[1::2] for line in again[1].splitlines()[:3])
             kept = [line.split()[1::2] for line in answers if line.startswith("asked")]
             same([told_again[order] for order, _ in kept], [seq for _, seq in kept], f"{of_run}, and then {again}")
+
+
+# ---- nothing leaves before it is on the disk
+
+
+def judged_runs(library, **more):
+    """What left a node among its peers, by its notes: in a new folder, and in that one behind a kill."""
+    left = Counter()
+    with Folders(OPENING, running=[1, 2, 3]) as group:
+        folder = os.path.join(group.place.name, "data-0")
+        for run in range(2):
+            notes = os.path.join(group.place.name, f"notes-{run}")
+            group.start(0, given=library.given(notes=notes, **more))
+            for order in range(5 * run, 5 * run + 5):
+                group.pay(0, order, payee=1, amount=order + 1, seq=order)
+            group.pay(3, run, payee=0, amount=5, seq=run)
+            group.settle([5 * run + 5, 0, 0, run + 1])
+            group.kill(0)
+            left += Order(folder, Log(GENESIS, 0), group.log(0)).judge(noted(read(notes))).left
+    return left
+
+
+def test_nothing_leaves_before_it_is_on_the_disk(library):
+    """No answer and no frame before the sync of the bytes of the log that hold it, and of the log's name; no name
+    before the sync of all that the log has then."""
+    left = judged_runs(library)
+    print(f"{left['answers']} answers, {left['frames']} frames")
+    same((left["answers"], left["frames"] > 100), (10, True), f"{left}")
+
+
+def test_a_sync_that_does_nothing_is_found(library):
+    """Of the log, and of folders: as of a program that leaves it out."""
+    for idle in ("idle_fdatasync", "idle_fsync"):
+        try:
+            raise AssertionError(f"{judged_runs(library, **{idle: 1})} left with {idle}")
+        except OutOfOrder as found:
+            print(f"{idle}: {found}")
 
 
 # ---- what was said before
