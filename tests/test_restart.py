@@ -433,7 +433,7 @@ def words_in(library):
     return ["node", "--genesis", "genesis", "--keys", "keys", "--ports", "ports", "--data"]
 
 
-def with_a_fault(library, name, **more):
+def with_a_fault(library, name, least=3, **more):
     """A run for each call of this kind, each with one failed: what was answered is kept, once the node is started
     again, and each id is asked for once. (Some three lines are read at once.)"""
     words = words_in(library)
@@ -444,7 +444,7 @@ def with_a_fault(library, name, **more):
         given = {name: place, "read_size": 40, **more}
         (status, output, errors), was_refused = library.run([*words, folder, "--new"], LINES, **given)
         if not was_refused:
-            same((status, place > 3), (0, True), f"{kinds} of {name}, and then {(status, output, errors)}")
+            same((status, place > least), (0, True), f"{kinds} of {name}, and then {(status, output, errors)}")
             return
         of = f"{name} {place} {more}: {(status, output, errors)}"
         kinds[(status, errors)] += 1
@@ -462,8 +462,48 @@ def with_a_fault(library, name, **more):
         library.refused[f"node --data {name}"] += 1
 
 
+def at_a_second_start(library, name):
+    """The same in a folder that a kill left, with a torn end: it has what was answered before, however its start fails,
+    and what that has since answered; each start writes the log anew."""
+    words = words_in(library)
+    killed, torn = os.path.join(library.place.name, f"{name}-killed"), b"plog"
+    same(library.run([*words, killed, "--new"], LINES)[0][0], 0, "the first start")
+    os.remove(os.path.join(killed, "ended"))
+    with open(os.path.join(killed, "log"), "ab") as log:
+        log.write(torn)
+    wanted = ANSWERS + "asked 12 seq 12\n"
+    for place in range(1, 1000):
+        folder = f"{killed}-{place}"
+        shutil.copytree(killed, folder)
+        was, was_refused = library.run([*words, folder], LINES + b"PAY 12 1 1\n", **{name: place, "read_size": 40})
+        of = f"{name} {place} of a second start: {was}"
+        if not was_refused:
+            same((was[0], place > 1), (0, True), of)
+            return
+        status, output, errors = was
+        said = told(errors)[1].removeprefix(f"payd: log: {len(torn)} bytes dropped, kept in log.dropped\n")
+        same((status, said in (DISK, DISK + UNWRITTEN)), (4, True), of)
+        whole = wanted + export_text(0, OPENING, FRESH, [0, 0, 0, 0], OPENING)
+        same(whole.startswith(output) and output[-1:] in ("", "\n"), True, of)
+        found = os.stat(os.path.join(folder, "log")).st_ino
+        status, again, errors = library.run([*words, folder], LINES + b"PAY 12 1 1\n")[0]
+        same((status, again), (0, whole), f"{of}, and then {errors}")
+        same(os.stat(os.path.join(folder, "log")).st_ino == found, False, f"{of}: whether the log is the old file")
+        library.refused[f"node --data, a second start {name}"] += 1
+
+
 def test_each_sync_fails(library):
     with_a_fault(library, "sync")
+
+
+def test_each_renaming_of_a_log_fails(library):
+    with_a_fault(library, "rename", least=2)
+
+
+def test_each_call_of_a_second_start_fails(library):
+    """The writes of the copy too, by which it doesn't yet have the log's name."""
+    for name in ("sync", "placed", "filed", "rename"):
+        at_a_second_start(library, name)
 
 
 def test_each_write_of_a_log_fails(library):
