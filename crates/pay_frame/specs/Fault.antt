@@ -21,5 +21,5 @@ fault_number fault = (fault_entry fault).0
 abbrev pub name_of : FrameFault → List ℕ
 name_of fault = (fault_entry fault).1
 
-abbrev pub words_of : FrameFault → List ℕ
-words_of fault = decimal (fault_number fault) ++ codes " " ++ name_of fault
+abbrev pub frame_fault_words : FrameFault → List ℕ
+frame_fault_words fault = decimal (fault_number fault) ++ codes " " ++ name_of fault

@@ -57,9 +57,9 @@ impl FrameFault {
 
 impl fmt::Display for FrameFault {
     ghost use Rattle.std.specs.Prelude.{Some};
-    ghost use Rattle.pay_frame.specs.Fault.{words_of};
+    ghost use Rattle.pay_frame.specs.Fault.{frame_fault_words};
 
-    ghost output = { λ fault. Some (words_of fault) };
+    ghost output = { λ fault. Some (frame_fault_words fault) };
 
     fn fmt<W: fmt::Write>(&self, f: &mut fmt::Formatter<W>) -> fmt::Result {
         write!(f, "{} {}", self.number(), self.name())

@@ -1,5 +1,5 @@
 -- The number and the name under which each fault of a file of ports is printed.
-use Rattle.std.specs.Prelude.{ℕ, List, codes}
+use Rattle.std.specs.Prelude.{ℕ, List, ◌++◌, codes, decimal}
 use Rattle.pay_net.specs.declared.ports_fault.PortsFault.{PortsFault}
 use Rattle.pay_net.specs.declared.ports_fault.PortsFault.TheVariants.{Memory, BadJson, BadShape}
 
@@ -12,3 +12,6 @@ abbrev pub ports_fault_name : PortsFault → List ℕ
 ports_fault_name Memory = codes "Memory"
 ports_fault_name BadJson = codes "BadJson"
 ports_fault_name BadShape = codes "BadShape"
+
+abbrev pub ports_fault_words : PortsFault → List ℕ
+ports_fault_words fault = decimal (ports_fault_number fault) ++ codes " " ++ ports_fault_name fault

@@ -41,6 +41,11 @@ impl PortsFault {
 }
 
 impl fmt::Display for PortsFault {
+    ghost use Rattle.std.specs.Prelude.{Some};
+    ghost use Rattle.pay_net.specs.Faults.{ports_fault_words};
+
+    ghost output = { λ fault. Some (ports_fault_words fault) };
+
     fn fmt<W: fmt::Write>(&self, f: &mut fmt::Formatter<W>) -> fmt::Result {
         write!(f, "{} {}", self.number(), self.name())
     }

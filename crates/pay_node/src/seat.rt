@@ -1,5 +1,6 @@
 ghost use Rattle.std.specs.Prelude.{◌≡◌, ◌≢◌, ◌↔◌, ◌+◌, ◌<◌, ℕ, Some, Err, [], ◌∷◌, ◌++◌, IfOk};
-ghost use Rattle.std.specs.Prelude.{IsTrue, OnErr, OnOk, length, max, vec_len, vec_capacity};
+ghost use Rattle.std.specs.Prelude.{◌-◌, IsTrue, OnErr, OnOk, drop, length, max, vec_len};
+ghost use Rattle.std.specs.Prelude.{vec_capacity};
 ghost use Rattle.pay_member.specs.Answer.{IsAnswer};
 ghost use Rattle.pay_member.specs.Legal.{Legal};
 ghost use Rattle.pay_member.specs.Member.{with_entry};
@@ -163,7 +164,8 @@ impl Seat {
 
     // The receipts among which one is looked for before it is left once more.
     fn latest(&self) -> &[Receipt]
-        ensures { result.now ≡ latest self.now }
+        ensures are { result.now ≡ latest self.now }
+        ensures count { result.now ≡ drop (length self.now.receipts - 256) self.now.receipts }
     {
         let first = self.receipts.len().saturating_sub(LATEST);
         &self.receipts[first..]
