@@ -10,7 +10,7 @@ use Rattle.pay_desk.specs.declared.desk.Desk.{Desk}
 use Rattle.pay_desk.specs.declared.fault.DeskFault.{DeskFault}
 use Rattle.pay_desk.specs.declared.kept.Kept.{Kept}
 use Rattle.pay_desk.specs.declared.teller_fault.TellerFault.{TellerFault}
-use Rattle.pay_desk.specs.declared.teller_fault.TellerFault.TheVariants.{Memory, NoAccount, Spent}
+use Rattle.pay_desk.specs.declared.teller_fault.TellerFault.TheVariants.{Memory, NoAccount, Spent, TooEarly, Forgotten}
 use Rattle.pay_desk.specs.Answers.{AnswersCommand, AnswersPay, Calls, GaveUp, Pays, Unless, account_fault, pay_fault}
 use Rattle.pay_desk.specs.Calls as call
 use Rattle.pay_desk.specs.Calls.{Call, TellerReply, values_asked_by, reads_at_length}
@@ -47,6 +47,8 @@ module _ {T : Type 0} (says : T → Call → TellerReply → T → Type 0) (aske
         by_outcome (Err Memory) same = ap asked same ∙ sym (append-nil (asked old.teller))
         by_outcome (Err NoAccount) s = said (call.Refused NoAccount) s
         by_outcome (Err Spent) s = said (call.Refused Spent) s
+        by_outcome (Err TooEarly) s = said (call.Refused TooEarly) s
+        by_outcome (Err Forgotten) s = said (call.Refused Forgotten) s
 
   by_paid : (id : ℕ) (value : List ℕ) (old new : Desk T) (outcome : Result ℕ TellerFault) → kept_under id old.kept ≡ None
       → call.Replies says old.teller (call.Ask value) call.Asked outcome new.teller
@@ -63,6 +65,10 @@ module _ {T : Type 0} (says : T → Call → TellerReply → T → Type 0) (aske
       nothing old new kept (only_asks old.teller new.teller (call.Ask value) (call.Refused NoAccount) said)
   by_paid id value old new (Err Spent) free said kept =
       nothing old new kept (only_asks old.teller new.teller (call.Ask value) (call.Refused Spent) said)
+  by_paid id value old new (Err TooEarly) free said kept =
+      nothing old new kept (only_asks old.teller new.teller (call.Ask value) (call.Refused TooEarly) said)
+  by_paid id value old new (Err Forgotten) free said kept =
+      nothing old new kept (only_asks old.teller new.teller (call.Ask value) (call.Refused Forgotten) said)
 
   by_found : (order : Order) (old new : Desk T) (t : List ℕ) (found : Option Kept) → kept_under order.id old.kept ≡ found
       → AnswersPay says found order old t new → AsksOnce asked old new

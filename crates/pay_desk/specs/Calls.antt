@@ -6,6 +6,7 @@ use Rattle.pay_member.specs.declared.standing.PaymentState.{PaymentState}
 use Rattle.pay_member.specs.declared.told.Told.{Told}
 use Rattle.pay_desk.specs.declared.teller_fault.TellerFault.{TellerFault}
 use Rattle.pay_desk.specs.declared.teller_fault.TellerFault.TheVariants.{Memory, NoAccount, Spent}
+use Rattle.pay_desk.specs.declared.teller_fault.TellerFault.TheVariants.{TooEarly, Forgotten}
 
 pub data Call : Type 0 where
   -- to broadcast a value of the account's own
@@ -41,6 +42,8 @@ Replies says old call reply (Ok x) new = says old call (reply x) new
 Replies says old call reply (Err Memory) new = new ≡ old
 Replies says old call reply (Err NoAccount) new = says old call (Refused NoAccount) new
 Replies says old call reply (Err Spent) new = says old call (Refused Spent) new
+Replies says old call reply (Err TooEarly) new = says old call (Refused TooEarly) new
+Replies says old call reply (Err Forgotten) new = says old call (Refused Forgotten) new
 
 -- the same outcome, with what was told seen as this
 abbrev pub seen_as : {X Y : Type 0} → Result X TellerFault → (X → Y) → Result Y TellerFault

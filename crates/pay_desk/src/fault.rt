@@ -20,6 +20,11 @@ pub enum DeskFault {
     IdUsed,
     /// All numbers of the own account are used.
     Spent,
+    /// Too few peers have shown yet that they know no more of the own account. The same line may be
+    /// given again.
+    TooEarly,
+    /// The group knows more of the own account than is remembered here.
+    Forgotten,
 }
 
 impl DeskFault {
@@ -34,6 +39,8 @@ impl DeskFault {
             DeskFault::ZeroOrSelf => (3, "ZeroOrSelf"),
             DeskFault::IdUsed => (4, "IdUsed"),
             DeskFault::Spent => (5, "Spent"),
+            DeskFault::TooEarly => (6, "TooEarly"),
+            DeskFault::Forgotten => (7, "Forgotten"),
         }
     }
 
@@ -72,6 +79,8 @@ impl From<TellerFault> for DeskFault {
             TellerFault::Memory => DeskFault::Memory,
             TellerFault::NoAccount => DeskFault::NoAccount,
             TellerFault::Spent => DeskFault::Spent,
+            TellerFault::TooEarly => DeskFault::TooEarly,
+            TellerFault::Forgotten => DeskFault::Forgotten,
         }
     }
 }

@@ -21,7 +21,8 @@ pub trait Teller {
     ghost asked: { Self → List (List ℕ) };
 
     /// Broadcasts a value of the account's own, of at most 1,024 bytes, and returns the number that
-    /// it got, or `Spent`. It was asked for under this id, which the teller may note.
+    /// it got, or `Spent`, `TooEarly` or `Forgotten`. It was asked for under this id, which the
+    /// teller may note.
     fn ask(&mut self, alloc: Global, id: u64, value: Bytes) -> Result<u32, TellerFault>
         requires { length value ≤ GREATEST_VALUE }
         ensures { Replies says self.old (call.Ask value) call.Asked result self.new };
@@ -30,7 +31,7 @@ pub trait Teller {
     fn query(&mut self, alloc: Global, account: u16) -> Result<Told, TellerFault>
         ensures { Replies says self.old (call.Query account) call.Queried result self.new };
 
-    /// What became of the payment under a number of an account, or `NoAccount`.
+    /// What became of the payment under a number of an account, or `NoAccount` or `Forgotten`.
     fn state(&mut self, alloc: Global, owner: u16, seq: u32) -> Result<PaymentState, TellerFault>
         ensures { Replies says self.old (call.State owner seq) call.Stood result self.new };
 
@@ -38,11 +39,11 @@ pub trait Teller {
     fn statement(&mut self, alloc: Global, account: u16) -> Result<Statement, TellerFault>
         ensures { Replies says self.old (call.Statement account) call.Stated result self.new };
 
-    /// What settled of an account from a number on, or `NoAccount`.
+    /// What settled of an account from a number on, or `NoAccount` or `Forgotten`.
     fn entries(&mut self, alloc: Global, account: u16, from: u64) -> Result<Excerpt, TellerFault>
         ensures { Replies says self.old (call.Entries account from) call.Listed result self.new };
 
-    /// What is known of an account and isn't settled, or `NoAccount`.
+    /// What is known of an account and isn't settled, or `NoAccount` or `Forgotten`.
     fn waiting(&mut self, alloc: Global, account: u16) -> Result<Excerpt, TellerFault>
         ensures { Replies says self.old (call.Waiting account) call.Listed result self.new };
 

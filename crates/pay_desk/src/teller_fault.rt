@@ -9,6 +9,10 @@ pub enum TellerFault {
     NoAccount,
     /// All numbers of its own are used.
     Spent,
+    /// It isn't known yet whether the group knows more of the account than it does.
+    TooEarly,
+    /// It has forgotten what it asked for.
+    Forgotten,
 }
 
 impl From<AllocError> for TellerFault {
