@@ -8,3 +8,4 @@ pub mod Judging
 pub mod Faults
 pub mod Closing
 pub mod Keeping
+pub mod Comparing

@@ -1,10 +1,11 @@
 -- What a node's calls answer, and what they leave at their seat.
 use Rattle.std.specs.Prelude.{◌≡◌, ◌≢◌, ℕ, ◌+◌, ◌<◌, List, [], length, slice_get, Option, Some}
-use Rattle.std.specs.Prelude.{None, Result, Ok, Err}
+use Rattle.std.specs.Prelude.{None, Result, Ok, Err, Bool, false}
 use Rattle.pay_frame.specs.declared.fault.FrameFault.{FrameFault}
 use Rattle.pay_frame.specs.Frame.{FrameFields}
 use Rattle.pay_frame.specs.OneFrame.{IsOneReading}
 use Rattle.pay_channel.specs.Prefix.{IsPrefix}
+use Rattle.pay_channel.specs.Taken.{next}
 use Rattle.pay_link.specs.Genesis.{GenesisFields}
 use Rattle.pay_link.specs.Keys.{KeyFields}
 use Rattle.pay_link.specs.Checked.{checked_fields}
@@ -27,6 +28,7 @@ use Rattle.pay_member.specs.declared.take_fault.TakeFault.TheVariants.{Memory, W
 use Rattle.pay_member.specs.declared.take_fault.TakeFault.TheVariants.{Gap}
 use Rattle.pay_member.specs.declared.took.Took.{Took}
 use Rattle.pay_member.specs.Answer.{IsAnswer, answer_of_take}
+use Rattle.pay_member.specs.Events.{events}
 use Rattle.pay_member.specs.Bringing.{answered_at_once, incoming_at, with_want}
 use Rattle.pay_member.specs.Legal.{Legal}
 use Rattle.pay_member.specs.Member.{MemberFields}
@@ -36,17 +38,29 @@ use Rattle.pay_node.specs.Receipts.{shown_of, receipts_of, reading}
 use Rattle.pay_node.specs.Seats.{KeepsReceipt, SeatFields, with_receipts}
 
 -- What is known of a node without its lock: its group's genesis, the keys with which it opens
--- frames, how many seats it has, and the history that its member began with.
+-- frames, how many seats it has, the history that its member began with, and whether it compares
+-- that with what its peers show.
 pub record NodeFields : Type 0 where
   pub genesis : GenesisFields
   pub keys : KeyFields
   pub seats : ℕ
   pub beginning : List HistoryEntry
+  pub compares : Bool
 
--- the node of a member, with so many seats
+-- the node of a member, with so many seats, which compares or not
+abbrev pub node_as : MemberFields → ℕ → Bool → NodeFields
+node_as m seats compares =
+    record {
+      genesis = m.genesis;
+      keys = m.keys;
+      seats = seats;
+      beginning = m.history;
+      compares = compares;
+    }
+
+-- one that doesn't compare
 abbrev pub node_with : MemberFields → ℕ → NodeFields
-node_with m seats =
-    record { genesis = m.genesis; keys = m.keys; seats = seats; beginning = m.history }
+node_with m seats = node_as m seats false
 
 -- how many entries it began with: the seats tell of those after them
 abbrev pub base_of : NodeFields → ℕ
@@ -75,6 +89,13 @@ fresh_seat stamp = record { stamp = stamp; receipts = []; marks = [] }
 pub record AreFresh (count : ℕ) (seats : List SeatFields) : Type 0 where
   pub many : length seats ≡ count
   pub each : (stamp : ℕ) → stamp < count → slice_get seats stamp ≡ Some (fresh_seat stamp)
+
+-- The number that the next frame from a peer has, by the node's member with some legal history.
+pub record HasNext (n : NodeFields) (peer number : ℕ) : Type 0 where
+  pub member : MemberFields
+  pub own : IsOwn n member
+  pub legal : Legal member.genesis member.keys member.history
+  pub is : number ≡ next peer (events member.history)
 
 -- ---- answers
 

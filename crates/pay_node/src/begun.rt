@@ -2,15 +2,19 @@ ghost use Rattle.std.specs.Prelude.{◌≡◌, IfOk, OnErr, length};
 ghost use Rattle.pay_member.specs.Answer.{IsAnswer};
 ghost use Rattle.pay_member.specs.Legal.{Legal};
 ghost use Rattle.pay_member.specs.Member.{with_entry};
+ghost use Rattle.pay_node.specs.Comparing.{IsAskedAs};
 ghost use Rattle.pay_node.specs.Nodes.{WentOn};
 ghost use Rattle.pay_node.specs.Receipts.{receipts_of};
 ghost use Rattle.pay_node.specs.Seats.{with_receipts};
 
 use crate::beginning::Beginning;
+use crate::hand_in_fault::HandInFault;
 use crate::request::Request;
 use crate::seat::Seat;
+use crate::standing::Standing;
 use pay_book::Settle;
 use pay_echo::Instance;
+use pay_frame::Bytes;
 use pay_member::Member;
 use std::alloc::Global;
 use std::marker::{Model, PhantomData};
@@ -90,5 +94,31 @@ impl<I: Instance + Drop, B: Settle + Drop, S: Beginning> Begun<I, B, S> {
         ensures own { WentOn S.beginning self.old }
     {
         seat.hand_in(alloc, &mut self.member, request, copy)
+    }
+
+    /// Hands a value to the member from a seat, where what its peers show puts it so. One that has
+    /// forgotten, and one that isn't free, gets none.
+    pub(crate) fn ask(
+        &mut self,
+        alloc: Global,
+        seat: &mut Seat,
+        standing: Standing,
+        value: Bytes,
+        copy: Bytes,
+    ) -> Result<u32, HandInFault>
+        requires copy { copy ≡ value }
+        ensures own { WentOn S.beginning self.old }
+        ensures legal { Legal self.old.genesis self.old.keys self.old.history }
+        ensures asked { IsAskedAs self.old standing seat.old seat.new self.new value result }
+    {
+        // for its clause alone: the history is legal
+        let _history = self.member.history();
+        if self.member.has_forgotten() || standing == Standing::Forgotten {
+            return Err(HandInFault::Forgotten);
+        }
+        if standing == Standing::Waiting {
+            return Err(HandInFault::TooEarly);
+        }
+        Ok(self.hand_in(alloc, seat, value, copy)?)
     }
 }

@@ -1,18 +1,22 @@
 ghost use Rattle.std.specs.Prelude.{◌≡◌, ◌≢◌, ◌+◌, ◌<◌, ◌≤◌, ◌^◌, Ok, Err, IfOk, IfErr, IfSome};
-ghost use Rattle.std.specs.Prelude.{OnErr, OnOk, length};
+ghost use Rattle.std.specs.Prelude.{IsTrue, OnErr, OnOk, false, is_some, length, true};
 ghost use Rattle.pay_frame.specs.declared.limits.TheConstants.{MOST_MEMBERS};
 ghost use Rattle.pay_frame.specs.Frame.{FrameFields};
 ghost use Rattle.pay_frame.specs.Lent.{fields_of};
 ghost use Rattle.pay_frame.specs.OneFrame.{IsOneFrame};
 ghost use Rattle.pay_link.specs.Keys.{IsPeer};
-ghost use Rattle.pay_member.specs.declared.event.Event.TheVariants.{Ask, Query, Taken};
-ghost use Rattle.pay_member.specs.Answer.{answer_of_ask, answer_of_take, answer_of_query};
+ghost use Rattle.pay_member.specs.declared.ask_fault.AskFault.TheVariants.{Memory};
+ghost use Rattle.pay_member.specs.declared.event.Event.TheVariants.{Query, Taken};
+ghost use Rattle.pay_member.specs.Answer.{answer_of_take, answer_of_query};
 ghost use Rattle.pay_member.specs.Legal.{Legal};
 ghost use Rattle.pay_node.specs.Closing.{AllReconciled, IsCloseFault};
+ghost use Rattle.pay_node.specs.Comparing.{FindsAll, FindsForgetting, HasAsked};
+ghost use Rattle.pay_node.specs.Comparing.{HasStanding, IsComparingOf};
 ghost use Rattle.pay_node.specs.Gathering.{IsGathered};
 ghost use Rattle.pay_node.specs.Keeping.{HasFetched, IsFetched};
 ghost use Rattle.pay_node.specs.Sending.{HasSent};
-ghost use Rattle.pay_node.specs.Nodes.{AreFresh, IsAnswered, IsBrought, IsMessage, IsOwn};
+ghost use Rattle.pay_node.specs.Nodes.{AreFresh, HasNext, IsAnswered, IsBrought, IsMessage};
+ghost use Rattle.pay_node.specs.Nodes.{IsOwn, node_as};
 ghost use Rattle.pay_node.specs.Nodes.{IsReceived, IsShown, IsTaken, base_of, next_of, node_with};
 ghost use Rattle.pay_node.specs.Nodes.{outcome_of_take};
 
@@ -20,13 +24,17 @@ use crate::beginning::Beginning;
 use crate::begun::Begun;
 use crate::bodies::Bodies;
 use crate::close_fault::CloseFault;
+use crate::compared::Compared;
+use crate::comparing::Comparing;
 use crate::gate::Gate;
 use crate::gatherer::Gatherer;
+use crate::hand_in_fault::HandInFault;
 use crate::question::Question;
 use crate::request::Account;
 use crate::seat::Seat;
 use crate::showing::show;
 use crate::shown::Shown;
+use crate::standing::Standing;
 use crate::stopped::Stopped;
 use pay_book::{Excerpt, Settle, Statement};
 use pay_channel::laws::{one_event_more, taken_in_order};
@@ -36,8 +44,8 @@ use pay_hmac::Tagger;
 use pay_link::{Checked, Keys, LinkFault, Opened};
 use pay_member::laws::events_in_order;
 use pay_member::{
-    AskFault, Brought, Incoming, Member, Outcome, PaymentState, QueryFault, Received, TakeFault,
-    Told, Took, open_frame,
+    Brought, Incoming, Member, Outcome, PaymentState, QueryFault, Received, TakeFault, Told, Took,
+    open_frame,
 };
 use std::alloc::{AllocError, Global};
 use std::marker::Model;
@@ -58,17 +66,21 @@ pub struct Node<I: Instance + Drop, B: Settle + Drop, S: Beginning> {
     changed: Condvar,
     // how many bodies the member sent, as whoever had the lock last left it
     sent: AtomicU64,
+    // what peers show of a member that goes on from its log
+    compared: Option<Mutex<Compared<S>>>,
+    // whether it was found that the member has forgotten what it sent
+    forgets: AtomicBool,
     keys: Keys,
     seats: u16,
 }
 
 impl<I: Instance + Drop, B: Settle + Drop, S: Beginning> Model for Node<I, B, S> {
-    ghost use Rattle.std.specs.Prelude.{◌≡◌};
-    ghost use Rattle.pay_node.specs.Nodes.{NodeFields, node_with};
+    ghost use Rattle.std.specs.Prelude.{◌≡◌, is_some};
+    ghost use Rattle.pay_node.specs.Nodes.{NodeFields, node_as};
 
     ghost Value = { NodeFields };
 
-    ghost view = { λ n. node_with S.beginning n.seats };
+    ghost view = { λ n. node_as S.beginning n.seats (is_some n.compared) };
 
     ghost invariant = { λ n. n.keys ≡ S.beginning.keys };
 }
@@ -90,22 +102,56 @@ impl<I: Instance + Drop, B: Settle + Drop, S: Beginning> Node<I, B, S> {
         match parts(alloc, &member, seats) {
             Ok((keys, made)) => {
                 let begun = Begun::new(member);
-                Ok((Node::of_parts(begun, keys, seats), made))
+                Ok((Node::of_parts(begun, keys, seats, None), made))
+            }
+            Err(error) => Err((member, error)),
+        }
+    }
+
+    /// The same, but the node takes no value to ask for before enough peers have shown that they
+    /// know no more of its member: see [`hear`](Node::hear).
+    pub fn comparing(
+        alloc: Global,
+        member: Member<I, B>,
+        seats: u16,
+    ) -> Result<(Node<I, B, S>, Vec<Seat>), (Member<I, B>, AllocError)>
+        requires beginning { member ≡ S.beginning }
+        requires few { seats ≤ MOST_SEATS }
+        ensures node { IfOk result (λ made. made.0 ≡ node_as member seats true) }
+        ensures seats { IfOk result (λ made. AreFresh seats made.1.items) }
+        ensures err { IfErr result (λ back. back.0 ≡ member) }
+    {
+        let comparing = match comparing_of(alloc, &member) {
+            Ok(comparing) => comparing,
+            Err(error) => return Err((member, error)),
+        };
+        match parts(alloc, &member, seats) {
+            Ok((keys, made)) => {
+                let begun = Begun::new(member);
+                let compared = Mutex::new(Compared::new(comparing));
+                Ok((Node::of_parts(begun, keys, seats, Some(compared)), made))
             }
             Err(error) => Err((member, error)),
         }
     }
 
     /// A node whose lock holds this member, with a copy of its keys.
-    pub(crate) fn of_parts(begun: Begun<I, B, S>, keys: Keys, seats: u16) -> Node<I, B, S>
+    pub(crate) fn of_parts(
+        begun: Begun<I, B, S>,
+        keys: Keys,
+        seats: u16,
+        compared: Option<Mutex<Compared<S>>>,
+    ) -> Node<I, B, S>
         requires { keys ≡ S.beginning.keys }
-        ensures { result ≡ node_with S.beginning seats }
+        ensures { result ≡ node_as S.beginning seats (is_some compared) }
     {
         let sent = begun.member().sent_len();
         Node {
             member: Mutex::new(begun),
             changed: Condvar::new(),
             sent: AtomicU64::new(sent),
+            compared,
+            forgets: AtomicBool::new(false),
             keys,
             seats,
         }
@@ -176,22 +222,24 @@ impl<I: Instance + Drop, B: Settle + Drop, S: Beginning> Node<I, B, S> {
         }
     }
 
-    /// Has the member broadcast a value of its own.
+    /// Has the member broadcast a value of its own, if it remembers what it sent before and, in a
+    /// node that compares, enough peers know no more of it.
     pub fn ask<R: Wait>(
         &self,
         rt: &R,
         alloc: Global,
         seat: &mut Seat,
         value: Bytes,
-    ) -> Result<u32, AskFault>
-        ensures answered { result ≢ Err AskFault.Memory
-            → IsAnswered self.now seat.old seat.new (Ask value) (answer_of_ask result) }
-        ensures memory { result ≡ Err AskFault.Memory → seat.new ≡ seat.old }
+    ) -> Result<u32, HandInFault>
+        ensures asked { result ≢ Err (HandInFault.Ask Memory)
+            → HasAsked self.now seat.old seat.new value result }
+        ensures memory { result ≡ Err (HandInFault.Ask Memory) → seat.new ≡ seat.old }
     {
         let copy = value.copy(alloc)?;
         seat.make_room(alloc)?;
+        let standing = self.standing(rt);
         let mut begun = self.member.lock(rt);
-        let answer = begun.hand_in(alloc, seat, value, copy);
+        let answer = begun.ask(alloc, seat, standing, value, copy);
         self.count_sent(&begun);
         drop(begun);
         // what is asked for is sent
@@ -413,15 +461,75 @@ impl<I: Instance + Drop, B: Settle + Drop, S: Beginning> Node<I, B, S> {
         gatherer.gather(member)
     }
 
+    /// Notes a WANT of a peer, which came for this number of all that the member sent. The first
+    /// one of each peer says how far that had got, for it asks from there on. No clause says what a
+    /// lock holds behind it; what is noted, [`Comparing`] says.
+    pub fn hear<R: Wait>(&self, rt: &R, peer: u16, number: u64) {
+        if let Some(compared) = &self.compared {
+            let mut compared = compared.lock(rt);
+            compared.note(peer, number);
+            if compared.standing() == Standing::Forgotten {
+                self.forgets.store(true, Ordering::SeqCst);
+            }
+        }
+    }
+
+    // Whether the member may be asked for values, by what its peers show.
+    fn standing<R: Wait>(&self, rt: &R) -> Standing
+        ensures { HasStanding self.now result }
+    {
+        match &self.compared {
+            None => Standing::Free,
+            Some(compared) => compared.lock(rt).standing(),
+        }
+    }
+
+    /// Whether the member has forgotten what it sent: by its own history, or by what its peers
+    /// show. It leaves no receipt.
+    pub fn has_forgotten<R: Wait>(&self, rt: &R) -> bool
+        ensures found { IsTrue result → FindsForgetting self.now }
+        ensures remembers { result ≡ false → FindsAll self.now }
+    {
+        let standing = self.standing(rt);
+        let begun = self.member.lock(rt);
+        let member = begun.member();
+        // for its clause alone: the history is legal
+        let _history = member.history();
+        member.has_forgotten() || standing == Standing::Forgotten
+    }
+
+    /// The number that the next frame from a peer has. It leaves no receipt.
+    pub fn next<R: Wait>(&self, rt: &R, peer: u16) -> u64
+        requires { IsPeer self.now.keys peer }
+        ensures { HasNext self.now peer result }
+    {
+        let begun = self.member.lock(rt);
+        let member = begun.member();
+        // for their clauses alone: the history is legal, and the keys are those of the group
+        let (_history, _keys) = (member.history(), member.keys());
+        member.next(peer)
+    }
+
+    /// Whether it was found by now that the member has forgotten what it sent: by itself, or by
+    /// what its peers show. It takes no lock and leaves no receipt. No clause says so, for none
+    /// names what an atomic holds; it is tested.
+    pub fn forgets(&self) -> bool {
+        self.forgets.load(Ordering::SeqCst)
+    }
+
     /// How many bodies the member sent to all by now. It takes no lock and leaves no receipt. No
     /// clause says so, for none names what an atomic holds; it is tested.
     pub fn sent_len(&self) -> u64 {
         self.sent.load(Ordering::SeqCst)
     }
 
-    // Notes how many bodies the member sent, while it is locked.
+    // Notes how many bodies the member sent, and whether it has forgotten some, while it is locked.
     fn count_sent(&self, begun: &Begun<I, B, S>) {
-        self.sent.store(begun.member().sent_len(), Ordering::SeqCst);
+        let member = begun.member();
+        self.sent.store(member.sent_len(), Ordering::SeqCst);
+        if member.has_forgotten() {
+            self.forgets.store(true, Ordering::SeqCst);
+        }
     }
 
     // Whether a body at a place has still to be waited for.
@@ -450,6 +558,7 @@ impl<I: Instance + Drop, B: Settle + Drop, S: Beginning> Node<I, B, S> {
             member,
             keys: self.keys,
             seats: self.seats,
+            compared: self.compared,
         }
     }
 
@@ -552,6 +661,22 @@ fn has_sent(answer: &Result<Took, TakeFault>) -> bool
         Ok(took) => took.echo || took.ready,
         Err(_) => false,
     }
+}
+
+// Nothing is shown yet of a member as it is.
+fn comparing_of<I: Instance + Drop, B: Settle + Drop>(
+    alloc: Global,
+    member: &Member<I, B>,
+) -> Result<Comparing, AllocError>
+    ensures { IfOk result (λ comparing. IsComparingOf member.now comparing) }
+{
+    let genesis = member.genesis();
+    Comparing::new(
+        alloc,
+        genesis.members(),
+        genesis.faults(),
+        member.sent_len(),
+    )
 }
 
 // A copy of the member's keys, and the seats.

@@ -6,6 +6,7 @@ use crate::beginning::Beginning;
 use crate::begun::Begun;
 use crate::close_fault::CloseFault;
 use crate::closing::{least_uncounted, least_wrong};
+use crate::compared::Compared;
 use crate::node::Node;
 use crate::seat::Seat;
 use pay_book::Settle;
@@ -14,6 +15,7 @@ use pay_link::Keys;
 use pay_member::Member;
 use std::alloc::Global;
 use std::marker::Model;
+use std::sync::Mutex;
 
 /// A node that no thread calls any more, with its member out of the lock. So what is said of its
 /// member is about the very one that is handed out or started again.
@@ -22,15 +24,19 @@ pub struct Stopped<I: Instance + Drop, B: Settle + Drop, S: Beginning> {
     pub(crate) member: Begun<I, B, S>,
     pub(crate) keys: Keys,
     pub(crate) seats: u16,
+    pub(crate) compared: Option<Mutex<Compared<S>>>,
 }
 
 impl<I: Instance + Drop, B: Settle + Drop, S: Beginning> Model for Stopped<I, B, S> {
-    ghost use Rattle.std.specs.Prelude.{◌≡◌};
-    ghost use Rattle.pay_node.specs.Nodes.{StoppedFields, node_with};
+    ghost use Rattle.std.specs.Prelude.{◌≡◌, is_some};
+    ghost use Rattle.pay_node.specs.Nodes.{StoppedFields, node_as};
 
     ghost Value = { StoppedFields };
 
-    ghost view = { λ s. record { member = s.member; node = node_with S.beginning s.seats } };
+    ghost view = { λ s. record {
+      member = s.member;
+      node = node_as S.beginning s.seats (is_some s.compared);
+    } };
 
     ghost invariant = { λ s. s.keys ≡ S.beginning.keys };
 }
@@ -54,7 +60,7 @@ impl<I: Instance + Drop, B: Settle + Drop, S: Beginning> Stopped<I, B, S> {
     pub fn start(self) -> Node<I, B, S>
         ensures { result ≡ self.node }
     {
-        Node::of_parts(self.member, self.keys, self.seats)
+        Node::of_parts(self.member, self.keys, self.seats, self.compared)
     }
 
     /// Holds the receipts of all seats against the history, and gives the member out where they
