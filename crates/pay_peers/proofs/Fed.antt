@@ -1,5 +1,5 @@
 -- A frame that was due and brought, and the WANTs behind its answer; and a stream of which nothing was read yet.
-use Rattle.std.proofs.Common.{◌≡◌, ℕ, List, [], Some, None, Err, refl, ap, ◌∙◌, arith}
+use Rattle.std.proofs.Common.{◌≡◌, ℕ, ◌+◌, ◌-◌, List, [], Some, None, Err, refl, ap, ◌∙◌, arith}
 use Rattle.std.proofs.KnownBytes.{Appends-nil, Consumes-nil}
 use Rattle.pay_engine.specs.declared.engine_fault.EngineFault.TheVariants.{Memory}
 use Rattle.pay_engine.specs.Handling.{Open, Start}
@@ -47,10 +47,12 @@ fed_not n peer ahead before seat f r number due is of told =
 
 -- what is written first
 pub first_is :
-    (k own : KeyFields) (peer ahead : ℕ) (window : Window) (text : List ℕ) → own ≡ k → window ≡ first_window ahead
-    → text ≡ wants own peer (row_of 0 window.asked) → text ≡ wants k peer (row_of 0 (first_count ahead))
-first_is k own peer ahead window text same begun is =
-    is ∙ ap (λ (w : Window). wants own peer (row_of 0 w.asked)) begun ∙ ap (λ (x : KeyFields). wants x peer (row_of 0 (first_count ahead))) same
+    (k own : KeyFields) (peer ahead : ℕ) (w : Window) (text : List ℕ) → own ≡ k → w ≡ first_window ahead w.due
+    → text ≡ wants own peer (row_of w.due (w.asked - w.due)) → text ≡ wants k peer (row_of w.due (first_count ahead))
+first_is k own peer ahead w text same begun is =
+    let asked : w.asked ≡ w.due + first_count ahead = ap (λ (x : Window). x.asked) begun in
+    let count : w.asked - w.due ≡ first_count ahead = omega (arith, asked) in
+    is ∙ ap (λ n. wants own peer (row_of w.due n)) count ∙ ap (λ (x : KeyFields). wants x peer (row_of w.due (first_count ahead))) same
 
 -- where memory is refused before anything is read or written
 pub nothing_fed :

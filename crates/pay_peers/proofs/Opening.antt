@@ -19,17 +19,17 @@ abbrev pub window_at : ℕ → ℕ → Window
 window_at due asked = record { due = due; asked = asked }
 
 -- behind one frame more
-pub record IsNext (ahead came : ℕ) (w : Window) : Type 0 where
-  pub due : due_behind w (suc came) ≡ suc came
-  pub from : from_behind w (suc came) ≡ came + min ahead (came + 4)
-  pub asked : from_behind w (suc came) + count_behind ahead w (suc came) ≡ suc came + min ahead (suc came + 4)
+pub record IsNext (ahead first came : ℕ) (w : Window) : Type 0 where
+  pub due : due_behind w (first + suc came) ≡ first + suc came
+  pub from : from_behind w (first + suc came) ≡ first + (came + min ahead (came + 4))
+  pub asked : from_behind w (first + suc came) + count_behind ahead w (first + suc came) ≡ first + (suc came + min ahead (suc came + 4))
 
-pub next_of : (ahead came : ℕ) (w : Window) → 0 < ahead → suc came + ahead < 2 ^ 64 - 1
-    → w.due ≡ came → w.asked ≡ came + min ahead (came + 4) → IsNext ahead came w
-next_of ahead came w some numbers due asked = go (due_cases w (suc came)) (count_cases ahead w (suc came)) where
-  go : ((w.due + 1 < w.asked) × (due_behind w (suc came) ≡ w.due + 1)) ⊎ ((w.asked ≤ w.due + 1) × (due_behind w (suc came) ≡ max w.asked (suc came)))
-      → ((suc came ≤ from_behind w (suc came)) × (count_behind ahead w (suc came) ≡ room ahead w (suc came))) ⊎ ((from_behind w (suc came) < suc came) × (count_behind ahead w (suc came) ≡ 0))
-      → IsNext ahead came w
+pub next_of : (ahead first came : ℕ) (w : Window) → 0 < ahead → first + suc came + ahead < 2 ^ 64 - 1
+    → w.due ≡ first + came → w.asked ≡ first + (came + min ahead (came + 4)) → IsNext ahead first came w
+next_of ahead first came w some numbers due asked = go (due_cases w (first + suc came)) (count_cases ahead w (first + suc came)) where
+  go : ((w.due + 1 < w.asked) × (due_behind w (first + suc came) ≡ w.due + 1)) ⊎ ((w.asked ≤ w.due + 1) × (due_behind w (first + suc came) ≡ max w.asked (first + suc came)))
+      → ((first + suc came ≤ from_behind w (first + suc came)) × (count_behind ahead w (first + suc came) ≡ room ahead w (first + suc came))) ⊎ ((from_behind w (first + suc came) < first + suc came) × (count_behind ahead w (first + suc came) ≡ 0))
+      → IsNext ahead first came w
   go (inl (more, at)) (inl (enough, many)) = record { due = omega arith; from = omega arith; asked = omega arith }
   go (inl (more, at)) (inr (short, none)) = absurd (omega arith)
   go (inr (last, at)) (inl (enough, many)) = record { due = omega arith; from = omega arith; asked = omega arith }
@@ -39,19 +39,19 @@ pub windows_same : (a b c d : ℕ) → a ≡ b → c ≡ d → window_at a c ≡
 windows_same a b c d one two = (λ i. window_at (one i) (two i))
 
 pub opens_so : OpensByOne
-opens_so ahead zero some numbers =
+opens_so ahead first zero some numbers =
     let one : min ahead 4 ≡ 0 + min ahead (0 + 4) = omega arith in
-    (windows_same 0 0 (min ahead 4) (0 + min ahead (0 + 4)) refl one, ap (row_of 0) one)
-opens_so ahead (suc came) some numbers =
-    let before = opens_so ahead came some (omega arith) in
-    let w = window_after ahead came in
-    let due : w.due ≡ came = ap (λ (x : Window). x.due) before.0 in
-    let asked : w.asked ≡ came + min ahead (came + 4) = ap (λ (x : Window). x.asked) before.0 in
-    let next = next_of ahead came w some numbers due asked in
-    let count : (came + min ahead (came + 4)) + count_behind ahead w (suc came) ≡ suc came + min ahead (suc came + 4) = ap (λ n. n + count_behind ahead w (suc came)) (sym next.from) ∙ next.asked in (
+    (windows_same first (first + 0) (first + min ahead 4) (first + (0 + min ahead (0 + 4))) (omega arith) (ap (λ n. first + n) one), ap (row_of first) one)
+opens_so ahead first (suc came) some numbers =
+    let before = opens_so ahead first came some (omega arith) in
+    let w = window_after ahead first came in
+    let due : w.due ≡ first + came = ap (λ (x : Window). x.due) before.0 in
+    let asked : w.asked ≡ first + (came + min ahead (came + 4)) = ap (λ (x : Window). x.asked) before.0 in
+    let next = next_of ahead first came w some numbers due asked in
+    let count : (came + min ahead (came + 4)) + count_behind ahead w (first + suc came) ≡ suc came + min ahead (suc came + 4) = omega (arith, next.from, next.asked) in (
       windows_same _ _ _ _ next.due next.asked,
-      ap (λ l. l ++ asked_behind ahead w (Some (suc came))) before.1
-          ∙ ap (λ n. row_of 0 (came + min ahead (came + 4)) ++ row_of n (count_behind ahead w (suc came))) next.from
-          ∙ rows_join 0 (came + min ahead (came + 4)) (count_behind ahead w (suc came)) (came + min ahead (came + 4)) (suc came + min ahead (suc came + 4))
-          (omega arith) (sym count),
+      ap (λ l. l ++ asked_behind ahead w (Some (first + suc came))) before.1
+          ∙ ap (λ n. row_of first (came + min ahead (came + 4)) ++ row_of n (count_behind ahead w (first + suc came))) next.from
+          ∙ rows_join first (came + min ahead (came + 4)) (count_behind ahead w (first + suc came)) (first + (came + min ahead (came + 4))) (suc came + min ahead (suc came + 4))
+          refl (sym count),
     )

@@ -42,24 +42,27 @@ AskedOnce =
     → (moved_window ahead w next).asked < 2 ^ 64 - 1
     → AsksEachOnce ahead w (moved_window ahead w next) (asked_behind ahead w (Some next))
 
--- the window of a connection once so many frames came in the order of their numbers, and what was
--- asked for by then
-abbrev pub window_after : ℕ → ℕ → Window
-window_after ahead zero = first_window ahead
-window_after ahead (suc came) = moved_window ahead (window_after ahead came) (suc came)
+-- the window of a connection that began with a number, once so many frames came in the order of
+-- their numbers, and what was asked for by then
+abbrev pub window_after : ℕ → ℕ → ℕ → Window
+window_after ahead from zero = first_window ahead from
+window_after ahead from (suc came) =
+    moved_window ahead (window_after ahead from came) (from + suc came)
 
-abbrev pub asked_after : ℕ → ℕ → List ℕ
-asked_after ahead zero = row_of 0 (first_count ahead)
-asked_after ahead (suc came) =
-    asked_after ahead came ++ asked_behind ahead (window_after ahead came) (Some (suc came))
+abbrev pub asked_after : ℕ → ℕ → ℕ → List ℕ
+asked_after ahead from zero = row_of from (first_count ahead)
+asked_after ahead from (suc came) =
+    asked_after ahead from came
+    ++ asked_behind ahead (window_after ahead from came) (Some (from + suc came))
 
--- It opens by one with each frame, up to `ahead` and no further. All numbers from 0 on were asked
--- for, each once.
+-- It opens by one with each frame, up to `ahead` and no further. All numbers from the first on were
+-- asked for, each once.
 abbrev pub OpensByOne : Type 0
 OpensByOne =
-    (ahead came : ℕ) → 0 < ahead → came + ahead < 2 ^ 64 - 1
-    → (window_after ahead came ≡ record { due = came; asked = came + min ahead (came + 4) })
-    × (asked_after ahead came ≡ row_of 0 (came + min ahead (came + 4)))
+    (ahead from came : ℕ) → 0 < ahead → from + came + ahead < 2 ^ 64 - 1
+    → (window_after ahead from came
+    ≡ record { due = from + came; asked = from + (came + min ahead (came + 4)) })
+    × (asked_after ahead from came ≡ row_of from (came + min ahead (came + 4)))
 
 -- ---- a run in which all came
 
@@ -77,25 +80,27 @@ taking_ahead n peer ahead = record {
   fault_text = (feeding_ahead n peer ahead).fault_text;
 }
 
--- Of the WANTs that were written in all, behind these frames: the numbers are those from 0 on, each
--- once. So are those of the frames. Something is under way, and no more than may be.
-pub record HasAskedForAll (k : KeyFields) (peer ahead : ℕ) (fs : List FrameFields)
+-- Of the WANTs that were written in all, behind these frames: the numbers are those from the first
+-- on, each once. So are those of the frames. Something is under way, and no more than may be.
+pub record HasAskedForAll (k : KeyFields) (peer ahead from : ℕ) (fs : List FrameFields)
     (written : List ℕ) : Type 0 where
   pub numbers : List ℕ
   pub text : written ≡ wants k peer numbers
-  pub from_0_on : (place : ℕ) → place < length numbers → slice_get numbers place ≡ Some place
-  pub came : (place : ℕ) (f : FrameFields) → slice_get fs place ≡ Some f → f.number ≡ place
+  pub from_it_on :
+      (place : ℕ) → place < length numbers → slice_get numbers place ≡ Some (from + place)
+  pub came : (place : ℕ) (f : FrameFields) → slice_get fs place ≡ Some f → f.number ≡ from + place
   pub some : length fs < length numbers
   pub few : length numbers ≤ length fs + ahead
 
 -- so it is after any run that begins as a connection does
 abbrev pub AsksForAll : Type 0
 AsksForAll =
-    (n : NodeFields) (peer ahead : ℕ) (before after : Asking) (fs : List FrameFields)
+    (n : NodeFields) (peer ahead from : ℕ) (before after : Asking) (fs : List FrameFields)
     (text : List ℕ)
-    → 0 < ahead → length fs + ahead < 2 ^ 64 - 1 → before.window ≡ first_window ahead
+    → 0 < ahead → from + length fs + ahead < 2 ^ 64 - 1 → before.window ≡ first_window ahead from
     → Steps (taking_ahead n peer ahead) before after fs text
-    → HasAskedForAll n.keys peer ahead fs (wants n.keys peer (row_of 0 (first_count ahead)) ++ text)
+    → HasAskedForAll n.keys peer ahead from fs
+    (wants n.keys peer (row_of from (first_count ahead)) ++ text)
 
 -- The frame was taken, or is one that was taken before, as each frame is that comes in the order of
 -- the numbers; or it didn't open.

@@ -26,6 +26,13 @@ told_after old new more values is told =
     ap (λ (s : SeatFields). values_told s.receipts) is ∙ more_told old more
     ∙ ap (λ (vs : List (List ℕ)). values_told old.receipts ++ vs) told
 
+-- a seat that is as it was
+told_nothing : (old new : SeatFields) → new ≡ old
+    → values_told new.receipts ≡ values_told old.receipts ++ []
+told_nothing old new same =
+    ap (λ (s : SeatFields). values_told s.receipts) same
+    ∙ sym (append-nil (values_told old.receipts))
+
 -- a seat that keeps a reading's receipt
 told_read : (old new : SeatFields) (seen : ℕ) (question : Question) (shown : Shown)
     → KeepsReceipt old new (reading seen question shown)
@@ -45,9 +52,13 @@ pub seat_asks :
     → values_told new.receipts ≡ values_told old.receipts ++ values_asked_by called reply
 unfolding values_told
 seat_asks n old new (desk.Ask value) (desk.Asked seq) said =
-    told_after old new _ (value ∷ []) said.receipt refl
+    told_after old new _ (value ∷ []) said.is.receipt refl
 seat_asks n old new (desk.Ask value) (desk.Refused teller.Spent) said =
-    told_after old new _ [] said.receipt refl
+    told_after old new _ [] said.is.0.receipt refl
+seat_asks n old new (desk.Ask value) (desk.Refused teller.TooEarly) said =
+    told_nothing old new said.is.0.seat
+seat_asks n old new (desk.Ask value) (desk.Refused teller.Forgotten) said =
+    told_nothing old new said.is.0.seat
 seat_asks n old new (desk.Query account) (desk.Queried told) said =
     told_after old new _ [] said.receipt refl
 seat_asks n old new (desk.Query account) (desk.Refused teller.NoAccount) said =
@@ -56,6 +67,8 @@ seat_asks n old new (desk.State owner seq) (desk.Stood state) said =
     told_read old new _ _ _ said.receipt
 seat_asks n old new (desk.State owner seq) (desk.Refused teller.NoAccount) said =
     told_read old new _ _ _ said.receipt
+seat_asks n old new (desk.State owner seq) (desk.Refused teller.Forgotten) said =
+    told_read old new _ _ _ said.read.receipt
 seat_asks n old new (desk.Statement account) (desk.Stated statement) said =
     told_read old new _ _ _ said.receipt
 seat_asks n old new (desk.Statement account) (desk.Refused teller.NoAccount) said =
@@ -64,10 +77,14 @@ seat_asks n old new (desk.Entries account from) (desk.Listed excerpt) said =
     told_read old new _ _ _ said.receipt
 seat_asks n old new (desk.Entries account from) (desk.Refused teller.NoAccount) said =
     told_read old new _ _ _ said.receipt
+seat_asks n old new (desk.Entries account from) (desk.Refused teller.Forgotten) said =
+    told_read old new _ _ _ said.read.receipt
 seat_asks n old new (desk.Waiting account) (desk.Listed excerpt) said =
     told_read old new _ _ _ said.receipt
 seat_asks n old new (desk.Waiting account) (desk.Refused teller.NoAccount) said =
     told_read old new _ _ _ said.receipt
+seat_asks n old new (desk.Waiting account) (desk.Refused teller.Forgotten) said =
+    told_read old new _ _ _ said.read.receipt
 seat_asks n old new desk.Fronts (desk.Settled fronts) said = told_read old new _ _ _ said.receipt
 seat_asks n old new (desk.Ask value) (desk.Queried told) said = elim said [ ]
 seat_asks n old new (desk.Ask value) (desk.Stood state) said = elim said [ ]
@@ -83,6 +100,8 @@ seat_asks n old new (desk.Query account) (desk.Listed excerpt) said = elim said 
 seat_asks n old new (desk.Query account) (desk.Settled fronts) said = elim said [ ]
 seat_asks n old new (desk.Query account) (desk.Refused teller.Memory) said = elim said [ ]
 seat_asks n old new (desk.Query account) (desk.Refused teller.Spent) said = elim said [ ]
+seat_asks n old new (desk.Query account) (desk.Refused teller.TooEarly) said = elim said [ ]
+seat_asks n old new (desk.Query account) (desk.Refused teller.Forgotten) said = elim said [ ]
 seat_asks n old new (desk.State owner seq) (desk.Asked _) said = elim said [ ]
 seat_asks n old new (desk.State owner seq) (desk.Queried told) said = elim said [ ]
 seat_asks n old new (desk.State owner seq) (desk.Stated statement) said = elim said [ ]
@@ -90,6 +109,7 @@ seat_asks n old new (desk.State owner seq) (desk.Listed excerpt) said = elim sai
 seat_asks n old new (desk.State owner seq) (desk.Settled fronts) said = elim said [ ]
 seat_asks n old new (desk.State owner seq) (desk.Refused teller.Memory) said = elim said [ ]
 seat_asks n old new (desk.State owner seq) (desk.Refused teller.Spent) said = elim said [ ]
+seat_asks n old new (desk.State owner seq) (desk.Refused teller.TooEarly) said = elim said [ ]
 seat_asks n old new (desk.Statement account) (desk.Asked seq) said = elim said [ ]
 seat_asks n old new (desk.Statement account) (desk.Queried told) said = elim said [ ]
 seat_asks n old new (desk.Statement account) (desk.Stood state) said = elim said [ ]
@@ -97,6 +117,8 @@ seat_asks n old new (desk.Statement account) (desk.Settled fronts) said = elim s
 seat_asks n old new (desk.Statement account) (desk.Listed excerpt) said = elim said [ ]
 seat_asks n old new (desk.Statement account) (desk.Refused teller.Memory) said = elim said [ ]
 seat_asks n old new (desk.Statement account) (desk.Refused teller.Spent) said = elim said [ ]
+seat_asks n old new (desk.Statement account) (desk.Refused teller.TooEarly) said = elim said [ ]
+seat_asks n old new (desk.Statement account) (desk.Refused teller.Forgotten) said = elim said [ ]
 seat_asks n old new (desk.Entries account from) (desk.Asked seq) said = elim said [ ]
 seat_asks n old new (desk.Entries account from) (desk.Queried told) said = elim said [ ]
 seat_asks n old new (desk.Entries account from) (desk.Stood state) said = elim said [ ]
@@ -104,6 +126,7 @@ seat_asks n old new (desk.Entries account from) (desk.Stated statement) said = e
 seat_asks n old new (desk.Entries account from) (desk.Settled fronts) said = elim said [ ]
 seat_asks n old new (desk.Entries account from) (desk.Refused teller.Memory) said = elim said [ ]
 seat_asks n old new (desk.Entries account from) (desk.Refused teller.Spent) said = elim said [ ]
+seat_asks n old new (desk.Entries account from) (desk.Refused teller.TooEarly) said = elim said [ ]
 seat_asks n old new (desk.Waiting account) (desk.Asked seq) said = elim said [ ]
 seat_asks n old new (desk.Waiting account) (desk.Queried told) said = elim said [ ]
 seat_asks n old new (desk.Waiting account) (desk.Stood state) said = elim said [ ]
@@ -111,6 +134,7 @@ seat_asks n old new (desk.Waiting account) (desk.Stated statement) said = elim s
 seat_asks n old new (desk.Waiting account) (desk.Settled fronts) said = elim said [ ]
 seat_asks n old new (desk.Waiting account) (desk.Refused teller.Memory) said = elim said [ ]
 seat_asks n old new (desk.Waiting account) (desk.Refused teller.Spent) said = elim said [ ]
+seat_asks n old new (desk.Waiting account) (desk.Refused teller.TooEarly) said = elim said [ ]
 seat_asks n old new desk.Fronts (desk.Asked seq) said = elim said [ ]
 seat_asks n old new desk.Fronts (desk.Queried told) said = elim said [ ]
 seat_asks n old new desk.Fronts (desk.Stood state) said = elim said [ ]

@@ -3,25 +3,41 @@ use Rattle.std.specs.Prelude.{◌≡◌, ℕ, List, Option, Some, None, Ok, Err}
 use Rattle.std.specs.List.{filter_map}
 use Rattle.pay_desk.specs.declared.teller_fault.TellerFault.TheVariants as teller
 use Rattle.pay_desk.specs.Calls as desk
+use Rattle.pay_member.specs.declared.ask_fault.AskFault.TheVariants as ask
 use Rattle.pay_member.specs.declared.event.Event.TheVariants as event
 use Rattle.pay_member.specs.declared.fault.MemberFault.TheVariants as fault
 use Rattle.pay_member.specs.declared.query_fault.QueryFault.TheVariants as query
 use Rattle.pay_member.specs.declared.reply.Reply.TheVariants as reply
+use Rattle.pay_node.specs.declared.hand_in_fault.HandInFault.TheVariants as unasked
+use Rattle.pay_node.specs.declared.question.Question.{Question}
 use Rattle.pay_node.specs.declared.question.Question.TheVariants as question
 use Rattle.pay_node.specs.declared.call.Call.{Call}
 use Rattle.pay_node.specs.declared.call.Call.TheVariants.{Handed, Read}
 use Rattle.pay_node.specs.Receipts.{ReceiptFields}
+use Rattle.pay_node.specs.declared.shown.Shown.{Shown}
 use Rattle.pay_node.specs.declared.shown.Shown.TheVariants as shown
+use Rattle.pay_node.specs.Comparing.{FindsForgetting, HasAsked}
 use Rattle.pay_node.specs.Nodes.{IsAnswered, IsShown, NodeFields}
 use Rattle.pay_node.specs.Seats.{SeatFields}
+
+-- An answer about the own account is kept back, since the node's member has forgotten.
+pub record IsKeptBack (n : NodeFields) (before after : SeatFields) (account : ℕ)
+    (question : Question) : Type 0 where
+  pub own : account ≡ n.keys.own
+  pub shown : Shown
+  pub read : IsShown n before after question shown
+  pub found : FindsForgetting n
 
 -- What a seat is told of a desk's call: the node's member, with some legal history, answers so, and
 -- the seat keeps the receipt.
 abbrev pub SeatSays : NodeFields → SeatFields → desk.Call → desk.TellerReply → SeatFields → Type 0
-SeatSays n old (desk.Ask value) (desk.Asked seq) new =
-    IsAnswered n old new (event.Ask value) (Ok (reply.Asked seq))
+SeatSays n old (desk.Ask value) (desk.Asked seq) new = HasAsked n old new value (Ok seq)
 SeatSays n old (desk.Ask value) (desk.Refused teller.Spent) new =
-    IsAnswered n old new (event.Ask value) (Err fault.Spent)
+    HasAsked n old new value (Err (unasked.Ask ask.Spent))
+SeatSays n old (desk.Ask value) (desk.Refused teller.TooEarly) new =
+    HasAsked n old new value (Err unasked.TooEarly)
+SeatSays n old (desk.Ask value) (desk.Refused teller.Forgotten) new =
+    HasAsked n old new value (Err unasked.Forgotten)
 SeatSays n old (desk.Ask value) (desk.Refused teller.Memory) new = ⊥
 SeatSays n old (desk.Ask value) (desk.Refused teller.NoAccount) new = ⊥
 SeatSays n old (desk.Ask value) (desk.Queried told) new = ⊥
@@ -35,6 +51,8 @@ SeatSays n old (desk.Query account) (desk.Refused teller.NoAccount) new =
     IsAnswered n old new (event.Query account) (Err fault.NoAccount)
 SeatSays n old (desk.Query account) (desk.Refused teller.Memory) new = ⊥
 SeatSays n old (desk.Query account) (desk.Refused teller.Spent) new = ⊥
+SeatSays n old (desk.Query account) (desk.Refused teller.TooEarly) new = ⊥
+SeatSays n old (desk.Query account) (desk.Refused teller.Forgotten) new = ⊥
 SeatSays n old (desk.Query account) (desk.Asked seq) new = ⊥
 SeatSays n old (desk.Query account) (desk.Stood state) new = ⊥
 SeatSays n old (desk.Query account) (desk.Stated statement) new = ⊥
@@ -46,6 +64,9 @@ SeatSays n old (desk.State owner seq) (desk.Refused teller.NoAccount) new =
     IsShown n old new (question.State owner seq) (shown.State (Err query.NoAccount))
 SeatSays n old (desk.State owner seq) (desk.Refused teller.Memory) new = ⊥
 SeatSays n old (desk.State owner seq) (desk.Refused teller.Spent) new = ⊥
+SeatSays n old (desk.State owner seq) (desk.Refused teller.TooEarly) new = ⊥
+SeatSays n old (desk.State owner seq) (desk.Refused teller.Forgotten) new =
+    IsKeptBack n old new owner (question.State owner seq)
 SeatSays n old (desk.State owner seq) (desk.Asked number) new = ⊥
 SeatSays n old (desk.State owner seq) (desk.Queried told) new = ⊥
 SeatSays n old (desk.State owner seq) (desk.Stated statement) new = ⊥
@@ -58,6 +79,8 @@ SeatSays n old (desk.Statement account) (desk.Refused teller.NoAccount) new =
     IsShown n old new (question.Statement account) (shown.Statement (Err query.NoAccount))
 SeatSays n old (desk.Statement account) (desk.Refused teller.Memory) new = ⊥
 SeatSays n old (desk.Statement account) (desk.Refused teller.Spent) new = ⊥
+SeatSays n old (desk.Statement account) (desk.Refused teller.TooEarly) new = ⊥
+SeatSays n old (desk.Statement account) (desk.Refused teller.Forgotten) new = ⊥
 SeatSays n old (desk.Statement account) (desk.Asked seq) new = ⊥
 SeatSays n old (desk.Statement account) (desk.Queried told) new = ⊥
 SeatSays n old (desk.Statement account) (desk.Stood state) new = ⊥
@@ -69,6 +92,9 @@ SeatSays n old (desk.Entries account from) (desk.Refused teller.NoAccount) new =
     IsShown n old new (question.Entries account from) (shown.Entries (Err query.NoAccount))
 SeatSays n old (desk.Entries account from) (desk.Refused teller.Memory) new = ⊥
 SeatSays n old (desk.Entries account from) (desk.Refused teller.Spent) new = ⊥
+SeatSays n old (desk.Entries account from) (desk.Refused teller.TooEarly) new = ⊥
+SeatSays n old (desk.Entries account from) (desk.Refused teller.Forgotten) new =
+    IsKeptBack n old new account (question.Entries account from)
 SeatSays n old (desk.Entries account from) (desk.Asked seq) new = ⊥
 SeatSays n old (desk.Entries account from) (desk.Queried told) new = ⊥
 SeatSays n old (desk.Entries account from) (desk.Stood state) new = ⊥
@@ -80,6 +106,9 @@ SeatSays n old (desk.Waiting account) (desk.Refused teller.NoAccount) new =
     IsShown n old new (question.Waiting account) (shown.Entries (Err query.NoAccount))
 SeatSays n old (desk.Waiting account) (desk.Refused teller.Memory) new = ⊥
 SeatSays n old (desk.Waiting account) (desk.Refused teller.Spent) new = ⊥
+SeatSays n old (desk.Waiting account) (desk.Refused teller.TooEarly) new = ⊥
+SeatSays n old (desk.Waiting account) (desk.Refused teller.Forgotten) new =
+    IsKeptBack n old new account (question.Waiting account)
 SeatSays n old (desk.Waiting account) (desk.Asked seq) new = ⊥
 SeatSays n old (desk.Waiting account) (desk.Queried told) new = ⊥
 SeatSays n old (desk.Waiting account) (desk.Stood state) new = ⊥

@@ -11,12 +11,12 @@ CanAskAhead count = (0 < count) × (count ≤ 1024)
 abbrev pub empty_window : Window
 empty_window = record { due = 0; asked = 0 }
 
--- on a new connection: the first frames were asked for, four or as many as may be
+-- on a new connection: the frames from the next one on were asked for, four or as many as may be
 abbrev pub first_count : ℕ → ℕ
 first_count ahead = min ahead 4
 
-abbrev pub first_window : ℕ → Window
-first_window ahead = record { due = 0; asked = first_count ahead }
+abbrev pub first_window : ℕ → ℕ → Window
+first_window ahead from = record { due = from; asked = from + first_count ahead }
 
 -- What is due behind the frame that was, where the peer's next frame is this one: what was asked
 -- for behind it, or, where that was the last one, the first that is missing.

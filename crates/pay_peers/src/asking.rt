@@ -1,5 +1,5 @@
-ghost use Rattle.std.specs.Prelude.{◌≡◌};
-ghost use Rattle.pay_peers.specs.Window.{first_window, empty_window};
+ghost use Rattle.std.specs.Prelude.{◌≡◌, ◌+◌, ◌≤◌, ◌^◌, IsTrue, false};
+ghost use Rattle.pay_peers.specs.Window.{first_count, first_window, empty_window};
 
 use crate::window::{Ahead, Window};
 use pay_node::Seat;
@@ -25,10 +25,19 @@ impl Asking {
         }
     }
 
-    /// Begins a connection: the first frames alone are asked for.
-    pub(crate) fn begin(&mut self, ahead: Ahead)
-        ensures { self.new ≡ record { seat = self.old.seat; window = first_window ahead.count } }
+    /// Begins a connection: the frames from a number on are asked for, as many as one begins with.
+    /// Answers whether there are so many numbers.
+    pub fn begin(&mut self, ahead: Ahead, from: u64) -> bool
+        ensures seat { self.new.seat ≡ self.old.seat }
+        ensures begun { IsTrue result → self.new.window ≡ first_window ahead.count from }
+        ensures full { result ≡ false → 2 ^ 64 ≤ from + first_count ahead.count }
     {
-        self.window = Window::first(ahead);
+        match Window::first(ahead, from) {
+            Some(window) => {
+                self.window = window;
+                true
+            }
+            None => false,
+        }
     }
 }

@@ -1,8 +1,11 @@
 //! Workers that read from peers, each in a thread of its own.
 
-ghost use Rattle.std.specs.Prelude.{◌≡◌, drop, length};
+ghost use Rattle.std.specs.Prelude.{◌≡◌, IsTrue, drop, length};
+ghost use Rattle.pay_link.specs.Keys.{IsPeer};
+ghost use Rattle.pay_node.specs.Nodes.{HasNext};
 ghost use Rattle.pay_peers.specs.Dialing.{gain_by};
 ghost use Rattle.pay_peers.specs.Growing.{EachGrows, SeatGrows, HasGrown};
+ghost use Rattle.pay_peers.specs.Window.{first_window};
 
 use crate::asking::Asking;
 use crate::backoff::{Backoff, Dials};
@@ -131,6 +134,20 @@ where
         }
     }
 
+    // Begins a connection with the frame that is next from a peer, if there are numbers left: the
+    // first WANT tells it how far its frames have come.
+    fn begin(&self, peer: u16, asking: &mut Asking) -> bool
+        requires { IsPeer self.now.context.now.node.now.keys peer }
+        ensures seat { asking.new.seat ≡ asking.old.seat }
+        ensures begun { IsTrue result → asking.new.window
+            ≡ first_window self.now.ahead.count asking.new.window.due }
+        ensures next { IsTrue result
+            → HasNext self.now.context.now.node.now peer asking.new.window.due }
+    {
+        let NodeContext { rt, node, .. } = *self.context;
+        asking.begin(self.ahead, node.next(rt, peer))
+    }
+
     // Feeds the node from one connection.
     fn feed<In, Out>(&self, peer: u16, asking: &mut Asking, reader: In, writer: Out) -> Gain
     where
@@ -143,6 +160,9 @@ where
         // a law that the proof stands on: the call does nothing
         judgement_opens();
         if !self.context.node.keys().is_peer(peer) {
+            return Gain::Nothing;
+        }
+        if !self.begin(peer, asking) {
             return Gain::Nothing;
         }
         let mut reader = reader;

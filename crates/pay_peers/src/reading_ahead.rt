@@ -10,7 +10,7 @@ ghost use Rattle.pay_peers.specs.Window.{first_count, first_window, row_of};
 use crate::asking::Asking;
 use crate::batches::MOST_AT_ONCE;
 use crate::context::NodeContext;
-use crate::window::{Ahead, Asks};
+use crate::window::{Ahead, Asks, Window};
 use pay_book::Settle;
 use pay_echo::Instance;
 use pay_engine::{EngineFault, FrameHandler, handle_stream};
@@ -129,8 +129,9 @@ fn ask_for<T: Tagger>(
     Ok(())
 }
 
-/// Feeds a node from a peer's stream: asks for the first frames, brings each frame that is due, and
-/// asks for more, so that as many as `ahead` are asked for and under way.
+/// Feeds a node from a peer's stream: asks for the frames that a connection begins with, brings
+/// each frame that is due, and asks for more, so that as many as `ahead` are asked for and under
+/// way.
 ///
 /// A frame that isn't due ends it: one out of the order in which frames were asked for, or in the
 /// name of another member. A fault in the frames ends it, and is returned. Where a read failed or
@@ -154,11 +155,13 @@ where
     G: Gate,
     In: Input,
     Out: Output,
-    requires { IsPeer context.now.node.now.keys peer }
+    requires peer { IsPeer context.now.node.now.keys peer }
+    requires begun { asking.old.window ≡ first_window ahead.count asking.old.window.due }
     ensures fed { HasFedAhead context.now.node.now peer ahead.count
         (record {
-          first = wants context.now.node.now.keys peer (row_of 0 (first_count ahead.count));
-          state = record { seat = asking.old.seat; window = first_window ahead.count };
+          first = wants context.now.node.now.keys peer
+              (row_of asking.old.window.due (first_count ahead.count));
+          state = asking.old;
           input = In.remaining reader.old;
           before = Out.contents writer.old;
         })
@@ -174,10 +177,10 @@ where
     };
     // a law that the proof stands on: the call does nothing
     stream_grows();
-    asking.begin(ahead);
+    let Window { due, asked } = asking.window;
     let asks = Asks {
-        from: 0,
-        count: asking.window.asked,
+        from: due,
+        count: asked - due,
     };
     let mut first = Vec::new(context.alloc);
     ask_for(context.tagger, context.node.keys(), peer, asks, &mut first)?;

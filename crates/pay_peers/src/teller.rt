@@ -1,4 +1,6 @@
-ghost use Rattle.std.specs.Prelude.{◌≡◌};
+ghost use Rattle.std.specs.Prelude.{◌≡◌, IfErr, OnErr, OnOk};
+ghost use Rattle.pay_desk.specs.declared.teller_fault.TellerFault.TheVariants.{Forgotten};
+ghost use Rattle.pay_node.specs.Comparing.{FindsAll, FindsForgetting};
 ghost use Rattle.pay_peers.specs.Telling.{TellerSays, values_told};
 
 use pay_book::{Excerpt, Settle, Statement};
@@ -7,7 +9,7 @@ use pay_echo::Instance;
 use pay_frame::Bytes;
 use pay_kept::Keeper;
 use pay_member::{AskFault, PaymentState, QueryFault, Told};
-use pay_node::{Beginning, Node, Seat};
+use pay_node::{Beginning, HandInFault, Node, Seat};
 use std::alloc::Global;
 use std::marker::Model;
 use std::sync::Wait;
@@ -61,6 +63,23 @@ impl<'a, R, I: Instance + Drop, B: Settle + Drop, S: Beginning, K> NodeTeller<'a
     }
 }
 
+impl<R: Wait, I: Instance + Drop, B: Settle + Drop, S: Beginning, K> NodeTeller<'_, R, I, B, S, K> {
+    // Whether what was read about an account is told. Of the own one nothing is, once the member has
+    // forgotten, which is looked at behind the reading.
+    fn may_tell(&self, account: u16) -> Result<(), TellerFault>
+        ensures fault { IfErr result (λ fault. fault ≡ Forgotten) }
+        ensures own { OnErr result (account ≡ self.now.node.keys.own) }
+        ensures found { OnErr result (FindsForgetting self.now.node) }
+        ensures remembers { OnOk result (account ≡ self.now.node.keys.own
+            → FindsAll self.now.node) }
+    {
+        if account == self.node.keys().own() && self.node.has_forgotten(self.rt) {
+            return Err(TellerFault::Forgotten);
+        }
+        Ok(())
+    }
+}
+
 impl<R, I, B, S, K> Teller for NodeTeller<'_, R, I, B, S, K>
 where
     R: Wait,
@@ -80,10 +99,12 @@ where
                 self.next = seq.saturating_add(1);
                 Ok(seq)
             }
-            Err(AskFault::Spent) => Err(TellerFault::Spent),
-            Err(AskFault::Memory) => Err(TellerFault::Memory),
+            Err(HandInFault::TooEarly) => Err(TellerFault::TooEarly),
+            Err(HandInFault::Forgotten) => Err(TellerFault::Forgotten),
+            Err(HandInFault::Ask(AskFault::Spent)) => Err(TellerFault::Spent),
+            Err(HandInFault::Ask(AskFault::Memory)) => Err(TellerFault::Memory),
             // the value is short enough, by what the call requires
-            Err(AskFault::TooLong) => unreachable!(),
+            Err(HandInFault::Ask(AskFault::TooLong)) => unreachable!(),
         }
     }
 
@@ -97,7 +118,10 @@ where
 
     fn state(&mut self, alloc: Global, owner: u16, seq: u32) -> Result<PaymentState, TellerFault> {
         match self.node.state(self.rt, alloc, &mut self.seat, owner, seq) {
-            Ok(state) => Ok(state),
+            Ok(state) => {
+                self.may_tell(owner)?;
+                Ok(state)
+            }
             Err(QueryFault::NoAccount) => Err(TellerFault::NoAccount),
             Err(QueryFault::Memory) => Err(TellerFault::Memory),
         }
@@ -116,7 +140,10 @@ where
             .node
             .entries(self.rt, alloc, &mut self.seat, account, from)
         {
-            Ok(excerpt) => Ok(excerpt),
+            Ok(excerpt) => {
+                self.may_tell(account)?;
+                Ok(excerpt)
+            }
             Err(QueryFault::NoAccount) => Err(TellerFault::NoAccount),
             Err(QueryFault::Memory) => Err(TellerFault::Memory),
         }
@@ -124,7 +151,10 @@ where
 
     fn waiting(&mut self, alloc: Global, account: u16) -> Result<Excerpt, TellerFault> {
         match self.node.waiting(self.rt, alloc, &mut self.seat, account) {
-            Ok(excerpt) => Ok(excerpt),
+            Ok(excerpt) => {
+                self.may_tell(account)?;
+                Ok(excerpt)
+            }
             Err(QueryFault::NoAccount) => Err(TellerFault::NoAccount),
             Err(QueryFault::Memory) => Err(TellerFault::Memory),
         }

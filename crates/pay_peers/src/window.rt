@@ -1,6 +1,6 @@
 ghost use Rattle.std.specs.Prelude.{◌≡◌, ◌+◌, ◌<◌, ◌≤◌, ◌^◌, IfNone, IfSome};
-ghost use Rattle.pay_peers.specs.Window.{CanAskAhead, count_behind, first_window, from_behind};
-ghost use Rattle.pay_peers.specs.Window.{moved_window, empty_window};
+ghost use Rattle.pay_peers.specs.Window.{CanAskAhead, count_behind, first_count, first_window};
+ghost use Rattle.pay_peers.specs.Window.{from_behind, moved_window, empty_window};
 
 /// How many frames may be asked for and not come yet, at most.
 ///
@@ -16,7 +16,7 @@ pub const MOST_AHEAD: u64 = 1_024;
 const USUAL_AHEAD: u64 = 256;
 
 /// How many are asked for as a connection begins: as many as a member says about one payment, and
-/// one more. Where they came before, they come once more for nothing.
+/// one more.
 const FIRST_AHEAD: u64 = 4;
 
 /// How many WANTs an answer brings at most, so that a window opens by one a frame.
@@ -75,14 +75,14 @@ impl Window {
         Window { due: 0, asked: 0 }
     }
 
-    /// The first frames were asked for, as many as a connection begins with.
-    pub fn first(ahead: Ahead) -> Window
-        ensures { result ≡ first_window ahead.count }
+    /// The frames from a number on were asked for, as many as a connection begins with, if there
+    /// are so many numbers.
+    pub fn first(ahead: Ahead, from: u64) -> Option<Window>
+        ensures some { IfSome result (λ window. window ≡ first_window ahead.count from) }
+        ensures none { IfNone result (2 ^ 64 ≤ from + first_count ahead.count) }
     {
-        Window {
-            due: 0,
-            asked: ahead.count.min(FIRST_AHEAD),
-        }
+        let asked = from.checked_add(ahead.count.min(FIRST_AHEAD))?;
+        Some(Window { due: from, asked })
     }
 
     /// Moves behind the frame that was due, where the one that is next is told. Returns what is to

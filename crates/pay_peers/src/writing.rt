@@ -8,7 +8,7 @@ use crate::admission::Admission;
 use crate::answering::answer_want;
 use crate::batches::without_waiting;
 use crate::context::NodeContext;
-use crate::wanted::open_want;
+use crate::wanted::{Wanted, open_want};
 use pay_book::Settle;
 use pay_echo::Instance;
 use pay_engine::{EngineFault, FrameHandler, handle_stream};
@@ -76,7 +76,7 @@ where
                 return Ok(true);
             }
         };
-        if !self.goes_on(wanted.seated.0) {
+        if !self.goes_on(&wanted) {
             return Ok(false);
         }
         let answer = answer_want(context, self.stop, &wanted)?;
@@ -103,9 +103,16 @@ impl<R: Wait, I: Instance + Drop, B: Settle + Drop, S: Beginning, T, A: Admissio
     T,
     A,
 > {
-    // Whether the connection goes on, which is asked at the first WANT alone.
-    fn goes_on(&self, peer: u16) -> bool {
-        self.is_admitted.swap(true, Ordering::SeqCst) || self.admission.admit(self.context.rt, peer)
+    // Whether the connection goes on, which is asked at the first WANT alone. That one says how far
+    // its sender has got.
+    fn goes_on(&self, wanted: &Wanted<'_>) -> bool {
+        if self.is_admitted.swap(true, Ordering::SeqCst) {
+            return true;
+        }
+        let NodeContext { rt, node, .. } = *self.context;
+        let peer = wanted.seated.0;
+        node.hear(rt, peer, wanted.number);
+        self.admission.admit(rt, peer)
     }
 
     // Tells of the peer in whose name a frame came that doesn't open.
