@@ -17,7 +17,7 @@ from collections import Counter
 from frames import SEND, frame, payment
 from damaged_logs import OPENING, bits, cuts, export, made_folder, read
 from logs import HEADER_LEN, QUERY, Log
-from nodes import IN_MEMORY, export_text, free_ports, new_words, started, until, write_json
+from nodes import EARLY, IN_MEMORY, export_text, free_ports, new_words, started, until, write_json
 from ordering import Order, OutOfOrder, noted
 from peers import Liar, Strangers, connected, received
 from restarts import NEW, Folders, killed_and_started_again, told
@@ -369,6 +369,11 @@ LINES = b"".join(b"PAY %d 1 %d\n" % (order, order + 1) for order in range(12))
 ANSWERS = "".join(f"asked {order} seq {order}\n" for order in range(12))
 
 
+def asked_or_early(order, numbers):
+    """The answer to a line of a member that goes on without peers, where these are the ids that are kept."""
+    return f"asked {order} seq {numbers.index(order)}" if order in numbers else EARLY
+
+
 def test_a_full_disk_that_gets_room_again():
     """With room for each number of bytes: what was answered is there again, and nothing is paid twice."""
     with Folders(OPENING, running=[]) as group:
@@ -390,8 +395,9 @@ def test_a_full_disk_that_gets_room_again():
             # (asked for the other way round, so that what isn't kept gets another number)
             back = b"".join(reversed(LINES.splitlines(keepends=True)))
             answers = node_on(place, 0, f"room-{size}", back)[1].splitlines()[:12]
-            numbers = [*kept, *range(11, len(kept) - 1, -1)]
-            due = [f"asked {order} seq {numbers.index(order)}" for order in range(11, -1, -1)]
+            # (where there was no log, a new member is made, which needs not hear of its peers first)
+            numbers = list(range(11, -1, -1)) if size < HEADER_LEN else kept
+            due = [asked_or_early(order, numbers) for order in range(11, -1, -1)]
             same(answers, due, f"{of}: with room again")
 
 
@@ -455,7 +461,10 @@ def with_a_fault(library, name, least=3, **more):
         same((ANSWERS + text).startswith(output) and output[-1:] in ("", "\n"), True, of)
         flags = new_words(library.place.name, ["--data", folder])
         status, again, errors = library.run([*words, folder, *flags], LINES)[0]
-        same((status, again.startswith(ANSWERS)), (0, True), f"{of}, and then {(again, errors)}")
+        answers = again.splitlines()[:12]
+        kept = list(range(sum(it.startswith("asked ") for it in answers)))
+        same((status, answers), (0, [asked_or_early(order, kept) for order in range(12)]), f"{of}, and then {again}")
+        same(len(kept) >= min(output.count("\n"), 12), True, f"{of}, and then {again}")
         lost = more.get("placed_size", 0)
         may_say = {"", f"payd: log: {lost} bytes dropped, kept in log.dropped\n"} if lost else {""}
         same(told(errors)[1] in may_say, True, f"{of}, and then {(again, errors)}")
@@ -540,7 +549,7 @@ def test_each_growth_of_a_kept_node_refused(library):
             flags = new_words(library.place.name, ["--data", folder])
             again = library.run([*words, folder, *flags], b"".join(reversed(lines)))[0]
             same(again[0], 0, f"{of_run}, and then {again}")
-            told_again = dict(line.split()[1::2] for line in again[1].splitlines()[:3])
+            told_again = dict(line.split()[1::2] for line in again[1].splitlines()[:3] if line != EARLY)
             kept = [line.split()[1::2] for line in answers if line.startswith("asked")]
             same([told_again[order] for order, _ in kept], [seq for _, seq in kept], f"{of_run}, and then {again}")
 

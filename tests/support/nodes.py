@@ -57,6 +57,8 @@ IN_MEMORY += "loses its account\n"
 # what a node says of itself, before that
 START = re.compile(r"payd: member (\d+) of (\d+), genesis ([0-9a-f]{8}), port (\d+)\n")
 
+# how a node that goes on from its log refuses a payment before enough peers were heard
+EARLY = "refused 6 TooEarly"
 # what it says of its peers on standard error
 UNOPENED = "sends frames that don't open: another key or another group"
 NEWS = re.compile(rf"payd: peer (\d+) (met|lost|given up|{UNOPENED})\n")
@@ -134,6 +136,13 @@ class Node:
         """The answer to a line that has one line of it."""
         self.write(f"{line}\n")
         return self.line()
+
+    def pay(self, line):
+        """The answer to a payment, which is given again as long as it comes too early behind the node's start."""
+        deadline = time.monotonic() + PATIENCE
+        while (answer := self.ask(line)) == EARLY and time.monotonic() < deadline:
+            time.sleep(0.01)
+        return answer
 
     def statement(self, account):
         return self.lines_of(f"STATEMENT {account}")
@@ -240,7 +249,7 @@ class Group:
         self.nodes.pop(own).kill()
 
     def pay(self, own, order, payee, amount, seq):
-        same(self.nodes[own].ask(f"PAY {order} {payee} {amount}"), f"asked {order} seq {seq}", f"payment by {own}")
+        same(self.nodes[own].pay(f"PAY {order} {payee} {amount}"), f"asked {order} seq {seq}", f"payment by {own}")
 
     def settle(self, front, balances=None):
         """Waits until all that run have settled just this."""

@@ -129,8 +129,11 @@ class Owner(threading.Thread):
         self.front = front
 
     def give_again(self, node):
-        """What wasn't answered, in its order, and some of what was."""
-        self.answer_to(node, range(self.answered, len(self.lines)))
+        """What wasn't answered, in its order, and a line more, each until it isn't too early; and some of what was."""
+        self.make_line(len(self.lines))
+        for order in range(self.answered, len(self.lines)):
+            same(node.pay(self.lines[order]), f"asked {order} seq {order}", f"payment {order} by {self.own}")
+            self.answered = order + 1
         olds = [self.seeded.randrange(self.answered) for _ in range(OLD_ONES if self.answered else 0)]
         self.answer_to(node, olds)
 
