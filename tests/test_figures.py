@@ -134,7 +134,7 @@ def test_figures_that_cannot_be_written_harm_nobody():
         node = group.start(0)
         said = "payd: data-0/status.prom can't be written\n"
         until(lambda: (node.news(), said.encode() in node.said)[1], True, of="what is said")
-        same(node.ask("PAY 1 1 30"), "asked 1 seq 0", "a payment")
+        same(node.ask("BALANCE 1"), "balance 1 0", "a balance")
         same((node.front(), os.path.exists(file_of(group, 0))), ([0, 0, 0, 0], False), "the node, and the file")
         status, _, errors = group.end(0)
         same((status, errors), (0, said), "the end")

@@ -2,6 +2,7 @@
 of what a node asks of its peers before it pays behind a start from its log."""
 
 import os
+import random
 import re
 import shutil
 import time
@@ -96,6 +97,32 @@ def test_an_old_copy_that_stays_ends_by_itself():
         node.child.stdin = None
         same(ends_forgotten(node), "", "what it writes")
         del group.nodes[0]
+
+
+def test_older_copies_are_noticed_whoever_starts_with_them():
+    """Copies of several ages, while the others run, or with all of them killed and started again."""
+    for seed in range(6):
+        seeded = random.Random(seed)
+        before, more = seeded.randrange(3), seeded.randrange(1, 4)
+        with Folders(OPENING) as group:
+            for order in range(before):
+                group.pay(0, order, payee=1, amount=1, seq=order)
+            group.settle([before, 0, 0, 0])
+            copied(group, "old")
+            for order in range(before, before + more):
+                group.pay(0, order, payee=1, amount=1, seq=order)
+            group.settle([before + more, 0, 0, 0])
+            killed = [0, *(own for own in range(1, 4) if seed % 2)]
+            for own in killed:
+                group.kill(own)
+            put_back(group, "old")
+            for own in killed:
+                group.start(own)
+            answer = group.nodes[0].pay("PAY 9 2 5")
+            same(answer, LOST, f"seed {seed}: a payment {more} behind")
+            status, _, errors = group.end(0)
+            same((status, errors), (4, FORGOTTEN), f"seed {seed}: the end")
+            group.settle([before + more, 0, 0, 0])
 
 
 def test_a_copy_of_now_goes_on():
