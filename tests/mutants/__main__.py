@@ -5,9 +5,9 @@ usage: python3 tests/mutants [--above] [--beside] [--jobs N] [--said] [--dry] [-
 A mutant is a file crates/NAME/mutants/*.edit. A line 'function: channel::Channel::vote' names the one function whose
 body it changes, as the prover names it but for the crate. A line 'body: TEXT' is the new body, and 'first: TEXT'
 stands before the one that there is; or pairs of lines 'old: TEXT' and 'new: TEXT' change that, in which each old text
-stands once. Where the function ensures several clauses, a line 'clause: NAME' says which of them has to kill it, and
-'clause: invariant' that the invariant of a type has to. 'promise: NAME' marks one that tests this promise of
-docs/PROMISES.md.
+stands once. Where the function ensures several clauses, a line 'clause: NAME' says which of them has to kill it;
+'clause: invariant', that the invariant of a type has to; 'clause: what NAME requires', that what a call of this
+function requires has to. 'promise: NAME' marks one that tests this promise of docs/PROMISES.md.
 
 A mutant stands in a twin of its function: one of another name, with the same proof files (none where all of its body
 is new), that ensures this clause and no other. All other functions are stubbed: taken by their contracts, without their

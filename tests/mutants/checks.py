@@ -10,7 +10,7 @@ import subprocess
 import tempfile
 from dataclasses import dataclass, field
 
-from edits import INVARIANT, Place
+from edits import INVARIANT, REQUIRED, Place
 from stubs import stub_out
 from kit import rtlib
 from sources import TRUE, cut, item, named, proof_folders, read_file, with_answers_to, with_one_clause, write_files
@@ -96,8 +96,8 @@ def with_twin(own: list[tuple[str, str]], place: Place, behind: str) -> str:
     the clause that has to kill it, where the mutant names one."""
     at, name = place.mutant.at, own[place.mutant.at][0]
     head = re.sub(rf"\bfn {name}\b", f"fn {name}{place.ending}", item(own[at - 1][1], name), count=1)
-    if place.mutant.clause not in ("", INVARIANT):
-        head = with_one_clause(head, place.mutant.clause)
+    if place.own_clause():
+        head = with_one_clause(head, place.own_clause())
     end, rest = behind.split("\n", 1)
     return f"{end}\n\n{head}{place.mutant.body}{end}\n{rest}"
 
@@ -114,8 +114,8 @@ def copy_proofs(crate, place: Place, room: str) -> None:
     for file in os.listdir(f"{crate.folder}/{folder}") if has_any else []:
         if file.endswith(".antt"):
             text = named.sub(rf"\1{place.ending}", read_file(f"{crate.folder}/{folder}/{file}"))
-            if place.mutant.clause not in ("", INVARIANT):
-                text = with_answers_to(place.mutant.clause, text)
+            if place.own_clause():
+                text = with_answers_to(place.own_clause(), text)
             write_files(room, {f"{into}/{file}": text})
 
 
@@ -217,7 +217,11 @@ STANDS = re.compile(
 
 
 def is_of_clause(goal: str, clause: str) -> bool:
-    """Whether a goal is of this clause, or of any, as it is stated where the function returns; or of an invariant."""
+    """Whether a goal is of this clause, or of any, as it is stated where the function returns; or of an invariant, or
+    of what a call requires."""
+    called = REQUIRED.fullmatch(clause)
+    if called:
+        return bool(re.fullmatch(rf"{called[1]}(-\w+)?-requires(-[\w-]+)?", goal))
     if clause == INVARIANT:
         return goal.startswith("invariant_of-")
     return bool(re.fullmatch(rf"returns[\w-]*-clause-{clause}(-\d+)?" if clause else r"returns[\w-]*", goal))

@@ -3,6 +3,7 @@
 from __future__ import annotations
 
 import os
+import re
 from dataclasses import dataclass
 
 from sources import clauses_of, cut, is_answered_whole, is_of_trait, item, named, proof_folders, read_file
@@ -10,6 +11,8 @@ from sources import clauses_of, cut, is_answered_whole, is_of_trait, item, named
 FOLDER = "mutants"
 # What a mutant names in place of a clause that the invariant of a type has to kill.
 INVARIANT = "invariant"
+# The same of what a function that it calls requires.
+REQUIRED = re.compile(r"what (\w+) requires")
 MARKS = ("function", "clause", "promise", "body", "first", "old", "new")
 
 
@@ -44,6 +47,15 @@ class Place:
 
     def function(self) -> str:
         return self.mutant.function + self.ending
+
+    def own_clause(self) -> str:
+        """The clause of the function itself that the mutant names, or ''."""
+        return self.mutant.clause if is_own(self.mutant.clause) else ""
+
+
+def is_own(clause: str) -> bool:
+    """Whether a mutant names a clause of its function so."""
+    return clause not in ("", INVARIANT) and not REQUIRED.fullmatch(clause)
 
 
 def lines_of(path: str, marks: tuple[str, ...]) -> list[tuple[str, str]]:
@@ -127,7 +139,7 @@ def body_of(lines: list[tuple[str, str]], body: str) -> str:
 
 def look_at_clause(crate, mutant: Mutant, names: set[str]) -> None:
     """Refuses a mutant that doesn't name its clause though its function has several, or names another's."""
-    if mutant.clause == INVARIANT:
+    if mutant.clause and not is_own(mutant.clause):
         return
     folder = f"{crate.folder}/{proof_folders(mutant.function)[0]}"
     files = sorted(os.listdir(folder)) if mutant.has_proofs and os.path.isdir(folder) else []

@@ -134,6 +134,8 @@ EDITS = {
     "wrong_beside_a_term": ("passed_on", "    same(k)", "    same(k) / 2", "", ELSEWHERE),
     "wrong_of_a_trait": ("PlainFive::five", "2 + 3", "2 * 3", "", KILLED),
     "what_a_call_requires": ("third", "second(x)", "second(x + 5)", "", ELSEWHERE),
+    "what_a_named_call_requires": ("second", "next(before)", "next(before + 98)", "what next requires", KILLED),
+    "what_another_call_requires": ("third", "second(x)", "second(x + 6)", "what next requires", ELSEWHERE),
     "at_its_clause": ("pair", "next(k))", "next(k) - 1)", "high", KILLED),
     "at_another_clause": ("pair", "same(k),", "same(k) / 2,", "high", SURVIVED),
     "at_its_clause_with_an_answer": ("pair_above", "pair(k + 1)", "pair(k)", "low", KILLED),
