@@ -29,7 +29,6 @@ WITHOUT_OTHER_BODY = {
     "pay_node::stopped::Stopped::into_member",
     "pay_node::stopped::Stopped::member",
     "pay_peers::teller::NodeTeller::into_seat",
-    "pay_peers::teller::NodeTeller::new",
     "pay_record::reading::EntryRecords::new",
     "pay_service::shared_desk::SharedDesk::into_desk",
 }

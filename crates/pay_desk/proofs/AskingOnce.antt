@@ -51,24 +51,24 @@ module _ {T : Type 0} (says : T → Call → TellerReply → T → Type 0) (aske
         by_outcome (Err Forgotten) s = said (call.Refused Forgotten) s
 
   by_paid : (id : ℕ) (value : List ℕ) (old new : Desk T) (outcome : Result ℕ TellerFault) → kept_under id old.kept ≡ None
-      → call.Replies says old.teller (call.Ask value) call.Asked outcome new.teller
+      → call.Replies says old.teller (call.Ask id value) call.Asked outcome new.teller
       → new.kept ≡ kept_after old.kept id value outcome → AsksOnce asked old new
   by_paid id value old new (Ok seq) free said kept = record {
     more = record { id = id; value = value; seq = seq } ∷ [];
     kept = kept;
-    broadcast = only_asks old.teller new.teller (call.Ask value) (call.Asked seq) said;
+    broadcast = only_asks old.teller new.teller (call.Ask id value) (call.Asked seq) said;
     free = (free, tt);
   }
   by_paid id value old new (Err Memory) free same kept =
       nothing old new kept (ap asked same ∙ sym (append-nil (asked old.teller)))
   by_paid id value old new (Err NoAccount) free said kept =
-      nothing old new kept (only_asks old.teller new.teller (call.Ask value) (call.Refused NoAccount) said)
+      nothing old new kept (only_asks old.teller new.teller (call.Ask id value) (call.Refused NoAccount) said)
   by_paid id value old new (Err Spent) free said kept =
-      nothing old new kept (only_asks old.teller new.teller (call.Ask value) (call.Refused Spent) said)
+      nothing old new kept (only_asks old.teller new.teller (call.Ask id value) (call.Refused Spent) said)
   by_paid id value old new (Err TooEarly) free said kept =
-      nothing old new kept (only_asks old.teller new.teller (call.Ask value) (call.Refused TooEarly) said)
+      nothing old new kept (only_asks old.teller new.teller (call.Ask id value) (call.Refused TooEarly) said)
   by_paid id value old new (Err Forgotten) free said kept =
-      nothing old new kept (only_asks old.teller new.teller (call.Ask value) (call.Refused Forgotten) said)
+      nothing old new kept (only_asks old.teller new.teller (call.Ask id value) (call.Refused Forgotten) said)
 
   by_found : (order : Order) (old new : Desk T) (t : List ℕ) (found : Option Kept) → kept_under order.id old.kept ≡ found
       → AnswersPay says found order old t new → AsksOnce asked old new
@@ -94,7 +94,7 @@ module _ {T : Type 0} (says : T → Call → TellerReply → T → Type 0) (aske
   by_answer (Some Front) old new t answer = by_call call.Fronts _ _ old new t (λ r. refl) answer
 
   silent : (called : Call) (r : TellerReply) → reads_at_length called ≡ true → values_asked_by called r ≡ []
-  silent (call.Ask value) r reads = absurd (let bad : false ≡ true = reads in cc)
+  silent (call.Ask id value) r reads = absurd (let bad : false ≡ true = reads in cc)
   silent (call.Query account) r reads = refl
   silent (call.State owner seq) r reads = refl
   silent (call.Statement account) r reads = refl

@@ -83,7 +83,7 @@ pub record Calls {T X : Type 0} (says : T → Call → TellerReply → T → Typ
 pub record Pays {T : Type 0} (says : T → Call → TellerReply → T → Type 0) (id : ℕ) (value : List ℕ)
     (old : Desk T) (text : List ℕ) (new : Desk T) : Type 0 where
   pub outcome : Result ℕ TellerFault
-  pub replied : Replies says old.teller (call.Ask value) call.Asked outcome new.teller
+  pub replied : Replies says old.teller (call.Ask id value) call.Asked outcome new.teller
   pub told : text ≡ told_or_refused (asked_words id) outcome
   pub kept : new.kept ≡ kept_after old.kept id value outcome
   pub same : new ≡ record old { teller = new.teller; kept = new.kept }

@@ -9,8 +9,8 @@ use Rattle.pay_desk.specs.declared.teller_fault.TellerFault.TheVariants.{Memory,
 use Rattle.pay_desk.specs.declared.teller_fault.TellerFault.TheVariants.{TooEarly, Forgotten}
 
 pub data Call : Type 0 where
-  -- to broadcast a value of the account's own
-  Ask : List ℕ → Call
+  -- to broadcast a value of the account's own, which was asked for under an id
+  Ask : ℕ → List ℕ → Call
   -- for the state of an account, which the member notes
   Query : ℕ → Call
   -- for what became of the payment under a number of an account
@@ -52,13 +52,13 @@ seen_as (Err fault) see = Err fault
 
 -- what was broadcast by a call with this reply
 abbrev pub values_asked_by : Call → TellerReply → List (List ℕ)
-values_asked_by (Ask value) (Asked seq) = value ∷ []
-values_asked_by (Ask value) (Queried told) = []
-values_asked_by (Ask value) (Stood state) = []
-values_asked_by (Ask value) (Stated statement) = []
-values_asked_by (Ask value) (Listed excerpt) = []
-values_asked_by (Ask value) (Settled fronts) = []
-values_asked_by (Ask value) (Refused fault) = []
+values_asked_by (Ask id value) (Asked seq) = value ∷ []
+values_asked_by (Ask id value) (Queried told) = []
+values_asked_by (Ask id value) (Stood state) = []
+values_asked_by (Ask id value) (Stated statement) = []
+values_asked_by (Ask id value) (Listed excerpt) = []
+values_asked_by (Ask id value) (Settled fronts) = []
+values_asked_by (Ask id value) (Refused fault) = []
 values_asked_by (Query account) reply = []
 values_asked_by (State owner seq) reply = []
 values_asked_by (Statement account) reply = []
@@ -68,7 +68,7 @@ values_asked_by Fronts reply = []
 
 -- such a call reads what may be long, so that memory for the answer may be refused after it
 abbrev pub reads_at_length : Call → Bool
-reads_at_length (Ask value) = false
+reads_at_length (Ask id value) = false
 reads_at_length (Query account) = false
 reads_at_length (State owner seq) = false
 reads_at_length (Statement account) = true

@@ -21,11 +21,11 @@ one_more : (m : MemberFields) (e : HistoryEntry)
 unfolding values_asked
 one_more m e = filter_map-append (λ e. value_asked e.event) m.history (e ∷ [])
 
-by_ask : (stamp : ℕ) (m : MemberFields) (value : List ℕ)
-    → values_asked (member_after_call stamp m (Ask value)).history
-    ≡ values_asked m.history ++ values_asked_by (Ask value) (reply_by m (Ask value))
+by_ask : (stamp : ℕ) (m : MemberFields) (id : ℕ) (value : List ℕ)
+    → values_asked (member_after_call stamp m (Ask id value)).history
+    ≡ values_asked m.history ++ values_asked_by (Ask id value) (reply_by m (Ask id value))
 unfolding reply_by member_after_call values_asked
-by_ask stamp m value =
+by_ask stamp m id value =
     let e : HistoryEntry = record {
       stamp = stamp;
       event = event.Ask value;
@@ -35,7 +35,8 @@ by_ask stamp m value =
     elim (nat_le SEQS (asks (events m.history)))
     as (λ spent. values_asked (cond spent m (with_entry m e)).history
     ≡ values_asked m.history
-    ++ values_asked_by (Ask value) (cond spent (Refused Spent) (Asked (asks (events m.history)))))
+    ++ values_asked_by (Ask id value)
+    (cond spent (Refused Spent) (Asked (asks (events m.history)))))
     [ true ↦ sym (append-nil (values_asked m.history)) | false ↦ one_more m e ]
 
 by_query : (stamp : ℕ) (m : MemberFields) (account : ℕ)
@@ -58,7 +59,7 @@ by_call : (stamp : ℕ) (m : MemberFields) (called : Call)
     → values_asked (member_after_call stamp m called).history
     ≡ values_asked m.history ++ values_asked_by called (reply_by m called)
 unfolding member_after_call
-by_call stamp m (Ask value) = by_ask stamp m value
+by_call stamp m (Ask id value) = by_ask stamp m id value
 by_call stamp m (Query account) = by_query stamp m account
 by_call stamp m (State owner seq) = sym (append-nil (values_asked m.history))
 by_call stamp m (Statement account) = sym (append-nil (values_asked m.history))

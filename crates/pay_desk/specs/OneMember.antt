@@ -31,7 +31,7 @@ if_account m account reply = if nat_lt account m.genesis.members then reply else
 
 -- what a member replies to a call, by its history
 unfoldable pub reply_by : MemberFields → Call → TellerReply
-reply_by m (Ask value) =
+reply_by m (Ask id value) =
     if nat_le SEQS (asks (events m.history)) then Refused Spent else Asked (asks (events m.history))
 reply_by m (Query account) =
     if_account m account (Queried (told_of m.genesis m.keys.own (events m.history) account))
@@ -54,7 +54,7 @@ reply_by m Fronts = Settled (book_of_member m).front
 
 -- the member after a call: an ask and a query that aren't refused are entries of its history
 unfoldable pub member_after_call : ℕ → MemberFields → Call → MemberFields
-member_after_call stamp m (Ask value) =
+member_after_call stamp m (Ask id value) =
     if nat_le SEQS (asks (events m.history)) then m
     else with_entry m
     (record {

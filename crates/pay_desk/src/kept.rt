@@ -83,7 +83,8 @@ impl KeptValues {
     ) -> Result<u32, TellerFault>
         requires fresh { kept_under id self.old ≡ None }
         requires short { length value ≤ GREATEST_VALUE }
-        ensures replied { Replies T.says teller.old (call.Ask value) call.Asked result teller.new }
+        ensures replied { Replies T.says teller.old (call.Ask id value) call.Asked result
+            teller.new }
         ensures kept { self.new ≡ kept_after self.old id value result }
     {
         self.values.reserve(1)?;

@@ -25,7 +25,7 @@ pub trait Teller {
     /// teller may note.
     fn ask(&mut self, alloc: Global, id: u64, value: Bytes) -> Result<u32, TellerFault>
         requires { length value ≤ GREATEST_VALUE }
-        ensures { Replies says self.old (call.Ask value) call.Asked result self.new };
+        ensures { Replies says self.old (call.Ask id value) call.Asked result self.new };
 
     /// The state of an account, or `NoAccount`. The member notes that it was asked for.
     fn query(&mut self, alloc: Global, account: u16) -> Result<Told, TellerFault>

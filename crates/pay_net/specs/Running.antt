@@ -20,7 +20,7 @@ use Rattle.pay_node.specs.Closing.{AllCounted, AllReconciled, IsLeastUncounted, 
 use Rattle.pay_node.specs.Nodes.{IsOwn, NodeFields, StoppedFields, base_of, fresh_seat, node_with}
 use Rattle.pay_node.specs.Seats.{Right, SeatFields}
 use Rattle.pay_peers.specs.Growing.{SeatGrows}
-use Rattle.pay_peers.specs.Telling.{TellerFields, TellerSays}
+use Rattle.pay_peers.specs.Telling.{TellerFields, TellerSays, next_behind}
 use Rattle.pay_net.specs.declared.node_fault.NodeFault.{NodeFault}
 use Rattle.pay_net.specs.declared.node_fault.NodeFault.TheVariants.{Close, Engine, Port}
 use Rattle.pay_net.specs.declared.receipts.Receipts.{Receipts}
@@ -32,10 +32,11 @@ node_of m = node_with m (2 * length m.keys.keys - 1)
 
 -- ---- the threads
 
--- a node's desk before any line, which calls it from this seat and goes on with what is kept
+-- A node's desk before any line, which calls it from this seat and goes on with what is kept: the
+-- next value's number is the one behind those.
 abbrev pub desk_from : NodeFields → List Kept → SeatFields → Desk TellerFields
 desk_from n kept seat = record {
-  teller = record { node = n; seat = seat };
+  teller = record { node = n; seat = seat; next = next_behind (length kept) };
   accounts = length n.keys.keys;
   own = n.keys.own;
   kept = kept;

@@ -51,13 +51,13 @@ pub seat_asks :
     → SeatSays n old called reply new
     → values_told new.receipts ≡ values_told old.receipts ++ values_asked_by called reply
 unfolding values_told
-seat_asks n old new (desk.Ask value) (desk.Asked seq) said =
+seat_asks n old new (desk.Ask id value) (desk.Asked seq) said =
     told_after old new _ (value ∷ []) said.is.receipt refl
-seat_asks n old new (desk.Ask value) (desk.Refused teller.Spent) said =
+seat_asks n old new (desk.Ask id value) (desk.Refused teller.Spent) said =
     told_after old new _ [] said.is.0.receipt refl
-seat_asks n old new (desk.Ask value) (desk.Refused teller.TooEarly) said =
+seat_asks n old new (desk.Ask id value) (desk.Refused teller.TooEarly) said =
     told_nothing old new said.is.0.seat
-seat_asks n old new (desk.Ask value) (desk.Refused teller.Forgotten) said =
+seat_asks n old new (desk.Ask id value) (desk.Refused teller.Forgotten) said =
     told_nothing old new said.is.0.seat
 seat_asks n old new (desk.Query account) (desk.Queried told) said =
     told_after old new _ [] said.receipt refl
@@ -86,13 +86,13 @@ seat_asks n old new (desk.Waiting account) (desk.Refused teller.NoAccount) said 
 seat_asks n old new (desk.Waiting account) (desk.Refused teller.Forgotten) said =
     told_read old new _ _ _ said.read.receipt
 seat_asks n old new desk.Fronts (desk.Settled fronts) said = told_read old new _ _ _ said.receipt
-seat_asks n old new (desk.Ask value) (desk.Queried told) said = elim said [ ]
-seat_asks n old new (desk.Ask value) (desk.Stood state) said = elim said [ ]
-seat_asks n old new (desk.Ask value) (desk.Stated statement) said = elim said [ ]
-seat_asks n old new (desk.Ask value) (desk.Listed excerpt) said = elim said [ ]
-seat_asks n old new (desk.Ask value) (desk.Settled fronts) said = elim said [ ]
-seat_asks n old new (desk.Ask value) (desk.Refused teller.Memory) said = elim said [ ]
-seat_asks n old new (desk.Ask value) (desk.Refused teller.NoAccount) said = elim said [ ]
+seat_asks n old new (desk.Ask id value) (desk.Queried told) said = elim said [ ]
+seat_asks n old new (desk.Ask id value) (desk.Stood state) said = elim said [ ]
+seat_asks n old new (desk.Ask id value) (desk.Stated statement) said = elim said [ ]
+seat_asks n old new (desk.Ask id value) (desk.Listed excerpt) said = elim said [ ]
+seat_asks n old new (desk.Ask id value) (desk.Settled fronts) said = elim said [ ]
+seat_asks n old new (desk.Ask id value) (desk.Refused teller.Memory) said = elim said [ ]
+seat_asks n old new (desk.Ask id value) (desk.Refused teller.NoAccount) said = elim said [ ]
 seat_asks n old new (desk.Query account) (desk.Asked seq) said = elim said [ ]
 seat_asks n old new (desk.Query account) (desk.Stood state) said = elim said [ ]
 seat_asks n old new (desk.Query account) (desk.Stated statement) said = elim said [ ]

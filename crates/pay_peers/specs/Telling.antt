@@ -1,5 +1,5 @@
 -- A node as a desk's teller: what a seat is told of a desk's calls.
-use Rattle.std.specs.Prelude.{◌≡◌, ℕ, List, Option, Some, None, Ok, Err}
+use Rattle.std.specs.Prelude.{◌≡◌, ℕ, ◌+◌, ◌-◌, ◌^◌, min, List, Option, Some, None, Ok, Err}
 use Rattle.std.specs.List.{filter_map}
 use Rattle.pay_desk.specs.declared.teller_fault.TellerFault.TheVariants as teller
 use Rattle.pay_desk.specs.Calls as desk
@@ -31,20 +31,20 @@ pub record IsKeptBack (n : NodeFields) (before after : SeatFields) (account : �
 -- What a seat is told of a desk's call: the node's member, with some legal history, answers so, and
 -- the seat keeps the receipt.
 abbrev pub SeatSays : NodeFields → SeatFields → desk.Call → desk.TellerReply → SeatFields → Type 0
-SeatSays n old (desk.Ask value) (desk.Asked seq) new = HasAsked n old new value (Ok seq)
-SeatSays n old (desk.Ask value) (desk.Refused teller.Spent) new =
+SeatSays n old (desk.Ask id value) (desk.Asked seq) new = HasAsked n old new value (Ok seq)
+SeatSays n old (desk.Ask id value) (desk.Refused teller.Spent) new =
     HasAsked n old new value (Err (unasked.Ask ask.Spent))
-SeatSays n old (desk.Ask value) (desk.Refused teller.TooEarly) new =
+SeatSays n old (desk.Ask id value) (desk.Refused teller.TooEarly) new =
     HasAsked n old new value (Err unasked.TooEarly)
-SeatSays n old (desk.Ask value) (desk.Refused teller.Forgotten) new =
+SeatSays n old (desk.Ask id value) (desk.Refused teller.Forgotten) new =
     HasAsked n old new value (Err unasked.Forgotten)
-SeatSays n old (desk.Ask value) (desk.Refused teller.Memory) new = ⊥
-SeatSays n old (desk.Ask value) (desk.Refused teller.NoAccount) new = ⊥
-SeatSays n old (desk.Ask value) (desk.Queried told) new = ⊥
-SeatSays n old (desk.Ask value) (desk.Stood state) new = ⊥
-SeatSays n old (desk.Ask value) (desk.Stated statement) new = ⊥
-SeatSays n old (desk.Ask value) (desk.Listed excerpt) new = ⊥
-SeatSays n old (desk.Ask value) (desk.Settled fronts) new = ⊥
+SeatSays n old (desk.Ask id value) (desk.Refused teller.Memory) new = ⊥
+SeatSays n old (desk.Ask id value) (desk.Refused teller.NoAccount) new = ⊥
+SeatSays n old (desk.Ask id value) (desk.Queried told) new = ⊥
+SeatSays n old (desk.Ask id value) (desk.Stood state) new = ⊥
+SeatSays n old (desk.Ask id value) (desk.Stated statement) new = ⊥
+SeatSays n old (desk.Ask id value) (desk.Listed excerpt) new = ⊥
+SeatSays n old (desk.Ask id value) (desk.Settled fronts) new = ⊥
 SeatSays n old (desk.Query account) (desk.Queried told) new =
     IsAnswered n old new (event.Query account) (Ok (reply.Told told))
 SeatSays n old (desk.Query account) (desk.Refused teller.NoAccount) new =
@@ -123,16 +123,33 @@ SeatSays n old desk.Fronts (desk.Stood state) new = ⊥
 SeatSays n old desk.Fronts (desk.Stated statement) new = ⊥
 SeatSays n old desk.Fronts (desk.Listed excerpt) new = ⊥
 
--- A node as a teller, and the seat that it is called from.
+-- A node as a teller, the seat that it is called from, and the number under which the node's keeper
+-- takes the next value's id.
 pub record TellerFields : Type 0 where
   pub node : NodeFields
   pub seat : SeatFields
+  pub next : ℕ
+
+-- the number after so many values
+abbrev pub next_behind : ℕ → ℕ
+next_behind values = min values (2 ^ 32 - 1)
+
+-- the number that is next after a reply: the one behind the number that a value got
+abbrev pub next_after : ℕ → desk.TellerReply → ℕ
+next_after next (desk.Asked seq) = next_behind (seq + 1)
+next_after next (desk.Queried told) = next
+next_after next (desk.Stood state) = next
+next_after next (desk.Stated statement) = next
+next_after next (desk.Listed excerpt) = next
+next_after next (desk.Settled fronts) = next
+next_after next (desk.Refused fault) = next
 
 -- what becomes of such a teller by a desk's call
 pub record TellerSays (old : TellerFields) (called : desk.Call) (reply : desk.TellerReply)
     (new : TellerFields) : Type 0 where
   pub same : new.node ≡ old.node
   pub told : SeatSays old.node old.seat called reply new.seat
+  pub next : new.next ≡ next_after old.next reply
 
 -- the value that a call broadcast, if it did
 abbrev pub value_told : Call → Option (List ℕ)

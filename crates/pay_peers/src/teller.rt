@@ -31,7 +31,7 @@ impl<'a, R, I: Instance + Drop, B: Settle + Drop, S: Beginning, K> Model
 
     ghost Value = { TellerFields };
 
-    ghost view = { λ t. record { node = t.node.now; seat = t.seat } };
+    ghost view = { λ t. record { node = t.node.now; seat = t.seat; next = t.next } };
 }
 
 impl<'a, R, I: Instance + Drop, B: Settle + Drop, S: Beginning, K> NodeTeller<'a, R, I, B, S, K> {
@@ -44,7 +44,7 @@ impl<'a, R, I: Instance + Drop, B: Settle + Drop, S: Beginning, K> NodeTeller<'a
         seat: Seat,
         next: u32,
     ) -> NodeTeller<'a, R, I, B, S, K>
-        ensures { result ≡ record { node = node.now; seat = seat } }
+        ensures { result ≡ record { node = node.now; seat = seat; next = next } }
     {
         NodeTeller {
             rt,
