@@ -10,8 +10,9 @@ import struct
 from frames import read_frame, test_key
 from model import Member
 
-MAGIC, VERSION, MARK = b"payd log", 1, b"plog"
-HEADER_LEN, HEAD_LEN, SUM_LEN = 75, 8, 32
+MAGIC, OPEN_MARK = b"payd log", b"plog"
+FIRST, SECOND = 1, 2
+HEADER_LEN, MARK_LEN, PLACE_LEN, LENGTH_LEN, SUM_LEN = 75, 8, 8, 4, 32
 MOST_PAYLOAD = 1 << 24
 ASK, FRAME, QUERY = 1, 2, 3
 
@@ -34,52 +35,75 @@ class Log:
         members = genesis["members"]
         keys = keys or [bytes(32) if peer == own else test_key(own, peer) for peer in range(members)]
         self.key = hmac.digest(b"".join(keys), b"payd log 1", hashlib.sha256)
+        self.mark = hmac.digest(self.key, b"payd log mark", hashlib.sha256)[:MARK_LEN]
 
-    def header(self):
+    def header(self, version=SECOND):
         genesis = hashlib.sha256(genesis_bytes(self.genesis)).digest()
         fingerprint = hmac.digest(self.key, b"payd log keys", hashlib.sha256)
-        return MAGIC + bytes([VERSION]) + genesis + struct.pack(">H", self.own) + fingerprint
+        return MAGIC + bytes([version]) + genesis + struct.pack(">H", self.own) + fingerprint
 
-    def chunk(self, place, payload):
-        text = MARK + struct.pack(">I", len(payload)) + payload
+    def front(self, place, version=SECOND):
+        """What the chunk at a place begins with."""
+        return OPEN_MARK if version == FIRST else self.mark + struct.pack(">Q", place)
+
+    def chunk(self, place, payload, version=SECOND):
+        text = self.front(place, version) + struct.pack(">I", len(payload)) + payload
         return text + hmac.digest(self.key, struct.pack(">Q", place) + text, hashlib.sha256)
+
+    def file(self, payloads, version=SECOND):
+        """The log of these payloads."""
+        chunks = b""
+        for payload in payloads:
+            chunks += self.chunk(len(chunks), payload, version)
+        return self.header(version) + chunks
 
     # ---- reading
 
-    def judge_header(self, file):
-        parts = (("NoLog", 0, 8), ("Version", 8, 9), ("Genesis", 9, 41), ("Member", 41, 43), ("Keys", 43, 75))
-        if len(file) < HEADER_LEN:
+    def version(self, file):
+        """Of which version the log is that a file is."""
+        if len(file) < HEADER_LEN or file[:8] != MAGIC:
             raise Fault("3 Foreign NoLog")
-        for name, start, end in parts:
-            if file[start:end] != self.header()[start:end]:
+        version = file[8]
+        if version not in (FIRST, SECOND):
+            raise Fault("3 Foreign Version")
+        for name, start, end in (("Genesis", 9, 41), ("Member", 41, 43), ("Keys", 43, 75)):
+            if file[start:end] != self.header(version)[start:end]:
                 raise Fault(f"3 Foreign {name}")
+        return version
 
-    def front(self, place, chunks):
-        """The payload of the chunk that stands at a place, if one does."""
-        if chunks[place : place + 4] != MARK or len(chunks) < place + HEAD_LEN:
+    def payload(self, chunks, at, place, version):
+        """The payload of the chunk for a place whose bytes stand there, if they do."""
+        start = at + len(self.front(place, version)) + LENGTH_LEN
+        length = int.from_bytes(chunks[start - LENGTH_LEN : start], "big")
+        if length > MOST_PAYLOAD or len(chunks) < start + length + SUM_LEN:
             return None
-        length = int.from_bytes(chunks[place + 4 : place + 8], "big")
-        if length > MOST_PAYLOAD or len(chunks) < place + HEAD_LEN + length + SUM_LEN:
-            return None
-        payload = chunks[place + HEAD_LEN : place + HEAD_LEN + length]
-        return payload if chunks[place:].startswith(self.chunk(place, payload)) else None
+        payload = chunks[start : start + length]
+        return payload if chunks.startswith(self.chunk(place, payload, version), at) else None
 
     def payloads(self, file):
         """All payloads, and how many bytes stand up to the last chunk's end."""
-        self.judge_header(file)
+        version = self.version(file)
         chunks, place, found = file[HEADER_LEN:], 0, []
-        while (payload := self.front(place, chunks)) is not None:
+        while (payload := self.payload(chunks, place, place, version)) is not None:
             found.append(payload)
-            place += HEAD_LEN + len(payload) + SUM_LEN
-        if any(self.front(at, chunks) is not None for at in marks(chunks, place + 1)):
+            place += len(self.chunk(place, payload, version))
+        mark = OPEN_MARK if version == FIRST else self.mark
+        if any(self.stands(chunks, at, version) for at in places(chunks, mark, place)):
             raise Fault(f"4 Damaged {len(found)}")
         return found, HEADER_LEN + place
 
+    def stands(self, chunks, at, version):
+        """Whether a chunk stands there, made for whatever place it says, or for this one if it says none."""
+        place = at
+        if version == SECOND:
+            place = int.from_bytes(chunks[at + MARK_LEN : at + MARK_LEN + PLACE_LEN], "big")
+        return self.payload(chunks, at, place, version) is not None
+
     def ends(self, file):
         """The lengths of the file up to the end of its header and of each chunk."""
-        lengths = [HEADER_LEN]
+        version, lengths = self.version(file), [HEADER_LEN]
         for payload in self.payloads(file)[0]:
-            lengths.append(lengths[-1] + HEAD_LEN + len(payload) + SUM_LEN)
+            lengths.append(lengths[-1] + len(self.chunk(0, payload, version)))
         return lengths
 
     # ---- records
@@ -125,8 +149,8 @@ class Log:
         return member, orders
 
 
-def marks(text, start):
-    """The places from one on at which a mark stands."""
-    while (start := text.find(MARK, start)) >= 0:
+def places(text, part, start):
+    """The places from one on at which a part stands."""
+    while (start := text.find(part, start)) >= 0:
         yield start
         start += 1

@@ -6,7 +6,10 @@ use Rattle.std.specs.Result.{is_err}
 use Rattle.std.proofs.lemmas.Grind.{flat_map-append}
 use Rattle.std.proofs.lemmas.List.{map-append, length-take-le, length-drop, drop_all, take_all, take_more, drop_more, get_or-drop}
 use Rattle.std.proofs.Math.Logic.{∥∥₁_map}
+use Rattle.pay_log.specs.declared.header.Header.{Header}
+use Rattle.pay_log.specs.declared.key.Format.TheVariants.{Second}
 use Rattle.pay_log.specs.declared.log.Log.{Log}
+use Rattle.pay_log.specs.Headers.{header_bytes}
 use Rattle.pay_member.specs.declared.entry.HistoryEntry.{HistoryEntry}
 use Rattle.pay_record.specs.Records.{record_of}
 use Rattle.pay_member.specs.Member.{MemberFields}
@@ -208,18 +211,18 @@ one_chunk (b ∷ bytes) payload is some = ap (λ (l : List ℕ). l ∷ []) is
 
 -- a log that was resumed is followed on
 pub resumed_follows :
-    {D : Type 0} (is_known : D → Type 0) (seen : D → List ℕ) (may_leave : D → List ℕ → Type 0) (loggable : LoggedFields → Type 0) (header file : List ℕ) (m : MemberFields) (ids : List ℕ) (log new : Log D) (count : ℕ)
-    → new ≡ log → count ≡ length m.history → IsResumed is_known seen may_leave record_of loggable header file m ids log
+    {D : Type 0} (is_known : D → Type 0) (seen : D → List ℕ) (may_leave : D → List ℕ → Type 0) (loggable : LoggedFields → Type 0) (header : Header) (file : List ℕ) (m : MemberFields) (ids : List ℕ) (len : ℕ) (log new : Log D) (count : ℕ)
+    → new ≡ log → count ≡ length m.history → IsResumed is_known seen may_leave record_of loggable header file m ids len log
     → IsFollowingSome is_known seen may_leave new [] count
-resumed_follows is_known seen may_leave loggable header file m ids log new count is counted r = subst (λ (l : Log _). IsFollowingSome is_known seen may_leave l [] count) (sym is) (record {
+resumed_follows is_known seen may_leave loggable header file m ids len log new count is counted r = subst (λ (l : Log _). IsFollowingSome is_known seen may_leave l [] count) (sym is) (record {
   entries = m.history;
   counted = sym counted;
   follows = record {
-    header = header;
+    header = header_bytes Second header;
     ps = r.ps;
     settled = r.settled;
-    logged = r.records.logged;
-    are = sym r.records.history;
-    records = r.records.records ∙ sym (append-nil (flat_map (λ (p : List ℕ). p) r.ps));
+    logged = r.was.records.logged;
+    are = sym r.was.records.history;
+    records = r.was.records.records ∙ sym (append-nil (flat_map (λ (p : List ℕ). p) r.ps));
   };
 })

@@ -42,13 +42,6 @@ impl<D: Device + Drop> Following<D> {
         }
     }
 
-    /// How many bytes of chunks the log has.
-    pub fn place(&self) -> u64
-        ensures { result ≡ self.now.log.place }
-    {
-        self.log.place()
-    }
-
     /// Whether the log has so many entries on the disk, and nothing waits behind them.
     pub fn has(&self, entries: usize) -> bool
         ensures { IsTrue result

@@ -23,4 +23,4 @@ pub use behind::Behind;
 pub use following::Following;
 pub use keeper::{Keeper, Unkept};
 pub use kept::Kept;
-pub use restarting::{Restarted, restart};
+pub use restarting::{Restarted, begin, restart, view_log_of};

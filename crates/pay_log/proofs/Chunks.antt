@@ -1,232 +1,294 @@
 -- Chunks at the front of bytes: which one stands there, if one does.
-use Rattle.std.proofs.Common.{◌≡◌, ◌⊎◌, inl, inr, ℕ, zero, suc, ◌+◌, ◌^◌, ◌<◌, ◌≤◌, Bool, true, false, ◌&&◌, List, [], ◌∷◌, ◌++◌, length, get_or, take, drop, refl, sym, ap, ◌∙◌, subst, arith, append_assoc, append-nil, length-append, take-append-drop, drop-drop, leb, leb-true, lit<}
+use Rattle.std.proofs.Common.{◌≡◌, ◌≢◌, ◌⊎◌, inl, inr, ℕ, zero, suc, ◌+◌, ◌^◌, ◌<◌, ◌≤◌, Bool, true, false, ◌&&◌, List, [], ◌∷◌, ◌++◌, length, get_or, take, drop, refl, sym, ap, ◌∙◌, subst, arith, codes, append_assoc, append-nil, length-append, take-append-drop, drop-drop, leb, leb-true, lit<}
+use Rattle.std.proofs.Math.Seq.{take-add}
 use Rattle.std.specs.Int.{w32, to_be_bytes}
 use Rattle.std.specs.Str.{bytes_eq}
 use Rattle.std.proofs.lemmas.Bool.{and_parts, and_from, cases_Bool, false≢true}
 use Rattle.std.proofs.lemmas.Bool.Decides.{nat_tests}
-use Rattle.std.proofs.lemmas.List.{length-take, length-take-le, take-take, take_at, drop_at}
+use Rattle.std.proofs.lemmas.List.{drop-take, get_or-drop, length-drop, length-take, length-take-le, take-take, take_at, drop_at}
 use Rattle.std.proofs.lemmas.Nat.{from_be_bytes-to_be_bytes_4, be_bytes_4}
 use Rattle.std.proofs.lemmas.Slice.Eq.{bytes_eq-Decides}
 use Rattle.pay_hmac.specs.Mac.{mac, length-mac}
+use Rattle.pay_log.specs.declared.key.Format.{Format}
+use Rattle.pay_log.specs.declared.key.Format.TheVariants.{First, Second}
 use Rattle.pay_log.specs.declared.limits.TheConstants.{MOST_PAYLOAD}
-use Rattle.pay_log.specs.Chunks.{BeginsWith, chunk_body, sum_of, chunk_of, place_bytes, chunk_head, length_at, mark, IsHead, IsHeadless, IsShort, IsEnd}
+use Rattle.pay_log.specs.Chunks.{BeginsWith, chunk_body, sum_of, chunk_of, chunk_head, length_at, number_in, IsHead, IsHeadless, IsShort, IsEnd}
+use Rattle.pay_log.specs.Keys.{LogKeyFields, bytes_beside, front_in, front_len, front_len_in, front_of, head_len, place_bytes, secret_mark}
 
-eight : (n : ℕ) → length (chunk_head n) ≡ 8
-eight n = refl
+pub mark_long : (key : List ℕ) → length (secret_mark key) ≡ 8
+mark_long key = length-take-le 8 (mac key (codes "payd log mark")) (omega (arith, length-mac key (codes "payd log mark")))
 
-pub length-chunk : (key : List ℕ) (sum : ℕ) (p : List ℕ) → length (chunk_of key sum p) ≡ 40 + length p
+front_in_long : (format : Format) (key : List ℕ) (place : ℕ) → length (front_in format key place) ≡ front_len_in format
+front_in_long First key place = refl
+front_in_long Second key place = omega (arith, length-append (secret_mark key) (place_bytes place), mark_long key, eight_long place)
+  where
+    eight_long : (place : ℕ) → length (place_bytes place) ≡ 8
+    eight_long place = refl
+
+pub front_long : (key : LogKeyFields) (place : ℕ) → length (front_of key place) ≡ front_len key
+front_long key place = front_in_long key.format key.bytes place
+
+four : (n : ℕ) → length (to_be_bytes w32 n) ≡ 4
+four n = refl
+
+head_long : (key : LogKeyFields) (place n : ℕ) → length (chunk_head key place n) ≡ head_len key
+head_long key place n = omega (arith, length-append (front_of key place) (to_be_bytes w32 n), front_long key place, four n)
+
+body_long : (key : LogKeyFields) (place : ℕ) (p : List ℕ) → length (chunk_body key place p) ≡ head_len key + length p
+body_long key place p = omega (arith, length-append (chunk_head key place (length p)) p, head_long key place (length p))
+
+sum_long : (key : LogKeyFields) (place : ℕ) (p : List ℕ) → length (sum_of key place p) ≡ 32
+sum_long key place p = length-mac key.bytes (place_bytes place ++ chunk_body key place p)
+
+pub length-chunk : (key : LogKeyFields) (place : ℕ) (p : List ℕ) → length (chunk_of key place p) ≡ bytes_beside key + length p
 unfolding chunk_of
-length-chunk key sum p =
-    omega (arith, length-append (chunk_body p) (sum_of key sum p), length-append (chunk_head (length p)) p, length-mac key (place_bytes sum ++ chunk_body p), eight (length p))
+length-chunk key place p =
+    omega (arith, length-append (chunk_body key place p) (sum_of key place p), body_long key place p, sum_long key place p)
 
 -- the parts of a chunk, each at its place
-pub spread : (key : List ℕ) (sum : ℕ) (p rest : List ℕ) → chunk_of key sum p ++ rest ≡ chunk_head (length p) ++ (p ++ (sum_of key sum p ++ rest))
+spread : (key : LogKeyFields) (place : ℕ) (p rest : List ℕ) → chunk_of key place p ++ rest ≡ chunk_head key place (length p) ++ (p ++ (sum_of key place p ++ rest))
 unfolding chunk_of
-spread key sum p rest =
-    append_assoc (chunk_body p) (sum_of key sum p) rest ∙ append_assoc (chunk_head (length p)) p (sum_of key sum p ++ rest)
+spread key place p rest =
+    append_assoc (chunk_body key place p) (sum_of key place p) rest ∙ append_assoc (chunk_head key place (length p)) p (sum_of key place p ++ rest)
+
+pub from_front : (key : LogKeyFields) (place : ℕ) (p rest : List ℕ) → chunk_of key place p ++ rest ≡ front_of key place ++ (to_be_bytes w32 (length p) ++ (p ++ (sum_of key place p ++ rest)))
+from_front key place p rest =
+    spread key place p rest ∙ append_assoc (front_of key place) (to_be_bytes w32 (length p)) (p ++ (sum_of key place p ++ rest))
+
+from_front_in :
+    (format : Format) (key : List ℕ) (place : ℕ) (after : List ℕ) → format ≡ Second
+    → front_in format key place ++ after ≡ secret_mark key ++ (place_bytes place ++ after)
+from_front_in format key place after second =
+    ap (λ (f : Format). front_in f key place ++ after) second ∙ append_assoc (secret_mark key) (place_bytes place) after
+
+-- of the second format: the mark, the place and all else
+pub from_mark :
+    (key : LogKeyFields) (place : ℕ) (p rest : List ℕ) → key.format ≡ Second
+    → chunk_of key place p ++ rest ≡ secret_mark key.bytes ++ (place_bytes place ++ (to_be_bytes w32 (length p) ++ (p ++ (sum_of key place p ++ rest))))
+from_mark key place p rest second =
+    from_front key place p rest ∙ from_front_in key.format key.bytes place (to_be_bytes w32 (length p) ++ (p ++ (sum_of key place p ++ rest))) second
 
 short_fits : (n : ℕ) → n ≤ MOST_PAYLOAD → n < 2 ^ 32
 short_fits n short = omega arith
 
-pub length_is : (key : List ℕ) (sum : ℕ) (p bytes : List ℕ) → IsShort p → BeginsWith bytes (chunk_of key sum p) → length_at bytes ≡ length p
-length_is key sum p bytes short begins =
-    ap length_at (begins.is ∙ spread key sum p begins.rest) ∙ from_be_bytes-to_be_bytes_4 (length p) (short_fits (length p) short)
+pub length_is : (key : LogKeyFields) (place : ℕ) (p bytes : List ℕ) → IsShort p → BeginsWith bytes (chunk_of key place p) → length_at key bytes ≡ length p
+length_is key place p bytes short begins =
+    let after : List ℕ = p ++ (sum_of key place p ++ begins.rest) in
+    ap (length_at key) (begins.is ∙ from_front key place p begins.rest)
+    ∙ ap number_in (drop_at (front_of key place) (to_be_bytes w32 (length p) ++ after) (front_len key) (front_long key place))
+    ∙ from_be_bytes-to_be_bytes_4 (length p) (short_fits (length p) short)
 
-pub payload_is : (key : List ℕ) (sum : ℕ) (p bytes : List ℕ) → BeginsWith bytes (chunk_of key sum p) → take (length p) (drop 8 bytes) ≡ p
-payload_is key sum p bytes begins =
-    ap (λ (l : List ℕ). take (length p) (drop 8 l)) (begins.is ∙ spread key sum p begins.rest) ∙ take_at p (sum_of key sum p ++ begins.rest) (length p) refl
+pub payload_is : (key : LogKeyFields) (place : ℕ) (p bytes : List ℕ) → BeginsWith bytes (chunk_of key place p) → take (length p) (drop (head_len key) bytes) ≡ p
+payload_is key place p bytes begins =
+    ap (λ (l : List ℕ). take (length p) (drop (head_len key) l)) (begins.is ∙ spread key place p begins.rest)
+    ∙ ap (take (length p)) (drop_at (chunk_head key place (length p)) (p ++ (sum_of key place p ++ begins.rest)) (head_len key) (head_long key place (length p)))
+    ∙ take_at p (sum_of key place p ++ begins.rest) (length p) refl
 
-pub body_is : (key : List ℕ) (sum : ℕ) (p bytes : List ℕ) → BeginsWith bytes (chunk_of key sum p) → take (8 + length p) bytes ≡ chunk_body p
+pub body_is : (key : LogKeyFields) (place : ℕ) (p bytes : List ℕ) → BeginsWith bytes (chunk_of key place p) → take (head_len key + length p) bytes ≡ chunk_body key place p
 unfolding chunk_of
-body_is key sum p bytes begins =
-    ap (λ (l : List ℕ). take (8 + length p) l) (begins.is ∙ append_assoc (chunk_body p) (sum_of key sum p) begins.rest)
-    ∙ take_at (chunk_body p) (sum_of key sum p ++ begins.rest) (8 + length p) (omega (arith, length-append (chunk_head (length p)) p, eight (length p)))
+body_is key place p bytes begins =
+    ap (λ (l : List ℕ). take (head_len key + length p) l) (begins.is ∙ append_assoc (chunk_body key place p) (sum_of key place p) begins.rest)
+    ∙ take_at (chunk_body key place p) (sum_of key place p ++ begins.rest) (head_len key + length p) (body_long key place p)
 
-pub sum_is : (key : List ℕ) (sum : ℕ) (p bytes : List ℕ) → BeginsWith bytes (chunk_of key sum p) → take 32 (drop (8 + length p) bytes) ≡ sum_of key sum p
+pub sum_is : (key : LogKeyFields) (place : ℕ) (p bytes : List ℕ) → BeginsWith bytes (chunk_of key place p) → take 32 (drop (head_len key + length p) bytes) ≡ sum_of key place p
 unfolding chunk_of
-sum_is key sum p bytes begins =
-    ap (λ (l : List ℕ). take 32 (drop (8 + length p) l)) (begins.is ∙ append_assoc (chunk_body p) (sum_of key sum p) begins.rest)
-    ∙ ap (take 32) (drop_at (chunk_body p) (sum_of key sum p ++ begins.rest) (8 + length p) (omega (arith, length-append (chunk_head (length p)) p, eight (length p))))
-    ∙ take_at (sum_of key sum p) begins.rest 32 (length-mac key (place_bytes sum ++ chunk_body p))
+sum_is key place p bytes begins =
+    ap (λ (l : List ℕ). take 32 (drop (head_len key + length p) l)) (begins.is ∙ append_assoc (chunk_body key place p) (sum_of key place p) begins.rest)
+    ∙ ap (take 32) (drop_at (chunk_body key place p) (sum_of key place p ++ begins.rest) (head_len key + length p) (body_long key place p))
+    ∙ take_at (sum_of key place p) begins.rest 32 (sum_long key place p)
 
-pub room_is : (key : List ℕ) (sum : ℕ) (p bytes : List ℕ) → BeginsWith bytes (chunk_of key sum p) → 40 + length p ≤ length bytes
-room_is key sum p bytes begins =
-    omega (arith, ap length begins.is, length-append (chunk_of key sum p) begins.rest, length-chunk key sum p)
+pub room_is : (key : LogKeyFields) (place : ℕ) (p bytes : List ℕ) → BeginsWith bytes (chunk_of key place p) → bytes_beside key + length p ≤ length bytes
+room_is key place p bytes begins =
+    omega (arith, ap length begins.is, length-append (chunk_of key place p) begins.rest, length-chunk key place p)
 
 -- no two chunks stand at the front of the same bytes
-pub one_front : (key : List ℕ) (sum : ℕ) (p q bytes : List ℕ) → IsShort p → IsShort q → BeginsWith bytes (chunk_of key sum p) → BeginsWith bytes (chunk_of key sum q) → p ≡ q
-one_front key sum p q bytes short_p short_q at_p at_q =
-    let same : length p ≡ length q = sym (length_is key sum p bytes short_p at_p) ∙ length_is key sum q bytes short_q at_q in
-    sym (payload_is key sum p bytes at_p) ∙ ap (λ (n : ℕ). take n (drop 8 bytes)) same ∙ payload_is key sum q bytes at_q
+pub one_front : (key : LogKeyFields) (place : ℕ) (p q bytes : List ℕ) → IsShort p → IsShort q → BeginsWith bytes (chunk_of key place p) → BeginsWith bytes (chunk_of key place q) → p ≡ q
+one_front key place p q bytes short_p short_q at_p at_q =
+    let same : length p ≡ length q = sym (length_is key place p bytes short_p at_p) ∙ length_is key place q bytes short_q at_q in
+    sym (payload_is key place p bytes at_p) ∙ ap (λ (n : ℕ). take n (drop (head_len key) bytes)) same ∙ payload_is key place q bytes at_q
 
 -- a chunk takes bytes
-pub none_at_nothing : (key : List ℕ) (sum : ℕ) → IsEnd key sum []
-none_at_nothing key sum p short begins = absurd (omega (arith, room_is key sum p [] begins))
+pub none_at_nothing : (key : LogKeyFields) (place : ℕ) → IsEnd key place []
+none_at_nothing key place p short begins = absurd (omega (arith, room_is key place p [] begins))
 
 -- whether one stands there
-pub record Front (key : List ℕ) (sum : ℕ) (bytes : List ℕ) : Type 0 where
+pub record Front (key : LogKeyFields) (place : ℕ) (bytes : List ℕ) : Type 0 where
   pub payload : List ℕ
   pub short : IsShort payload
-  pub at : BeginsWith bytes (chunk_of key sum payload)
+  pub at : BeginsWith bytes (chunk_of key place payload)
 
-abbrev payload_at : List ℕ → List ℕ
-payload_at bytes = take (length_at bytes) (drop 8 bytes)
+abbrev payload_at : LogKeyFields → List ℕ → List ℕ
+payload_at key bytes = take (length_at key bytes) (drop (head_len key) bytes)
 
 -- whether these bytes begin with the chunk of a payload
-abbrev fits : List ℕ → ℕ → List ℕ → List ℕ → Bool
-fits key sum bytes q = bytes_eq (take (length (chunk_of key sum q)) bytes) (chunk_of key sum q) && leb (length q) MOST_PAYLOAD
+abbrev fits : LogKeyFields → ℕ → List ℕ → List ℕ → Bool
+fits key place bytes q = bytes_eq (take (length (chunk_of key place q)) bytes) (chunk_of key place q) && leb (length q) MOST_PAYLOAD
 
-found : (key : List ℕ) (sum : ℕ) (bytes q : List ℕ) → fits key sum bytes q ≡ true → Front key sum bytes
-found key sum bytes q fitting =
-    let both = and_parts (bytes_eq (take (length (chunk_of key sum q)) bytes) (chunk_of key sum q)) (leb (length q) MOST_PAYLOAD) fitting in
-    let same : take (length (chunk_of key sum q)) bytes ≡ chunk_of key sum q = (bytes_eq-Decides (take (length (chunk_of key sum q)) bytes) (chunk_of key sum q)).0 both.0 in
+found : (key : LogKeyFields) (place : ℕ) (bytes q : List ℕ) → fits key place bytes q ≡ true → Front key place bytes
+found key place bytes q fitting =
+    let both = and_parts (bytes_eq (take (length (chunk_of key place q)) bytes) (chunk_of key place q)) (leb (length q) MOST_PAYLOAD) fitting in
+    let same : take (length (chunk_of key place q)) bytes ≡ chunk_of key place q = (bytes_eq-Decides (take (length (chunk_of key place q)) bytes) (chunk_of key place q)).0 both.0 in
     record {
       payload = q;
       short = leb-true (length q) MOST_PAYLOAD both.1;
       at = record {
-        rest = drop (length (chunk_of key sum q)) bytes;
-        is = sym (take-append-drop (length (chunk_of key sum q)) bytes) ∙ ap (λ (l : List ℕ). l ++ drop (length (chunk_of key sum q)) bytes) same;
+        rest = drop (length (chunk_of key place q)) bytes;
+        is = sym (take-append-drop (length (chunk_of key place q)) bytes) ∙ ap (λ (l : List ℕ). l ++ drop (length (chunk_of key place q)) bytes) same;
       };
     }
 
-none : (key : List ℕ) (sum : ℕ) (bytes : List ℕ) → fits key sum bytes (payload_at bytes) ≡ false → IsEnd key sum bytes
-none key sum bytes unfit p short begins =
-    let same : payload_at bytes ≡ p = ap (λ (m : ℕ). take m (drop 8 bytes)) (length_is key sum p bytes short begins) ∙ payload_is key sum p bytes begins in
-    let chunk : take (length (chunk_of key sum p)) bytes ≡ chunk_of key sum p =
-    ap (λ (l : List ℕ). take (length (chunk_of key sum p)) l) begins.is ∙ take_at (chunk_of key sum p) begins.rest (length (chunk_of key sum p)) refl in
-    let fitting : fits key sum bytes p ≡ true =
-    and_from (bytes_eq (take (length (chunk_of key sum p)) bytes) (chunk_of key sum p)) (leb (length p) MOST_PAYLOAD)
-    ((bytes_eq-Decides (take (length (chunk_of key sum p)) bytes) (chunk_of key sum p)).1 chunk) (grind (arith, nat_tests)) in
-    let P : List ℕ → Type 0 = λ x. fits key sum bytes x ≡ true in
+none : (key : LogKeyFields) (place : ℕ) (bytes : List ℕ) → fits key place bytes (payload_at key bytes) ≡ false → IsEnd key place bytes
+none key place bytes unfit p short begins =
+    let same : payload_at key bytes ≡ p = ap (λ (m : ℕ). take m (drop (head_len key) bytes)) (length_is key place p bytes short begins) ∙ payload_is key place p bytes begins in
+    let chunk : take (length (chunk_of key place p)) bytes ≡ chunk_of key place p =
+    ap (λ (l : List ℕ). take (length (chunk_of key place p)) l) begins.is ∙ take_at (chunk_of key place p) begins.rest (length (chunk_of key place p)) refl in
+    let fitting : fits key place bytes p ≡ true =
+    and_from (bytes_eq (take (length (chunk_of key place p)) bytes) (chunk_of key place p)) (leb (length p) MOST_PAYLOAD)
+    ((bytes_eq-Decides (take (length (chunk_of key place p)) bytes) (chunk_of key place p)).1 chunk) (grind (arith, nat_tests)) in
+    let P : List ℕ → Type 0 = λ x. fits key place bytes x ≡ true in
     false≢true (sym unfit ∙ subst P (sym same) fitting)
 
-pub decide_front : (key : List ℕ) (sum : ℕ) (bytes : List ℕ) → Front key sum bytes ⊎ IsEnd key sum bytes
-decide_front key sum bytes = elim (cases_Bool (fits key sum bytes (payload_at bytes))) [
-  | inl fitting ↦ inl (found key sum bytes (payload_at bytes) fitting)
-  | inr unfit ↦ inr (none key sum bytes unfit)
+pub decide_front : (key : LogKeyFields) (place : ℕ) (bytes : List ℕ) → Front key place bytes ⊎ IsEnd key place bytes
+decide_front key place bytes = elim (cases_Bool (fits key place bytes (payload_at key bytes))) [
+  | inl fitting ↦ inl (found key place bytes (payload_at key bytes) fitting)
+  | inr unfit ↦ inr (none key place bytes unfit)
 ]
 
 -- ---- by the tests that are made
 
-pub too_short : (key : List ℕ) (sum : ℕ) (bytes : List ℕ) → length bytes < 40 → IsEnd key sum bytes
-too_short key sum bytes few p short begins = absurd (omega (arith, room_is key sum p bytes begins))
+pub too_short : (key : LogKeyFields) (place : ℕ) (bytes : List ℕ) → length bytes < head_len key → IsEnd key place bytes
+too_short key place bytes few p short begins = absurd (omega (arith, room_is key place p bytes begins))
 
-pub too_long : (key : List ℕ) (sum : ℕ) (bytes : List ℕ) → MOST_PAYLOAD < length_at bytes → IsEnd key sum bytes
-too_long key sum bytes long p short begins = absurd (omega (arith, length_is key sum p bytes short begins, short))
+pub too_long : (key : LogKeyFields) (place : ℕ) (bytes : List ℕ) → MOST_PAYLOAD < length_at key bytes → IsEnd key place bytes
+too_long key place bytes long p short begins = absurd (omega (arith, length_is key place p bytes short begins, short))
 
-pub no_room : (key : List ℕ) (sum : ℕ) (bytes : List ℕ) → length bytes < 40 + length_at bytes → IsEnd key sum bytes
-no_room key sum bytes few p short begins = absurd (omega (arith, length_is key sum p bytes short begins, room_is key sum p bytes begins))
+pub no_room : (key : LogKeyFields) (place : ℕ) (bytes : List ℕ) → length bytes < bytes_beside key + length_at key bytes → IsEnd key place bytes
+no_room key place bytes few p short begins = absurd (omega (arith, length_is key place p bytes short begins, room_is key place p bytes begins))
 
-pub other_sum : (key : List ℕ) (sum : ℕ) (bytes : List ℕ) → (take 32 (drop (8 + length_at bytes) bytes) ≡ mac key (place_bytes sum ++ take (8 + length_at bytes) bytes) → ⊥) → IsEnd key sum bytes
-other_sum key sum bytes other p short begins =
-    let n = length_is key sum p bytes short begins in
+pub other_sum :
+    (key : LogKeyFields) (place : ℕ) (bytes : List ℕ)
+    → (take 32 (drop (head_len key + length_at key bytes) bytes) ≡ mac key.bytes (place_bytes place ++ take (head_len key + length_at key bytes) bytes) → ⊥)
+    → IsEnd key place bytes
+other_sum key place bytes other p short begins =
+    let n = length_is key place p bytes short begins in
     other
-    (ap (λ (m : ℕ). take 32 (drop (8 + m) bytes)) n ∙ sum_is key sum p bytes begins
-    ∙ ap (λ (l : List ℕ). mac key (place_bytes sum ++ l)) (sym (ap (λ (m : ℕ). take (8 + m) bytes) n ∙ body_is key sum p bytes begins)))
+    (ap (λ (m : ℕ). take 32 (drop (head_len key + m) bytes)) n ∙ sum_is key place p bytes begins
+    ∙ ap (λ (l : List ℕ). mac key.bytes (place_bytes place ++ l)) (sym (ap (λ (m : ℕ). take (head_len key + m) bytes) n ∙ body_is key place p bytes begins)))
 
-pub no_mark : (key : List ℕ) (sum : ℕ) (bytes : List ℕ) → (take 4 bytes ≡ mark → ⊥) → IsEnd key sum bytes
-no_mark key sum bytes none p short begins = none (ap (take 4) (begins.is ∙ spread key sum p begins.rest))
+pub front_is : (key : LogKeyFields) (place : ℕ) (p bytes : List ℕ) → BeginsWith bytes (chunk_of key place p) → take (front_len key) bytes ≡ front_of key place
+front_is key place p bytes begins =
+    ap (take (front_len key)) (begins.is ∙ from_front key place p begins.rest)
+    ∙ take_at (front_of key place) (to_be_bytes w32 (length p) ++ (p ++ (sum_of key place p ++ begins.rest))) (front_len key) (front_long key place)
 
-eight_more : (m : ℕ) → 8 + m ≡ suc (suc (suc (suc (suc (suc (suc (suc m)))))))
-eight_more m = omega arith
+pub other_front : (key : LogKeyFields) (place : ℕ) (bytes : List ℕ) → take (front_len key) bytes ≢ front_of key place → IsEnd key place bytes
+other_front key place bytes other p short begins = other (front_is key place p bytes begins)
 
-pub body_at : (bytes : List ℕ) (n : ℕ) → take 4 bytes ≡ mark → n ≡ length_at bytes → 40 + n ≤ length bytes → ((i : ℕ) → get_or bytes i 0 < 256) → take (8 + n) bytes ≡ chunk_body (take n (drop 8 bytes))
-body_at [] n marked is room small = absurd (omega arith)
-body_at (s ∷ []) n marked is room small = absurd (omega arith)
-body_at (s ∷ t ∷ []) n marked is room small = absurd (omega arith)
-body_at (s ∷ t ∷ u ∷ []) n marked is room small = absurd (omega arith)
-body_at (s ∷ t ∷ u ∷ v ∷ []) n marked is room small = absurd (omega arith)
-body_at (s ∷ t ∷ u ∷ v ∷ a ∷ []) n marked is room small = absurd (omega arith)
-body_at (s ∷ t ∷ u ∷ v ∷ a ∷ b ∷ []) n marked is room small = absurd (omega arith)
-body_at (s ∷ t ∷ u ∷ v ∷ a ∷ b ∷ c ∷ []) n marked is room small = absurd (omega arith)
-body_at (s ∷ t ∷ u ∷ v ∷ a ∷ b ∷ c ∷ d ∷ rest) n marked is room small =
-    let long : length (take n rest) ≡ n = length-take-le n rest (omega arith) in
-    let number : to_be_bytes w32 n ≡ a ∷ b ∷ c ∷ d ∷ [] = be_bytes_4 (a ∷ b ∷ c ∷ d ∷ []) n refl (λ i. four_fit i) is in
-    front
-    ∙ ap (λ (l : List ℕ). l ++ (a ∷ b ∷ c ∷ d ∷ take n rest)) marked
-    ∙ ap (λ (l : List ℕ). mark ++ l ++ take n rest) (sym number)
-    ∙ ap (λ (m : ℕ). chunk_head m ++ take n rest) (sym long)
+-- four bytes are those of the number in them
+four_at : (l : List ℕ) → 4 ≤ length l → ((i : ℕ) → get_or l i 0 < 256) → take 4 l ≡ to_be_bytes w32 (number_in l)
+four_at [] room small = absurd (omega arith)
+four_at (a ∷ []) room small = absurd (omega arith)
+four_at (a ∷ b ∷ []) room small = absurd (omega arith)
+four_at (a ∷ b ∷ c ∷ []) room small = absurd (omega arith)
+four_at (a ∷ b ∷ c ∷ d ∷ rest) room small = sym (be_bytes_4 (a ∷ b ∷ c ∷ d ∷ []) (number_in (a ∷ b ∷ c ∷ d ∷ rest)) refl (λ i. four_fit i) refl)
   where
     four_fit : (i : ℕ) → get_or (a ∷ b ∷ c ∷ d ∷ []) i 0 < 256
-    four_fit zero = small 4
-    four_fit (suc zero) = small 5
-    four_fit (suc (suc zero)) = small 6
-    four_fit (suc (suc (suc zero))) = small 7
+    four_fit zero = small 0
+    four_fit (suc zero) = small 1
+    four_fit (suc (suc zero)) = small 2
+    four_fit (suc (suc (suc zero))) = small 3
     four_fit (suc (suc (suc (suc i)))) = lit< tt
 
-    front : take (8 + n) (s ∷ t ∷ u ∷ v ∷ a ∷ b ∷ c ∷ d ∷ rest) ≡ (s ∷ t ∷ u ∷ v ∷ []) ++ (a ∷ b ∷ c ∷ d ∷ take n rest)
-    front = ap (λ (m : ℕ). take m (s ∷ t ∷ u ∷ v ∷ a ∷ b ∷ c ∷ d ∷ rest)) (eight_more n)
+pub body_at :
+    (key : LogKeyFields) (place : ℕ) (bytes : List ℕ) (n : ℕ) → take (front_len key) bytes ≡ front_of key place → n ≡ length_at key bytes
+    → bytes_beside key + n ≤ length bytes → ((i : ℕ) → get_or bytes i 0 < 256)
+    → take (head_len key + n) bytes ≡ chunk_body key place (take n (drop (head_len key) bytes))
+body_at key place bytes n marked is room small =
+    let m : ℕ = front_len key in
+    let p : List ℕ = take n (drop (head_len key) bytes) in
+    let long : length p ≡ n = length-take-le n (drop (head_len key) bytes) (omega (arith, room, length-drop (head_len key) bytes)) in
+    let fit : (i : ℕ) → get_or (drop m bytes) i 0 < 256 = λ i. subst (λ (x : ℕ). x < 256) (sym (get_or-drop m bytes i 0)) (small (m + i)) in
+    let number : take 4 (drop m bytes) ≡ to_be_bytes w32 (length p) =
+    four_at (drop m bytes) (omega (arith, room, length-drop m bytes)) fit ∙ ap (to_be_bytes w32) (sym is ∙ sym long) in
+    take-add (head_len key) n bytes
+    ∙ ap (λ (l : List ℕ). l ++ p)
+    (take-add m 4 bytes ∙ ap (λ (l : List ℕ). l ++ take 4 (drop m bytes)) marked ∙ ap (λ (l : List ℕ). front_of key place ++ l) number)
 
-pub whole_chunk : (key : List ℕ) (sum : ℕ) (bytes : List ℕ) (n : ℕ) → take 4 bytes ≡ mark → n ≡ length_at bytes → 40 + n ≤ length bytes → ((i : ℕ) → get_or bytes i 0 < 256)
-    → take 32 (drop (8 + n) bytes) ≡ mac key (place_bytes sum ++ take (8 + n) bytes)
-    → bytes ≡ chunk_of key sum (take n (drop 8 bytes)) ++ drop (40 + n) bytes
+pub whole_chunk :
+    (key : LogKeyFields) (place : ℕ) (bytes : List ℕ) (n : ℕ) → take (front_len key) bytes ≡ front_of key place → n ≡ length_at key bytes
+    → bytes_beside key + n ≤ length bytes → ((i : ℕ) → get_or bytes i 0 < 256)
+    → take 32 (drop (head_len key + n) bytes) ≡ mac key.bytes (place_bytes place ++ take (head_len key + n) bytes)
+    → bytes ≡ chunk_of key place (take n (drop (head_len key) bytes)) ++ drop (bytes_beside key + n) bytes
 unfolding chunk_of
-whole_chunk key sum bytes n marked is room small fitting =
-    let body = body_at bytes n marked is room small in
-    let tail : drop (8 + n) bytes ≡ mac key (place_bytes sum ++ chunk_body (take n (drop 8 bytes))) ++ drop (40 + n) bytes =
-    sym (take-append-drop 32 (drop (8 + n) bytes))
-    ∙ ap (λ (l : List ℕ). l ++ drop 32 (drop (8 + n) bytes)) (fitting ∙ ap (λ (l : List ℕ). mac key (place_bytes sum ++ l)) body)
-    ∙ ap (λ (l : List ℕ). mac key (place_bytes sum ++ chunk_body (take n (drop 8 bytes))) ++ l) (drop-drop 32 (8 + n) bytes ∙ ap (λ (m : ℕ). drop m bytes) (forty n)) in
-    sym (take-append-drop (8 + n) bytes)
-    ∙ ap (λ (l : List ℕ). l ++ drop (8 + n) bytes) body
-    ∙ ap (λ (l : List ℕ). chunk_body (take n (drop 8 bytes)) ++ l) tail
-    ∙ sym (append_assoc (chunk_body (take n (drop 8 bytes))) (mac key (place_bytes sum ++ chunk_body (take n (drop 8 bytes)))) (drop (40 + n) bytes))
+whole_chunk key place bytes n marked is room small fitting =
+    let p : List ℕ = take n (drop (head_len key) bytes) in
+    let body = body_at key place bytes n marked is room small in
+    let tail : drop (head_len key + n) bytes ≡ sum_of key place p ++ drop (bytes_beside key + n) bytes =
+    sym (take-append-drop 32 (drop (head_len key + n) bytes))
+    ∙ ap (λ (l : List ℕ). l ++ drop 32 (drop (head_len key + n) bytes)) (fitting ∙ ap (λ (l : List ℕ). mac key.bytes (place_bytes place ++ l)) body)
+    ∙ ap (λ (l : List ℕ). sum_of key place p ++ l) (drop-drop 32 (head_len key + n) bytes ∙ ap (λ (m : ℕ). drop m bytes) (beside key n)) in
+    sym (take-append-drop (head_len key + n) bytes)
+    ∙ ap (λ (l : List ℕ). l ++ drop (head_len key + n) bytes) body
+    ∙ ap (λ (l : List ℕ). chunk_body key place p ++ l) tail
+    ∙ sym (append_assoc (chunk_body key place p) (sum_of key place p) (drop (bytes_beside key + n) bytes))
   where
-    forty : (n : ℕ) → 8 + n + 32 ≡ 40 + n
-    forty n = omega arith
+    beside : (key : LogKeyFields) (n : ℕ) → head_len key + n + 32 ≡ bytes_beside key + n
+    beside key n = omega arith
 
 -- ---- by the head alone
 
-pub headless_end : (key : List ℕ) (place : ℕ) (bytes : List ℕ) → IsHeadless bytes → IsEnd key place bytes
-headless_end key place bytes (inl few) = too_short key place bytes (omega (arith, few))
-headless_end key place bytes (inr (inl unmarked)) = no_mark key place bytes unmarked
+pub headless_end : (key : LogKeyFields) (place : ℕ) (bytes : List ℕ) → IsHeadless key place bytes → IsEnd key place bytes
+headless_end key place bytes (inl few) = too_short key place bytes few
+headless_end key place bytes (inr (inl unmarked)) = other_front key place bytes unmarked
 headless_end key place bytes (inr (inr long)) = too_long key place bytes long.1
 
-length_in_front : (rest : List ℕ) → 8 ≤ length rest → length_at (take 8 rest) ≡ length_at rest
-length_in_front [] room = absurd (omega arith)
-length_in_front (s ∷ []) room = absurd (omega arith)
-length_in_front (s ∷ t ∷ []) room = absurd (omega arith)
-length_in_front (s ∷ t ∷ u ∷ []) room = absurd (omega arith)
-length_in_front (s ∷ t ∷ u ∷ v ∷ []) room = absurd (omega arith)
-length_in_front (s ∷ t ∷ u ∷ v ∷ a ∷ []) room = absurd (omega arith)
-length_in_front (s ∷ t ∷ u ∷ v ∷ a ∷ b ∷ []) room = absurd (omega arith)
-length_in_front (s ∷ t ∷ u ∷ v ∷ a ∷ b ∷ c ∷ []) room = absurd (omega arith)
-length_in_front (s ∷ t ∷ u ∷ v ∷ a ∷ b ∷ c ∷ d ∷ rest) room = refl
+number_in_four : (l : List ℕ) → 4 ≤ length l → number_in (take 4 l) ≡ number_in l
+number_in_four [] room = absurd (omega arith)
+number_in_four (a ∷ []) room = absurd (omega arith)
+number_in_four (a ∷ b ∷ []) room = absurd (omega arith)
+number_in_four (a ∷ b ∷ c ∷ []) room = absurd (omega arith)
+number_in_four (a ∷ b ∷ c ∷ d ∷ rest) room = refl
 
--- what the first eight bytes say of a head, all say
-pub headless_front : (rest : List ℕ) → IsHeadless (take 8 rest) → IsHeadless rest
-headless_front rest (inl few) = inl (omega (arith, few, length-take 8 rest))
-headless_front rest (inr (inl unmarked)) = inr (inl (λ marked. unmarked (take-take 4 8 rest (omega arith) ∙ marked)))
-headless_front rest (inr (inr long)) =
-    let room : 8 ≤ length rest = omega (arith, long.0, length-take 8 rest) in
-    inr (inr (room, omega (arith, long.1, length_in_front rest room)))
+length_in_front : (key : LogKeyFields) (rest : List ℕ) → head_len key ≤ length rest → length_at key (take (head_len key) rest) ≡ length_at key rest
+length_in_front key rest room =
+    ap number_in (drop-take (front_len key) 4 rest) ∙ number_in_four (drop (front_len key) rest) (omega (arith, room, length-drop (front_len key) rest))
 
-pub head_front : (rest : List ℕ) (n : ℕ) → IsHead (take 8 rest) n → n ≡ length_at rest
-head_front rest n head = head.is ∙ length_in_front rest (omega (arith, head.room, length-take 8 rest))
+front_in_front : (key : LogKeyFields) (rest : List ℕ) → take (front_len key) (take (head_len key) rest) ≡ take (front_len key) rest
+front_in_front key rest = take-take (front_len key) (head_len key) rest (omega arith)
+
+-- what the head's bytes say of a head, all say
+pub headless_front : (key : LogKeyFields) (place : ℕ) (rest : List ℕ) → IsHeadless key place (take (head_len key) rest) → IsHeadless key place rest
+headless_front key place rest (inl few) = inl (omega (arith, few, length-take (head_len key) rest))
+headless_front key place rest (inr (inl unmarked)) = inr (inl (λ marked. unmarked (front_in_front key rest ∙ marked)))
+headless_front key place rest (inr (inr long)) =
+    let room : head_len key ≤ length rest = omega (arith, long.0, length-take (head_len key) rest) in
+    inr (inr (room, omega (arith, long.1, length_in_front key rest room)))
+
+pub head_front : (key : LogKeyFields) (place : ℕ) (rest : List ℕ) (n : ℕ) → IsHead key place (take (head_len key) rest) n → n ≡ length_at key rest
+head_front key place rest n head = head.is ∙ length_in_front key rest (omega (arith, head.room, length-take (head_len key) rest))
 
 -- ---- by so many bytes as the head says
 
 pub window_end :
-    (key : List ℕ) (place : ℕ) (rest window : List ℕ) (n : ℕ) → n ≡ length_at rest → window ≡ take (40 + n) rest
+    (key : LogKeyFields) (place : ℕ) (rest window : List ℕ) (n : ℕ) → n ≡ length_at key rest → window ≡ take (bytes_beside key + n) rest
     → IsEnd key place window → IsEnd key place rest
 window_end key place rest window n is cut none p short begins =
     none p short (record {
       rest = [];
-      is = cut ∙ ap (λ (m : ℕ). take (40 + m) rest) (is ∙ length_is key place p rest short begins)
-          ∙ ap (λ (l : List ℕ). take (40 + length p) l) begins.is
-          ∙ take_at (chunk_of key place p) begins.rest (40 + length p) (length-chunk key place p)
+      is = cut ∙ ap (λ (m : ℕ). take (bytes_beside key + m) rest) (is ∙ length_is key place p rest short begins)
+          ∙ ap (λ (l : List ℕ). take (bytes_beside key + length p) l) begins.is
+          ∙ take_at (chunk_of key place p) begins.rest (bytes_beside key + length p) (length-chunk key place p)
           ∙ sym (append-nil (chunk_of key place p));
     })
 
 pub window_chunk :
-    (key : List ℕ) (place : ℕ) (rest window p : List ℕ) (w m : ℕ) → window ≡ take w rest → length p ≡ m
-    → window ≡ chunk_of key place p ++ drop (40 + m) window → rest ≡ chunk_of key place p ++ drop (40 + m) rest
+    (key : LogKeyFields) (place : ℕ) (rest window p : List ℕ) (w m : ℕ) → window ≡ take w rest → length p ≡ m
+    → window ≡ chunk_of key place p ++ drop (bytes_beside key + m) window → rest ≡ chunk_of key place p ++ drop (bytes_beside key + m) rest
 window_chunk key place rest window p w m cut long is =
     let chunk : List ℕ = chunk_of key place p in
-    let begins : rest ≡ chunk ++ (drop (40 + m) window ++ drop w rest) =
+    let begins : rest ≡ chunk ++ (drop (bytes_beside key + m) window ++ drop w rest) =
     sym (take-append-drop w rest) ∙ ap (λ (l : List ℕ). l ++ drop w rest) (sym cut ∙ is)
-    ∙ append_assoc chunk (drop (40 + m) window) (drop w rest) in
+    ∙ append_assoc chunk (drop (bytes_beside key + m) window) (drop w rest) in
     begins
     ∙ ap (λ (l : List ℕ). chunk ++ l)
-    (sym (ap (drop (40 + m)) begins
-    ∙ drop_at chunk (drop (40 + m) window ++ drop w rest) (40 + m) (length-chunk key place p ∙ ap (λ (k : ℕ). 40 + k) long)))
+    (sym (ap (drop (bytes_beside key + m)) begins
+    ∙ drop_at chunk (drop (bytes_beside key + m) window ++ drop w rest) (bytes_beside key + m) (length-chunk key place p ∙ ap (λ (k : ℕ). bytes_beside key + k) long)))

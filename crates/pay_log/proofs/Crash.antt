@@ -1,21 +1,22 @@
--- What a crash leaves while a log grows by a chunk, and while it is read and cut.
-use Rattle.std.proofs.Common.{◌≡◌, ℕ, List, [], ◌++◌, length, sym, ◌∙◌, ap, subst, arith, inl, append-nil}
+-- What a crash leaves while a log grows by a chunk.
+use Rattle.std.proofs.Common.{◌≡◌, ℕ, ◌^◌, ◌<◌, List, [], ◌++◌, length, sym, ◌∙◌, ap, subst, arith, inl, append-nil}
 use Rattle.std.specs.List.{All}
-use Rattle.pay_log.specs.Device.{Torn, Cut, Follows, Only}
+use Rattle.pay_log.specs.Device.{Torn, Follows, Only}
 use Rattle.pay_log.specs.Chunks.{chunk_of, IsShort}
+use Rattle.pay_log.specs.Keys.{LogKeyFields}
 use Rattle.pay_log.specs.Logs.{end_place, log_bytes, IsLog, IsWithOrWithout}
 use Rattle.pay_log.specs.Damage.{IsByChance, IsDamaged}
-use Rattle.pay_log.proofs.Behind.{cut_damage, torn_damage}
-use Rattle.pay_log.proofs.Logs.{cut_short, read_again, torn}
+use Rattle.pay_log.proofs.Behind.{torn_damage}
+use Rattle.pay_log.proofs.Logs.{read_again, torn}
 
 -- ---- a chunk more
 
-pub at_rest : (key header : List ℕ) (ps : List (List ℕ)) (p file : List ℕ) → All IsShort ps → file ≡ log_bytes key header ps → IsWithOrWithout key header ps p file
+pub at_rest : (key : LogKeyFields) (header : List ℕ) (ps : List (List ℕ)) (p file : List ℕ) → All IsShort ps → file ≡ log_bytes key header ps → IsWithOrWithout key header ps p file
 at_rest key header ps p file short is = inl (subst (λ (f : List ℕ). IsLog key header f ps) (sym is) (read_again key header ps short))
 
 pub behind :
-    (key header : List ℕ) (ps : List (List ℕ)) (p chunk file : List ℕ) (old new : List ℕ → Type 0) → All IsShort ps → IsShort p → file ≡ log_bytes key header ps
-    → chunk ≡ chunk_of key (end_place ps) p → Only file old → Follows (Torn (length chunk)) old new
+    (key : LogKeyFields) (header : List ℕ) (ps : List (List ℕ)) (p chunk file : List ℕ) (old new : List ℕ → Type 0) → All IsShort ps → IsShort p → file ≡ log_bytes key header ps
+    → chunk ≡ chunk_of key (end_place key ps) p → Only file old → Follows (Torn (length chunk)) old new
     → (c : List ℕ) → new c → IsWithOrWithout key header ps p c
 behind key header ps p chunk file old new short short_p is made only follows c left =
     let from = follows c left in
@@ -23,39 +24,19 @@ behind key header ps p chunk file old new short short_p is made only follows c l
     let whole : c ≡ log_bytes key header ps ++ torn_so.tail = torn_so.is ∙ ap (λ (l : List ℕ). l ++ torn_so.tail) (only from.0 from.1 ∙ is) in
     torn key header ps p c torn_so.tail short short_p whole (omega (arith, torn_so.no_longer, ap length made))
 
--- ---- a cut
-
-pub cut_back :
-    (key header : List ℕ) (ps : List (List ℕ)) (len : ℕ) (file : List ℕ) (old new : List ℕ → Type 0) → IsLog key header file ps
-    → len ≡ length (log_bytes key header ps) → Only file old → Follows (Cut len) old new
-    → (c : List ℕ) → new c → IsLog key header c ps
-cut_back key header ps len file old new is size only follows c left =
-    let from = follows c left in
-    let cut = from.2 in
-    cut_short key header file c ps cut.rest is (sym (only from.0 from.1) ∙ cut.is) (omega (arith, size, cut.no_shorter))
-
 -- ---- damage
 
 pub behind_damage :
-    (key header : List ℕ) (ps : List (List ℕ)) (p chunk file : List ℕ) (old new : List ℕ → Type 0) → All IsShort ps → IsShort p → file ≡ log_bytes key header ps
-    → chunk ≡ chunk_of key (end_place ps) p → Only file old → Follows (Torn (length chunk)) old new
+    (key : LogKeyFields) (header : List ℕ) (ps : List (List ℕ)) (p chunk file : List ℕ) (old new : List ℕ → Type 0) → All IsShort ps → IsShort p → end_place key ps < 2 ^ 64
+    → file ≡ log_bytes key header ps → chunk ≡ chunk_of key (end_place key ps) p → Only file old → Follows (Torn (length chunk)) old new
     → (c : List ℕ) → new c → (count : ℕ) → IsDamaged key header c count → IsByChance key header ps p c
-behind_damage key header ps p chunk file old new short short_p is made only follows c left count =
+behind_damage key header ps p chunk file old new short short_p fits is made only follows c left count =
     let from = follows c left in
     let torn_so = from.2 in
     let whole : c ≡ log_bytes key header ps ++ torn_so.tail = torn_so.is ∙ ap (λ (l : List ℕ). l ++ torn_so.tail) (only from.0 from.1 ∙ is) in
-    torn_damage key header ps p c torn_so.tail count short short_p whole (omega (arith, torn_so.no_longer, ap length made))
+    torn_damage key header ps p c torn_so.tail count short short_p fits whole (omega (arith, torn_so.no_longer, ap length made))
 
-pub rest_damage : (key header : List ℕ) (ps : List (List ℕ)) (p file : List ℕ) → All IsShort ps → IsShort p → file ≡ log_bytes key header ps
-    → (count : ℕ) → IsDamaged key header file count → IsByChance key header ps p file
-rest_damage key header ps p file short short_p is count =
-    torn_damage key header ps p file [] count short short_p (is ∙ sym (append-nil (log_bytes key header ps))) (omega arith)
-
-pub cut_back_damage :
-    (key header : List ℕ) (ps : List (List ℕ)) (len : ℕ) (file : List ℕ) (old new : List ℕ → Type 0) → IsLog key header file ps
-    → len ≡ length (log_bytes key header ps) → Only file old → Follows (Cut len) old new
-    → (c : List ℕ) → new c → (count : ℕ) → IsDamaged key header c count → IsDamaged key header file (length ps)
-cut_back_damage key header ps len file old new is size only follows c left count =
-    let from = follows c left in
-    let cut = from.2 in
-    cut_damage key header file c ps cut.rest count is (sym (only from.0 from.1) ∙ cut.is) (omega (arith, size, cut.no_shorter))
+pub rest_damage : (key : LogKeyFields) (header : List ℕ) (ps : List (List ℕ)) (p file : List ℕ) → All IsShort ps → IsShort p → end_place key ps < 2 ^ 64
+    → file ≡ log_bytes key header ps → (count : ℕ) → IsDamaged key header file count → IsByChance key header ps p file
+rest_damage key header ps p file short short_p fits is count =
+    torn_damage key header ps p file [] count short short_p fits (is ∙ sym (append-nil (log_bytes key header ps))) (omega arith)

@@ -7,3 +7,5 @@ pub mod Moments
 pub mod Taken
 pub mod Headed
 pub mod Found
+pub mod Refusals
+pub mod Copied

@@ -8,12 +8,6 @@ pub record Torn (n : ℕ) (old new : List ℕ) : Type 0 where
   pub is : new ≡ old ++ tail
   pub no_longer : length tail ≤ n
 
--- after a cut: a beginning, of some length between
-pub record Cut (n : ℕ) (old new : List ℕ) : Type 0 where
-  pub rest : List ℕ
-  pub is : old ≡ new ++ rest
-  pub no_shorter : n ≤ length new
-
 -- each new outcome of a crash is an old outcome after a step
 abbrev pub Follows : (List ℕ → List ℕ → Type 0) → (List ℕ → Type 0) → (List ℕ → Type 0) → Type 0
 Follows step old new = (c : List ℕ) → new c → (d : List ℕ) × old d × step d c

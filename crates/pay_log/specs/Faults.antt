@@ -61,4 +61,18 @@ fault_of_device device.Disk = Disk
 
 abbrev pub fault_of_sink : Refused → LogFault
 fault_of_sink sink.Memory = Memory
+fault_of_sink sink.Disk = Disk
 fault_of_sink (sink.Record number) = Illegal number
+
+-- what the reading of a log may end with
+abbrev pub IsReadFault : LogFault → Type 0
+IsReadFault Memory = Unit {0}
+IsReadFault Disk = Unit {0}
+IsReadFault Held = ⊥
+IsReadFault (Foreign part) = Unit {0}
+IsReadFault (Damaged number) = Unit {0}
+IsReadFault (Illegal number) = Unit {0}
+IsReadFault Changed = ⊥
+IsReadFault Forgotten = ⊥
+IsReadFault Missing = ⊥
+IsReadFault Exists = ⊥

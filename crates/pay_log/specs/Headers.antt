@@ -3,6 +3,8 @@
 use Rattle.std.specs.Prelude.{◌≡◌, ◌≢◌, ◌⊎◌, ◌<◌, ℕ, List, [], ◌∷◌, ◌++◌, length, take, drop}
 use Rattle.std.specs.Int.{w16, to_be_bytes}
 use Rattle.pay_log.specs.declared.header.Header.{Header}
+use Rattle.pay_log.specs.declared.key.Format.{Format}
+use Rattle.pay_log.specs.declared.key.Format.TheVariants.{First, Second}
 use Rattle.pay_log.specs.declared.limits.TheConstants.{HEADER_LEN}
 use Rattle.pay_log.specs.declared.mismatch.Mismatch.{Mismatch}
 use Rattle.pay_log.specs.declared.mismatch.Mismatch.TheVariants.{NoLog, Version, Genesis, Member}
@@ -12,21 +14,26 @@ use Rattle.pay_log.specs.declared.mismatch.Mismatch.TheVariants.{Keys}
 abbrev pub magic : List ℕ
 magic = 112 ∷ 97 ∷ 121 ∷ 100 ∷ 32 ∷ 108 ∷ 111 ∷ 103 ∷ []
 
-abbrev pub version : List ℕ
-version = 1 ∷ []
+abbrev pub version : Format → List ℕ
+version First = 1 ∷ []
+version Second = 2 ∷ []
 
-abbrev pub header_bytes : Header → List ℕ
-header_bytes h = magic ++ version ++ h.genesis ++ to_be_bytes w16 h.member ++ h.keys
+abbrev pub header_bytes : Format → Header → List ℕ
+header_bytes format h =
+    magic ++ version format ++ h.genesis ++ to_be_bytes w16 h.member ++ h.keys
 
--- A file begins with another header, and this is the first part that differs.
+-- What begins a file isn't the header of a log in either format.
 abbrev pub IsForeignHeader : Header → List ℕ → Mismatch → Type 0
 IsForeignHeader h file NoLog = (length file < HEADER_LEN) ⊎ (take 8 file ≢ magic)
-IsForeignHeader h file Version = (take 8 file ≡ magic) × (take 1 (drop 8 file) ≢ version)
+IsForeignHeader h file Version =
+    (take 8 file ≡ magic) × ((format : Format) → take 1 (drop 8 file) ≢ version format)
 IsForeignHeader h file Genesis =
-    (take 9 file ≡ magic ++ version) × (take 32 (drop 9 file) ≢ h.genesis)
+    (format : Format) × (take 9 file ≡ magic ++ version format)
+    × (take 32 (drop 9 file) ≢ h.genesis)
 IsForeignHeader h file Member =
-    (take 41 file ≡ magic ++ version ++ h.genesis)
+    (format : Format) × (take 41 file ≡ magic ++ version format ++ h.genesis)
     × (take 2 (drop 41 file) ≢ to_be_bytes w16 h.member)
 IsForeignHeader h file Keys =
-    (take 43 file ≡ magic ++ version ++ h.genesis ++ to_be_bytes w16 h.member)
+    (format : Format)
+    × (take 43 file ≡ magic ++ version format ++ h.genesis ++ to_be_bytes w16 h.member)
     × (take 32 (drop 43 file) ≢ h.keys)

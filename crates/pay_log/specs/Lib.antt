@@ -1,6 +1,7 @@
 pub mod Device
 pub mod Past
 pub mod Memory
+pub mod Keys
 pub mod Headers
 pub mod Faults
 pub mod Chunks

@@ -1,50 +1,48 @@
 //! One chunk as bytes.
 
-ghost use Rattle.std.specs.Prelude.{◌≡◌, ◌+◌, ◌≤◌, ◌++◌, IfOk, IfSome, IfNone, length, slice_range};
-ghost use Rattle.std.specs.Prelude.{◌↔◌, IsTrue, take, drop};
+ghost use Rattle.std.specs.Prelude.{◌≡◌, ◌+◌, ◌≤◌, ◌++◌, ◌↔◌, IfOk, IfSome, IfNone, IsTrue, length};
+ghost use Rattle.std.specs.Prelude.{take, drop};
 ghost use Rattle.pay_hmac.specs.Mac.{mac};
 ghost use Rattle.pay_log.specs.Chunks.{IsEnd, IsHead, IsHeadless, IsShort, chunk_of, length_at};
-ghost use Rattle.pay_log.specs.Chunks.{mark, place_bytes};
+ghost use Rattle.pay_log.specs.Keys.{bytes_beside, front_len, head_len, place_bytes};
 
-use crate::limits::{HEAD_LEN, MOST_PAYLOAD, SUM_LEN};
+use crate::key::LogKey;
+use crate::limits::{MOST_PAYLOAD, SUM_LEN};
 use pay_hmac::{HmacSha256, Tagger};
 use std::alloc::{AllocError, Global};
-
-/// What each chunk begins with.
-const MARK: [u8; 4] = *b"plog";
 
 /// The chunk of a payload at a place.
 #[tactic(auto, unfolding(crate::specs::Chunks::chunk_of))]
 pub(crate) fn encode(
     alloc: Global,
-    key: &[u8; 32],
+    key: &LogKey,
     place: u64,
     payload: &[u8],
 ) -> Result<Vec<u8>, AllocError>
     requires { IsShort payload.now }
     ensures { IfOk result (λ chunk. chunk.items ≡ chunk_of key.now place payload.now) }
 {
-    let mut bytes = Vec::with_capacity(alloc, HEAD_LEN + payload.len() + SUM_LEN)?;
-    bytes.extend_from_slice(&MARK)?;
+    let mut bytes = Vec::with_capacity(alloc, key.head_len() + payload.len() + SUM_LEN)?;
+    key.write_front(place, &mut bytes)?;
     bytes.extend_from_slice(&(payload.len() as u32).to_be_bytes())?;
     bytes.extend_from_slice(payload)?;
-    let sum = HmacSha256.tag(key, &place.to_be_bytes(), &bytes);
+    let sum = HmacSha256.tag(key.bytes(), &place.to_be_bytes(), &bytes);
     bytes.extend_from_slice(&sum)?;
     Ok(bytes)
 }
 
 /// How long the payload of the chunk is whose head stands at the front of these bytes, if one does.
-pub(crate) fn payload_length(bytes: &[u8]) -> Option<usize>
-    ensures some { IfSome result (λ n. IsHead bytes.now n) }
-    ensures none { IfNone result (IsHeadless bytes.now) }
+pub(crate) fn payload_length(key: &LogKey, place: u64, bytes: &[u8]) -> Option<usize>
+    ensures some { IfSome result (λ n. IsHead key.now place bytes.now n) }
+    ensures none { IfNone result (IsHeadless key.now place bytes.now) }
 {
-    if bytes.len() < HEAD_LEN {
+    if bytes.len() < key.head_len() {
         return None;
     }
-    if !has_mark(bytes) {
+    if !key.has_front(place, bytes) {
         return None;
     }
-    let length = length_at(bytes);
+    let length = length_at(key, bytes);
     if length > MOST_PAYLOAD {
         return None;
     }
@@ -52,49 +50,44 @@ pub(crate) fn payload_length(bytes: &[u8]) -> Option<usize>
 }
 
 /// How long the payload of the chunk is that stands at the front of these bytes, if one does.
-pub(crate) fn front(key: &[u8; 32], place: u64, bytes: &[u8]) -> Option<usize>
-    ensures room { IfSome result (λ n. (n ≤ MOST_PAYLOAD) × (40 + n ≤ length bytes.now)) }
+pub(crate) fn front(key: &LogKey, place: u64, bytes: &[u8]) -> Option<usize>
+    ensures room { IfSome result (λ n. (n ≤ MOST_PAYLOAD)
+        × (bytes_beside key.now + n ≤ length bytes.now)) }
     ensures chunk { IfSome result (λ n. bytes.now
-        ≡ chunk_of key.now place (take n (drop 8 bytes.now)) ++ drop (40 + n) bytes.now) }
+        ≡ chunk_of key.now place (take n (drop (head_len key.now) bytes.now))
+        ++ drop (bytes_beside key.now + n) bytes.now) }
     ensures none { IfNone result (IsEnd key.now place bytes.now) }
 {
-    let Some(length) = payload_length(bytes) else {
+    let Some(length) = payload_length(key, place, bytes) else {
         return None;
     };
-    if bytes.len() < HEAD_LEN + SUM_LEN + length {
+    let body_len = key.head_len() + length;
+    if bytes.len() < body_len + SUM_LEN {
         return None;
     }
-    let sum = sum_of(key, place, bytes, HEAD_LEN + length);
-    if has_sum(bytes, HEAD_LEN + length, &sum) {
+    let sum = sum_of(key, place, bytes, body_len);
+    if has_sum(bytes, body_len, &sum) {
         Some(length)
     } else {
         None
     }
 }
 
-// Whether the mark stands at the front.
-fn has_mark(bytes: &[u8]) -> bool
-    requires { 8 ≤ length bytes.now }
-    ensures { IsTrue result ↔ (take 4 bytes.now ≡ mark) }
+// The payload's length, which stands after what a chunk begins with.
+fn length_at(key: &LogKey, bytes: &[u8]) -> usize
+    requires { head_len key.now ≤ length bytes.now }
+    ensures { result ≡ length_at key.now bytes.now }
 {
-    let front = &bytes[..4];
-    front == MARK.as_slice()
-}
-
-// The payload's length, which stands after the mark.
-fn length_at(bytes: &[u8]) -> usize
-    requires { 8 ≤ length bytes.now }
-    ensures { result ≡ length_at bytes.now }
-{
-    u32::from_be_bytes([bytes[4], bytes[5], bytes[6], bytes[7]]) as usize
+    let number = &bytes[key.front_len()..];
+    u32::from_be_bytes([number[0], number[1], number[2], number[3]]) as usize
 }
 
 // The checksum of the first `len` bytes, which stand at a place of the log.
-fn sum_of(key: &[u8; 32], place: u64, bytes: &[u8], len: usize) -> [u8; 32]
+fn sum_of(key: &LogKey, place: u64, bytes: &[u8], len: usize) -> [u8; 32]
     requires { len ≤ length bytes.now }
-    ensures { result ≡ mac key.now (place_bytes place ++ take len bytes.now) }
+    ensures { result ≡ mac key.now.bytes (place_bytes place ++ take len bytes.now) }
 {
-    HmacSha256.tag(key, &place.to_be_bytes(), &bytes[..len])
+    HmacSha256.tag(key.bytes(), &place.to_be_bytes(), &bytes[..len])
 }
 
 // Whether a checksum stands there.

@@ -1,17 +1,18 @@
 //! Whether a chunk stands after a place where none does.
 
 ghost use Rattle.std.specs.Prelude.{◌↔◌, ◌+◌, ◌≤◌, ◌^◌, ◌<◌, IsTrue, length};
-ghost use Rattle.pay_log.specs.Damage.{HasChunkAfter, IsChunkAt};
+ghost use Rattle.pay_log.specs.Damage.{HasChunkIn, IsChunkAt};
 
 use crate::chunk::front;
+use crate::key::LogKey;
 
-/// Looks for a chunk at each byte after the first of these, which stands at this place: most aren't
+/// Looks for a chunk at each of these bytes, of which the first stands at this place: most aren't
 /// its mark.
-pub(crate) fn has_chunk_after(key: &[u8; 32], place: usize, bytes: &[u8]) -> bool
+pub(crate) fn has_chunk_in(key: &LogKey, place: usize, bytes: &[u8]) -> bool
     requires { place < 2 ^ 63 }
-    ensures { IsTrue result ↔ HasChunkAfter key.now place bytes.now }
+    ensures { IsTrue result ↔ HasChunkIn key.now place bytes.now }
 {
-    for at in 1..bytes.len() {
+    for at in 0..bytes.len() {
         if is_chunk_at(key, place, bytes, at) {
             return true;
         }
@@ -20,13 +21,14 @@ pub(crate) fn has_chunk_after(key: &[u8; 32], place: usize, bytes: &[u8]) -> boo
 }
 
 // Whether the bytes from `at` on begin with a chunk.
-fn is_chunk_at(key: &[u8; 32], place: usize, bytes: &[u8], at: usize) -> bool
+fn is_chunk_at(key: &LogKey, place: usize, bytes: &[u8], at: usize) -> bool
     requires place { place < 2 ^ 63 }
     requires at { at ≤ length bytes.now }
     ensures { IsTrue result ↔ IsChunkAt key.now place bytes.now at }
 {
-    match front(key, (place + at) as u64, &bytes[at..]) {
-        Some(_) => true,
+    let rest = &bytes[at..];
+    match key.made_for((place + at) as u64, rest) {
+        Some(made_for) => front(key, made_for, rest).is_some(),
         None => false,
     }
 }

@@ -1,8 +1,8 @@
-//! A file as a log sees it: it grows at its end, may be cut, and a crash may leave any form of what
-//! no sync came after.
+//! A file as a log sees it: it grows at its end, and a crash may leave any form of what no sync
+//! came after.
 
 ghost use Rattle.std.specs.Prelude.{◌≡◌, ◌≤◌, ◌++◌, List, ℕ, length, drop, take, IfOk, OnOk};
-ghost use Rattle.pay_log.specs.Device.{Cut, Elapses, Follows, IsUnchanged, Only, Stays, Torn};
+ghost use Rattle.pay_log.specs.Device.{Elapses, Follows, IsUnchanged, Only, Stays, Torn};
 
 use std::alloc::{AllocError, AllocFailed, Global};
 use thiserror::Error;
@@ -38,10 +38,20 @@ impl<T: Drop> From<AllocFailed<T>> for DeviceFault {
     }
 }
 
-/// A write, a cut or a sync failed.
+/// A write or a sync failed.
 #[derive(Clone, Copy, Debug, PartialEq, Eq, Error)]
 #[error("the disk failed")]
 pub struct DiskFailed;
+
+impl From<DiskFailed> for DeviceFault {
+    ghost use Rattle.pay_log.specs.declared.device.DeviceFault.TheVariants.{Disk};
+
+    ghost from_gives = { λ _ e. e ≡ Disk };
+
+    fn from(_failed: DiskFailed) -> DeviceFault {
+        DeviceFault::Disk
+    }
+}
 
 /// A file.
 pub trait Device {
@@ -75,16 +85,6 @@ pub trait Device {
             OnOk result (seen self.new ≡ seen self.old ++ bytes.now) }
         ensures crash { is_known self.old →
             Follows (Torn (length bytes.now)) (may_leave self.old) (may_leave self.new) }
-        ensures time { is_known self.old → Elapses (moment self.old) (moment self.new)
-            (left_since self.old) (left_since self.new) (may_leave self.new) };
-
-    /// Cuts the file to a length that it has. Until a sync, a crash may leave any length between.
-    fn cut(&mut self, len: usize) -> Result<(), DiskFailed>
-        ensures known { is_known self.old → is_known self.new }
-        ensures cut { is_known self.old → len ≤ length (seen self.old) →
-            OnOk result (seen self.new ≡ take len (seen self.old)) }
-        ensures crash { is_known self.old → len ≤ length (seen self.old) →
-            Follows (Cut len) (may_leave self.old) (may_leave self.new) }
         ensures time { is_known self.old → Elapses (moment self.old) (moment self.new)
             (left_since self.old) (left_since self.new) (may_leave self.new) };
 

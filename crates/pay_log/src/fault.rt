@@ -135,6 +135,7 @@ impl From<Refused> for LogFault {
     fn from(refused: Refused) -> LogFault {
         match refused {
             Refused::Memory => LogFault::Memory,
+            Refused::Disk => LogFault::Disk,
             Refused::Record(number) => LogFault::Illegal(number),
         }
     }

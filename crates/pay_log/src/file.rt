@@ -8,32 +8,16 @@ use std::fs::File;
 use std::io::{ErrorKind, Read, Seek, SeekFrom};
 use std::os::unix::fs::FileExt;
 
-/// An open file. No clause can say what a file has.
+/// An open file, of which so many bytes are the log's. No clause can say what a file has.
 #[derive(Drop)]
 pub struct LogFile {
     file: File,
     len: u64,
-    is_view: bool,
 }
 
 impl LogFile {
-    /// A log in a file of `len` bytes.
     pub(crate) fn new(file: File, len: u64) -> LogFile {
-        LogFile {
-            file,
-            len,
-            is_view: false,
-        }
-    }
-
-    /// The first `len` bytes of a file, as they are now: nothing is written there, and a cut is
-    /// one of what is seen.
-    pub(crate) fn view(file: File, len: u64) -> LogFile {
-        LogFile {
-            file,
-            len,
-            is_view: true,
-        }
+        LogFile { file, len }
     }
 }
 
@@ -71,25 +55,14 @@ impl Device for LogFile {
     }
 
     fn append(&mut self, bytes: &[u8]) -> Result<(), DiskFailed> {
-        if self.is_view || self.file.write_all_at(bytes, self.len).is_err() {
+        if self.file.write_all_at(bytes, self.len).is_err() {
             return Err(DiskFailed);
         }
         self.len = self.len.saturating_add(bytes.len() as u64);
         Ok(())
     }
 
-    fn cut(&mut self, len: usize) -> Result<(), DiskFailed> {
-        if !self.is_view && self.file.set_len(len as u64).is_err() {
-            return Err(DiskFailed);
-        }
-        self.len = len as u64;
-        Ok(())
-    }
-
     fn sync(&mut self) -> Result<(), DiskFailed> {
-        if self.is_view {
-            return Ok(());
-        }
         self.file.sync_data().map_err(|_| DiskFailed)
     }
 }

@@ -2,13 +2,13 @@
 //! out.
 //!
 //! A log that was found is written anew before anything is appended to it, since what a read shows
-//! after a failed write may never have reached the disk. Only the new file loses a torn end, and it
-//! gets the log's name once it is whole.
+//! after a failed write may never have reached the disk. The new file gets the log's name once all
+//! of it is on the disk.
 
 use crate::device::Device;
 use crate::fault::LogFault;
 use crate::file::LogFile;
-use crate::header::Header;
+use crate::limits::HEADER_LEN;
 use std::alloc::Global;
 use std::fs::{DirBuilder, File, OpenOptions, TryLockError};
 use std::io::{ErrorKind, Write};
@@ -44,25 +44,25 @@ pub struct LogLock {
     _found: Option<File>,
 }
 
-/// A log that was made just now: its file, of a header alone.
+/// An empty file for a log that is to be made, and gets its name by [`name_log`].
 #[derive(Drop)]
 pub struct MadeLog {
     pub file: LogFile,
     pub lock: LogLock,
 }
 
-/// A log that was found, and the file into which it was copied, which is still to be read and then
-/// to be settled.
+/// A log that was found, an empty file in which it is to be written anew, and what is still to be
+/// done with both.
 #[derive(Drop)]
 pub struct FoundLog {
-    pub copy: LogFile,
+    pub old: LogFile,
+    pub new: LogFile,
     pub rest: FoundRest,
 }
 
-/// The log as it was found.
+/// What settles a log that was found.
 #[derive(Drop)]
 pub struct FoundRest {
-    found: LogFile,
     lock: LogLock,
     ended: Option<u64>,
 }
@@ -71,33 +71,30 @@ pub struct FoundRest {
 #[derive(Drop)]
 pub struct LogView {
     pub file: LogFile,
-    pub len: u64,
-    pub ended: Option<u64>,
     pub is_held: bool,
+    len: u64,
+    ended: Option<u64>,
 }
 
-/// Makes a log with this header in a folder, which is made too where there is none. A folder that
-/// has or had a log is refused.
+/// An empty file for a log in a folder, which is made too where there is none. A folder that has or
+/// had a log is refused.
 pub fn make_log<R: Files<File = File>>(
     rt: &R,
     alloc: Global,
     path: &str,
-    header: &Header,
 ) -> Result<MadeLog, LogFault> {
     make_folder(rt, path)?;
-    let lock = open_new(rt, alloc, path)?;
+    let new = open_new(rt, alloc, path)?;
     refuse_log(rt, alloc, path)?;
-    let mut file = LogFile::new(again(&lock)?, 0);
-    write_header(alloc, &mut file, header)?;
-    name_log(rt, alloc, path)?;
+    let file = LogFile::new(again(&new)?, 0);
     let lock = LogLock {
-        _log: lock,
+        _log: new,
         _found: None,
     };
     Ok(MadeLog { file, lock })
 }
 
-/// Opens the log in a folder, and copies it into a new file.
+/// Opens the log in a folder, and an empty file beside it.
 pub fn open_log<R: Files<File = File>>(
     rt: &R,
     alloc: Global,
@@ -107,20 +104,24 @@ pub fn open_log<R: Files<File = File>>(
     lock_file(&log)?;
     refuse_other(rt, alloc, path, &log)?;
     let ended = read_ended(rt, alloc, path)?;
-    let lock = open_new(rt, alloc, path)?;
-    let copied = copy_log(rt, alloc, path)?;
-    let copy = LogFile::new(again(&lock)?, copied);
-    let found = LogFile::new(again(&log)?, len_of(&log)?);
+    let new = open_new(rt, alloc, path)?;
+    let files = (
+        LogFile::new(again(&log)?, len_of(&log)?),
+        LogFile::new(again(&new)?, 0),
+    );
     let lock = LogLock {
-        _log: lock,
+        _log: new,
         _found: Some(log),
     };
-    let rest = FoundRest { found, lock, ended };
-    Ok(FoundLog { copy, rest })
+    Ok(FoundLog {
+        old: files.0,
+        new: files.1,
+        rest: FoundRest { lock, ended },
+    })
 }
 
 impl FoundRest {
-    /// Removes the copy: the folder is as it was found.
+    /// Removes the new file: the folder is as it was found.
     pub fn forget<R: Files<File = File>>(
         self,
         rt: &R,
@@ -130,26 +131,47 @@ impl FoundRest {
         remove(rt, alloc, path, NEW_LOG)
     }
 
-    /// Gives the copy the log's name, once all of it up to `end` is on the disk, and keeps what the
-    /// log had behind that, so many bytes. A log that ended cleanly elsewhere stays as it is.
+    /// Gives the new file the log's name, and keeps what the old one has behind so many bytes of
+    /// chunks. A log that ended cleanly elsewhere stays as it is.
     pub fn settle<R: Files<File = File>>(
         self,
         rt: &R,
         alloc: Global,
         path: &str,
-        end: u64,
+        old: LogFile,
+        len: usize,
     ) -> Result<(LogLock, u64), LogFault> {
-        let FoundRest { found, lock, ended } = self;
+        let FoundRest { lock, ended } = self;
+        let end = end_of(len);
         if ended.is_some_and(|ended| ended != end) {
             remove(rt, alloc, path, NEW_LOG)?;
             return Err(LogFault::Changed);
         }
-        let dropped = keep_dropped(rt, alloc, path, found, end)?;
+        let dropped = keep_dropped(rt, alloc, path, old, end)?;
         if ended.is_some() {
             remove(rt, alloc, path, ENDED)?;
         }
         name_log(rt, alloc, path)?;
         Ok((lock, dropped))
+    }
+}
+
+/// Gives the new file the log's name, which is then on the disk, and so is the folder's.
+pub fn name_log<R: Files<File = File>>(rt: &R, alloc: Global, path: &str) -> Result<(), LogFault> {
+    rename(rt, alloc, path, NEW_LOG, LOG)?;
+    sync_folder(rt, path)?;
+    sync_folder(rt, parent(path))
+}
+
+impl LogView {
+    /// How many bytes the log has behind so many bytes of chunks. A log that ended cleanly
+    /// elsewhere is refused.
+    pub fn behind(&self, len: usize) -> Result<u64, LogFault> {
+        let end = end_of(len);
+        if self.ended.is_some_and(|ended| ended != end) {
+            return Err(LogFault::Changed);
+        }
+        Ok(self.len.saturating_sub(end))
     }
 }
 
@@ -164,10 +186,10 @@ pub fn view_log<R: Files<File = File>>(
     let ended = read_ended(rt, alloc, path)?;
     let len = len_of(&log)?;
     Ok(LogView {
-        file: LogFile::view(log, len),
+        file: LogFile::new(log, len),
+        is_held,
         len,
         ended,
-        is_held,
     })
 }
 
@@ -235,24 +257,9 @@ fn open_new<R: Files<File = File>>(rt: &R, alloc: Global, path: &str) -> Result<
     Ok(file)
 }
 
-fn write_header(alloc: Global, file: &mut LogFile, header: &Header) -> Result<(), LogFault> {
-    let bytes = header.encode(alloc)?;
-    file.append(&bytes)?;
-    Ok(file.sync()?)
-}
-
-// Copies the log into the new one, and says how many bytes that has.
-fn copy_log(rt: &impl Files, alloc: Global, path: &str) -> Result<u64, LogFault> {
-    let from = format!(in alloc; "{path}/{LOG}")?;
-    let to = format!(in alloc; "{path}/{NEW_LOG}")?;
-    fs::copy(rt, from.as_str(), to.as_str()).map_err(fault_of)
-}
-
-// Gives the new log its name, which is then on the disk, and so is the folder's.
-fn name_log<R: Files<File = File>>(rt: &R, alloc: Global, path: &str) -> Result<(), LogFault> {
-    rename(rt, alloc, path, NEW_LOG, LOG)?;
-    sync_folder(rt, path)?;
-    sync_folder(rt, parent(path))
+// How long a file is that has so many bytes of chunks.
+fn end_of(len: usize) -> u64 {
+    (len as u64).saturating_add(HEADER_LEN as u64)
 }
 
 fn open_file<R: Files<File = File>>(
@@ -362,11 +369,11 @@ fn keep_dropped<R: Files<File = File>>(
     rt: &R,
     alloc: Global,
     path: &str,
-    found: LogFile,
+    old: LogFile,
     end: u64,
 ) -> Result<u64, LogFault> {
-    let mut found = found;
-    let bytes = found.read(alloc, end as usize, usize::MAX)?;
+    let mut old = old;
+    let bytes = old.read(alloc, end as usize, usize::MAX)?;
     if bytes.is_empty() {
         return Ok(0);
     }

@@ -1,9 +1,11 @@
 //! What a log's file begins with: whose log it is.
 
-ghost use Rattle.std.specs.Prelude.{◌≡◌, ◌↔◌, ◌+◌, ◌≤◌, IfOk, IfSome, IfNone, IsTrue, length, take};
-ghost use Rattle.std.specs.Prelude.{drop};
-ghost use Rattle.pay_log.specs.Headers.{header_bytes, IsForeignHeader};
+ghost use Rattle.std.specs.Prelude.{◌≡◌, ◌≢◌, ◌↔◌, ◌+◌, ◌≤◌, IfErr, IfOk, IfSome, IfNone, IsTrue};
+ghost use Rattle.std.specs.Prelude.{drop, length, take};
+ghost use Rattle.pay_log.specs.Headers.{header_bytes, version, IsForeignHeader};
+ghost use Rattle.pay_log.specs.declared.key.Format.{Format};
 
+use crate::key::Format;
 use crate::limits::HEADER_LEN;
 use crate::mismatch::Mismatch;
 use std::alloc::{AllocError, Global};
@@ -11,8 +13,8 @@ use std::alloc::{AllocError, Global};
 /// The first eight bytes of a log.
 const MAGIC: [u8; 8] = *b"payd log";
 
-/// The version of the format.
-const VERSION: u8 = 1;
+/// The version of the first format, and of the one that is written.
+const VERSIONS: (u8, u8) = (1, 2);
 
 /// Whose log a file is.
 #[derive(Clone, Copy, Debug, PartialEq, Eq)]
@@ -26,44 +28,61 @@ pub struct Header {
 }
 
 impl Header {
-    /// Its 75 bytes.
+    /// Its 75 bytes, of the format that is written.
     pub fn encode(&self, alloc: Global) -> Result<Vec<u8>, AllocError>
-        ensures { IfOk result (λ bytes. bytes.items ≡ header_bytes self.now) }
+        ensures { IfOk result (λ bytes. bytes.items ≡ header_bytes Format.Second self.now) }
     {
         let mut bytes = Vec::with_capacity(alloc, HEADER_LEN)?;
         bytes.extend_from_slice(&MAGIC)?;
-        bytes.push(VERSION)?;
+        bytes.push(VERSIONS.1)?;
         bytes.extend_from_slice(&self.genesis)?;
         bytes.extend_from_slice(&self.member.to_be_bytes())?;
         bytes.extend_from_slice(&self.keys)?;
         Ok(bytes)
     }
 
-    /// What at the front of some bytes isn't as in this header, if anything isn't.
-    pub fn mismatch(&self, front: &[u8]) -> Option<Mismatch>
-        ensures same { IfNone result (take HEADER_LEN front.now ≡ header_bytes self.now) }
-        ensures differs { IfSome result (IsForeignHeader self.now front.now) }
+    /// The format of the log that begins with some bytes, or what there isn't as in this header.
+    pub fn judge(&self, front: &[u8]) -> Result<Format, Mismatch>
+        ensures same { IfOk result (λ format.
+            take HEADER_LEN front.now ≡ header_bytes format self.now) }
+        ensures differs { IfErr result (IsForeignHeader self.now front.now) }
     {
         if front.len() < HEADER_LEN {
-            return Some(Mismatch::NoLog);
+            return Err(Mismatch::NoLog);
         }
         if !is_at(front, 0, &MAGIC) {
-            return Some(Mismatch::NoLog);
+            return Err(Mismatch::NoLog);
         }
-        if !is_at(front, 8, &[VERSION]) {
-            return Some(Mismatch::Version);
-        }
+        let Some(format) = format_at(front) else {
+            return Err(Mismatch::Version);
+        };
         if !is_at(front, 9, &self.genesis) {
-            return Some(Mismatch::Genesis);
+            return Err(Mismatch::Genesis);
         }
         if !is_at(front, 41, &self.member.to_be_bytes()) {
-            return Some(Mismatch::Member);
+            return Err(Mismatch::Member);
         }
         if !is_at(front, 43, &self.keys) {
-            return Some(Mismatch::Keys);
+            return Err(Mismatch::Keys);
         }
-        None
+        Ok(format)
     }
+}
+
+// The format whose version stands after the magic bytes.
+fn format_at(bytes: &[u8]) -> Option<Format>
+    requires { 9 ≤ length bytes.now }
+    ensures some { IfSome result (λ format. take 1 (drop 8 bytes.now) ≡ version format) }
+    ensures none { IfNone result ((format : Format)
+        → take 1 (drop 8 bytes.now) ≢ version format) }
+{
+    if is_at(bytes, 8, &[VERSIONS.0]) {
+        return Some(Format::First);
+    }
+    if is_at(bytes, 8, &[VERSIONS.1]) {
+        return Some(Format::Second);
+    }
+    None
 }
 
 // Whether the bytes from `at` on begin with a part.

@@ -3,9 +3,6 @@
 /// How many bytes a header has.
 pub const HEADER_LEN: usize = 75;
 
-/// How many bytes a chunk's mark and its payload's length take.
-pub(crate) const HEAD_LEN: usize = 8;
-
 /// How many bytes a payload has at most.
 pub const MOST_PAYLOAD: usize = 16_777_216;
 

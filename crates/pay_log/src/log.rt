@@ -1,54 +1,79 @@
-//! A log over a device: it is read once, and then grows by one chunk a call.
+//! A log over a device: it is read once, written anew, and then grows by one chunk a call.
 
-ghost use Rattle.std.specs.Prelude.{◌≡◌, ◌≢◌, ◌⊎◌, ◌++◌, ◌∷◌, [], ℕ, List, IfOk, OnErr, OnOk, true};
-ghost use Rattle.std.specs.Prelude.{take};
+ghost use Rattle.std.specs.Prelude.{◌≡◌, ◌≢◌, ◌⊎◌, ◌++◌, ◌∷◌, [], ℕ, List, IfErr, IfOk, OnErr, OnOk};
+ghost use Rattle.std.specs.Prelude.{false, true, take};
 ghost use Rattle.pay_log.specs.Chunks.{IsShort};
 ghost use Rattle.pay_log.specs.Damage.{IsByChance, IsDamaged};
-ghost use Rattle.pay_log.specs.Device.{IsUnchanged, LeavesOnly, Only};
+ghost use Rattle.pay_log.specs.Device.{IsUnchanged, LeavesOnly};
+ghost use Rattle.pay_log.specs.Faults.{IsReadFault};
 ghost use Rattle.pay_log.specs.Headers.{IsForeignHeader, header_bytes};
-ghost use Rattle.pay_log.specs.Logs.{IsLog, IsSynced, IsWithOrWithout};
-ghost use Rattle.pay_log.specs.Recovery.{IsRecovered, opened_log};
+ghost use Rattle.pay_log.specs.Logs.{IsSynced, IsWithOrWithout};
+ghost use Rattle.pay_log.specs.Recovery.{IsBegun, IsDamagedLog, IsRecovered, IsRefusedLog, key_in};
 ghost use Rattle.pay_log.specs.Sinks.{TakesAll};
 ghost use Rattle.pay_log.specs.declared.mismatch.Mismatch.{Mismatch};
 
 use crate::chunk::encode;
-use crate::device::Device;
+use crate::device::{Device, DeviceFault};
 use crate::fault::LogFault;
 use crate::header::Header;
-use crate::limits::{HEAD_LEN, HEADER_LEN, MOST_PLACE, SUM_LEN};
+use crate::key::{Format, LogKey};
+use crate::limits::{HEADER_LEN, MOST_PLACE};
 use crate::reading::read_log;
-use crate::sink::Sink;
+use crate::sink::{Refused, Sink};
 use std::alloc::Global;
 
 /// A log that is open, with the place after its last chunk.
 #[derive(Drop)]
 pub struct Log<D> {
     device: D,
-    key: [u8; 32],
+    key: LogKey,
     place: u64,
     has_failed: bool,
 }
 
-impl<D: Device> Log<D> {
-    /// The log over a device that was recovered, whose next chunk stands at this place.
-    pub fn new(device: D, key: [u8; 32], place: u64) -> Log<D>
-        ensures { result ≡ opened_log device key place }
+impl<D: Device + Drop> Log<D> {
+    /// A log of no payload in an empty file.
+    pub fn create(
+        alloc: Global,
+        device: D,
+        key: &[u8; 32],
+        header: &Header,
+    ) -> Result<Log<D>, DeviceFault>
+        ensures created { IfOk result (λ log. D.is_known device → D.seen device ≡ [] →
+            IsSynced D.is_known D.seen D.may_leave log (header_bytes Format.Second header.now) []) }
+        ensures key { IfOk result (λ log. log.key ≡ key_in key.now Format.Second) }
     {
-        Log {
+        let mut log = Log::begin(alloc, device, key, header)?;
+        log.device.sync()?;
+        Ok(log)
+    }
+
+    // The same, of which nothing may be on the disk yet.
+    fn begin(
+        alloc: Global,
+        device: D,
+        key: &[u8; 32],
+        header: &Header,
+    ) -> Result<Log<D>, DeviceFault>
+        ensures begun { IfOk result (λ log. D.is_known device → D.seen device ≡ [] →
+            IsBegun D.is_known D.seen log (header_bytes Format.Second header.now)) }
+        ensures key { IfOk result (λ log. log.key ≡ key_in key.now Format.Second) }
+        ensures place { IfOk result (λ log. log.place ≡ 0) }
+        ensures works { IfOk result (λ log. log.has_failed ≡ false) }
+    {
+        let mut device = device;
+        let bytes = header.encode(alloc)?;
+        device.append(&bytes)?;
+        Ok(Log {
             device,
-            key,
-            place,
+            key: LogKey::new(Format::Second, *key),
+            place: 0,
             has_failed: false,
-        }
+        })
     }
+}
 
-    /// Where its next chunk stands: how many bytes of chunks it has.
-    pub fn place(&self) -> u64
-        ensures { result ≡ self.now.place }
-    {
-        self.place
-    }
-
+impl<D: Device> Log<D> {
     /// The device itself.
     pub fn into_device(self) -> D
         ensures { result ≡ self.device }
@@ -92,49 +117,83 @@ impl<D: Device> Log<D> {
         self.has_failed = true;
         self.device.append(&chunk)?;
         self.device.sync()?;
-        self.place += (HEAD_LEN + payload.len() + SUM_LEN) as u64;
+        self.place += chunk.len() as u64;
         self.has_failed = false;
         Ok(())
     }
 }
 
-/// Reads a log that a crash may have left, hands on its payloads, cuts off what is no chunk, and
-/// says at which place the next chunk stands. A crash may end it at any moment: then the file is
-/// the same log.
-pub fn recover<D: Device, S: Sink>(
+/// A log into which the payloads are written that a sink takes.
+#[derive(Drop)]
+struct Copying<D, S> {
+    log: Log<D>,
+    sink: S,
+}
+
+impl<D: Device, S: Sink> Sink for Copying<D, S> {
+    ghost use Rattle.pay_log.specs.Recovery.{IsCopied};
+
+    ghost takes = { λ old new payload. S.takes old.sink new.sink payload
+        × IsCopied D.is_known D.seen old.log new.log payload };
+
+    ghost refuses = { λ old payload number. S.refuses old.sink payload number };
+
+    fn take(&mut self, alloc: Global, payload: &[u8]) -> Result<(), Refused> {
+        self.sink.take(alloc, payload)?;
+        if self.log.place >= MOST_PLACE {
+            return Err(Refused::Disk);
+        }
+        let chunk = encode(alloc, &self.log.key, self.log.place, payload)?;
+        self.log.device.append(&chunk)?;
+        self.log.place += chunk.len() as u64;
+        Ok(())
+    }
+}
+
+/// A log that was written anew, who took its payloads, and how many bytes of chunks the old file
+/// has.
+#[derive(Drop)]
+pub struct Recovered<D, S> {
+    pub log: Log<D>,
+    pub sink: S,
+    pub len: usize,
+}
+
+/// Reads a log that a crash may have left, hands on its payloads, and writes them into an empty
+/// file, without what is no chunk. The old file stays as it is.
+pub fn recover<D: Device + Drop, S: Sink + Drop>(
     alloc: Global,
-    device: &mut D,
+    old: &mut D,
+    new: D,
     key: &[u8; 32],
     header: &Header,
-    sink: &mut S,
-) -> Result<u64, LogFault>
-    ensures fed { OnOk result ((ps : List (List ℕ)) × TakesAll S.takes sink.old sink.new ps) }
-    ensures recovered { IfOk result (λ place. D.is_known device.old →
-        IsRecovered D.is_known D.seen D.may_leave S.takes (header_bytes header.now)
-        (D.seen device.old) sink.old sink.new (opened_log device.new key.now place)) }
-    ensures undamaged { OnOk result (D.is_known device.old → (count : ℕ)
-        → IsDamaged key.now (header_bytes header.now) (D.seen device.old) count → ⊥) }
+    sink: S,
+) -> Result<Recovered<D, S>, LogFault>
+    ensures fed { IfOk result (λ r. (ps : List (List ℕ)) × TakesAll S.takes sink r.sink ps) }
+    ensures recovered { IfOk result (λ r. D.is_known old.old → D.is_known new → D.seen new ≡ [] →
+        IsRecovered D.is_known D.seen D.may_leave S.takes Format.Second header.now
+        (D.seen old.old) sink r.sink r.len r.log) }
+    ensures undamaged { IfOk result (λ _. D.is_known old.old → (count : ℕ)
+        → IsDamagedLog key.now header.now (D.seen old.old) count → ⊥) }
+    ensures key { IfOk result (λ r. r.log.key ≡ key_in key.now Format.Second) }
+    ensures fault { IfErr result IsReadFault }
     ensures foreign { (part : Mismatch) → result ≡ Err (LogFault.Foreign part)
-        → D.is_known device.old
-        → IsForeignHeader header.now (take HEADER_LEN (D.seen device.old)) part }
+        → D.is_known old.old
+        → IsForeignHeader header.now (take HEADER_LEN (D.seen old.old)) part }
     ensures damaged { (count : ℕ) → result ≡ Err (LogFault.Damaged count)
-        → D.is_known device.old
-        → IsDamaged key.now (header_bytes header.now) (D.seen device.old) count }
-    ensures unchanged { OnErr result (result ≢ Err LogFault.Disk → D.is_known device.old →
-        IsUnchanged D.is_known D.seen D.may_leave D.moment D.left_since device.old device.new) }
-    ensures any_moment { (ps : List (List ℕ)) → D.is_known device.old
-        → Only (D.seen device.old) (D.may_leave device.old)
-        → IsLog key.now (header_bytes header.now) (D.seen device.old) ps
-        → LeavesOnly D.moment D.left_since device.old device.new
-        (λ file. IsLog key.now (header_bytes header.now) file ps) }
-    ensures no_damage { D.is_known device.old
-        → Only (D.seen device.old) (D.may_leave device.old)
-        → ((count : ℕ) → IsDamaged key.now (header_bytes header.now) (D.seen device.old) count → ⊥)
-        → LeavesOnly D.moment D.left_since device.old device.new (λ file.
-        (count : ℕ) → IsDamaged key.now (header_bytes header.now) file count → ⊥) }
+        → D.is_known old.old
+        → IsDamagedLog key.now header.now (D.seen old.old) count }
+    ensures illegal { (number : ℕ) → result ≡ Err (LogFault.Illegal number)
+        → D.is_known old.old → IsRefusedLog S.takes S.refuses key.now header.now
+        (D.seen old.old) sink number }
+    ensures unchanged { D.is_known old.old →
+        IsUnchanged D.is_known D.seen D.may_leave D.moment D.left_since old.old old.new }
 {
-    let len = read_log(alloc, device, key, header, sink)?;
-    device.cut(HEADER_LEN + len)?;
-    device.sync()?;
-    Ok(len as u64)
+    let log = Log::begin(alloc, new, key, header)?;
+    let mut copying = Copying { log, sink };
+    let len = read_log(alloc, old, key, header, &mut copying)?;
+    let Copying { log, sink } = copying;
+    let mut log = log;
+    log.device.sync()?;
+    Ok(Recovered { log, sink, len })
 }

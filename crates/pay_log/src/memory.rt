@@ -65,14 +65,6 @@ fn concatenate(alloc: Global, bytes: &[u8], more: &[u8]) -> Result<Vec<u8>, Allo
     Ok(all)
 }
 
-// A copy of the first `len` bytes.
-fn front(alloc: Global, bytes: &[u8], len: usize) -> Result<Vec<u8>, AllocError>
-    requires { len ≤ length bytes.now }
-    ensures { IfOk result (λ all. all.items ≡ take len bytes.now) }
-{
-    bytes[..len].to_vec(alloc)
-}
-
 // So many bytes from a place on, or fewer where they end before.
 fn range(bytes: &[u8], from: usize, most: usize) -> &[u8]
     ensures { result.now ≡ take most (drop from bytes.now) }
@@ -109,19 +101,6 @@ impl Device for MemoryFile {
 
     fn append(&mut self, bytes: &[u8]) -> Result<(), DiskFailed> {
         let Ok(next) = concatenate(self.alloc, &self.bytes, bytes) else {
-            return Err(DiskFailed);
-        };
-        let Ok(_) = replace(self.alloc, &mut self.bytes, &mut self.past, next) else {
-            return Err(DiskFailed);
-        };
-        Ok(())
-    }
-
-    fn cut(&mut self, len: usize) -> Result<(), DiskFailed> {
-        if len >= self.bytes.len() {
-            return Ok(());
-        }
-        let Ok(next) = front(self.alloc, &self.bytes, len) else {
             return Err(DiskFailed);
         };
         let Ok(_) = replace(self.alloc, &mut self.bytes, &mut self.past, next) else {

@@ -4,8 +4,8 @@
 ghost use Rattle.std.specs.Prelude.{[]};
 
 use pay_log::{
-    Device, DeviceFault, DiskFailed, FoundLog, HEADER_LEN, Header, Log, LogFault, LogFile,
-    MOST_PAYLOAD, MadeLog, Mismatch, Payloads, make_log, open_log, recover,
+    Device, DeviceFault, DiskFailed, FoundLog, Header, Log, LogFault, LogFile, MOST_PAYLOAD,
+    MadeLog, Mismatch, Payloads, Recovered, make_log, name_log, open_log, read_log, recover,
 };
 use std::alloc::Global;
 use std::fs;
@@ -25,11 +25,11 @@ const HEADER: Header = Header {
     keys: [3; 32],
 };
 
-/// What is appended, each in one chunk: of 45, 40 and 49 bytes after the header's 75.
+/// What is appended, each in one chunk: of 57, 52 and 61 bytes after the header's 75.
 const TEXTS: &[&str] = &["first", "", "the third"];
 
 /// Where each chunk ends in the file, the header before them.
-const ENDS: &[usize] = &[75, 120, 160, 209];
+const ENDS: &[usize] = &[75, 132, 184, 245];
 
 /// A disk whose call of this number fails, counted from 0: of an append so many bytes are written.
 /// It keeps what a crash leaves.
@@ -93,14 +93,6 @@ impl Device for FailingDisk {
         if fails { Err(DiskFailed) } else { Ok(()) }
     }
 
-    fn cut(&mut self, len: usize) -> Result<(), DiskFailed> {
-        if self.is_failing() {
-            return Err(DiskFailed);
-        }
-        self.bytes.truncate(len);
-        Ok(())
-    }
-
     fn sync(&mut self) -> Result<(), DiskFailed> {
         if self.is_failing() {
             Err(DiskFailed)
@@ -128,37 +120,32 @@ fn texts_in(payloads: &Payloads) -> Option<usize> {
     Some(payloads.items.len())
 }
 
+/// A disk of these bytes that doesn't fail.
+fn sound_disk(alloc: Global, bytes: &[u8]) -> Result<FailingDisk, Fail> {
+    Ok(FailingDisk::new(bytes.to_vec(alloc)?, usize::MAX, 0))
+}
+
 /// What is read again of a file on a disk that doesn't fail.
 fn texts_on(alloc: Global, bytes: &[u8]) -> Result<Option<usize>, Fail> {
-    let mut disk = FailingDisk {
-        bytes: bytes.to_vec(alloc)?,
-        fails: usize::MAX,
-        torn: 0,
-        calls: 0,
-    };
+    let mut disk = sound_disk(alloc, bytes)?;
     let mut payloads = Payloads::new(alloc);
-    recover(alloc, &mut disk, &KEY, &HEADER, &mut payloads)?;
+    read_log(alloc, &mut disk, &KEY, &HEADER, &mut payloads)?;
     Ok(texts_in(&payloads))
 }
 
 /// The log after a crash at the call of this number, where so many bytes of an append were written,
-/// with how many texts were acknowledged, and whether each call failed after one had.
+/// with how many texts were acknowledged, and whether each call failed after one had. Where none
+/// was made, there is no log.
 fn log_after_crash(
     alloc: Global,
     fails: usize,
     torn: usize,
-) -> Result<(Vec<u8>, usize, bool), Fail> {
-    let mut disk = FailingDisk {
-        bytes: HEADER.encode(alloc)?,
-        fails,
-        torn,
-        calls: 0,
+) -> Result<Option<(Vec<u8>, usize, bool)>, Fail> {
+    let disk = FailingDisk::new(Vec::new(alloc), fails, torn);
+    let Ok(log) = Log::create(alloc, disk, &KEY, &HEADER) else {
+        return Ok(None);
     };
-    let mut payloads = Payloads::new(alloc);
-    let Ok(end) = recover(alloc, &mut disk, &KEY, &HEADER, &mut payloads) else {
-        return Ok((HEADER.encode(alloc)?, 0, true));
-    };
-    let mut log = Log::new(disk, KEY, end);
+    let mut log = log;
     let mut acknowledged = 0;
     let mut has_failed = false;
     let mut stops = true;
@@ -172,14 +159,18 @@ fn log_after_crash(
         }
     }
     let disk = log.into_device();
-    Ok((disk.bytes, acknowledged, stops))
+    Ok(Some((disk.bytes, acknowledged, stops)))
 }
 
 #[test]
 fn failing_disk_loses_no_acknowledged_text(rt: HostRuntime) -> Result<(), Fail> {
     for fails in 0..9 {
-        for torn in 0..50 {
-            let (bytes, acknowledged, stops) = log_after_crash(rt.alloc(), fails, torn)?;
+        for torn in 0..62 {
+            let left = log_after_crash(rt.alloc(), fails, torn)?;
+            assert!(rt; left.is_some() == (fails > 1), "call {fails}");
+            let Some((bytes, acknowledged, stops)) = left else {
+                continue;
+            };
             assert!(rt; stops, "call {fails}");
             let read = texts_on(rt.alloc(), &bytes)?;
             let is_right = read == Some(acknowledged)
@@ -190,17 +181,64 @@ fn failing_disk_loses_no_acknowledged_text(rt: HostRuntime) -> Result<(), Fail> 
     Ok(())
 }
 
+/// A log of all texts, by a disk that doesn't fail.
+fn texts_bytes(alloc: Global) -> Result<Vec<u8>, Fail> {
+    match log_after_crash(alloc, usize::MAX, 0)? {
+        Some((bytes, ..)) => Ok(bytes),
+        None => Err(Fail::new("no log")),
+    }
+}
+
+#[test]
+fn log_is_written_anew_or_stays(rt: HostRuntime) -> Result<(), Fail> {
+    let alloc = rt.alloc();
+    let bytes = texts_bytes(alloc)?;
+    for fails in 0..6 {
+        let mut old = sound_disk(alloc, bytes.as_slice())?;
+        let new = FailingDisk::new(Vec::new(alloc), fails, 7);
+        let sink = Payloads::new(alloc);
+        let recovered = recover(alloc, &mut old, new, &KEY, &HEADER, sink);
+        assert!(rt; recovered.is_ok() == (fails > 4), "call {fails}");
+        assert!(rt; old.bytes == bytes, "call {fails}");
+        if let Ok(Recovered { log, sink, len }) = recovered {
+            assert_eq!(rt; texts_in(&sink), Some(3));
+            assert_eq!(rt; len, ENDS[3] - ENDS[0]);
+            assert!(rt; log.into_device().bytes == bytes);
+        }
+    }
+    Ok(())
+}
+
+#[test]
+fn missing_chunk_is_damage(rt: HostRuntime) -> Result<(), Fail> {
+    let alloc = rt.alloc();
+    let bytes = texts_bytes(alloc)?;
+    for missing in 0..3 {
+        let mut rest = bytes[..ENDS[missing]].to_vec(alloc)?;
+        rest.extend_from_slice(&bytes[ENDS[missing + 1]..])?;
+        let mut disk = sound_disk(alloc, rest.as_slice())?;
+        let mut payloads = Payloads::new(alloc);
+        let read = read_log(alloc, &mut disk, &KEY, &HEADER, &mut payloads);
+        let is_right = if missing < 2 {
+            read == Err(LogFault::Damaged(missing as u64))
+        } else {
+            read == Ok(ENDS[2] - ENDS[0])
+        };
+        assert!(rt; is_right, "chunk {missing}");
+    }
+    Ok(())
+}
+
 /// A log that was opened, with how many texts it has, or why it isn't.
 fn open_texts(rt: &HostRuntime) -> Result<Result<(Log<LogFile>, Option<usize>), LogFault>, Fail> {
     let alloc = rt.alloc();
-    let FoundLog { copy, rest } = open_log(rt, alloc, FOLDER)?;
-    let mut copy = copy;
-    let mut payloads = Payloads::new(alloc);
-    match recover(alloc, &mut copy, &KEY, &HEADER, &mut payloads) {
-        Ok(place) => {
-            let end = place.saturating_add(HEADER_LEN as u64);
-            rest.settle(rt, alloc, FOLDER, end)?;
-            Ok(Ok((Log::new(copy, KEY, place), texts_in(&payloads))))
+    let FoundLog { old, new, rest } = open_log(rt, alloc, FOLDER)?;
+    let mut old = old;
+    let payloads = Payloads::new(alloc);
+    match recover(alloc, &mut old, new, &KEY, &HEADER, payloads) {
+        Ok(Recovered { log, sink, len }) => {
+            rest.settle(rt, alloc, FOLDER, old, len)?;
+            Ok(Ok((log, texts_in(&sink))))
         }
         Err(fault) => {
             rest.forget(rt, alloc, FOLDER)?;
@@ -224,7 +262,9 @@ fn make_texts(rt: &HostRuntime) -> Result<bool, Fail> {
     if fs::exists(rt, FOLDER)? {
         fs::remove_dir_all(rt, FOLDER)?;
     }
-    make_log(rt, alloc, FOLDER, &HEADER)?;
+    let MadeLog { file, .. } = make_log(rt, alloc, FOLDER)?;
+    Log::create(alloc, file, &KEY, &HEADER)?;
+    name_log(rt, alloc, FOLDER)?;
     let mut is_right = true;
     for (place, text) in TEXTS.iter().enumerate() {
         let (log, texts) = open_texts(rt)??;
@@ -258,8 +298,8 @@ fn turned_reads_as(at: usize) -> (Result<Option<usize>, LogFault>, usize) {
         9..41 => LogFault::Foreign(Mismatch::Genesis),
         41..43 => LogFault::Foreign(Mismatch::Member),
         43..75 => LogFault::Foreign(Mismatch::Keys),
-        75..120 => LogFault::Damaged(0),
-        120..160 => LogFault::Damaged(1),
+        75..132 => LogFault::Damaged(0),
+        132..184 => LogFault::Damaged(1),
         _ => return (Ok(Some(2)), ENDS[2]),
     };
     (Err(fault), ENDS[3])
@@ -294,11 +334,13 @@ fn folder_has_one_owner(rt: HostRuntime) -> Result<(), Fail> {
         fs::remove_dir_all(&rt, name)?;
     }
     assert_eq!(rt; open_log(&rt, alloc, name).err(), Some(LogFault::Missing));
-    let MadeLog { lock, .. } = make_log(&rt, alloc, name, &HEADER)?;
+    let MadeLog { file, lock } = make_log(&rt, alloc, name)?;
+    Log::create(alloc, file, &KEY, &HEADER)?;
+    name_log(&rt, alloc, name)?;
     assert_eq!(rt; open_log(&rt, alloc, name).err(), Some(LogFault::Held));
     drop(lock);
     assert_eq!(rt;
-        make_log(&rt, alloc, name, &HEADER).err(),
+        make_log(&rt, alloc, name).err(),
         Some(LogFault::Exists)
     );
     assert!(rt; open_log(&rt, alloc, name).is_ok());

@@ -2,6 +2,7 @@
 use Rattle.std.specs.List.{All, flat_map}
 use Rattle.std.specs.Prelude.{◌≡◌, ◌⊎◌, ℕ, List, ◌++◌}
 use Rattle.pay_link.specs.Keys.{KeyFields}
+use Rattle.pay_log.specs.Keys.{LogKeyFields}
 use Rattle.pay_log.specs.Logs.{IsLog, IsStray, IsWithOrWithout}
 use Rattle.pay_member.specs.Member.{MemberFields}
 use Rattle.pay_resume.specs.Resuming.{IsOfRecords, LoggedFields, entries_of_logged, ids_of}
@@ -10,7 +11,7 @@ use Rattle.pay_record.specs.Records.{record_of}
 
 -- A log had acknowledged payloads with the records of some entries, and was appending one with
 -- those of further ones, when a crash left this file.
-pub record WasWriting (k : KeyFields) (key header file : List ℕ)
+pub record WasWriting (k : KeyFields) (key : LogKeyFields) (header file : List ℕ)
     (kept further : List LoggedFields) : Type 0 where
   pub loggable : All (IsLoggable k) kept
   pub others : All (IsLoggable k) further
@@ -27,7 +28,7 @@ pub record HasLogged (logged : List LoggedFields) (m : MemberFields) (ids : List
 -- then all of those under way or none of them; or a checksum fits by chance.
 abbrev pub WrittenIsResumed : Type 0
 WrittenIsResumed =
-    (k : KeyFields) (key header file : List ℕ) (kept further : List LoggedFields)
+    (k : KeyFields) (key : LogKeyFields) (header file : List ℕ) (kept further : List LoggedFields)
     (was : WasWriting k key header file kept further)
     (m : MemberFields) (ids : List ℕ) (qs : List (List ℕ))
     → IsLog key header file qs → IsOfRecords record_of (IsLoggable k) m ids qs

@@ -9,8 +9,10 @@ ghost use Rattle.pay_frame.specs.Lent.{fields_of};
 ghost use Rattle.pay_frame.specs.Reading.{HasFrame};
 ghost use Rattle.pay_link.specs.Checked.{CheckedFields, IsChecked, IsFor};
 ghost use Rattle.pay_link.specs.Keys.{KeyFields};
+ghost use Rattle.pay_log.specs.Chunks.{BeginsWith};
 ghost use Rattle.pay_record.specs.Loggable.{IsFrameRead, IsLoggable, IsReadAs};
 ghost use Rattle.pay_record.specs.Records.{known_bits, record_of};
+ghost use Rattle.pay_resume.specs.Resuming.{LoggedFields};
 
 use crate::limits::{ASK, FRAME, QUERY};
 use crate::numbers::{eight, four, one, two};
@@ -57,6 +59,8 @@ impl<T: Tagger> Records for EntryRecords<'_, T> {
             ≡ record_of (record { entry = r.0; id = r.1 }) ++ drop r.2 bytes.now) }
         ensures loggable { IfOk result (λ r.
             IsLoggable self.now.keys.now (record { entry = r.0; id = r.1 })) }
+        ensures none { result ≡ Err RecordFault.NoRecord → (l : LoggedFields)
+            → IsLoggable self.now.keys.now l → BeginsWith bytes.now (record_of l) → ⊥ }
         ensures read { IsReadAs self.now.keys.now bytes.now result }
     {
         read_record(alloc, self.tagger, self.keys, bytes)

@@ -1,13 +1,13 @@
 -- Records taken one after the other.
 use Rattle.std.proofs.Common.{◌≡◌, ℕ, List, [], ◌∷◌, ◌++◌, Option, None, Some, option_to_list, length, refl, sym, ap, ◌∙◌, subst, arith, append_assoc, append-nil, length-append}
-use Rattle.std.specs.List.{All, filter_map, flat_map}
+use Rattle.std.specs.List.{filter_map, flat_map}
 use Rattle.std.proofs.lemmas.Grind.{flat_map-append}
 use Rattle.std.proofs.lemmas.List.{length-map, map-append}
 use Rattle.std.proofs.lemmas.List.Elements.{All-append, All-cons, All-nil, filter_map-append}
 use Rattle.pay_member.specs.declared.entry.HistoryEntry.{HistoryEntry}
 use Rattle.pay_member.specs.Member.{MemberFields, with_entry}
 use Rattle.pay_log.specs.Sinks.{TakesAll}
-use Rattle.pay_resume.specs.Resuming.{HasResumed, IsOfRecords, IsRefusedAt, IsTaking, LoggedFields, entries_of_logged, id_by, ids_of}
+use Rattle.pay_resume.specs.Resuming.{HasResumed, IsNoneOwed, IsOfRecords, IsRefusedAt, IsTaking, LoggedFields, entries_of_logged, id_by, ids_of}
 
 one_or_none : (o : Option ℕ) → filter_map (λ (x : Option ℕ). x) (o ∷ []) ≡ option_to_list o
 one_or_none None = refl
@@ -70,6 +70,13 @@ all_taken new old (p ∷ ps) takes member ids records record_of IsLoggable stay 
     (one old mid p all.1)
     (subst (λ r. HasResumed (record_of r) (IsLoggable r) (member mid) (member new) (ids mid) (ids new) (flat_map (λ q. q) ps)) (stay old mid p all.1) rest)
 
+-- and has the same records
+pub records_stay :
+    {S R : Type 0} (new old : S) (ps : List (List ℕ)) (takes : S → S → List ℕ → Type 0) (records : S → R)
+    → ((a b : S) (p : List ℕ) → takes a b p → records b ≡ records a) → TakesAll takes old new ps → records new ≡ records old
+records_stay new old [] takes records stay same = ap records same
+records_stay new old (p ∷ ps) takes records stay all = records_stay new all.0 ps takes records stay all.2 ∙ stay old all.0 p all.1
+
 -- of a member that had taken nothing
 pub of_records :
     (record_of : LoggedFields → List ℕ) (IsLoggable : LoggedFields → Type 0) (old new : MemberFields) (ids : List ℕ) (ps : List (List ℕ))
@@ -83,12 +90,14 @@ of_records record_of IsLoggable old new ids ps fresh taken = record {
   records = taken.records;
 }
 
--- how many were taken before one that isn't what belongs there
+-- what was taken before a record that isn't what the member has there
 pub refused_at :
     (record_of : LoggedFields → List ℕ) (IsLoggable : LoggedFields → Type 0) (old mid : MemberFields) (a b : List ℕ) (bytes rest : List ℕ) (number : ℕ)
-    → IsTaking record_of IsLoggable old mid a b bytes rest → length mid.history ≡ number → IsRefusedAt record_of old bytes number
-refused_at record_of IsLoggable old mid a b bytes rest number taking counted = record {
+    → IsTaking record_of IsLoggable old mid a b bytes rest → length mid.history ≡ number → IsNoneOwed record_of IsLoggable mid rest
+    → IsRefusedAt record_of IsLoggable old bytes number
+refused_at record_of IsLoggable old mid a b bytes rest number taking counted wrong = record {
   before = taking.taken.more;
+  loggable = taking.taken.loggable;
   rest = rest;
   is = taking.is ∙ ap (λ (l : List ℕ). l ++ rest) (sym taking.taken.records);
   counted = omega (
@@ -98,4 +107,5 @@ refused_at record_of IsLoggable old mid a b bytes rest number taking counted = r
     length-append old.history (entries_of_logged taking.taken.more),
     length-map taking.taken.more (λ (l : LoggedFields). l.entry),
   );
+  wrong = subst (λ (m : MemberFields). IsNoneOwed record_of IsLoggable m rest) taking.taken.grown wrong;
 }

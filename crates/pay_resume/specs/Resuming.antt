@@ -1,12 +1,22 @@
 -- What a member has taken once records were handed to it, and the ids of its asks.
-use Rattle.std.specs.Prelude.{◌≡◌, ℕ, ◌+◌, List, ◌++◌, length, map, Option, Some, None}
+use Rattle.std.specs.Prelude.{◌≡◌, ◌⊎◌, ℕ, ◌+◌, List, [], ◌∷◌, ◌++◌, length, map, take, drop}
+use Rattle.std.specs.Prelude.{Option, Some, None}
 use Rattle.std.specs.List.{All, filter_map, flat_map}
 use Rattle.pay_member.specs.declared.event.Event.{Event}
 use Rattle.pay_member.specs.declared.event.Event.TheVariants.{Ask, Taken, Query}
 use Rattle.pay_member.specs.declared.entry.HistoryEntry.{HistoryEntry}
 use Rattle.pay_member.specs.Member.{MemberFields}
+use Rattle.pay_member.specs.Events.{events}
+use Rattle.pay_member.specs.Legal.{IsOwed}
+use Rattle.pay_log.specs.declared.header.Header.{Header}
+use Rattle.pay_log.specs.declared.key.Format.{Format}
+use Rattle.pay_log.specs.declared.key.Format.TheVariants.{Second}
+use Rattle.pay_log.specs.declared.limits.TheConstants.{HEADER_LEN}
 use Rattle.pay_log.specs.declared.log.Log.{Log}
-use Rattle.pay_log.specs.Logs.{IsLog, IsSynced}
+use Rattle.pay_log.specs.Chunks.{BeginsWith, chunks_of}
+use Rattle.pay_log.specs.Headers.{header_bytes}
+use Rattle.pay_log.specs.Logs.{IsLog, IsSynced, log_bytes}
+use Rattle.pay_log.specs.Recovery.{key_in}
 
 -- an entry as it stands in a log: with the id under which its owner asked for it, if it is an ask
 pub record LoggedFields : Type 0 where
@@ -43,13 +53,24 @@ pub record IsTaking (record_of : LoggedFields → List ℕ) (IsLoggable : Logged
   pub taken : HasResumed record_of IsLoggable old new old_ids new_ids done
   pub is : bytes ≡ done ++ rest
 
+-- No record stands at the front of these bytes, or that of an entry that the member doesn't owe.
+abbrev pub IsNoneOwed :
+    (LoggedFields → List ℕ) → (LoggedFields → Type 0) → MemberFields → List ℕ → Type 0
+IsNoneOwed record_of IsLoggable m bytes =
+    ((l : LoggedFields) → IsLoggable l → BeginsWith bytes (record_of l) → ⊥)
+    ⊎ ((l : LoggedFields) × IsLoggable l × BeginsWith bytes (record_of l)
+    × (IsOwed m.genesis m.keys (events m.history) l.entry → ⊥))
+
 -- A record isn't what the member has there: so many entries were taken before it.
-pub record IsRefusedAt (record_of : LoggedFields → List ℕ) (old : MemberFields) (bytes : List ℕ)
-    (number : ℕ) : Type 0 where
+pub record IsRefusedAt (record_of : LoggedFields → List ℕ) (IsLoggable : LoggedFields → Type 0)
+    (old : MemberFields) (bytes : List ℕ) (number : ℕ) : Type 0 where
   pub before : List LoggedFields
+  pub loggable : All IsLoggable before
   pub rest : List ℕ
   pub is : bytes ≡ flat_map record_of before ++ rest
   pub counted : length old.history + length before ≡ number
+  pub wrong : IsNoneOwed record_of IsLoggable
+      (record old { history = old.history ++ entries_of_logged before }) rest
 
 -- A member and the ids of its asks are those of the records in these payloads, each of an entry
 -- that a record tells all of.
@@ -61,12 +82,37 @@ pub record IsOfRecords (record_of : LoggedFields → List ℕ) (IsLoggable : Log
   pub ids_are : ids ≡ ids_of logged
   pub records : flat_map record_of logged ≡ flat_map (λ p. p) ps
 
--- A file was the log of a member's records, and the log is settled with them.
+-- A file was the log of a member's records, with so many bytes of chunks.
+pub record IsLogOf (record_of : LoggedFields → List ℕ) (IsLoggable : LoggedFields → Type 0)
+    (key : List ℕ) (header : Header) (file : List ℕ) (m : MemberFields) (ids : List ℕ) (len : ℕ)
+    (ps : List (List ℕ)) : Type 0 where
+  pub format : Format
+  pub was : IsLog (key_in key format) (header_bytes format header) file ps
+  pub size : HEADER_LEN + len
+      ≡ length (log_bytes (key_in key format) (header_bytes format header) ps)
+  pub records : IsOfRecords record_of IsLoggable m ids ps
+
+-- And the new log is synced with them.
 pub record IsResumed {D : Type 0} (is_known : D → Type 0) (seen : D → List ℕ)
     (may_leave : D → List ℕ → Type 0) (record_of : LoggedFields → List ℕ)
-    (IsLoggable : LoggedFields → Type 0) (header file : List ℕ) (m : MemberFields) (ids : List ℕ)
-    (log : Log D) : Type 0 where
+    (IsLoggable : LoggedFields → Type 0) (header : Header) (file : List ℕ) (m : MemberFields)
+    (ids : List ℕ) (len : ℕ) (log : Log D) : Type 0 where
   pub ps : List (List ℕ)
-  pub was : IsLog log.key header file ps
-  pub records : IsOfRecords record_of IsLoggable m ids ps
-  pub settled : IsSynced is_known seen may_leave log header ps
+  pub was : IsLogOf record_of IsLoggable log.key.bytes header file m ids len ps
+  pub settled : IsSynced is_known seen may_leave log (header_bytes Second header) ps
+
+-- In a log, after payloads that a member took, one stands whose record of this number isn't what the
+-- member has there.
+pub record IsIllegalLog (record_of : LoggedFields → List ℕ) (IsLoggable : LoggedFields → Type 0)
+    (key : List ℕ) (header : Header) (file : List ℕ) (old : MemberFields) (number : ℕ)
+    : Type 0 where
+  pub format : Format
+  pub before : List (List ℕ)
+  pub payload : List ℕ
+  pub headed : take HEADER_LEN file ≡ header_bytes format header
+  pub stands : BeginsWith (drop HEADER_LEN file)
+      (chunks_of (key_in key format) 0 (before ++ payload ∷ []))
+  pub at : MemberFields
+  pub ids : List ℕ
+  pub taken : HasResumed record_of IsLoggable old at [] ids (flat_map (λ p. p) before)
+  pub refused : IsRefusedAt record_of IsLoggable at payload number

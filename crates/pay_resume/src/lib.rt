@@ -2,7 +2,7 @@
 //! history stands in memory beside the member.
 //!
 //! ```
-//! let resumed = resume(alloc, &mut device, &log_key, &header, &genesis, &keys, &records)?;
+//! let (resumed, log) = resume(alloc, &mut old, new, &key, &header, member, &records)?;
 //! ```
 #![tactic(auto)]
 
@@ -11,4 +11,4 @@ mod resuming;
 mod taking;
 
 pub use records::{RecordFault, Records};
-pub use resuming::{Resumed, resume};
+pub use resuming::{Resumed, resume, view};

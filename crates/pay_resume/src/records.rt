@@ -1,4 +1,5 @@
 ghost use Rattle.std.specs.Prelude.{◌≡◌, ◌++◌, ◌≤◌, ◌<◌, ℕ, List, IfOk, length, drop};
+ghost use Rattle.pay_log.specs.Chunks.{BeginsWith};
 ghost use Rattle.pay_resume.specs.Resuming.{LoggedFields};
 
 use pay_member::HistoryEntry;
@@ -51,5 +52,7 @@ pub trait Records {
         ensures record { IfOk result (λ r. bytes.now
             ≡ record_of self.now (record { entry = r.0; id = r.1 }) ++ drop r.2 bytes.now) }
         ensures loggable { IfOk result (λ r.
-            is_loggable self.now (record { entry = r.0; id = r.1 })) };
+            is_loggable self.now (record { entry = r.0; id = r.1 })) }
+        ensures none { result ≡ Err RecordFault.NoRecord → (l : LoggedFields)
+            → is_loggable self.now l → BeginsWith bytes.now (record_of self.now l) → ⊥ };
 }

@@ -1,8 +1,10 @@
 //! Records that a member takes once more.
 
-ghost use Rattle.std.specs.Prelude.{◌≡◌, ◌++◌, ◌≤◌, ℕ, IfOk, OnOk, length, drop};
+ghost use Rattle.std.specs.Prelude.{◌≡◌, ◌++◌, ◌≤◌, ℕ, IfOk, OnOk, false, length, drop};
 ghost use Rattle.std.specs.Bool.{OnTrue};
 ghost use Rattle.std.specs.Option.{option_to_list};
+ghost use Rattle.pay_member.specs.Events.{events};
+ghost use Rattle.pay_member.specs.Legal.{IsOwed};
 ghost use Rattle.pay_member.specs.Member.{with_entry};
 ghost use Rattle.pay_resume.specs.Resuming.{HasResumed, IsRefusedAt, id_by};
 
@@ -25,7 +27,8 @@ pub(crate) fn take_payload<I: Instance + Drop, B: Settle + Drop, R: Records>(
     ensures taken { OnOk result (HasResumed (R.record_of records.now) (R.is_loggable records.now)
         member.old member.new ids.old.items ids.new.items payload.now) }
     ensures refused { (number : ℕ) → result ≡ Err (Refused.Record number) →
-        IsRefusedAt (R.record_of records.now) member.old payload.now number }
+        IsRefusedAt (R.record_of records.now) (R.is_loggable records.now) member.old payload.now
+        number }
 {
     let mut rest = payload;
     while !rest.is_empty() {
@@ -70,7 +73,10 @@ fn take_again<I: Instance + Drop, B: Settle + Drop>(
     member: &mut Member<I, B>,
     entry: HistoryEntry,
 ) -> Result<bool, AllocError>
-    ensures { IfOk result (λ owed. OnTrue owed (member.new ≡ with_entry member.old entry)) }
+    ensures owed { IfOk result (λ owed.
+        OnTrue owed (member.new ≡ with_entry member.old entry)) }
+    ensures other { result ≡ Ok false → IsOwed member.old.genesis member.old.keys
+        (events member.old.history) entry → ⊥ }
 {
     let HistoryEntry {
         stamp,

@@ -1,22 +1,22 @@
 //! The folder in which a member is kept.
 
-ghost use Rattle.std.specs.Prelude.{◌≡◌, IfOk};
+ghost use Rattle.std.specs.Prelude.{◌≡◌, ◌⊎◌, [], IfOk};
 ghost use Rattle.pay_link.specs.Keys.{IsKeysOf};
 ghost use Rattle.pay_member.specs.Events.{events};
 ghost use Rattle.pay_member.specs.Group.{group_in};
 ghost use Rattle.pay_member.specs.Remembering.{Remembers};
 
-use crate::tagger_of;
+use crate::{OwnMember, tagger_of};
 use pay_echo::MaskInstance;
 use pay_hmac::PreparedHmac;
-use pay_kept::{Restarted, restart};
+use pay_kept::{Restarted, begin, restart, view_log_of};
 use pay_link::{Genesis, Keys};
 use pay_log::{
-    FoundLog, HEADER_LEN, LogFault, LogFile, LogLock, LogView, MadeLog, make_log, open_log,
-    view_log,
+    FoundLog, FoundRest, LogFault, LogFile, LogLock, LogView, MadeLog, make_log, name_log,
+    open_log, view_log,
 };
 use pay_pending::WaitingBook;
-use pay_record::log_header;
+use pay_resume::Resumed;
 use std::alloc::Global;
 use std::fs::File;
 use std::rt::Files;
@@ -54,27 +54,24 @@ pub(crate) fn open_member<R: Files<File = File>>(
     requires { IsKeysOf genesis.now keys.now }
     ensures genesis { IfOk result (λ opened. opened.kept.member.genesis ≡ genesis.now) }
     ensures keys { IfOk result (λ opened. opened.kept.member.keys ≡ keys.now) }
+    ensures remembers { IfOk result (λ opened. (opened.kept.member.history ≡ [])
+        ⊎ Remembers (group_in genesis.now keys.now.own) (events opened.kept.member.history)) }
 {
-    let tagger = tagger_of(alloc, keys)?;
     if makes_new {
-        let header = log_header(alloc, genesis, keys)?;
-        let MadeLog { file, lock } = make_log(rt, alloc, path, &header)?;
+        let MadeLog { file, lock } = make_log(rt, alloc, path)?;
+        let kept = begin(alloc, file, genesis, keys)?;
+        name_log(rt, alloc, path)?;
         return Ok(Opened {
-            kept: restart(alloc, file, &tagger, genesis, keys)?,
+            kept,
             found: FoundAs::New,
             lock,
         });
     }
-    let FoundLog { copy, rest } = open_log(rt, alloc, path)?;
-    match restart_remembering(alloc, copy, &tagger, genesis, keys) {
-        Ok(kept) => {
-            let (lock, dropped) = rest.settle(rt, alloc, path, end_of(&kept))?;
-            Ok(Opened {
-                kept,
-                found: FoundAs::Log { dropped },
-                lock,
-            })
-        }
+    let tagger = tagger_of(alloc, keys)?;
+    let FoundLog { old, new, rest } = open_log(rt, alloc, path)?;
+    let mut old = old;
+    match restart(alloc, &mut old, new, &tagger, genesis, keys) {
+        Ok(kept) => settled(rt, alloc, path, old, rest, kept),
         Err(fault) => {
             rest.forget(rt, alloc, path)?;
             Err(fault)
@@ -82,32 +79,29 @@ pub(crate) fn open_member<R: Files<File = File>>(
     }
 }
 
-// A member as its log has it, unless that is older than what the group has settled for it.
-fn restart_remembering(
+// The member of a log that was written anew, which gets the old one's name.
+fn settled<R: Files<File = File>>(
+    rt: &R,
     alloc: Global,
-    file: LogFile,
-    tagger: &PreparedHmac,
-    genesis: &Genesis,
-    keys: &Keys,
-) -> Result<KeptMember, LogFault>
-    requires { IsKeysOf genesis.now keys.now }
-    ensures genesis { IfOk result (λ kept. kept.member.genesis ≡ genesis.now) }
-    ensures keys { IfOk result (λ kept. kept.member.keys ≡ keys.now) }
-    ensures remembers { IfOk result (λ kept.
-        Remembers (group_in kept.member.genesis kept.member.keys.own)
-        (events kept.member.history)) }
+    path: &str,
+    old: LogFile,
+    rest: FoundRest,
+    kept: KeptMember,
+) -> Result<Opened, LogFault>
+    ensures { IfOk result (λ opened. opened.kept ≡ kept) }
 {
-    let kept = restart(alloc, file, tagger, genesis, keys)?;
-    if kept.member.has_forgotten() {
-        return Err(LogFault::Forgotten);
-    }
-    Ok(kept)
+    let (lock, dropped) = rest.settle(rt, alloc, path, old, kept.len)?;
+    Ok(Opened {
+        kept,
+        found: FoundAs::Log { dropped },
+        lock,
+    })
 }
 
 /// A member as its log has it at this moment, whoever has the log.
 #[derive(Drop)]
 pub(crate) struct Viewed {
-    pub(crate) kept: KeptMember,
+    pub(crate) member: OwnMember,
     /// Whether another process has the log.
     pub(crate) is_held: bool,
     /// How many bytes the log has behind its last chunk.
@@ -123,29 +117,15 @@ pub(crate) fn view_member<R: Files<File = File>>(
     path: &str,
 ) -> Result<Viewed, LogFault>
     requires { IsKeysOf genesis.now keys.now }
-    ensures genesis { IfOk result (λ viewed. viewed.kept.member.genesis ≡ genesis.now) }
-    ensures keys { IfOk result (λ viewed. viewed.kept.member.keys ≡ keys.now) }
+    ensures genesis { IfOk result (λ viewed. viewed.member.genesis ≡ genesis.now) }
+    ensures keys { IfOk result (λ viewed. viewed.member.keys ≡ keys.now) }
 {
-    let tagger = tagger_of(alloc, keys)?;
-    let LogView {
-        file,
-        len,
-        ended,
-        is_held,
-    } = view_log(rt, alloc, path)?;
-    let kept = restart(alloc, file, &tagger, genesis, keys)?;
-    let end = end_of(&kept);
-    if ended.is_some_and(|ended| ended != end) {
-        return Err(LogFault::Changed);
-    }
+    let tagger: PreparedHmac = tagger_of(alloc, keys)?;
+    let mut view: LogView = view_log(rt, alloc, path)?;
+    let Resumed { member, len, .. } = view_log_of(alloc, &mut view.file, &tagger, genesis, keys)?;
     Ok(Viewed {
-        kept,
-        is_held,
-        behind: len.saturating_sub(end),
+        member,
+        is_held: view.is_held,
+        behind: view.behind(len)?,
     })
-}
-
-// How many bytes of the log are its header and its chunks.
-fn end_of(kept: &KeptMember) -> u64 {
-    kept.following.place().saturating_add(HEADER_LEN as u64)
 }

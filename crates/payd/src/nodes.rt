@@ -247,6 +247,7 @@ where
         member,
         ids,
         following,
+        ..
     } = kept;
     let tagger = tagger_of(alloc, member.keys())?;
     let found = Found::of(&member, found);
@@ -321,12 +322,12 @@ where
     let genesis = genesis_of(alloc, rt, Some(genesis))?;
     let keys = keys_of(alloc, rt, &genesis, Some(keys))?;
     let Viewed {
-        kept,
+        member,
         is_held,
         behind,
     } = view_member(alloc, rt, &genesis, &keys, folder)?;
     say_view(rt, is_held, behind);
-    Ok(print_export(rt, &kept.member)?)
+    Ok(print_export(rt, &member)?)
 }
 
 /// Writes a member's export as a line. It takes no memory, so that memory which is refused at the

@@ -1,217 +1,70 @@
-use Rattle.std.proofs.Common.{◌≡◌, ◌+◌, ◌≤◌, ℕ, List, length, take, refl, sym, ap, ◌∙◌, subst, arith}
-use Rattle.pay_log.specs.Damage.{IsDamaged}
+use Rattle.std.proofs.Common.{◌≡◌, ◌++◌, ℕ, List, length, rules, sym, ap, ◌∙◌, subst}
+use Rattle.pay_log.specs.Chunks.{chunks_of, last_place}
 use Rattle.pay_log.specs.Headers.{header_bytes}
+use Rattle.pay_log.specs.Keys.{LogKeyFields}
 use Rattle.pay_log.specs.Logs.{IsLog, log_bytes}
-use Rattle.pay_log.proofs.Crash.{cut_back, cut_back_damage}
+use Rattle.pay_log.specs.Recovery.{key_in}
+use Rattle.pay_log.specs.declared.key.Format.TheVariants.{Second}
+use Rattle.pay_log.proofs.Copied.{all_grown, all_taken}
 use Rattle.pay_log.proofs.Found.{read_sound}
-use Rattle.pay_log.proofs.Logs.{cut_log, log_within, one_log}
-use Rattle.pay_log.proofs.Moments.{goes_on, leaves_so}
 use Rattle.pay_log.proofs.log.recover.Goals as goal
 
-pub returns-in_err-len-clause-any_moment : goal.returns-in_err-len-clause-any_moment
-returns-in_err-len-clause-any_moment g c ps known only is =
-    let key = c.args.key.now in
-    let header : List ℕ = header_bytes c.args.header.now in
-    let old = c.args.device.now in
-    let file : List ℕ = g.D.Device.seen old in
-    let same = c.read_log.ensures.unchanged known in
-    let P : List ℕ → Type 0 = λ (f : List ℕ). IsLog key header f ps in
-    let still : (f : List ℕ) → g.D.Device.may_leave old f → P f = λ f left. subst P (sym (only f left)) is in
-    let first = leaves_so g.D.Device.moment g.D.Device.left_since old c.read_log.new.device (g.D.Device.may_leave old) P same.time still in
-    first
-
-pub returns-in_err-cut-clause-any_moment : goal.returns-in_err-cut-clause-any_moment
-returns-in_err-cut-clause-any_moment g c ps known only is =
-    let key = c.args.key.now in
-    let header : List ℕ = header_bytes c.args.header.now in
-    let old = c.args.device.now in
-    let file : List ℕ = g.D.Device.seen old in
-    let same = c.read_log.ensures.unchanged known in
-    let P : List ℕ → Type 0 = λ (f : List ℕ). IsLog key header f ps in
-    let still : (f : List ℕ) → g.D.Device.may_leave old f → P f = λ f left. subst P (sym (only f left)) is in
-    let first = leaves_so g.D.Device.moment g.D.Device.left_since old c.read_log.new.device (g.D.Device.may_leave old) P same.time still in
-    let read = c.in_ok-len.ensures.read known in
-    let len : ℕ = 75 + c.in_ok-len.len in
-    let size : len ≡ length (log_bytes key header read.ps) = read.size in
-    let inside : len ≤ length (g.D.Device.seen c.read_log.new.device) =
-    omega (arith, log_within key header file read.ps len read.log size, ap length same.seen_same) in
-    let now : (f : List ℕ) → g.D.Device.may_leave c.read_log.new.device f → f ≡ file = λ f left. only f (same.crash f left) in
-    let ps_same = one_log key header file read.ps ps read.log is in
-    let cut : (f : List ℕ) → g.D.Device.may_leave c.cut.new.self f → P f =
-    cut_back key header ps len file (g.D.Device.may_leave c.read_log.new.device) (g.D.Device.may_leave c.cut.new.self) is
-    (size ∙ ap (λ l. length (log_bytes key header l)) ps_same) now (c.cut.ensures.crash same.known inside) in
-    let was_cut = goes_on g.D.Device.moment g.D.Device.left_since old c.read_log.new.device c.cut.new.self P (g.D.Device.may_leave c.cut.new.self) first
-    (c.cut.ensures.time same.known) cut in
-    was_cut
-
-pub returns-in_err-sync-clause-any_moment : goal.returns-in_err-sync-clause-any_moment
-returns-in_err-sync-clause-any_moment g c ps known only is =
-    let key = c.args.key.now in
-    let header : List ℕ = header_bytes c.args.header.now in
-    let old = c.args.device.now in
-    let file : List ℕ = g.D.Device.seen old in
-    let same = c.read_log.ensures.unchanged known in
-    let P : List ℕ → Type 0 = λ (f : List ℕ). IsLog key header f ps in
-    let still : (f : List ℕ) → g.D.Device.may_leave old f → P f = λ f left. subst P (sym (only f left)) is in
-    let first = leaves_so g.D.Device.moment g.D.Device.left_since old c.read_log.new.device (g.D.Device.may_leave old) P same.time still in
-    let read = c.in_ok-len.ensures.read known in
-    let len : ℕ = 75 + c.in_ok-len.len in
-    let size : len ≡ length (log_bytes key header read.ps) = read.size in
-    let inside : len ≤ length (g.D.Device.seen c.read_log.new.device) =
-    omega (arith, log_within key header file read.ps len read.log size, ap length same.seen_same) in
-    let now : (f : List ℕ) → g.D.Device.may_leave c.read_log.new.device f → f ≡ file = λ f left. only f (same.crash f left) in
-    let ps_same = one_log key header file read.ps ps read.log is in
-    let cut : (f : List ℕ) → g.D.Device.may_leave c.cut.new.self f → P f =
-    cut_back key header ps len file (g.D.Device.may_leave c.read_log.new.device) (g.D.Device.may_leave c.cut.new.self) is
-    (size ∙ ap (λ l. length (log_bytes key header l)) ps_same) now (c.cut.ensures.crash same.known inside) in
-    let was_cut = goes_on g.D.Device.moment g.D.Device.left_since old c.read_log.new.device c.cut.new.self P (g.D.Device.may_leave c.cut.new.self) first
-    (c.cut.ensures.time same.known) cut in
-    let known_2 = c.cut.ensures.known same.known in
-    goes_on g.D.Device.moment g.D.Device.left_since old c.cut.new.self c.sync.new.self P (g.D.Device.may_leave c.sync.new.self) was_cut
-    (c.sync.ensures.time known_2) (λ f left. cut f (c.sync.ensures.crash known_2 f left))
-
-pub returns-clause-any_moment : goal.returns-clause-any_moment
-returns-clause-any_moment g c ps known only is =
-    let key = c.args.key.now in
-    let header : List ℕ = header_bytes c.args.header.now in
-    let old = c.args.device.now in
-    let file : List ℕ = g.D.Device.seen old in
-    let same = c.read_log.ensures.unchanged known in
-    let P : List ℕ → Type 0 = λ (f : List ℕ). IsLog key header f ps in
-    let still : (f : List ℕ) → g.D.Device.may_leave old f → P f = λ f left. subst P (sym (only f left)) is in
-    let first = leaves_so g.D.Device.moment g.D.Device.left_since old c.read_log.new.device (g.D.Device.may_leave old) P same.time still in
-    let read = c.in_ok-len.ensures.read known in
-    let len : ℕ = 75 + c.in_ok-len.len in
-    let size : len ≡ length (log_bytes key header read.ps) = read.size in
-    let inside : len ≤ length (g.D.Device.seen c.read_log.new.device) =
-    omega (arith, log_within key header file read.ps len read.log size, ap length same.seen_same) in
-    let now : (f : List ℕ) → g.D.Device.may_leave c.read_log.new.device f → f ≡ file = λ f left. only f (same.crash f left) in
-    let ps_same = one_log key header file read.ps ps read.log is in
-    let cut : (f : List ℕ) → g.D.Device.may_leave c.cut.new.self f → P f =
-    cut_back key header ps len file (g.D.Device.may_leave c.read_log.new.device) (g.D.Device.may_leave c.cut.new.self) is
-    (size ∙ ap (λ l. length (log_bytes key header l)) ps_same) now (c.cut.ensures.crash same.known inside) in
-    let was_cut = goes_on g.D.Device.moment g.D.Device.left_since old c.read_log.new.device c.cut.new.self P (g.D.Device.may_leave c.cut.new.self) first
-    (c.cut.ensures.time same.known) cut in
-    let known_2 = c.cut.ensures.known same.known in
-    goes_on g.D.Device.moment g.D.Device.left_since old c.cut.new.self c.sync.new.self P (g.D.Device.may_leave c.sync.new.self) was_cut
-    (c.sync.ensures.time known_2) (λ f left. cut f (c.sync.ensures.crash known_2 f left))
-
-pub returns-in_err-len-clause-no_damage : goal.returns-in_err-len-clause-no_damage
-returns-in_err-len-clause-no_damage g c known only none =
-    let key = c.args.key.now in
-    let header : List ℕ = header_bytes c.args.header.now in
-    let old = c.args.device.now in
-    let file : List ℕ = g.D.Device.seen old in
-    let same = c.read_log.ensures.unchanged known in
-    let P : List ℕ → Type 0 = λ (f : List ℕ). (count : ℕ) → IsDamaged key header f count → ⊥ in
-    let still : (f : List ℕ) → g.D.Device.may_leave old f → P f = λ f left. subst P (sym (only f left)) none in
-    let first = leaves_so g.D.Device.moment g.D.Device.left_since old c.read_log.new.device (g.D.Device.may_leave old) P same.time still in
-    first
-
-pub returns-in_err-cut-clause-no_damage : goal.returns-in_err-cut-clause-no_damage
-returns-in_err-cut-clause-no_damage g c known only none =
-    let key = c.args.key.now in
-    let header : List ℕ = header_bytes c.args.header.now in
-    let old = c.args.device.now in
-    let file : List ℕ = g.D.Device.seen old in
-    let same = c.read_log.ensures.unchanged known in
-    let P : List ℕ → Type 0 = λ (f : List ℕ). (count : ℕ) → IsDamaged key header f count → ⊥ in
-    let still : (f : List ℕ) → g.D.Device.may_leave old f → P f = λ f left. subst P (sym (only f left)) none in
-    let first = leaves_so g.D.Device.moment g.D.Device.left_since old c.read_log.new.device (g.D.Device.may_leave old) P same.time still in
-    let read = c.in_ok-len.ensures.read known in
-    let len : ℕ = 75 + c.in_ok-len.len in
-    let size : len ≡ length (log_bytes key header read.ps) = read.size in
-    let inside : len ≤ length (g.D.Device.seen c.read_log.new.device) =
-    omega (arith, log_within key header file read.ps len read.log size, ap length same.seen_same) in
-    let now : (f : List ℕ) → g.D.Device.may_leave c.read_log.new.device f → f ≡ file = λ f left. only f (same.crash f left) in
-    let cut : (f : List ℕ) → g.D.Device.may_leave c.cut.new.self f → P f = λ f left count damaged.
-    none (length read.ps) (cut_back_damage key header read.ps len file (g.D.Device.may_leave c.read_log.new.device) (g.D.Device.may_leave c.cut.new.self)
-    read.log size now (c.cut.ensures.crash same.known inside) f left count damaged) in
-    let was_cut = goes_on g.D.Device.moment g.D.Device.left_since old c.read_log.new.device c.cut.new.self P (g.D.Device.may_leave c.cut.new.self) first
-    (c.cut.ensures.time same.known) cut in
-    was_cut
-
-pub returns-in_err-sync-clause-no_damage : goal.returns-in_err-sync-clause-no_damage
-returns-in_err-sync-clause-no_damage g c known only none =
-    let key = c.args.key.now in
-    let header : List ℕ = header_bytes c.args.header.now in
-    let old = c.args.device.now in
-    let file : List ℕ = g.D.Device.seen old in
-    let same = c.read_log.ensures.unchanged known in
-    let P : List ℕ → Type 0 = λ (f : List ℕ). (count : ℕ) → IsDamaged key header f count → ⊥ in
-    let still : (f : List ℕ) → g.D.Device.may_leave old f → P f = λ f left. subst P (sym (only f left)) none in
-    let first = leaves_so g.D.Device.moment g.D.Device.left_since old c.read_log.new.device (g.D.Device.may_leave old) P same.time still in
-    let read = c.in_ok-len.ensures.read known in
-    let len : ℕ = 75 + c.in_ok-len.len in
-    let size : len ≡ length (log_bytes key header read.ps) = read.size in
-    let inside : len ≤ length (g.D.Device.seen c.read_log.new.device) =
-    omega (arith, log_within key header file read.ps len read.log size, ap length same.seen_same) in
-    let now : (f : List ℕ) → g.D.Device.may_leave c.read_log.new.device f → f ≡ file = λ f left. only f (same.crash f left) in
-    let cut : (f : List ℕ) → g.D.Device.may_leave c.cut.new.self f → P f = λ f left count damaged.
-    none (length read.ps) (cut_back_damage key header read.ps len file (g.D.Device.may_leave c.read_log.new.device) (g.D.Device.may_leave c.cut.new.self)
-    read.log size now (c.cut.ensures.crash same.known inside) f left count damaged) in
-    let was_cut = goes_on g.D.Device.moment g.D.Device.left_since old c.read_log.new.device c.cut.new.self P (g.D.Device.may_leave c.cut.new.self) first
-    (c.cut.ensures.time same.known) cut in
-    let known_2 = c.cut.ensures.known same.known in
-    goes_on g.D.Device.moment g.D.Device.left_since old c.cut.new.self c.sync.new.self P (g.D.Device.may_leave c.sync.new.self) was_cut
-    (c.sync.ensures.time known_2) (λ f left. cut f (c.sync.ensures.crash known_2 f left))
-
-pub returns-clause-no_damage : goal.returns-clause-no_damage
-returns-clause-no_damage g c known only none =
-    let key = c.args.key.now in
-    let header : List ℕ = header_bytes c.args.header.now in
-    let old = c.args.device.now in
-    let file : List ℕ = g.D.Device.seen old in
-    let same = c.read_log.ensures.unchanged known in
-    let P : List ℕ → Type 0 = λ (f : List ℕ). (count : ℕ) → IsDamaged key header f count → ⊥ in
-    let still : (f : List ℕ) → g.D.Device.may_leave old f → P f = λ f left. subst P (sym (only f left)) none in
-    let first = leaves_so g.D.Device.moment g.D.Device.left_since old c.read_log.new.device (g.D.Device.may_leave old) P same.time still in
-    let read = c.in_ok-len.ensures.read known in
-    let len : ℕ = 75 + c.in_ok-len.len in
-    let size : len ≡ length (log_bytes key header read.ps) = read.size in
-    let inside : len ≤ length (g.D.Device.seen c.read_log.new.device) =
-    omega (arith, log_within key header file read.ps len read.log size, ap length same.seen_same) in
-    let now : (f : List ℕ) → g.D.Device.may_leave c.read_log.new.device f → f ≡ file = λ f left. only f (same.crash f left) in
-    let cut : (f : List ℕ) → g.D.Device.may_leave c.cut.new.self f → P f = λ f left count damaged.
-    none (length read.ps) (cut_back_damage key header read.ps len file (g.D.Device.may_leave c.read_log.new.device) (g.D.Device.may_leave c.cut.new.self)
-    read.log size now (c.cut.ensures.crash same.known inside) f left count damaged) in
-    let was_cut = goes_on g.D.Device.moment g.D.Device.left_since old c.read_log.new.device c.cut.new.self P (g.D.Device.may_leave c.cut.new.self) first
-    (c.cut.ensures.time same.known) cut in
-    let known_2 = c.cut.ensures.known same.known in
-    goes_on g.D.Device.moment g.D.Device.left_since old c.cut.new.self c.sync.new.self P (g.D.Device.may_leave c.sync.new.self) was_cut
-    (c.sync.ensures.time known_2) (λ f left. cut f (c.sync.ensures.crash known_2 f left))
-
-pub returns-clause-recovered : goal.returns-clause-recovered
-returns-clause-recovered g c known =
-    let key = c.args.key.now in
-    let header : List ℕ = header_bytes c.args.header.now in
-    let old = c.args.device.now in
-    let file : List ℕ = g.D.Device.seen old in
-    let same = c.read_log.ensures.unchanged known in
-    let read = c.in_ok-len.ensures.read known in
-    let len : ℕ = 75 + c.in_ok-len.len in
-    let size : len ≡ length (log_bytes key header read.ps) = read.size in
-    let inside : len ≤ length (g.D.Device.seen c.read_log.new.device) =
-    omega (arith, log_within key header file read.ps len read.log size, ap length same.seen_same) in
-    let known_2 = c.cut.ensures.known same.known in
-    let seen : g.D.Device.seen c.sync.new.self ≡ log_bytes key header read.ps =
-    c.sync.ensures.seen known_2 ∙ c.in_ok-cut.ensures.cut same.known inside ∙ ap (take len) same.seen_same
-    ∙ cut_log key header file read.ps len read.log size in
+pub returns-in_err-len-clause-illegal : goal.returns-in_err-len-clause-illegal
+returns-in_err-len-clause-illegal g c number said known =
+    let log = c.in_err-len.ensures.illegal number (search (rules, said)) known in
+    let refused = log.refused in
     record {
-      ps = read.ps;
-      was = read.log;
-      taken = read.taken;
-      settled = record {
-        works = refl;
-        known = c.sync.ensures.known known_2;
-        short = read.log.short;
-        file = seen;
-        place = read.place;
-        durable = λ f left. c.in_ok-sync.ensures.durable known_2 f left ∙ sym (c.sync.ensures.seen known_2);
+      format = log.format;
+      headed = log.headed;
+      refused = record {
+        before = refused.before;
+        payload = refused.payload;
+        at = refused.at.sink;
+        stands = refused.stands;
+        taken = all_taken g.D.Device.is_known g.D.Device.seen g.S.Sink.takes _ refused.at refused.before refused.taken;
+        refused = refused.refused;
       };
     }
 
+pub returns-clause-fed : goal.returns-clause-fed
+returns-clause-fed g c =
+    let fed = c.in_ok-len.ensures.fed in
+    (fed.0, all_taken g.D.Device.is_known g.D.Device.seen g.S.Sink.takes _ c.read_log.new.sink fed.0 fed.1)
+
+pub returns-clause-key : goal.returns-clause-key
+returns-clause-key g c =
+    let fed = c.in_ok-len.ensures.fed in
+    (all_grown g.D.Device.is_known g.D.Device.seen g.S.Sink.takes _ c.read_log.new.sink fed.0 fed.1).key ∙ c.in_ok-log.ensures.key
+
 pub returns-clause-undamaged : goal.returns-clause-undamaged
 returns-clause-undamaged g c known count damaged =
-    read_sound g.S.Sink.takes c.args.key.now (header_bytes c.args.header.now) (g.D.Device.seen c.args.device.now) c.args.sink.now c.read_log.new.sink
-    c.in_ok-len.len count (c.in_ok-len.ensures.read known) damaged
+    read_sound _ c.args.key.now c.args.header.now (g.D.Device.seen c.args.old.now) _ c.read_log.new.sink c.in_ok-len.len count (c.in_ok-len.ensures.read known) damaged
+
+pub returns-clause-recovered : goal.returns-clause-recovered
+unfolding log_bytes
+returns-clause-recovered g c known known_new empty =
+    let read = c.in_ok-len.ensures.read known in
+    let log_0 = c.in_ok-log.log in
+    let log_1 = c.read_log.new.sink.log in
+    let file : List ℕ = g.D.Device.seen c.args.old.now in
+    let begun = c.in_ok-log.ensures.begun known_new empty in
+    let grown = all_grown g.D.Device.is_known g.D.Device.seen g.S.Sink.takes _ c.read_log.new.sink read.ps read.taken in
+    let key : log_1.key ≡ key_in c.args.key.now Second = grown.key ∙ c.in_ok-log.ensures.key in
+    let bytes : c.args.key.now ≡ log_1.key.bytes = sym (ap (λ (k : LogKeyFields). k.bytes) key) in
+    let known_1 = grown.known begun.known in
+    record {
+      format = read.format;
+      ps = read.ps;
+      was = subst (λ (k : List ℕ). IsLog (key_in k read.format) (header_bytes read.format c.args.header.now) file read.ps) bytes read.log;
+      size = read.size ∙ (λ i. length (log_bytes (key_in (bytes i) read.format) (header_bytes read.format c.args.header.now) read.ps));
+      taken = all_taken g.D.Device.is_known g.D.Device.seen g.S.Sink.takes _ c.read_log.new.sink read.ps read.taken;
+      settled = record {
+        works = grown.works ∙ c.in_ok-log.ensures.works;
+        known = c.sync.ensures.known known_1;
+        short = read.log.short;
+        file = c.sync.ensures.seen known_1 ∙ grown.grown begun.known
+            ∙ (λ i. begun.is i ++ chunks_of (sym grown.key i) (c.in_ok-log.ensures.place i) read.ps);
+        place = grown.place ∙ (λ i. last_place (sym grown.key i) (c.in_ok-log.ensures.place i) read.ps);
+        durable = λ f left. c.in_ok-sync.ensures.durable known_1 f left ∙ sym (c.sync.ensures.seen known_1);
+      };
+    }

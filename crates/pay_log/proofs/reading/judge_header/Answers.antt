@@ -2,8 +2,8 @@ use Rattle.std.proofs.Common.{◌≡◌, List, ℕ, take, sym, ap, ◌∙◌, ar
 use Rattle.std.proofs.lemmas.List.{take-take}
 use Rattle.pay_log.proofs.reading.judge_header.Goals as goal
 
-pub returns-in-None-clause-same : goal.returns-in-None-clause-same
-returns-in-None-clause-same g c known =
+pub returns-in-Ok-clause-same : goal.returns-in-Ok-clause-same
+returns-in-Ok-clause-same g c known =
     let file : List ℕ = g.D.Device.seen c.args.device.now in
     let front : c.deref.result.now ≡ take 75 file = c.deref.ensures.value ∙ c.in_ok-front.ensures.bytes known in
-    sym (take-take 75 75 file (omega arith)) ∙ ap (take 75) (sym front) ∙ c.in-None.ensures.same
+    sym (take-take 75 75 file (omega arith)) ∙ ap (take 75) (sym front) ∙ c.in-Ok.ensures.same

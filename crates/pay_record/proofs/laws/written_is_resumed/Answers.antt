@@ -4,6 +4,7 @@ use Rattle.std.proofs.lemmas.List.Elements.{All-append}
 use Rattle.std.specs.List.{All, flat_map}
 use Rattle.pay_link.specs.Keys.{KeyFields}
 use Rattle.pay_log.specs.Laws.{OneReading}
+use Rattle.pay_log.specs.Keys.{LogKeyFields}
 use Rattle.pay_log.specs.Logs.{IsLog, IsStray, IsWithOrWithout}
 use Rattle.pay_member.specs.Member.{MemberFields}
 use Rattle.pay_resume.specs.Resuming.{IsOfRecords, LoggedFields, entries_of_logged, ids_of}
@@ -36,7 +37,7 @@ both kept further ps is =
     ∙ ap (λ (l : List ℕ). flat_map (λ (p : List ℕ). p) ps ++ l) (sym (append-nil more)) ∙ sym (flat_map-append (λ (p : List ℕ). p) ps (more ∷ []))
 
 resumed :
-    OneList → OneReading → (k : KeyFields) (key header file : List ℕ) (kept further : List LoggedFields)
+    OneList → OneReading → (k : KeyFields) (key : LogKeyFields) (header file : List ℕ) (kept further : List LoggedFields)
     (was : WasWriting k key header file kept further) (m : MemberFields) (ids : List ℕ) (qs : List (List ℕ))
     → IsLog key header file qs → IsOfRecords record_of (IsLoggable k) m ids qs
     → IsWithOrWithout key header was.ps (flat_map record_of further) file

@@ -1,3 +1,5 @@
+use Rattle.std.proofs.Common.{subst}
+use Rattle.pay_record.specs.Loggable.{IsReadAs}
 use Rattle.pay_record.proofs.Stands.{has_room, is_behind, is_loggable}
 use Rattle.pay_record.proofs.reading.EntryRecordsRecords.read.Goals as goal
 
@@ -9,3 +11,8 @@ returns-clause-record g c = is_behind c.args.self.now.keys.now c.args.bytes.now 
 
 pub returns-clause-loggable : goal.returns-clause-loggable
 returns-clause-loggable g c = is_loggable c.args.self.now.keys.now c.args.bytes.now c.read_record.result c.read_record.ensures
+
+pub returns-clause-none : goal.returns-clause-none
+returns-clause-none g c said l loggable begins =
+    let keys = c.args.self.now.keys.now in
+    subst (λ r. IsReadAs keys c.args.bytes.now r) said c.read_record.ensures l (record { loggable = loggable; rest = begins.rest; is = begins.is })
