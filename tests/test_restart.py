@@ -16,7 +16,7 @@ from collections import Counter
 
 from frames import SEND, frame, payment
 from damaged_logs import OPENING, bits, cuts, export, made_folder, read
-from logs import HEADER_LEN, QUERY, Log
+from logs import FIRST, HEADER_LEN, QUERY, Log
 from nodes import EARLY, IN_MEMORY, export_text, free_ports, new_words, started, until, write_json
 from ordering import Order, OutOfOrder, noted
 from peers import Liar, Strangers, connected, received
@@ -345,6 +345,35 @@ def test_a_record_of_another_program(damage):
     made_folder(damage.place, "twice", damage.file + damage.log.chunk(len(damage.file) - HEADER_LEN, twice))
     was = node_on(damage.place, 0, "twice")
     shows(was, 2, "", f"payd: log 5 Illegal {count + 1}\n", of="an id that two payments have")
+
+
+def test_a_log_of_the_first_version_is_written_anew():
+    """That of a member that met its peers, as a program wrote it that knew no other version."""
+    hexed = os.path.join(os.path.dirname(__file__), "logs", "first-version.hex")
+    first = bytes.fromhex(read(hexed).decode("ascii"))
+    log = Log(GENESIS, 0)
+    payloads, end = log.payloads(first)
+    same((log.version(first), end), (FIRST, len(first)), "the log")
+    with Folders(OPENING, running=[]) as group:
+        made_folder(group.place.name, "data-0", first)
+        was = export(group.place.name, 0)
+        lists = [[payment(1, 30).hex()], [], [], [payment(0, 20).hex()]]
+        same(was, (0, export_text(0, OPENING, lists, [1, 0, 0, 1], [90, 30, 0, 30]), ""), "the export of it")
+        same(group.log(0), first, "the log behind an export")
+        group.start(0)
+        same(group.nodes[0].ask("STATE 3 0"), "state 3 0 settled", "a payment in it")
+        group.kill(0)
+        written = log.file(payloads)
+        same(group.log(0)[: len(written)], written, "the log written anew")
+        same(export(group.place.name, 0), was, "the export of that")
+
+
+def test_a_torn_chunk_of_marks(damage):
+    """Marks that anybody can make are nothing to a log of the second version: they cost no more than other bytes."""
+    last = damage.log.chunk(damage.ends[-1] - HEADER_LEN, bytes(1 << 22))
+    mark = b"plog" + struct.pack(">I", 1 << 21)
+    torn = last[:20] + mark * (len(last) // len(mark) // 2)
+    damage.judge(damage.file + torn, "a torn chunk of marks")
 
 
 # ---- a disk that fails
