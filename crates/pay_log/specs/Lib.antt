@@ -1,6 +1,5 @@
 pub mod Device
-pub mod Past
-pub mod Memory
+pub mod Lossy
 pub mod Keys
 pub mod Headers
 pub mod Faults

@@ -4,8 +4,9 @@
 ghost use Rattle.std.specs.Prelude.{[]};
 
 use pay_log::{
-    Device, DeviceFault, DiskFailed, FoundLog, Header, Log, LogFault, LogFile, MOST_PAYLOAD,
-    MadeLog, Mismatch, Payloads, Recovered, make_log, name_log, open_log, read_log, recover,
+    Device, DeviceFault, DiskFailed, FoundLog, Header, Log, LogFault, LogFile, LossyFile,
+    MOST_PAYLOAD, MadeLog, Mismatch, Payloads, Recovered, make_log, name_log, open_log, read_log,
+    recover,
 };
 use std::alloc::Global;
 use std::fs;
@@ -209,6 +210,35 @@ fn log_is_written_anew_or_stays(rt: HostRuntime) -> Result<(), Fail> {
     Ok(())
 }
 
+/// How many texts are read again of a log of all texts on a lossy disk, once a crash came in the
+/// midst of a further write, and left these bytes of it.
+fn texts_behind_a_crash(alloc: Global, torn: &[u8]) -> Result<Option<usize>, Fail> {
+    let disk = LossyFile::new(alloc, Vec::new(alloc));
+    let mut log = Log::create(alloc, disk, &KEY, &HEADER)?;
+    for text in TEXTS {
+        append_text(alloc, &mut log, text)?;
+    }
+    let mut disk = log.into_device();
+    disk.append(&[0; 200])?;
+    let mut left = disk.crashed(torn)?;
+    let new = LossyFile::new(alloc, Vec::new(alloc));
+    let payloads = Payloads::new(alloc);
+    let Recovered { sink, .. } = recover(alloc, &mut left, new, &KEY, &HEADER, payloads)?;
+    Ok(texts_in(&sink))
+}
+
+#[test]
+fn lossy_disk_loses_no_acknowledged_text(rt: HostRuntime) -> Result<(), Fail> {
+    let alloc = rt.alloc();
+    let bytes = texts_bytes(alloc)?;
+    for len in 0..bytes.len() {
+        // what stood elsewhere is no chunk but for its mark, cut anywhere
+        let torn = &bytes[ENDS[2]..ENDS[2].saturating_add(len).min(ENDS[3] - 1)];
+        assert_eq!(rt; texts_behind_a_crash(alloc, torn)?, Some(3), "{len} bytes");
+    }
+    Ok(())
+}
+
 #[test]
 fn missing_chunk_is_damage(rt: HostRuntime) -> Result<(), Fail> {
     let alloc = rt.alloc();
@@ -339,10 +369,7 @@ fn folder_has_one_owner(rt: HostRuntime) -> Result<(), Fail> {
     name_log(&rt, alloc, name)?;
     assert_eq!(rt; open_log(&rt, alloc, name).err(), Some(LogFault::Held));
     drop(lock);
-    assert_eq!(rt;
-        make_log(&rt, alloc, name).err(),
-        Some(LogFault::Exists)
-    );
+    assert_eq!(rt; make_log(&rt, alloc, name).err(), Some(LogFault::Exists));
     assert!(rt; open_log(&rt, alloc, name).is_ok());
     fs::remove_dir_all(&rt, name)?;
     Ok(())

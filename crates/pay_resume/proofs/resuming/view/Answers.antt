@@ -61,8 +61,7 @@ returns-clause-viewed g c known =
     (λ s. s.member) (λ s. s.ids.items) (λ s. s.records.now) g.R.Records.record_of g.R.Records.is_loggable
     (λ a b p t. ap (λ r. r.now) t.0) (λ a b p t. t.1) found.taken in
     let empty : c.new.result.items ≡ [] = c.new.ensures.items in
-    let from_none = subst (λ (i : List ℕ). HasResumed record_of is_loggable c.args.member sink.member i sink.ids.items (flat_map (λ p. p) found.ps)) empty taken in
-    (
+    let from_none = subst (λ (i : List ℕ). HasResumed record_of is_loggable c.args.member sink.member i sink.ids.items (flat_map (λ p. p) found.ps)) empty taken in (
       found.ps,
       record {
         format = found.format;
