@@ -6,9 +6,12 @@ change nothing, and a payment under the same id is made once.
 
 import os
 import socket
+import time
 
 # How long an answer may take.
 SECONDS = 20
+# How a node refuses a payment before enough of its peers were heard, and for how long it is given again.
+EARLY, PATIENCE, PAUSE = "refused 6 TooEarly", 10, 0.1
 # Those whose answer has several lines: they end with `end`, or the answer is a refusal.
 OF_SEVERAL = ("STATEMENT", "ENTRIES", "WAITING")
 
@@ -31,6 +34,13 @@ class Desk:
     def ask(self, line):
         """The lines that answer this one."""
         return self.ask_all([line])[0]
+
+    def pay(self, line):
+        """The answer to a payment, which is given again while it comes too early behind its node's start."""
+        deadline = time.monotonic() + PATIENCE
+        while (answer := self.ask(line)[0]) == EARLY and time.monotonic() < deadline:
+            time.sleep(PAUSE)
+        return answer
 
     def ask_all(self, lines):
         """Of each of these lines, a hundred or so, the lines that answer it. They are written at once."""

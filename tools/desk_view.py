@@ -23,6 +23,8 @@ WHY_REFUSED = {
     "NoAccount": "There is no such account.",
     "ZeroOrSelf": "A payment of nothing, or to this account itself, isn't made.",
     "Spent": "All numbers of this account are used: it can't pay any more in this group.",
+    "TooEarly": "The node began a moment ago and hasn't heard enough of its peers. It may be tried again.",
+    "Forgotten": "The group knows more of this account than this node: its balance goes on in the next group.",
     "Memory": "The node had no memory for it. It may be tried again.",
 }
 

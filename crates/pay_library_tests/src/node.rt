@@ -1,5 +1,6 @@
 //! Nodes: calls from one seat, and seats that agree with a history or don't.
 
+mod compares;
 mod goes_on;
 mod plays;
 mod rows;

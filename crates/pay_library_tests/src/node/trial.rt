@@ -9,7 +9,9 @@ use pay_frame::{Body, Bytes, SharedBody};
 use pay_hmac::HmacSha256;
 use pay_link::{Genesis, test_keys};
 use pay_member::{AskFault, Member, Outcome, QueryFault};
-use pay_node::{Beginning, CloseFault, MOST_SEATS, Node, OpenGate, Receipt, Seat, Stopped};
+use pay_node::{
+    Beginning, CloseFault, HandInFault, MOST_SEATS, Node, OpenGate, Receipt, Seat, Stopped,
+};
 use std::alloc::Global;
 use std::sync::Wait;
 
@@ -154,7 +156,8 @@ fn asks<S: Beginning, R: Wait>(
 ) -> Option<bool> {
     let value = Bytes::from_slice(alloc, value).ok()?;
     let found = node.ask(rt, alloc, seat, value);
-    (found != Err(AskFault::Memory)).then_some(found == answer)
+    let lacks = found == Err(HandInFault::Ask(AskFault::Memory));
+    (!lacks).then_some(found == answer.map_err(|fault| HandInFault::Ask(fault)))
 }
 
 fn states<S: Beginning, R: Wait>(

@@ -1,0 +1,99 @@
+//! A node that compares what its peers show before it is asked for values.
+
+ghost use Rattle.std.specs.Prelude.{◌≡◌};
+
+use crate::node::rows::{FOUR, PAYMENT};
+use crate::node::trial::{OwnMember, Tried, member_of};
+use pay_frame::Bytes;
+use pay_node::{Beginning, HandInFault, Node, Seat};
+use std::alloc::Global;
+use std::marker::Brand;
+use std::sync::Wait;
+
+/// What came of an ask behind each WANT of a peer, and whether the node's member has forgotten at
+/// the end.
+#[derive(Clone, Copy, Debug, PartialEq, Eq)]
+struct Came {
+    first: Result<u32, HandInFault>,
+    second: Result<u32, HandInFault>,
+    forgets: bool,
+}
+
+/// The first WANTs of two peers.
+#[derive(Clone, Copy, Debug)]
+struct Wants {
+    first: (u16, u64),
+    second: (u16, u64),
+}
+
+// Under which number a node is asked for a value, or why not; nothing, where memory is refused.
+fn asks<S: Beginning, R: Wait>(
+    rt: &R,
+    alloc: Global,
+    node: &Tried<S>,
+    seat: &mut Seat,
+) -> Option<Result<u32, HandInFault>> {
+    let value = Bytes::from_slice(alloc, PAYMENT).ok()?;
+    match node.ask(rt, alloc, seat, value) {
+        Err(HandInFault::Ask(_)) => None,
+        found => Some(found),
+    }
+}
+
+// What comes of these WANTs at a node of a member that sent nothing.
+fn compares<S: Beginning, R: Wait>(
+    rt: &R,
+    alloc: Global,
+    member: OwnMember,
+    wants: Wants,
+) -> Option<Came>
+    requires { member ≡ S.beginning }
+{
+    let (node, mut seats) = Node::comparing(alloc, member, 1).ok()?;
+    let node: Tried<S> = node;
+    let seat = seats.first_mut()?;
+    node.hear(rt, wants.first.0, wants.first.1);
+    let first = asks(rt, alloc, &node, seat)?;
+    node.hear(rt, wants.second.0, wants.second.1);
+    let second = asks(rt, alloc, &node, seat)?;
+    Some(Came {
+        first,
+        second,
+        forgets: node.forgets(),
+    })
+}
+
+fn came_of<R: Wait>(rt: &R, alloc: Global, wants: Wants) -> Option<Came> {
+    let member = member_of(alloc, FOUR)?;
+    compares::<Brand, R>(rt, alloc, member, wants)
+}
+
+fn comes<R: Wait>(rt: &R, alloc: Global, first: (u16, u64), second: (u16, u64)) -> Option<Came> {
+    let wants = Wants { first, second };
+    match came_of(rt, alloc, wants) {
+        None => came_of(rt, alloc, wants),
+        found => found,
+    }
+}
+
+#[test]
+fn a_quorum_frees_a_node(rt: HostRuntime) {
+    let found = comes(&rt, rt.alloc(), (0, 0), (2, 0));
+    let free = Came {
+        first: Err(HandInFault::TooEarly),
+        second: Ok(0),
+        forgets: false,
+    };
+    assert_eq!(rt; found, Some(free));
+}
+
+#[test]
+fn a_node_notices_that_its_peers_know_more(rt: HostRuntime) {
+    let found = comes(&rt, rt.alloc(), (0, 1), (2, 1));
+    let forgotten = Came {
+        first: Err(HandInFault::TooEarly),
+        second: Err(HandInFault::Forgotten),
+        forgets: true,
+    };
+    assert_eq!(rt; found, Some(forgotten));
+}
