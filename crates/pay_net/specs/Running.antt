@@ -17,18 +17,19 @@ use Rattle.pay_member.specs.Member.{MemberFields}
 use Rattle.pay_node.specs.declared.close_fault.CloseFault.{CloseFault}
 use Rattle.pay_node.specs.declared.close_fault.CloseFault.TheVariants as close
 use Rattle.pay_node.specs.Closing.{AllCounted, AllReconciled, IsLeastUncounted, IsLeastWrong}
-use Rattle.pay_node.specs.Nodes.{IsOwn, NodeFields, StoppedFields, base_of, fresh_seat, node_with}
+use Rattle.pay_node.specs.Nodes.{IsOwn, NodeFields, StoppedFields, base_of, fresh_seat, node_as}
 use Rattle.pay_node.specs.Seats.{Right, SeatFields}
 use Rattle.pay_peers.specs.Growing.{SeatGrows}
 use Rattle.pay_peers.specs.Telling.{TellerFields, TellerSays, next_behind}
 use Rattle.pay_net.specs.declared.node_fault.NodeFault.{NodeFault}
 use Rattle.pay_net.specs.declared.node_fault.NodeFault.TheVariants.{Close, Engine, Port}
+use Rattle.pay_net.specs.Starting.{StartFields}
 use Rattle.pay_net.specs.declared.receipts.Receipts.{Receipts}
 use Rattle.pay_net.specs.declared.receipts.Receipts.TheVariants.{Consistent, Unjudged}
 
--- the node of a member: two seats for each peer, and one for the desk
-abbrev pub node_of : MemberFields → NodeFields
-node_of m = node_with m (2 * length m.keys.keys - 1)
+-- the node of a start: two seats for each peer, and one for the desk
+abbrev pub node_of : StartFields → NodeFields
+node_of start = node_as start.member (2 * length start.member.keys.keys - 1) start.compares
 
 -- ---- the threads
 

@@ -1,5 +1,6 @@
--- What a node starts from: a member, and what its desk keeps of the values that it asked for.
-use Rattle.std.specs.Prelude.{◌≡◌, ℕ, List, [], ◌∷◌, ◌++◌, length, map, slice_get, Some, None}
+-- What a node starts from: a member, what its desk keeps of the values that it asked for, and
+-- whether it compares that with what its peers show.
+use Rattle.std.specs.Prelude.{◌≡◌, ℕ, Bool, List, [], ◌∷◌, ◌++◌, length, map, slice_get, Some, None}
 use Rattle.pay_channel.specs.Asked.{asked_values}
 use Rattle.pay_desk.specs.declared.kept.Kept.{Kept}
 use Rattle.pay_desk.specs.Kept.{kept_under}
@@ -13,6 +14,7 @@ use Rattle.pay_member.specs.Member.{MemberFields}
 pub record StartFields : Type 0 where
   pub member : MemberFields
   pub kept : List Kept
+  pub compares : Bool
 
 -- Kept is just what this history asked for, in order, each value with its number and under an id of
 -- its own.

@@ -39,6 +39,9 @@ pub struct NodeFigures {
 pub trait Watcher {
     /// Takes note of the figures, in a thread that nothing else of the node waits for.
     fn watch(&self, figures: &NodeFigures);
+
+    /// Takes note that the member has forgotten what it sent, which is told once.
+    fn forgets(&self);
 }
 
 /// Takes the figures of a member that it is lent.

@@ -24,6 +24,7 @@ pub mod laws;
 mod listening;
 mod news;
 mod node_fault;
+mod noticing;
 mod pause;
 mod ports;
 mod ports_fault;

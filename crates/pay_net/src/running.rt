@@ -28,9 +28,10 @@ use crate::inbound_connections::InboundConnections;
 use crate::listening::Listening;
 use crate::news::News;
 use crate::node_fault::NodeFault;
+use crate::noticing::Noticing;
 use crate::pause::Pause;
 use crate::receipts::Receipts;
-use crate::start::NodeStart;
+use crate::start::{NodeStart, node_of};
 use crate::watching::Watching;
 use pay_book::Settle;
 use pay_desk::{Desk, KeptValues, Teller, run_desk};
@@ -106,11 +107,11 @@ where
     In: Input,
     Out: Output,
     requires ports { length config.now.ports.now ≡ length start.member.keys.keys }
-    ensures ended { HasEnded (node_of start.member)
+    ensures ended { HasEnded (node_of start)
         (desk_start start.kept config.now.socket) config.now.ports.now
         (In.remaining reader.old) (In.remaining reader.new)
         (Out.contents writer) (Out.contents result.1) result.0 }
-    ensures durable { IfOk result.0 (λ _. K.kept config.now.keeper.now (node_of start.member)) }
+    ensures durable { IfOk result.0 (λ _. K.kept config.now.keeper.now (node_of start)) }
     ensures reads { CountsReads In.call_count In.failure_count In.remaining
         reader.old reader.new result.0 }
 {
@@ -139,21 +140,21 @@ where
     Out: Output,
     requires beginning { start.member ≡ S.beginning }
     requires ports { length config.now.ports.now ≡ length start.member.keys.keys }
-    ensures ended { HasEnded (node_of start.member)
+    ensures ended { HasEnded (node_of start)
         (desk_start start.kept config.now.socket) config.now.ports.now
         (In.remaining reader.old) (In.remaining reader.new)
         (Out.contents writer) (Out.contents result.1) result.0 }
-    ensures durable { IfOk result.0 (λ _. K.kept config.now.keeper.now (node_of start.member)) }
+    ensures durable { IfOk result.0 (λ _. K.kept config.now.keeper.now (node_of start)) }
     ensures reads { CountsReads In.call_count In.failure_count In.remaining
         reader.old reader.new result.0 }
 {
-    let (member, kept) = start.into_parts();
+    let (member, kept, compares) = start.into_parts();
     let members = member.keys().members();
     let port = config.ports.port(member.keys().own());
     let Ok(listening) = Listening::on(rt, port) else {
         return (Err(NodeFault::Port(port)), writer);
     };
-    let Ok((node, seats)) = Node::<I, B, S>::new(alloc, member, 2 * members - 1) else {
+    let Ok((node, seats)) = node_of::<I, B, S>(alloc, member, 2 * members - 1, compares) else {
         return (Err(NodeFault::Engine(StreamFault::Memory)), writer);
     };
     let context = NodeContext {
@@ -506,9 +507,30 @@ where
         accept_all(rt, &clients, self.stop, socket);
     }
 
-    // Reads from all peers and answers those who connect, and shows the node's figures, until told
-    // to stop.
+    // Meets the peers, and looks whether the member has forgotten what it sent, until told to stop.
     fn work(&self, readers: &mut Vec<(u16, Asking)>, writers: &[(u16, Mutex<Seat>)])
+        ensures { EachGrows readers.old.items readers.new.items }
+    {
+        thread::join_mut(
+            self.context.rt,
+            &mut || self.notice(),
+            &mut || self.meet(readers, writers),
+        );
+    }
+
+    // Looks whether the member has forgotten what it sent.
+    fn notice(&self) {
+        let noticing = Noticing {
+            rt: self.context.rt,
+            node: self.context.node,
+            observer: self.config.observer,
+            pause: self.pause,
+        };
+        noticing.run();
+    }
+
+    // Reads from all peers and answers those who connect, and shows the node's figures.
+    fn meet(&self, readers: &mut Vec<(u16, Asking)>, writers: &[(u16, Mutex<Seat>)])
         ensures { EachGrows readers.old.items readers.new.items }
     {
         thread::join_mut(

@@ -1,13 +1,15 @@
 //! What a node starts from.
 
-ghost use Rattle.std.specs.Prelude.{◌≡◌, [], IfOk, OnOk, map};
+ghost use Rattle.std.specs.Prelude.{◌≡◌, ◌≤◌, [], IfOk, OnOk, false, map, true};
 ghost use Rattle.pay_net.specs.Starting.{IsKeptOf, KeepsEntry, KeepsNext};
+ghost use Rattle.pay_node.specs.Nodes.{AreFresh, node_as};
 
 use pay_book::Settle;
 use pay_desk::{Kept, KeptValues};
 use pay_echo::Instance;
 use pay_frame::Bytes;
 use pay_member::{Event, HistoryEntry, Member};
+use pay_node::{Beginning, MOST_SEATS, Node, Seat};
 use std::alloc::{AllocError, Global};
 use std::marker::Model;
 use thiserror::Error;
@@ -33,11 +35,13 @@ impl From<AllocError> for StartFault {
     }
 }
 
-/// A member, and what its desk keeps of the values that it asked for.
+/// A member, what its desk keeps of the values that it asked for, and whether it compares that with
+/// what its peers show before it is asked for more.
 #[derive(Drop)]
 pub struct NodeStart<I: Instance + Drop, B: Settle + Drop> {
     member: Member<I, B>,
     kept: KeptValues,
+    compares: bool,
 }
 
 impl<I: Instance + Drop, B: Settle + Drop> Model for NodeStart<I, B> {
@@ -45,7 +49,7 @@ impl<I: Instance + Drop, B: Settle + Drop> Model for NodeStart<I, B> {
 
     ghost Value = { StartFields };
 
-    ghost view = { λ s. record { member = s.member; kept = s.kept } };
+    ghost view = { λ s. record { member = s.member; kept = s.kept; compares = s.compares } };
 
     ghost invariant = { λ s. IsKeptOf s.member.history s.kept };
 }
@@ -54,11 +58,12 @@ impl<I: Instance + Drop, B: Settle + Drop> NodeStart<I, B> {
     /// A member that took nothing.
     pub fn fresh(alloc: Global, member: Member<I, B>) -> NodeStart<I, B>
         requires { member.history ≡ [] }
-        ensures { result ≡ record { member = member; kept = [] } }
+        ensures { result ≡ record { member = member; kept = []; compares = false } }
     {
         NodeStart {
             member,
             kept: KeptValues::new(alloc),
+            compares: false,
         }
     }
 
@@ -70,18 +75,55 @@ impl<I: Instance + Drop, B: Settle + Drop> NodeStart<I, B> {
     ) -> Result<NodeStart<I, B>, StartFault>
         ensures member { IfOk result (λ start. start.member ≡ member) }
         ensures ids { IfOk result (λ start. map (λ k. k.id) start.kept ≡ ids.now) }
+        ensures compares { IfOk result (λ start. start.compares ≡ false) }
     {
         let kept = kept_of(alloc, member.history(), ids)?;
-        Ok(NodeStart { member, kept })
+        Ok(NodeStart {
+            member,
+            kept,
+            compares: false,
+        })
     }
 
-    /// The member, and what its desk keeps.
-    pub(crate) fn into_parts(self) -> (Member<I, B>, KeptValues)
+    /// The same start, of a member that may have forgotten what it sent: it is asked for nothing
+    /// before enough peers have shown that they know no more of it.
+    pub fn comparing(self) -> NodeStart<I, B>
+        ensures { result ≡ record self { compares = true } }
+    {
+        NodeStart {
+            member: self.member,
+            kept: self.kept,
+            compares: true,
+        }
+    }
+
+    /// The member, what its desk keeps, and whether it compares.
+    pub(crate) fn into_parts(self) -> (Member<I, B>, KeptValues, bool)
         ensures member { result.0 ≡ self.member }
         ensures kept { result.1 ≡ self.kept }
+        ensures compares { result.2 ≡ self.compares }
         ensures its { IsKeptOf self.member.history self.kept }
     {
-        (self.member, self.kept)
+        (self.member, self.kept, self.compares)
+    }
+}
+
+/// The node of a member with so many seats, which compares what its peers show or not.
+pub(crate) fn node_of<I: Instance + Drop, B: Settle + Drop, S: Beginning>(
+    alloc: Global,
+    member: Member<I, B>,
+    seats: u16,
+    compares: bool,
+) -> Result<(Node<I, B, S>, Vec<Seat>), (Member<I, B>, AllocError)>
+    requires beginning { member ≡ S.beginning }
+    requires few { seats ≤ MOST_SEATS }
+    ensures node { IfOk result (λ made. made.0 ≡ node_as member seats compares) }
+    ensures seats { IfOk result (λ made. AreFresh seats made.1.items) }
+{
+    if compares {
+        Node::comparing(alloc, member, seats)
+    } else {
+        Node::new(alloc, member, seats)
     }
 }
 

@@ -63,9 +63,15 @@ impl<'a, R, I: Instance + Drop, B: Settle + Drop, S: Beginning, K> NodeTeller<'a
     }
 }
 
-impl<R: Wait, I: Instance + Drop, B: Settle + Drop, S: Beginning, K> NodeTeller<'_, R, I, B, S, K> {
-    // Whether what was read about an account is told. Of the own one nothing is, once the member has
-    // forgotten, which is looked at behind the reading.
+impl<R, I, B, S, K> NodeTeller<'_, R, I, B, S, K>
+where
+    R: Wait,
+    I: Instance + Drop,
+    B: Settle + Drop,
+    S: Beginning,
+{
+    // Whether what was read about an account is told. Of the own one nothing is, once the member
+    // has forgotten, which is looked at behind the reading.
     fn may_tell(&self, account: u16) -> Result<(), TellerFault>
         ensures fault { IfErr result (λ fault. fault ≡ Forgotten) }
         ensures own { OnErr result (account ≡ self.now.node.keys.own) }

@@ -5,7 +5,7 @@ use Rattle.pay_net.proofs.running.run_begun.Goals as goal
 
 pub returns-clause-ended : goal.returns-clause-ended
 returns-clause-ended g c =
-    let same : c.in-Ok-new.node ≡ node_of c.args.start.member = search rules in
+    let same : c.in-Ok-node_of.node ≡ node_of c.args.start = search rules in
     ended_so _ _ _ _ _ _ _ _ _ _ _ _ same
     (ap (λ k. desk_start k c.args.config.now.socket) c.into_parts-member.ensures.kept)
     (ap g.Out.Output.contents c.new-gated.ensures.inner) (ap g.Out.Output.contents (sym c.into_inner-writer.ensures))
