@@ -20,6 +20,10 @@ use Rattle.pay_net.specs.declared.ports_fault.PortsFault.{PortsFault}
 use Rattle.payd.specs.declared.stop.Stop.{Stop}
 use Rattle.payd.specs.declared.stop.Stop.TheVariants.{Engine, Genesis, Keys, Ports, Export, File}
 
+-- how many bytes a file has at most that is read
+abbrev pub most_bytes : ℕ
+most_bytes = 1073741824
+
 -- bytes that the file may hold are judged so
 abbrev pub IsFileJudged :
     {X : Type 0} → (List ℕ → List ℕ → Type 0) → List ℕ → (List ℕ → X) → X → Type 0

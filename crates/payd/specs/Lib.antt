@@ -1,5 +1,6 @@
 pub mod Files
 pub mod Stops
+pub mod Statuses
 pub mod Dials
 pub mod Dates
 pub mod Ahead
@@ -7,3 +8,5 @@ pub mod Texts
 pub mod Jobs
 pub mod Outcomes
 pub mod Sending
+pub mod Saying
+pub mod Sockets

@@ -1,9 +1,16 @@
 -- The answers of a desk, as a client passes them on and counts them.
 use Rattle.std.specs.Prelude.{◌≡◌, ℕ, Bool, true, false, ◌||◌, if◌then◌else◌, List, [], ◌∷◌, ◌++◌}
-use Rattle.std.specs.Prelude.{Option, Some, None, codes, nat_eq}
+use Rattle.std.specs.Prelude.{Option, Some, None, Result, Ok, Err, codes, nat_eq, nat_lt, ◌==◌}
+use Rattle.std.specs.Prelude.{◌-◌, ◌^◌}
 use Rattle.std.specs.List.{starts_with}
+use Rattle.std.specs.Str.{bytes_eq}
 use Rattle.pay_io.specs.Device.{next_count}
+use Rattle.pay_engine.specs.declared.engine_fault.EngineFault.TheVariants as engine
+use Rattle.pay_text.specs.Numbers.{first_number}
+use Rattle.pay_text.specs.Words.{words_of}
 use Rattle.payd.specs.declared.sending.Relay.{Relay}
+use Rattle.payd.specs.declared.stop.Stop.{Stop}
+use Rattle.payd.specs.declared.stop.Stop.TheVariants.{Engine, Unanswered}
 
 -- a line by which a desk refuses one
 abbrev pub is_refusal : List ℕ → Bool
@@ -30,3 +37,28 @@ Relays old (Some line) text on new =
           (is_refusal line) old.refused;
     })
 Relays old None text on new = (text ≡ []) × (on ≡ false) × (new ≡ old)
+
+-- the count of sent lines that stands for lines that can't be read
+abbrev pub unread : ℕ
+unread = 2 ^ 64 - 2
+
+-- What is said at the end, by how many lines were sent: whether one was refused, if all of them
+-- were read and answered.
+abbrev pub said_of : Relay → ℕ → Result Bool Stop
+said_of relay sent =
+    if sent == unread then Err (Engine engine.Read)
+    else if sent == relay.answered then Ok (nat_lt 0 relay.refused) else Err Unanswered
+
+-- the text of a line
+abbrev pub line_text : List ℕ → List ℕ
+line_text line = line ++ 10 ∷ []
+
+-- the id behind the first word, where that is a payment's
+abbrev pub id_behind : List (List ℕ) → Option ℕ
+id_behind [] = None
+id_behind (word ∷ words) =
+    if bytes_eq word (codes "PAY") || bytes_eq word (codes "PAYS") then first_number words else None
+
+-- the id in a line that begins as a payment
+abbrev pub payment_id : List ℕ → Option ℕ
+payment_id line = id_behind (words_of line)

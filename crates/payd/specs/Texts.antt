@@ -1,6 +1,6 @@
 -- The texts about an export that words ask for.
 use Rattle.std.specs.Prelude.{◌≡◌, ◌⊎◌, ℕ, Bool, true, false, List, map, Option, Some, None}
-use Rattle.std.specs.Prelude.{option_map}
+use Rattle.std.specs.Prelude.{option_map, ◌∷◌, [], ◌++◌}
 use Rattle.std.specs.List.{AllZip}
 use Rattle.pay_audit.specs.Export.{ExportFields}
 use Rattle.pay_engine.specs.declared.engine_fault.EngineFault.TheVariants as engine
@@ -8,11 +8,12 @@ use Rattle.pay_journal.specs.Statements.{account_named, statement_in, statements
 use Rattle.pay_group_book.specs.Text.{IsBookText}
 use Rattle.pay_group_book.specs.declared.form.BookForm.{BookForm}
 use Rattle.pay_group_book.specs.declared.form.BookForm.TheVariants.{AsExport, Lines, NextGenesis}
-use Rattle.pay_audit.specs.Verdict.{verdict_of}
+use Rattle.pay_audit.specs.Verdict.{verdict_of, verdict_words}
 use Rattle.pay_audit.specs.declared.verdict.Verdict.{Verdict}
 use Rattle.pay_findings.specs.Findings.{findings_words}
 use Rattle.pay_findings.specs.declared.named.Named.{Named}
-use Rattle.payd.specs.Files.{IsExportOf, IsExportsStop}
+use Rattle.payd.specs.Files.{IsExportOf, IsExportsStop, IsVerdictOn}
+use Rattle.payd.specs.Jobs.{IsJobsStop}
 use Rattle.payd.specs.declared.stop.Stop.{Stop}
 use Rattle.payd.specs.declared.stop.Stop.TheVariants.{Engine, Account, Forms}
 
@@ -42,15 +43,27 @@ pub record IsBookSaid (holds : List ℕ → List ℕ → Type 0) (names : List (
   pub read : AllZip (IsExportOf holds) names exports
   pub said : IsBookText exports form is_book text
 
--- This is all that is wrong with these exports, each by the name at its place.
+-- a verdict as a line
+abbrev pub verdict_line : Verdict → List ℕ
+verdict_line verdict = verdict_words verdict ++ 10 ∷ []
+
+-- Each file is read as an export, and this line says the verdict on these.
+pub record IsVerdictSaid (holds : List ℕ → List ℕ → Type 0) (names : List (List ℕ))
+    (verdict : Verdict) (text : List ℕ) : Type 0 where
+  pub on : IsVerdictOn holds names verdict
+  pub said : text ≡ verdict_line verdict
+
+-- This is the verdict on these exports, and then all that is wrong with them, each by the name at
+-- its place.
 pub record AreSaid (names : List (List ℕ)) (exports : List ExportFields) (text : List ℕ)
     : Type 0 where
   pub named : List Named
   pub by_name : map (λ n. n.name.now) named ≡ names
   pub of : map (λ n. n.export.now) named ≡ exports
-  pub said : text ≡ findings_words named
+  pub said : text ≡ verdict_line (verdict_of exports) ++ findings_words named
 
--- Each file is read as an export; this is the verdict on these, and all that is wrong with them.
+-- Each file is read as an export; this is the verdict on these, and the text says it and all that
+-- is wrong with them.
 pub record AreFindings (holds : List ℕ → List ℕ → Type 0) (names : List (List ℕ))
     (verdict : Verdict) (text : List ℕ) : Type 0 where
   pub exports : List ExportFields
@@ -61,3 +74,10 @@ pub record AreFindings (holds : List ℕ → List ℕ → Type 0) (names : List 
 -- why nothing is said: a file isn't an export, or memory was refused
 abbrev pub IsTextStop : (List ℕ → List ℕ → Type 0) → List (List ℕ) → Stop → Type 0
 IsTextStop holds names stop = IsExportsStop holds names stop ⊎ (stop ≡ Engine engine.Memory)
+
+-- why an audit says nothing, or not all: also where its jobs are no count, or the text can't be
+-- written
+abbrev pub IsAuditStop :
+    (List ℕ → List ℕ → Type 0) → List (List ℕ) → Option (List ℕ) → Stop → Type 0
+IsAuditStop holds names jobs stop =
+    IsTextStop holds names stop ⊎ IsJobsStop jobs stop ⊎ (stop ≡ Engine engine.Write)

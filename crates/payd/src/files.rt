@@ -6,7 +6,7 @@ ghost use Rattle.std.specs.List.{AllZip};
 ghost use Rattle.std.specs.Option.{option_map};
 ghost use Rattle.pay_link.specs.Keys.{IsKeysOf};
 ghost use Rattle.payd.specs.Files.{AreKeysIn, IsExportOf, IsExportStop, IsExportsStop, IsGenesisOf};
-ghost use Rattle.payd.specs.Files.{IsGenesisStop, IsKeysStop, IsUnread, IsVerdictOn};
+ghost use Rattle.payd.specs.Files.{IsGenesisStop, IsKeysStop, IsUnread, IsVerdictOn, most_bytes};
 
 use crate::stop::Stop;
 use pay_audit::{Auditor, Export, Verdict, read_export};
@@ -45,10 +45,10 @@ pub(crate) trait NamedFiles {
 
 impl<F: Files> NamedFiles for F {
     ghost use Rattle.std.specs.Prelude.{◌≤◌, length};
-    ghost use Rattle.payd.specs.declared.files.TheConstants.{MOST_BYTES};
+    ghost use Rattle.payd.specs.Files.{most_bytes};
 
     // of what a file holds nothing is known but that it isn't too long
-    ghost holds = { λ _ _ bytes. length bytes ≤ MOST_BYTES };
+    ghost holds = { λ _ _ bytes. length bytes ≤ most_bytes };
 
     fn bytes_of<'a>(&self, alloc: Global, name: &'a str) -> Result<Vec<u8>, Stop<'a>> {
         match read(alloc, self, name) {
@@ -200,7 +200,7 @@ fn read(alloc: Global, rt: &impl Files, name: &str) -> io::Result<Vec<u8>> {
 /// All bytes that are left of a source, or one byte more than there may be of a file.
 fn read_within<R: Read + Drop>(alloc: Global, source: R) -> io::Result<Vec<u8>>
     ensures { IfOk result (λ bytes. IfSome (R.remaining source) (λ left.
-        bytes.items ≡ take (MOST_BYTES + 1) left)) }
+        bytes.items ≡ take (most_bytes + 1) left)) }
 {
     let mut bytes = Vec::new(alloc);
     source.take(MOST_BYTES + 1).read_to_end(&mut bytes)?;

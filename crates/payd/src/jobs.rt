@@ -2,7 +2,7 @@
 
 ghost use Rattle.std.specs.Prelude.{◌≡◌, ◌<◌, ◌≤◌, Some, IfErr, IfOk, IfSome};
 ghost use Rattle.std.specs.Option.{option_map};
-ghost use Rattle.payd.specs.Jobs.{IsJobsStop, jobs_by};
+ghost use Rattle.payd.specs.Jobs.{IsJobsStop, jobs_by, most_jobs};
 
 use crate::stop::Stop;
 use pay_text::number;
@@ -17,7 +17,7 @@ pub(crate) fn jobs_of<'a>(rt: &impl Threads, word: Option<&'a str>) -> Result<us
     ensures value { IfSome (option_map (λ word. word.now) word.entry)
         (λ word. IfOk result (λ jobs. jobs_by word ≡ Some jobs)) }
     ensures some { IfOk result (λ jobs. 0 < jobs) }
-    ensures most { IfOk result (λ jobs. jobs ≤ MOST_JOBS) }
+    ensures most { IfOk result (λ jobs. jobs ≤ most_jobs) }
     ensures stop { IfErr result (IsJobsStop (option_map (λ word. word.now) word.entry)) }
 {
     match word {
@@ -29,7 +29,7 @@ pub(crate) fn jobs_of<'a>(rt: &impl Threads, word: Option<&'a str>) -> Result<us
 /// How many processors the machine has, `MOST_JOBS` at most, and 1 where nothing says it.
 fn processors(rt: &impl Threads) -> usize
     ensures some { 0 < result }
-    ensures most { result ≤ MOST_JOBS }
+    ensures most { result ≤ most_jobs }
 {
     match available_parallelism(rt) {
         Ok(count) => count.get().min(MOST_JOBS as usize),

@@ -1,7 +1,14 @@
 //! The program `payd`: its words lead to an engine, and how the engine ended to a status.
 #![tactic(auto)]
 
+ghost use Rattle.std.specs.Prelude.{◌≡◌, IfErr, IfOk, map};
+ghost use Rattle.std.specs.Option.{option_copied};
+ghost use Rattle.std.specs.Process.{exit_status};
 ghost use Rattle.pay_link.specs.Keys.{IsKeysOf};
+ghost use Rattle.payd.specs.Files.{IsVerdictOn};
+ghost use Rattle.payd.specs.Statuses.{audit_status, book_status, ended_status};
+ghost use Rattle.payd.specs.Statuses.{send_status, sim_status};
+ghost use Rattle.payd.specs.Texts.{IsAuditStop};
 
 mod ahead;
 mod batches;
@@ -23,7 +30,6 @@ mod staying;
 mod stop;
 mod texts;
 
-use batches::verdict_over;
 use clap::error::ErrorKind;
 use dates::date_of;
 use files::{NamedFiles, export_of, genesis_of, keys_of};
@@ -50,7 +56,7 @@ use std::thread::Threads;
 use std::time::Clock;
 use std::{env, io, thread};
 use stop::Stop;
-use texts::{Findings, book_over, findings_over, form_of, statement_said};
+use texts::{Findings, book_over, findings_over, form_of, statement_said, verdict_said};
 
 /// A member, in the forms of its parts that the program runs.
 type OwnMember = Member<MaskInstance, WaitingBook>;
@@ -188,33 +194,25 @@ fn answer_lines<T: Teller + Drop>(
 }
 
 /// Says what is wrong with the exports in the files of these names, if anything is; or all that is.
-fn audit<'a>(
+fn audit<'a, R: Print + Threads + Sync, F: NamedFiles + Sync>(
     alloc: Global,
-    rt: &(impl Print + Threads + Sync),
-    files: &(impl NamedFiles + Sync),
+    rt: &R,
+    files: &F,
     names: &[&'a str],
     jobs: Option<&'a str>,
     all: bool,
-) -> Result<Verdict, Stop<'a>> {
+) -> Result<Verdict, Stop<'a>>
+    ensures verdict { IfOk result (IsVerdictOn (F.holds files.now)
+        (map (λ name. name.now) names.now)) }
+    ensures stop { IfErr result (IsAuditStop (F.holds files.now)
+        (map (λ name. name.now) names.now) (option_copied jobs.entry)) }
+{
     let jobs = jobs_of(rt, jobs)?;
-    if all {
-        return audit_all(alloc, rt, files, names);
-    }
-    let verdict = verdict_over(rt, jobs, alloc, files, names)?;
-    println!(rt; "{verdict}").map_err(|_| EngineFault::Write)?;
-    Ok(verdict)
-}
-
-/// Says the verdict on the exports in the files of these names, and then all that is wrong with
-/// them.
-fn audit_all<'a>(
-    alloc: Global,
-    rt: &impl Print,
-    files: &impl NamedFiles,
-    names: &[&'a str],
-) -> Result<Verdict, Stop<'a>> {
-    let Findings { verdict, text } = findings_over(alloc, files, names)?;
-    println!(rt; "{verdict}").map_err(|_| EngineFault::Write)?;
+    let Findings { verdict, text } = if all {
+        findings_over(alloc, files, names)?
+    } else {
+        verdict_said(rt, jobs, alloc, files, names)?
+    };
     print_text(rt, text)?;
     Ok(verdict)
 }
@@ -281,7 +279,9 @@ fn journal_in<'a>(
 }
 
 /// Writes a text that is there as a whole.
-fn print_text(rt: &impl Print, text: Vec<u8>) -> Result<(), StreamFault> {
+fn print_text(rt: &impl Print, text: Vec<u8>) -> Result<(), StreamFault>
+    ensures { IfErr result (λ fault. fault ≡ StreamFault.Write) }
+{
     let mut writer = Writer::new(io::writer(rt));
     write_text(&mut writer, text.as_slice())
 }
@@ -305,7 +305,9 @@ fn tagger_of(alloc: Global, keys: &Keys) -> Result<PreparedHmac, AllocError> {
 }
 
 /// A fault in the frames has its line already; another one is named on standard error.
-fn status_of(rt: &impl Eprint, ended: Result<(), Stop>) -> ExitCode {
+fn status_of(rt: &impl Eprint, ended: Result<(), Stop>) -> ExitCode
+    ensures { exit_status result ≡ ended_status ended.entry }
+{
     match ended {
         Ok(()) => ExitCode::SUCCESS,
         Err(stop) => {
@@ -322,7 +324,9 @@ fn status_of(rt: &impl Eprint, ended: Result<(), Stop>) -> ExitCode {
 }
 
 /// An audit that isn't clean has its line already.
-fn status_of_audit(rt: &impl Eprint, ended: Result<Verdict, Stop>) -> ExitCode {
+fn status_of_audit(rt: &impl Eprint, ended: Result<Verdict, Stop>) -> ExitCode
+    ensures { exit_status result ≡ audit_status ended.entry }
+{
     match ended {
         Ok(Verdict::Clean) => ExitCode::SUCCESS,
         Ok(_) => ExitCode::from(1),
@@ -331,7 +335,9 @@ fn status_of_audit(rt: &impl Eprint, ended: Result<Verdict, Stop>) -> ExitCode {
 }
 
 /// Where there is no book its line says why.
-fn status_of_book(rt: &impl Eprint, ended: Result<bool, Stop>) -> ExitCode {
+fn status_of_book(rt: &impl Eprint, ended: Result<bool, Stop>) -> ExitCode
+    ensures { exit_status result ≡ book_status ended.entry }
+{
     match ended {
         Ok(true) => ExitCode::SUCCESS,
         Ok(false) => ExitCode::from(1),
@@ -340,7 +346,9 @@ fn status_of_book(rt: &impl Eprint, ended: Result<bool, Stop>) -> ExitCode {
 }
 
 /// A line that was refused has its answer already.
-fn status_of_send(rt: &impl Eprint, ended: Result<bool, Stop>) -> ExitCode {
+fn status_of_send(rt: &impl Eprint, ended: Result<bool, Stop>) -> ExitCode
+    ensures { exit_status result ≡ send_status ended.entry }
+{
     match ended {
         Ok(false) => ExitCode::SUCCESS,
         Ok(true) => ExitCode::from(1),
@@ -376,7 +384,9 @@ fn status_of_answer(rt: &(impl Print + Eprint), answer: &clap::Error) -> ExitCod
 
 /// A script that ends before its input does has its last line already; a fault is named on standard
 /// error.
-fn status_of_sim(rt: &impl Eprint, ended: Result<SimEnd, StreamFault>) -> ExitCode {
+fn status_of_sim(rt: &impl Eprint, ended: Result<SimEnd, StreamFault>) -> ExitCode
+    ensures { exit_status result ≡ sim_status ended }
+{
     match ended {
         Ok(SimEnd::Done) => ExitCode::SUCCESS,
         Ok(SimEnd::Forged) => ExitCode::from(1),

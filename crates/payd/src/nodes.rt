@@ -1,7 +1,8 @@
 //! A member's node, in memory alone or over the folder in which the member is kept.
 
-ghost use Rattle.std.specs.Prelude.{◌≡◌, IfOk, length};
+ghost use Rattle.std.specs.Prelude.{◌≡◌, IfErr, IfOk, OnOk, length};
 ghost use Rattle.pay_link.specs.Keys.{IsKeysOf};
+ghost use Rattle.payd.specs.Stops.{IsUnconcluded};
 
 use crate::ahead::ahead_of;
 use crate::dials::dials_of;
@@ -300,7 +301,10 @@ where
 }
 
 /// Writes the export of a member that has met its peers, and says whether its receipts were judged.
-fn conclude<'a>(rt: &impl Print, member: &OwnMember, receipts: Receipts) -> Result<(), Stop<'a>> {
+fn conclude<'a>(rt: &impl Print, member: &OwnMember, receipts: Receipts) -> Result<(), Stop<'a>>
+    ensures judged { OnOk result (receipts ≡ Receipts.Consistent) }
+    ensures stop { IfErr result (IsUnconcluded receipts) }
+{
     print_export(rt, member)?;
     match receipts {
         Receipts::Consistent => Ok(()),
@@ -332,7 +336,9 @@ where
 
 /// Writes a member's export as a line. It takes no memory, so that memory which is refused at the
 /// end loses nothing.
-fn print_export(rt: &impl Print, member: &OwnMember) -> Result<(), StreamFault> {
+fn print_export(rt: &impl Print, member: &OwnMember) -> Result<(), StreamFault>
+    ensures { IfErr result (λ fault. fault ≡ StreamFault.Write) }
+{
     let mut writer = Writer::new(io::writer(rt));
     write_export(member, &mut writer).map_err(|_| StreamFault::Write)?;
     write_text(&mut writer, b"\n")

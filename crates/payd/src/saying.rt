@@ -1,6 +1,7 @@
 //! What is said of a node: of its member, and of its peers.
 
 ghost use Rattle.std.specs.Prelude.{◌≡◌, length};
+ghost use Rattle.payd.specs.Saying.{news_words};
 
 use crate::OwnMember;
 use crate::figures::FiguresFile;
@@ -175,7 +176,9 @@ fn settled_count(member: &OwnMember) -> u64 {
     sum
 }
 
-fn word_of(news: News) -> &'static str {
+fn word_of(news: News) -> &'static str
+    ensures { result.now ≡ news_words news }
+{
     match news {
         News::Met => "met",
         News::Lost => "lost",

@@ -1,8 +1,10 @@
 //! A client of a node's desk.
 
-ghost use Rattle.std.specs.Prelude.{◌≡◌};
+ghost use Rattle.std.specs.Prelude.{◌≡◌, IfOk};
+ghost use Rattle.std.specs.List.{flat_map};
 ghost use Rattle.pay_io.specs.Device.{next_count};
-ghost use Rattle.payd.specs.Sending.{Relays, counted_if, is_last, is_refusal};
+ghost use Rattle.payd.specs.Sending.{Relays, counted_if, is_last, is_refusal, line_text};
+ghost use Rattle.payd.specs.Sending.{said_of};
 
 use crate::sent::{LineNotes, SentLines};
 use crate::sockets::socket_path;
@@ -228,7 +230,9 @@ pub(crate) fn call<'a>(
 }
 
 // What is said at the end, by how many lines were sent.
-fn said_of<'a>(relay: &Relay, sent: u64) -> Result<bool, Stop<'a>> {
+fn said_of<'a>(relay: &Relay, sent: u64) -> Result<bool, Stop<'a>>
+    ensures { result ≡ said_of relay.now sent }
+{
     if sent == UNREAD {
         return Err(Stop::Engine(EngineFault::Read));
     }
@@ -258,7 +262,10 @@ fn connect<'a>(
 }
 
 // The lines of the command, as a text.
-fn text_of(alloc: Global, lines: &[&str]) -> Result<Vec<u8>, AllocError> {
+fn text_of(alloc: Global, lines: &[&str]) -> Result<Vec<u8>, AllocError>
+    ensures { IfOk result (λ text. text.items
+        ≡ flat_map (λ line. line_text line.now) lines.now) }
+{
     let mut text = Vec::new(alloc);
     for line in lines {
         text.extend_from_slice(line.as_bytes())?;

@@ -1,5 +1,8 @@
 //! The lines that a client has sent and that aren't answered yet.
 
+ghost use Rattle.std.specs.Prelude.{◌≡◌};
+ghost use Rattle.payd.specs.Sending.{payment_id};
+
 use pay_text::Words;
 use std::alloc::{AllocError, Global};
 use std::collections::VecDeque;
@@ -95,7 +98,9 @@ impl<'a> LineNotes<'a> {
 }
 
 // The id in a line that begins as a payment.
-fn payment_id(line: &[u8]) -> Option<u64> {
+fn payment_id(line: &[u8]) -> Option<u64>
+    ensures { result ≡ payment_id line.now }
+{
     let mut words = Words::new(line);
     match words.next_word()? {
         b"PAY" | b"PAYS" => words.next_number(),

@@ -1,6 +1,8 @@
 //! The socket of a node's desk, by the words that name it.
 
-ghost use Rattle.std.specs.Prelude.{◌≤◌, IfOk, IfSome, string_len};
+ghost use Rattle.std.specs.Prelude.{◌≡◌, ◌≤◌, IfOk, IfSome, string_bytes, string_len};
+ghost use Rattle.std.specs.Option.{option_copied, option_map};
+ghost use Rattle.payd.specs.Sockets.{socket_name};
 ghost use Rattle.pay_net.specs.declared.desk_socket.TheConstants.{MOST_SOCKET_NAME};
 
 use crate::stop::Stop;
@@ -34,7 +36,9 @@ pub(crate) fn socket_path<'a>(
     folder: Option<&str>,
     socket: Option<&str>,
 ) -> Result<Option<String>, Stop<'a>>
-    ensures { IfOk result (λ path. IfSome path (λ name. string_len name ≤ MOST_SOCKET_NAME)) }
+    ensures short { IfOk result (λ path. IfSome path (λ name. string_len name ≤ MOST_SOCKET_NAME)) }
+    ensures name { IfOk result (λ path. option_map string_bytes path
+        ≡ socket_name (option_copied folder.entry) (option_copied socket.entry)) }
 {
     let Some(path) = path_of_socket(alloc, folder, socket)? else {
         return Ok(None);
@@ -49,7 +53,10 @@ fn path_of_socket(
     alloc: Global,
     folder: Option<&str>,
     socket: Option<&str>,
-) -> Result<Option<String>, AllocError> {
+) -> Result<Option<String>, AllocError>
+    ensures { IfOk result (λ path. option_map string_bytes path
+        ≡ socket_name (option_copied folder.entry) (option_copied socket.entry)) }
+{
     match (socket, folder) {
         (Some(path), _) => Ok(Some(String::from_str(alloc, path)?)),
         (None, Some(folder)) => Ok(Some(format!(in alloc; "{folder}/{DESK}")?)),

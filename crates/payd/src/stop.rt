@@ -2,7 +2,8 @@ ghost use Rattle.std.specs.Prelude.{◌≡◌};
 ghost use Rattle.pay_engine.specs.declared.engine_fault.EngineFault.TheVariants.{Memory};
 ghost use Rattle.pay_engine.specs.EngineFault.{engine_of};
 ghost use Rattle.payd.specs.declared.stop.Stop.TheVariants.{Engine, Log};
-ghost use Rattle.payd.specs.Stops.{node_stop};
+ghost use Rattle.std.specs.Option.{option_map};
+ghost use Rattle.payd.specs.Stops.{node_stop, stop_place, status_of};
 
 use pay_audit::ExportFault;
 use pay_engine::EngineFault;
@@ -148,7 +149,9 @@ impl<'a, T: Drop> From<AllocFailed<T>> for Stop<'a> {
 
 impl<'a> Stop<'a> {
     /// The file that has the fault, and whose key in it, where a file has one.
-    pub(crate) fn place(&self) -> Option<(&'a str, Option<u16>)> {
+    pub(crate) fn place(&self) -> Option<(&'a str, Option<u16>)>
+        ensures { option_map (λ place. (place.0.now, place.1)) result ≡ stop_place self.now }
+    {
         match self {
             Stop::Genesis(GenesisFault::Memory, _)
             | Stop::Keys(KeysFault::Memory, _)
@@ -164,7 +167,9 @@ impl<'a> Stop<'a> {
     }
 
     /// The status with which the program ends.
-    pub(crate) fn status(&self) -> u8 {
+    pub(crate) fn status(&self) -> u8
+        ensures { result ≡ status_of self.now }
+    {
         match self {
             Stop::Engine(EngineFault::Frame(_)) | Stop::Close(CloseFault::Mismatch(_)) => 1,
             Stop::Engine(_)

@@ -4,8 +4,9 @@ ghost use Rattle.std.specs.Prelude.{◌≡◌, IfErr, IfOk, None, Some, length, 
 ghost use Rattle.std.specs.Option.{option_map};
 ghost use Rattle.pay_audit.specs.Verdict.{verdict_of};
 ghost use Rattle.payd.specs.Texts.{AreFindings, AreSaid, IsBookSaid, IsStatementStop, IsTextStop};
-ghost use Rattle.payd.specs.Texts.{form_by, statement_said};
+ghost use Rattle.payd.specs.Texts.{IsVerdictSaid, form_by, statement_said, verdict_line};
 
+use crate::batches::verdict_over;
 use crate::files::{NamedFiles, exports_of};
 use crate::stop::Stop;
 use pay_audit::{Export, Verdict, audit};
@@ -13,6 +14,7 @@ use pay_findings::{Named, findings_text};
 use pay_group_book::{BookForm, Said, book_text};
 use pay_journal::{account_named, statement_text, statements_text};
 use std::alloc::{AllocError, Global};
+use std::thread::Threads;
 
 /// The statement of the account that a word names, or without a word those of all.
 pub(crate) fn statement_said<'a>(
@@ -70,14 +72,41 @@ pub(crate) fn book_over<'a, F: NamedFiles>(
     Ok(book_text(alloc, exports.as_slice(), form)?)
 }
 
-/// The verdict on exports, and all that is wrong with them.
+/// The verdict on exports, and a text that says it, or all that is wrong with them too.
 #[derive(Drop)]
 pub(crate) struct Findings {
     pub(crate) verdict: Verdict,
     pub(crate) text: Vec<u8>,
 }
 
-/// All that is wrong with the exports in the files of these names.
+/// The verdict on the exports in the files of these names, read by so many threads.
+pub(crate) fn verdict_said<'a, R: Threads + Sync, F: NamedFiles + Sync>(
+    rt: &R,
+    jobs: usize,
+    alloc: Global,
+    files: &F,
+    names: &[&'a str],
+) -> Result<Findings, Stop<'a>>
+    ensures said { IfOk result (λ found. IsVerdictSaid (F.holds files.now)
+        (map (λ name. name.now) names.now) found.verdict found.text.items) }
+    ensures stop { IfErr result (IsTextStop (F.holds files.now)
+        (map (λ name. name.now) names.now)) }
+{
+    let verdict = verdict_over(rt, jobs, alloc, files, names)?;
+    Ok(Findings {
+        verdict,
+        text: line_of(alloc, verdict)?,
+    })
+}
+
+// A verdict as a line.
+fn line_of(alloc: Global, verdict: Verdict) -> Result<Vec<u8>, AllocError>
+    ensures { IfOk result (λ line. line.items ≡ verdict_line verdict) }
+{
+    Ok(format!(in alloc; "{verdict}\n")?.into_bytes())
+}
+
+/// The verdict on the exports in the files of these names, and then all that is wrong with them.
 pub(crate) fn findings_over<'a, F: NamedFiles>(
     alloc: Global,
     files: &F,
@@ -99,10 +128,10 @@ fn findings_of(alloc: Global, names: &[&str], exports: &[Export]) -> Result<Find
         (map (λ name. name.now) names.now) exports.now found.text.items) }
 {
     let named = name_exports(alloc, names, exports)?;
-    Ok(Findings {
-        verdict: audit(alloc, exports)?,
-        text: findings_text(alloc, named.as_slice())?,
-    })
+    let verdict = audit(alloc, exports)?;
+    let mut text = line_of(alloc, verdict)?;
+    text.extend_from_slice(&findings_text(alloc, named.as_slice())?)?;
+    Ok(Findings { verdict, text })
 }
 
 // The exports, each with the name of its file.
