@@ -1,3 +1,4 @@
 pub mod Moments
+pub mod Restarts
 pub mod Worlds
 pub mod Books

@@ -3,6 +3,7 @@
 
 ghost use Rattle.pay_audit_laws.specs.Books.{BookIsOfCorrectMembers, BookIsSettledByAll};
 ghost use Rattle.pay_audit_laws.specs.Moments.{ExportsAreClean};
+ghost use Rattle.pay_audit_laws.specs.Restarts.{ExportsStayClean};
 ghost use Rattle.pay_audit_laws.specs.Worlds.{WorldExportsAreClean};
 
 use pay_audit::laws::verdict_is_judged;
@@ -12,6 +13,7 @@ use pay_book::laws::{
 use pay_channel::laws::lists_are_delivered;
 use pay_echo::laws::sizes_of_sets;
 use pay_group_book::laws::book_is_vouched_for;
+use pay_restart_laws::laws::headline_of_restarts;
 use pay_world::laws::{forged_is_told, lists_by_actions};
 
 /// Take any actions of which none is a forged frame, in a group with few faulty members. Then the
@@ -25,6 +27,16 @@ pub fn exports_are_clean()
     settled_book_exists();
     lists_are_delivered();
     lists_by_actions();
+}
+
+/// Take any steps of a group with few faulty members, restarts among them, in which each correct
+/// member that starts again has all that it sent to correct members. Then the exports of correct
+/// members, each by what it never lost, have the verdict Clean.
+pub fn exports_stay_clean()
+    ensures { ExportsStayClean }
+{
+    headline_of_restarts();
+    exports_are_clean();
 }
 
 /// Take any events that `run_world` answers with a world. Then the exports of members of the world

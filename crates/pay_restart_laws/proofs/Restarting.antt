@@ -134,6 +134,7 @@ pub of_restarts : NoHistoryAtFirst → HistoryByOneMore → HistoriesGrow → Re
 of_restarts none more grow no_lie headline w opening steps few are =
     let t = no_lie w steps are in (
       t.0,
+      t.1,
       headline w opening t.0 few t.1,
       t.2,
       λ i history begins.

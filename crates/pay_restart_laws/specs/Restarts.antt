@@ -54,12 +54,12 @@ RestartIsNoLie =
     → (actions : List Action) × AreGenuine w actions
     × ((i : ℕ) → history_by w actions i ≡ history_by_steps w steps i)
 
--- The headline holds of such actions, and each beginning of a history that nobody lost is the one
--- by a beginning of them.
+-- The headline holds of such actions, none of them a forged frame, and each beginning of a history
+-- that nobody lost is the one by a beginning of them.
 abbrev pub HeadlineOfRestarts : Type 0
 HeadlineOfRestarts =
     (w : Setting) (opening : List ℕ) (steps : List Step) → HasFewFaulty w → AreFair w steps
-    → (actions : List Action) × Headline w opening actions
+    → (actions : List Action) × AreGenuine w actions × Headline w opening actions
     × ((i : ℕ) → history_by w actions i ≡ history_by_steps w steps i)
     × ((i : ℕ) (history : List Event) → IsPrefix history (history_by_steps w steps i)
     → (one : List Action) × IsPrefix one actions × (history_by w one i ≡ history))
