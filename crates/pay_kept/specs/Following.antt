@@ -1,6 +1,6 @@
 -- A log that follows a member's history.
-use Rattle.std.specs.Prelude.{◌≡◌, ℕ, ◌+◌, ◌-◌, ◌≤◌, List, [], ◌∷◌, ◌++◌, length, map, take, drop}
-use Rattle.std.specs.Prelude.{slice_index_or}
+use Rattle.std.specs.Prelude.{◌≡◌, ◌≢◌, ℕ, ◌+◌, ◌-◌, ◌≤◌, List, [], ◌∷◌, ◌++◌, length, map, take}
+use Rattle.std.specs.Prelude.{drop, slice_index_or}
 use Rattle.std.specs.List.{flat_map}
 use Rattle.pay_log.specs.declared.log.Log.{Log}
 use Rattle.pay_log.specs.Logs.{IsSynced}
@@ -14,9 +14,22 @@ use Rattle.pay_resume.specs.Resuming.{LoggedFields, entries_of_logged}
 abbrev pub AllKnown : {D : Type 0} → (D → Type 0) → Type 0
 AllKnown {D = D} is_known = (device : D) → is_known device
 
+-- the id that is noted under a number; 0 where none is
+abbrev pub id_of : List ℕ → ℕ → ℕ
+id_of ids seq = slice_index_or ids seq 0
+
+-- An id is noted under a number, and under each other one is what was there before.
+pub record NotesId (old : List ℕ) (seq id : ℕ) (new : List ℕ) : Type 0 where
+  pub under : id_of new seq ≡ id
+  pub others : (other : ℕ) → other ≢ seq → id_of new other ≡ id_of old other
+
+-- under each number is what was there before
+abbrev pub HasSameIds : List ℕ → List ℕ → Type 0
+HasSameIds old new = (seq : ℕ) → id_of new seq ≡ id_of old seq
+
 -- the id that the owner gave the value of an ask's number; 0 where nobody gave one
 abbrev pub id_under : List ℕ → Reply → ℕ
-id_under ids (Asked seq) = slice_index_or ids seq 0
+id_under ids (Asked seq) = id_of ids seq
 id_under ids (Took t) = 0
 id_under ids (Told t) = 0
 

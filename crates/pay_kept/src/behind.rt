@@ -4,6 +4,7 @@ ghost use Rattle.std.specs.Io.KnownBytes.{WriteAppends};
 ghost use Rattle.pay_io.specs.Device.{next_count, failures_after};
 
 use crate::keeper::Keeper;
+use crate::withheld_output::WithheldOutput;
 use pay_book::Settle;
 use pay_echo::Instance;
 use pay_io::{DeviceFailed, Output};
@@ -19,7 +20,7 @@ pub struct Behind<'a, R, K, I: Instance + Drop, B: Settle + Drop, S: Beginning, 
     rt: &'a R,
     keeper: &'a K,
     node: &'a Node<I, B, S>,
-    inner: W,
+    inner: WithheldOutput<W>,
     calls: u64,
     failures: u64,
 }
@@ -32,7 +33,7 @@ impl<'a, R, K, I: Instance + Drop, B: Settle + Drop, S: Beginning, W> Behind<'a,
         node: &'a Node<I, B, S>,
         inner: W,
     ) -> Behind<'a, R, K, I, B, S, W>
-        ensures inner { result.inner ≡ inner }
+        ensures inner { result.inner.output ≡ inner }
         ensures calls { result.calls ≡ 0 }
         ensures failures { result.failures ≡ 0 }
     {
@@ -40,7 +41,7 @@ impl<'a, R, K, I: Instance + Drop, B: Settle + Drop, S: Beginning, W> Behind<'a,
             rt,
             keeper,
             node,
-            inner,
+            inner: WithheldOutput::new(inner),
             calls: 0,
             failures: 0,
         }
@@ -48,16 +49,16 @@ impl<'a, R, K, I: Instance + Drop, B: Settle + Drop, S: Beginning, W> Behind<'a,
 
     /// The output itself.
     pub fn into_inner(self) -> W
-        ensures { result ≡ self.entry.inner }
+        ensures { result ≡ self.entry.inner.output }
     {
         let Behind { inner, .. } = self;
-        inner
+        inner.into_output()
     }
 }
 
 impl<R: Wait, K: Keeper, I: Instance + Drop, B: Settle + Drop, S: Beginning, W: Output> Output
     for Behind<'_, R, K, I, B, S, W> {
-    ghost contents = { λ b. W.contents b.inner };
+    ghost contents = { λ b. W.contents b.inner.output };
 
     ghost call_count = { λ b. b.calls };
 
@@ -67,8 +68,8 @@ impl<R: Wait, K: Keeper, I: Instance + Drop, B: Settle + Drop, S: Beginning, W: 
         ensures gated { IfOk result (λ _. K.kept self.old.keeper.now self.old.node.now) }
         ensures bound { WritesAtMost result bytes.now }
         ensures some { IfOk result (λ count. 0 < length bytes.now → 0 < count) }
-        ensures bytes { WriteAppends (W.contents self.old.inner) (W.contents self.new.inner)
-            result bytes.now }
+        ensures bytes { WriteAppends (W.contents self.old.inner.output)
+            (W.contents self.new.inner.output) result bytes.now }
         ensures called { self.new.calls ≡ next_count self.old.calls }
         ensures failed { self.new.failures ≡ failures_after self.old.failures result }
     {
@@ -77,7 +78,7 @@ impl<R: Wait, K: Keeper, I: Instance + Drop, B: Settle + Drop, S: Beginning, W: 
             self.failures = self.failures.saturating_add(1);
             return Err(DeviceFailed);
         }
-        match self.inner.write(bytes) {
+        match self.inner.write(self.keeper, self.node, bytes) {
             Ok(count) => Ok(count),
             Err(_) => {
                 self.failures = self.failures.saturating_add(1);

@@ -1,10 +1,12 @@
 //! A log that follows a member's history.
 
-ghost use Rattle.std.specs.Prelude.{◌≡◌, ◌≤◌, ◌↔◌, [], IfOk, IfErr, IfSome, IsTrue, length};
+ghost use Rattle.std.specs.Prelude.{◌≡◌, ◌≢◌, ◌<◌, ◌≤◌, ◌↔◌, [], Err, IfOk, IfSome, IsTrue};
+ghost use Rattle.std.specs.Prelude.{OnErr, length};
 ghost use Rattle.pay_log.specs.declared.limits.TheConstants.{MOST_PAYLOAD};
 ghost use Rattle.pay_kept.specs.Following.{AllKnown, HasGathered, IsFlushed, IsFollowingSome};
 ghost use Rattle.pay_kept.specs.Following.{id_under};
 
+use crate::failed_log::FailedLog;
 use crate::limits::FULL;
 use pay_book::Settle;
 use pay_echo::Instance;
@@ -24,6 +26,15 @@ pub struct Following<D: Device> {
     ghost short: { length pending.items ≤ MOST_PAYLOAD },
     ghost follows: { ∥ (AllKnown D.is_known
         → IsFollowingSome D.is_known D.seen D.may_leave log pending.items count) ∥₁ },
+}
+
+/// Why what waits isn't written.
+#[derive(Drop)]
+pub enum Unflushed<D: Device> {
+    /// Memory was refused.
+    Memory(Following<D>),
+    /// The log failed, by this call or before.
+    Failed(FailedLog<D>),
 }
 
 impl<D: Device + Drop> Following<D> {
@@ -75,6 +86,7 @@ impl<D: Device + Drop> Following<D> {
             self.pending.items result.0.pending.items }
         ensures whole { IfOk result.1 (λ whole.
             IsTrue whole → length member.now.history ≤ result.0.count) }
+        ensures missing { OnErr result.1 (result.0.count < length member.now.history) }
     {
         let Following {
             log,
@@ -91,14 +103,14 @@ impl<D: Device + Drop> Following<D> {
     }
 
     /// Writes all that waits, and syncs. Where memory is refused, all is as it was. After a failed
-    /// write or sync the log is gone: it isn't tried again, since the kernel may show bytes that it
-    /// never wrote.
-    pub fn flush(self, alloc: Global) -> Result<Following<D>, Option<Following<D>>>
+    /// write or sync nothing follows the history any more.
+    pub fn flush(self, alloc: Global) -> Result<Following<D>, Unflushed<D>>
         ensures flushed { IfOk result (λ after. IsFlushed D.is_known D.seen D.may_leave
             self.log after.log self.pending.items after.pending.items) }
         ensures count { IfOk result (λ after. after.count ≡ self.count) }
-        ensures memory { IfErr result (λ back. IfSome back (λ before. (before.log ≡ self.log)
-            × (before.count ≡ self.count) × (before.pending ≡ self.pending))) }
+        ensures memory { (back : _) → result ≡ Err (Unflushed.Memory back)
+            → (back.log ≡ self.log) × (back.count ≡ self.count) × (back.pending ≡ self.pending) }
+        ensures waiting { OnErr result (self.pending.items ≢ []) }
     {
         if self.pending.is_empty() {
             return Ok(self);
@@ -117,12 +129,12 @@ impl<D: Device + Drop> Following<D> {
                     pending,
                 })
             }
-            Err(LogFault::Memory) => Err(Some(Following {
+            Err(LogFault::Memory) => Err(Unflushed::Memory(Following {
                 log,
                 count,
                 pending,
             })),
-            Err(_) => Err(None),
+            Err(_) => Err(Unflushed::Failed(FailedLog::new(log))),
         }
     }
 }
@@ -140,6 +152,7 @@ fn push_missing<I: Instance + Drop, B: Settle + Drop>(
     ensures gathered { HasGathered ids.now member.now.history count.old count.new
         pending.old.items pending.new.items }
     ensures whole { IfOk result (λ whole. IsTrue whole → length member.now.history ≤ count.new) }
+    ensures missing { OnErr result (count.new < length member.now.history) }
 {
     legal_entries_have_room();
     let history = member.history();

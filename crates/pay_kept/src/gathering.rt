@@ -1,10 +1,13 @@
 //! A log that is brought up to a node's history.
 
-ghost use Rattle.std.specs.Prelude.{◌≡◌, ◌≤◌, List, ℕ, IfSome, MatchOption, None, length, true};
+ghost use Rattle.std.specs.Prelude.{◌≡◌, ◌≢◌, ◌≤◌, List, ℕ, IfSome, IsSomeAnd, MatchOption};
+ghost use Rattle.std.specs.Prelude.{None, length, true};
 ghost use Rattle.pay_kept.specs.Following.{HasGathered};
 ghost use Rattle.pay_kept.specs.Kept.{IsHistoryKept};
+ghost use Rattle.pay_kept.specs.Steps.{LeavesLog};
 
-use crate::following::Following;
+use crate::failed_log::FailedLog;
+use crate::following::{Following, Unflushed};
 use pay_book::Settle;
 use pay_echo::Instance;
 use pay_log::Device;
@@ -32,6 +35,9 @@ impl<R: Wait, D: Device + Drop> Gatherer for Gathering<'_, R, D> {
         before.pending.items after.pending.items)
         × (new.has_all ≡ true → length member.history ≤ after.count))) };
 
+    ghost keeps = { λ old new. MatchOption old.slot (new.slot ≡ None)
+        (λ before. IsSomeAnd new.slot (λ after. after.log ≡ before.log)) };
+
     fn gather<I: Instance + Drop, B: Settle + Drop>(
         &mut self,
         member: &Member<I, B>,
@@ -48,16 +54,18 @@ impl<R: Wait, D: Device + Drop> Gatherer for Gathering<'_, R, D> {
 }
 
 /// How far one step came.
-#[derive(Clone, Copy, Debug, PartialEq, Eq)]
-pub(crate) enum Step {
+#[derive(Drop)]
+pub(crate) enum Step<D> {
     /// All that the history had is on the disk.
     Done,
     /// Some of it is.
     More,
     /// Memory was refused; the log is as it was.
     NoMemory,
-    /// There is no log any more.
-    Failed,
+    /// The log failed, and is out of its slot.
+    Failed(FailedLog<D>),
+    /// There was no log any more.
+    Gone,
 }
 
 /// Gathers from the node's member, and writes what was gathered. A log that fails is gone from its
@@ -68,14 +76,18 @@ pub(crate) fn bring_up<R, I, B, S, D>(
     node: &Node<I, B, S>,
     ids: &Mutex<Vec<u64>>,
     slot: &mut Option<Following<D>>,
-) -> Step
+) -> Step<D>
 where
     R: Wait,
     I: Instance + Drop,
     B: Settle + Drop,
     S: Beginning,
     D: Device + Drop,
-    ensures { result ≡ Step.Done → IsHistoryKept D.is_known D.seen D.may_leave node.now }
+    ensures kept { result ≡ Step.Done → IsHistoryKept D.is_known D.seen D.may_leave node.now }
+    ensures memory { result ≡ Step.NoMemory → MatchOption slot.old (slot.new ≡ None)
+        (λ before. IsSomeAnd slot.new (λ after. after.log ≡ before.log)) }
+    ensures gone { result ≡ Step.Gone → slot.old ≡ None }
+    ensures leaves { LeavesLog result → slot.new ≢ None }
 {
     let mut gathering = Gathering {
         rt,
@@ -91,7 +103,7 @@ where
         ..
     } = gathering;
     let Some(following) = gathered else {
-        return Step::Failed;
+        return Step::Gone;
     };
     if lent.is_err() {
         *slot = Some(following);
@@ -102,10 +114,10 @@ where
             *slot = Some(following);
             if has_all { Step::Done } else { Step::More }
         }
-        Err(Some(following)) => {
+        Err(Unflushed::Memory(following)) => {
             *slot = Some(following);
             Step::NoMemory
         }
-        Err(None) => Step::Failed,
+        Err(Unflushed::Failed(log)) => Step::Failed(log),
     }
 }

@@ -1,6 +1,7 @@
 //! A node whose history is kept in a log.
 
-ghost use Rattle.std.specs.Prelude.{IfSome, IsTrue};
+ghost use Rattle.std.specs.Prelude.{◌≡◌, ◌≤◌, [], IfSome, IsTrue, OnErr, OnOk, length};
+ghost use Rattle.pay_kept.specs.Following.{HasSameIds, NotesId};
 ghost use Rattle.pay_kept.specs.Kept.{AreDurable, HasAtLeast, HasEntries, IsHistoryKept};
 
 use crate::following::Following;
@@ -27,12 +28,12 @@ pub struct Kept<D: Device> {
 }
 
 impl<D: Device + Drop> Kept<D> {
-    /// A log that has a member's history, and the ids of its asks in their order.
-    pub fn new(alloc: Global, following: Following<D>, ids: Vec<u64>) -> Kept<D> {
+    /// A log that has a member's history. The ids of the asks in it aren't looked at again.
+    pub fn new(alloc: Global, following: Following<D>) -> Kept<D> {
         Kept {
             alloc,
             following: Mutex::new(Some(following)),
-            ids: Mutex::new(ids),
+            ids: Mutex::new(Vec::new(alloc)),
         }
     }
 
@@ -71,9 +72,35 @@ impl<D: Device + Drop> Keeper for Kept<D> {
     }
 }
 
-// Brings a log up to the node's history, until it has at least so many entries on the disk. Another
-// call may have done that already.
+// Has a log so many entries on the disk, and all that the node's history had when it was measured.
+// Another call may have done that already.
 fn keep_entries<R, I, B, S, D>(
+    rt: &R,
+    alloc: Global,
+    node: &Node<I, B, S>,
+    ids: &Mutex<Vec<u64>>,
+    entries: usize,
+    slot: &mut Option<Following<D>>,
+) -> bool
+where
+    R: Wait,
+    I: Instance + Drop,
+    B: Settle + Drop,
+    S: Beginning,
+    D: Device + Drop,
+    requires { HasEntries node.now entries }
+    ensures kept { IsTrue result → IsHistoryKept D.is_known D.seen D.may_leave node.now }
+    ensures there { IfSome slot.old (λ f.
+        (f.pending.items ≡ []) → entries ≤ f.count → IsTrue result) }
+{
+    if has_entries(slot, entries) {
+        return true;
+    }
+    write_missing(rt, alloc, node, ids, entries, slot)
+}
+
+// Brings a log up to the node's history, until it has at least so many entries on the disk.
+fn write_missing<R, I, B, S, D>(
     rt: &R,
     alloc: Global,
     node: &Node<I, B, S>,
@@ -91,21 +118,24 @@ where
     ensures { IsTrue result → IsHistoryKept D.is_known D.seen D.may_leave node.now }
 {
     for _ in rt.forever() {
-        if has_entries(slot, entries) {
-            return true;
-        }
         match bring_up(rt, alloc, node, ids, slot) {
             Step::Done => return true,
-            Step::More => {}
-            Step::NoMemory | Step::Failed => return false,
+            Step::More => {
+                if has_entries(slot, entries) {
+                    return true;
+                }
+            }
+            Step::NoMemory | Step::Failed(_) | Step::Gone => return false,
         }
     }
     false
 }
 
-// Whether a log has so many entries on the disk.
+// Whether a log has so many entries on the disk, and nothing waits behind them.
 fn has_entries<D: Device + Drop>(slot: &Option<Following<D>>, entries: usize) -> bool
-    ensures { IsTrue result → HasAtLeast D.is_known D.seen D.may_leave entries }
+    ensures durable { IsTrue result → HasAtLeast D.is_known D.seen D.may_leave entries }
+    ensures there { IfSome slot.now (λ f.
+        (f.pending.items ≡ []) → entries ≤ f.count → IsTrue result) }
 {
     match slot {
         Some(following) => following.has(entries),
@@ -123,14 +153,27 @@ fn durable_in<D: Device + Drop>(slot: &Option<Following<D>>) -> Option<usize>
     }
 }
 
-// Puts an id at a place, behind zeros where none stand before it.
-fn note(ids: &mut Vec<u64>, place: usize, id: u64) -> Result<(), AllocError> {
-    if place < ids.len() {
-        ids[place] = id;
+// Notes an id under a number.
+fn note(ids: &mut Vec<u64>, seq: usize, id: u64) -> Result<(), AllocError>
+    ensures noted { OnOk result (NotesId ids.old.items seq id ids.new.items) }
+    ensures err { OnErr result (HasSameIds ids.old.items ids.new.items) }
+{
+    if seq < ids.len() {
+        ids[seq] = id;
         return Ok(());
     }
-    while ids.len() < place {
+    fill_to(ids, seq)?;
+    Ok(ids.push(id)?)
+}
+
+// Notes that none is known under the numbers up to this one.
+fn fill_to(ids: &mut Vec<u64>, seq: usize) -> Result<(), AllocError>
+    requires { length ids.old.items ≤ seq }
+    ensures filled { OnOk result (length ids.new.items ≡ seq) }
+    ensures same { HasSameIds ids.old.items ids.new.items }
+{
+    while ids.len() < seq {
         ids.push(0)?;
     }
-    Ok(ids.push(id)?)
+    Ok(())
 }

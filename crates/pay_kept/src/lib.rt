@@ -11,6 +11,7 @@
 #![tactic(auto)]
 
 mod behind;
+mod failed_log;
 mod following;
 mod gathering;
 mod keeper;
@@ -18,9 +19,11 @@ mod kept;
 mod limits;
 mod measuring;
 mod restarting;
+mod withheld_output;
 
 pub use behind::Behind;
-pub use following::Following;
+pub use failed_log::FailedLog;
+pub use following::{Following, Unflushed};
 pub use keeper::{Keeper, Unkept};
 pub use kept::Kept;
 pub use restarting::{Restarted, begin, restart, view_log_of};

@@ -6,6 +6,7 @@ ghost use Rattle.pay_link.specs.Keys.{IsKeysOf};
 
 use crate::logs::FailingDisk;
 use pay_book::PlainBook;
+use pay_desk::Teller;
 use pay_echo::MaskInstance;
 use pay_frame::Bytes;
 use pay_hmac::HmacSha256;
@@ -14,6 +15,7 @@ use pay_link::{Genesis, Keys, test_keys};
 use pay_log::{Device, DeviceFault, DiskFailed, LogFault};
 use pay_member::{Event, Member};
 use pay_node::{Beginning, Node, Seat};
+use pay_peers::NodeTeller;
 use pay_record::log_header;
 use std::alloc::Global;
 use std::marker::Brand;
@@ -132,17 +134,13 @@ fn node_of<S: Beginning>(alloc: Global, member: OwnMember) -> Result<(Tried<S>, 
     }
 }
 
-/// Asks the node to pay, and says whether that is kept.
-fn pays<S: Beginning, R: Wait, K: Keeper>(
-    rt: &R,
-    alloc: Global,
-    node: &Tried<S>,
-    seat: &mut Seat,
-    kept: &K,
-) -> Result<bool, Fail> {
+/// Asks to pay under an id, as a desk does.
+fn pay<T: Teller>(alloc: Global, teller: &mut T, id: u64) -> Result<(), Fail> {
     let value = Bytes::from_slice(alloc, VALUE)?;
-    node.ask(rt, alloc, seat, value)?;
-    Ok(kept.keep(rt, node))
+    match teller.ask(alloc, id, value) {
+        Ok(_) => Ok(()),
+        Err(_) => Err(Fail::new("refused")),
+    }
 }
 
 /// What a run leaves on its disk.
@@ -166,16 +164,17 @@ fn pay_each<S: Beginning, R: Wait, D: Device + Drop>(
     requires { member ≡ S.beginning }
 {
     let (node, mut seats) = node_of::<S>(alloc, member)?;
-    let Some(mut seat) = seats.pop() else {
+    let Some(seat) = seats.pop() else {
         return Err(Fail::new("no seat"));
     };
+    let mut teller = NodeTeller::new(rt, &node, kept, seat, 0);
     let mut acknowledged = 0;
     let mut stops = true;
     for (seq, id) in IDS.iter().enumerate() {
         let failed = kept.has_failed(rt);
         let calls = disk.lock(rt).calls;
-        kept.order(rt, seq as u32, *id)?;
-        if pays(rt, alloc, &node, &mut seat, kept)? {
+        pay(alloc, &mut teller, *id)?;
+        if kept.keep(rt, &node) {
             acknowledged = seq + 1;
             stops = stops && !failed;
         }
@@ -197,11 +196,11 @@ fn pay_until_crash<R: Wait + Clock>(
         Ok(
             Restarted {
                 member,
-                ids,
+                ids: _ids,
                 following,
             },
         ) => {
-            let kept = Kept::new(alloc, following, ids);
+            let kept = Kept::new(alloc, following);
             pay_each::<Brand, _, _>(rt, alloc, member, &kept, &disk)?
         }
         Err(_) => (0, true),
@@ -251,6 +250,57 @@ fn failing_disk_loses_no_kept_payment(rt: HostRuntime) -> Result<(), Fail> {
     Ok(())
 }
 
+/// Pays once under an id from a member's node, which asked for so many values before.
+fn pay_next<S: Beginning, R: Wait, D: Device + Drop>(
+    rt: &R,
+    alloc: Global,
+    member: OwnMember,
+    kept: &Kept<D>,
+    next: u32,
+    id: u64,
+) -> Result<bool, Fail>
+    requires { member ≡ S.beginning }
+{
+    let (node, mut seats) = node_of::<S>(alloc, member)?;
+    let Some(seat) = seats.pop() else {
+        return Err(Fail::new("no seat"));
+    };
+    pay(alloc, &mut NodeTeller::new(rt, &node, kept, seat, next), id)?;
+    Ok(kept.keep(rt, &node))
+}
+
+/// Starts again from these bytes and pays once under an id, and returns what the disk has then.
+fn live_once<R: Wait + Clock>(
+    rt: &R,
+    alloc: Global,
+    bytes: Vec<u8>,
+    id: u64,
+) -> Result<Vec<u8>, Fail> {
+    let disk = Mutex::new(FailingDisk::new(bytes, usize::MAX, 0));
+    let missing = AtomicU32::new(0);
+    let Restarted {
+        member,
+        ids,
+        following,
+    } = start(rt, alloc, &disk, &missing)??;
+    let kept = Kept::new(alloc, following);
+    let next = u32::try_from(ids.len()).unwrap_or(u32::MAX);
+    if !pay_next::<Brand, _, _>(rt, alloc, member, &kept, next, id)? {
+        return Err(Fail::new("not kept"));
+    }
+    Ok(disk.lock(rt).bytes.to_vec(alloc)?)
+}
+
+#[test]
+fn each_payment_keeps_its_id_in_a_life_of_its_own(rt: HostRuntime) -> Result<(), Fail> {
+    let mut bytes = new_disk(rt.alloc(), usize::MAX, 0)?.bytes;
+    for id in IDS {
+        bytes = live_once(&rt, rt.alloc(), bytes, *id)?;
+    }
+    assert!(rt; payments_on(&rt, rt.alloc(), bytes)? == Some(IDS.len()));
+    Ok(())
+}
+
 /// Pays from each of a node's three seats at once, the first of which waits until all have asked.
 fn all_pay<S, R, D>(
     rt: &R,
@@ -291,10 +341,10 @@ fn paid_at_once<R: Wait + Threads + Clock + Sync>(
     let missing = AtomicU32::new(0);
     let Restarted {
         member,
-        ids,
         following,
+        ..
     } = start(rt, alloc, &disk, &missing)??;
-    let kept = Kept::new(alloc, following, ids);
+    let kept = Kept::new(alloc, following);
     let all = all_pay::<Brand, _, _>(rt, alloc, member, &kept, &missing)?;
     let calls = disk.lock(rt).calls;
     let bytes = disk.lock(rt).bytes.to_vec(alloc)?;

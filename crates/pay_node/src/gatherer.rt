@@ -11,10 +11,14 @@ pub trait Gatherer {
     // What becomes of it: who it was, the member that it was lent, and who it is then.
     ghost gathers: { Self → MemberFields → Self → Type 0 };
 
+    // What stays of it, also where memory is refused: who it was, and who it is then.
+    ghost keeps: { Self → Self → Type 0 } = { λ _ _. Unit {0} };
+
     /// Takes from a member what it wants, while all who call the node wait.
     fn gather<I: Instance + Drop, B: Settle + Drop>(
         &mut self,
         member: &Member<I, B>,
     ) -> Result<(), AllocError>
-        ensures { OnOk result (gathers self.old member.now self.new) };
+        ensures gathered { OnOk result (gathers self.old member.now self.new) }
+        ensures keeps { keeps self.old self.new };
 }

@@ -450,9 +450,10 @@ impl<I: Instance + Drop, B: Settle + Drop, S: Beginning> Node<I, B, S> {
     }
 
     /// Lends the member to a gatherer, with all that it took by now. No receipt is left. After
-    /// refused memory nothing is known of the gatherer.
+    /// refused memory no more is known of the gatherer than what it keeps.
     pub fn lend<R: Wait, G: Gatherer>(&self, rt: &R, gatherer: &mut G) -> Result<(), AllocError>
-        ensures { OnOk result (IsGathered G.gathers self.now gatherer.old gatherer.new) }
+        ensures gathered { OnOk result (IsGathered G.gathers self.now gatherer.old gatherer.new) }
+        ensures keeps { G.keeps gatherer.old gatherer.new }
     {
         let begun = self.member.lock(rt);
         let member = begun.member();

@@ -257,7 +257,7 @@ where
     say_start(rt, found);
     let keeper = SayingKept {
         rt,
-        kept: Kept::new(alloc, following, ids),
+        kept: Kept::new(alloc, following),
         has_failed: lines.has_failed,
     };
     let config = meeting.config(saying, &keeper, Some(FiguresFile::<R>::every()));

@@ -4,9 +4,9 @@ use Rattle.pay_kept.specs.Following.{HasGathered}
 use Rattle.pay_kept.proofs.Followed.{from_slots, on_disk, where_ok}
 use Rattle.pay_kept.proofs.gathering.bring_up.Goals as goal
 
-pub returns-then-has_all : goal.returns-then-has_all
-returns-then-has_all g c done =
-    let found = where_ok c.lend-lent.result _ c.if-is_err.ensures.value c.lend-lent.ensures in
+pub returns-then-has_all-clause-kept : goal.returns-then-has_all-clause-kept
+returns-then-has_all-clause-kept g c done =
+    let found = where_ok c.lend-lent.result _ c.if-is_err.ensures.value c.lend-lent.ensures.gathered in
     let history = found.member.history in
     let after = c.in-Some.following in
     let gathered = from_slots c.take.result c.lend-lent.new.gatherer.slot (λ b a.
