@@ -1,8 +1,8 @@
 """Tries the mutants that no clause kills, but a test: those of what a lock keeps, of threads, and of memory at hand.
 
-Each is a file tests/mutants/by_tests/*.edit: a line 'crate: NAME', a line 'test: PATH' with the test of
-pay_library_tests that has to fail, and then as for others. It is applied to a copy of all crates, which is compiled
-without proofs. The tests have to pass first in such a copy without a mutant.
+Each is a file tests/mutants/by_tests/*.edit: a line 'crate: NAME', a line 'test: CRATE::PATH' with the test that has to
+fail, and then as for others. It is applied to a copy of all crates, which is compiled without proofs. The tests have to
+pass first in such a copy without a mutant.
 """
 
 from __future__ import annotations
@@ -18,7 +18,6 @@ from kit import TOP, rtlib
 from sources import write_files
 
 FOLDER = os.path.join(TOP, "tests", "mutants", "by_tests")
-TESTS = "pay_library_tests"
 
 
 @dataclass
@@ -49,10 +48,11 @@ def passes_in_copy(texts: dict[str, str], test: str) -> bool | None:
         for it in ("crates.txt", "HANDLES"):
             shutil.copy(f"{TOP}/{it}", room)
         write_files(room, texts)
-        words = [*rtlib.guarded(), "rt", "try", "--test", "--", test]
+        crate, _, path = test.partition("::")
+        words = [*rtlib.guarded(), "rt", "try", "--test", "--", path]
         how = {"stdin": subprocess.DEVNULL, "stdout": subprocess.PIPE, "stderr": subprocess.STDOUT}
-        said = subprocess.run(words, cwd=f"{room}/crates/{TESTS}", errors="replace", **how).stdout.splitlines()
-    return f"test {test} ... ok" in said if any(it.startswith("tests: ") for it in said) else None
+        said = subprocess.run(words, cwd=f"{room}/crates/{crate}", errors="replace", **how).stdout.splitlines()
+    return f"test {path} ... ok" in said if any(it.startswith("tests: ") for it in said) else None
 
 
 def try_by_tests(asked: list[str]) -> int:
