@@ -5,9 +5,9 @@ ghost use Rattle.std.specs.Prelude.{◌≡◌, [], IfOk};
 ghost use Rattle.pay_link.specs.Keys.{IsKeysOf};
 
 use crate::logs::FailingDisk;
-use pay_book::PlainBook;
+use pay_book::{PlainBook, Settle};
 use pay_desk::Teller;
-use pay_echo::MaskInstance;
+use pay_echo::{Instance, MaskInstance};
 use pay_frame::Bytes;
 use pay_hmac::HmacSha256;
 use pay_kept::{Keeper, Kept, Restarted, restart};
@@ -17,7 +17,7 @@ use pay_member::{Event, Member};
 use pay_node::{Beginning, Node, Seat};
 use pay_peers::NodeTeller;
 use pay_record::log_header;
-use std::alloc::Global;
+use std::alloc::{AllocError, Global};
 use std::marker::Brand;
 use std::process::Abort;
 use std::sync::atomic::{AtomicU32, Ordering};
@@ -359,5 +359,64 @@ fn those_that_wait_share_a_sync(rt: HostRuntime) -> Result<(), Fail> {
         // a cut and a sync of the recovery, and an append and a sync of one or two groups
         assert!(rt; calls == 4 || calls == 6, "{calls} calls");
     }
+    Ok(())
+}
+
+/// A keeper that takes no id.
+struct Refusing;
+
+impl Keeper for Refusing {
+    ghost kept = { λ _ _. Unit {0} };
+
+    ghost has = { λ _ _. Unit {0} };
+
+    fn keep<R: Wait, I: Instance + Drop, B: Settle + Drop, S: Beginning>(
+        &self,
+        _rt: &R,
+        _node: &Node<I, B, S>,
+    ) -> bool {
+        true
+    }
+
+    fn order<R: Wait>(&self, _rt: &R, _seq: u32, _id: u64) -> Result<(), AllocError> {
+        Err(AllocError)
+    }
+
+    fn durable<R: Wait>(&self, _rt: &R) -> Option<usize> {
+        None
+    }
+}
+
+/// Whether a node refuses to pay under an id that isn't taken, and how long its history is then.
+fn tried_in_vain<S: Beginning, R: Wait>(
+    rt: &R,
+    alloc: Global,
+    member: OwnMember,
+) -> Result<(bool, usize), Fail>
+    requires { member ≡ S.beginning }
+{
+    let (node, mut seats) = node_of::<S>(alloc, member)?;
+    let Some(seat) = seats.pop() else {
+        return Err(Fail::new("no seat"));
+    };
+    let value = Bytes::from_slice(alloc, VALUE)?;
+    let refused = {
+        let mut teller = NodeTeller::new(rt, &node, &Refusing, seat, 0);
+        teller.ask(alloc, 7, value).is_err()
+    };
+    Ok((refused, node.stop().into_member().history().len()))
+}
+
+/// The same of a fresh member.
+fn fresh_in_vain<R: Wait>(rt: &R, alloc: Global) -> Result<(bool, usize), Fail> {
+    let (genesis, keys) = alone(alloc)?;
+    let member: OwnMember = Member::new(alloc, genesis, keys)?;
+    tried_in_vain::<Brand, _>(rt, alloc, member)
+}
+
+#[test]
+fn no_payment_whose_id_is_not_taken(rt: HostRuntime) -> Result<(), Fail> {
+    let (refused, entries) = fresh_in_vain(&rt, rt.alloc())?;
+    assert!(rt; refused && entries == 0);
     Ok(())
 }
