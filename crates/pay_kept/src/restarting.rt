@@ -8,7 +8,7 @@ ghost use Rattle.pay_log.specs.Device.{IsUnchanged};
 ghost use Rattle.pay_log.specs.Faults.{IsReadFault};
 ghost use Rattle.pay_log.specs.Headers.{IsForeignHeader, header_bytes};
 ghost use Rattle.pay_log.specs.Logs.{IsSynced};
-ghost use Rattle.pay_log.specs.Recovery.{IsDamagedLog, key_in};
+ghost use Rattle.pay_log.specs.Recovery.{IsDamagedLog, key_of_format};
 ghost use Rattle.pay_record.specs.Identity.{header_of, log_key_of};
 ghost use Rattle.pay_record.specs.Loggable.{IsLoggable};
 ghost use Rattle.pay_record.specs.Records.{record_of};
@@ -56,7 +56,7 @@ pub fn begin<D: Device + Drop, I: Instance + Drop, B: Settle + Drop>(
         IsSynced D.is_known D.seen D.may_leave r.following.log
         (header_bytes Format.Second (header_of genesis.now keys.now)) []) }
     ensures key { IfOk result (λ r.
-        r.following.log.key ≡ key_in (log_key_of keys.now) Format.Second) }
+        r.following.log.key ≡ key_of_format (log_key_of keys.now) Format.Second) }
 {
     let key = log_key(alloc, keys)?;
     let header = log_header(alloc, genesis, keys)?;
@@ -90,7 +90,7 @@ pub fn restart<D: Device + Drop, I: Instance + Drop, B: Settle + Drop, T: Tagger
     ensures count { IfOk result (λ r. r.following.count ≡ length r.member.history) }
     ensures pending { IfOk result (λ r. r.following.pending.items ≡ []) }
     ensures key { IfOk result (λ r.
-        r.following.log.key ≡ key_in (log_key_of keys.now) Format.Second) }
+        r.following.log.key ≡ key_of_format (log_key_of keys.now) Format.Second) }
     ensures resumed { IfOk result (λ r. D.is_known old.old → D.is_known new →
         IsResumed D.is_known D.seen D.may_leave record_of (IsLoggable keys.now)
         (header_of genesis.now keys.now) (D.seen old.old) r.member r.ids.items r.len

@@ -12,7 +12,7 @@ use Rattle.pay_hmac.specs.Mac.{mac, length-mac}
 use Rattle.pay_log.specs.declared.key.Format.{Format}
 use Rattle.pay_log.specs.declared.key.Format.TheVariants.{First, Second}
 use Rattle.pay_log.specs.declared.limits.TheConstants.{MOST_PAYLOAD}
-use Rattle.pay_log.specs.Chunks.{BeginsWith, chunk_body, sum_of, chunk_of, chunk_head, length_at, number_in, IsHead, IsHeadless, IsShort, IsEnd}
+use Rattle.pay_log.specs.Chunks.{BeginsWith, chunk_body, sum_of, chunk_of, chunk_head, length_at, number_of_four, IsHead, IsHeadless, IsShort, IsEnd}
 use Rattle.pay_log.specs.Keys.{LogKeyFields, bytes_beside, front_in, front_len, front_len_in, front_of, head_len, place_bytes, secret_mark}
 
 pub mark_long : (key : List ℕ) → length (secret_mark key) ≡ 8
@@ -75,7 +75,7 @@ pub length_is : (key : LogKeyFields) (place : ℕ) (p bytes : List ℕ) → IsSh
 length_is key place p bytes short begins =
     let after : List ℕ = p ++ (sum_of key place p ++ begins.rest) in
     ap (length_at key) (begins.is ∙ from_front key place p begins.rest)
-    ∙ ap number_in (drop_at (front_of key place) (to_be_bytes w32 (length p) ++ after) (front_len key) (front_long key place))
+    ∙ ap number_of_four (drop_at (front_of key place) (to_be_bytes w32 (length p) ++ after) (front_len key) (front_long key place))
     ∙ from_be_bytes-to_be_bytes_4 (length p) (short_fits (length p) short)
 
 pub payload_is : (key : LogKeyFields) (place : ℕ) (p bytes : List ℕ) → BeginsWith bytes (chunk_of key place p) → take (length p) (drop (head_len key) bytes) ≡ p
@@ -184,12 +184,12 @@ pub other_front : (key : LogKeyFields) (place : ℕ) (bytes : List ℕ) → take
 other_front key place bytes other p short begins = other (front_is key place p bytes begins)
 
 -- four bytes are those of the number in them
-four_at : (l : List ℕ) → 4 ≤ length l → ((i : ℕ) → get_or l i 0 < 256) → take 4 l ≡ to_be_bytes w32 (number_in l)
+four_at : (l : List ℕ) → 4 ≤ length l → ((i : ℕ) → get_or l i 0 < 256) → take 4 l ≡ to_be_bytes w32 (number_of_four l)
 four_at [] room small = absurd (omega arith)
 four_at (a ∷ []) room small = absurd (omega arith)
 four_at (a ∷ b ∷ []) room small = absurd (omega arith)
 four_at (a ∷ b ∷ c ∷ []) room small = absurd (omega arith)
-four_at (a ∷ b ∷ c ∷ d ∷ rest) room small = sym (be_bytes_4 (a ∷ b ∷ c ∷ d ∷ []) (number_in (a ∷ b ∷ c ∷ d ∷ rest)) refl (λ i. four_fit i) refl)
+four_at (a ∷ b ∷ c ∷ d ∷ rest) room small = sym (be_bytes_4 (a ∷ b ∷ c ∷ d ∷ []) (number_of_four (a ∷ b ∷ c ∷ d ∷ rest)) refl (λ i. four_fit i) refl)
   where
     four_fit : (i : ℕ) → get_or (a ∷ b ∷ c ∷ d ∷ []) i 0 < 256
     four_fit zero = small 0
@@ -241,7 +241,7 @@ headless_end key place bytes (inl few) = too_short key place bytes few
 headless_end key place bytes (inr (inl unmarked)) = other_front key place bytes unmarked
 headless_end key place bytes (inr (inr long)) = too_long key place bytes long.1
 
-number_in_four : (l : List ℕ) → 4 ≤ length l → number_in (take 4 l) ≡ number_in l
+number_in_four : (l : List ℕ) → 4 ≤ length l → number_of_four (take 4 l) ≡ number_of_four l
 number_in_four [] room = absurd (omega arith)
 number_in_four (a ∷ []) room = absurd (omega arith)
 number_in_four (a ∷ b ∷ []) room = absurd (omega arith)
@@ -250,7 +250,7 @@ number_in_four (a ∷ b ∷ c ∷ d ∷ rest) room = refl
 
 length_in_front : (key : LogKeyFields) (rest : List ℕ) → head_len key ≤ length rest → length_at key (take (head_len key) rest) ≡ length_at key rest
 length_in_front key rest room =
-    ap number_in (drop-take (front_len key) 4 rest) ∙ number_in_four (drop (front_len key) rest) (omega (arith, room, length-drop (front_len key) rest))
+    ap number_of_four (drop-take (front_len key) 4 rest) ∙ number_in_four (drop (front_len key) rest) (omega (arith, room, length-drop (front_len key) rest))
 
 front_in_front : (key : LogKeyFields) (rest : List ℕ) → take (front_len key) (take (head_len key) rest) ≡ take (front_len key) rest
 front_in_front key rest = take-take (front_len key) (head_len key) rest (omega arith)

@@ -10,7 +10,7 @@ use Rattle.pay_log.specs.Damage.{HasChunkIn, IsDamaged}
 use Rattle.pay_log.specs.Headers.{header_bytes}
 use Rattle.pay_log.specs.Keys.{LogKeyFields}
 use Rattle.pay_log.specs.Logs.{IsLog, end_place, log_bytes}
-use Rattle.pay_log.specs.Recovery.{HasRead, IsDamagedLog, IsReadLog, key_in}
+use Rattle.pay_log.specs.Recovery.{HasRead, IsDamagedLog, IsReadLog, key_of_format}
 use Rattle.pay_log.specs.Sinks.{TakesAll}
 use Rattle.pay_log.proofs.Behind.{damage_at}
 use Rattle.pay_log.proofs.Logs.{after_header, log_size, place-length}
@@ -49,15 +49,15 @@ found takes key header file old new n len count long front read =
 
 pub found_sound :
     {S : Type 0} (takes : S → S → List ℕ → Type 0) (key : List ℕ) (header : Header) (format : Format) (file : List ℕ) (old new : S) (len count : ℕ)
-    → Found takes (key_in key format) (header_bytes format header) file old new HEADER_LEN len count
-    → (HasChunkIn (key_in key format) len (drop (HEADER_LEN + len) file) → ⊥)
+    → Found takes (key_of_format key format) (header_bytes format header) file old new HEADER_LEN len count
+    → (HasChunkIn (key_of_format key format) len (drop (HEADER_LEN + len) file) → ⊥)
     → IsReadLog takes key header file old new len
 found_sound takes key header format file old new len count at none = record {
   format = format;
   ps = at.ps;
   log = at.log;
-  sound = λ has. none (subst (λ (p : ℕ). HasChunkIn (key_in key format) p (drop (HEADER_LEN + len) file)) (sym at.place)
-      (subst (λ (b : List ℕ). HasChunkIn (key_in key format) (end_place (key_in key format) at.ps) b) at.rest has));
+  sound = λ has. none (subst (λ (p : ℕ). HasChunkIn (key_of_format key format) p (drop (HEADER_LEN + len) file)) (sym at.place)
+      (subst (λ (b : List ℕ). HasChunkIn (key_of_format key format) (end_place (key_of_format key format) at.ps) b) at.rest has));
   place = at.place;
   size = at.size;
   taken = at.taken;
@@ -78,7 +78,7 @@ found_damaged takes key header file old new n len count at has = record {
 -- no file is a log in both formats
 pub one_format :
     (key : List ℕ) (header : Header) (file : List ℕ) (f g : Format) (ps qs : List (List ℕ))
-    → IsLog (key_in key f) (header_bytes f header) file ps → IsLog (key_in key g) (header_bytes g header) file qs → f ≡ g
+    → IsLog (key_of_format key f) (header_bytes f header) file ps → IsLog (key_of_format key g) (header_bytes g header) file qs → f ≡ g
 unfolding log_bytes
 one_format key header file First First ps qs p q = refl
 one_format key header file First Second ps qs p q = absurd (omega (arith, ap (λ (l : List ℕ). get_or l 8 0) (sym p.is ∙ q.is)))
@@ -91,6 +91,6 @@ pub read_sound :
     → IsReadLog takes key header file old new len → IsDamagedLog key header file count → ⊥
 read_sound takes key header file old new len count read damaged =
     let same : damaged.format ≡ read.format = one_format key header file damaged.format read.format damaged.damaged.ps read.ps damaged.damaged.log read.log in
-    let there : IsDamaged (key_in key read.format) (header_bytes read.format header) file count =
-    subst (λ (f : Format). IsDamaged (key_in key f) (header_bytes f header) file count) same damaged.damaged in
-    read.sound (damage_at (key_in key read.format) (header_bytes read.format header) file read.ps count read.log there)
+    let there : IsDamaged (key_of_format key read.format) (header_bytes read.format header) file count =
+    subst (λ (f : Format). IsDamaged (key_of_format key f) (header_bytes f header) file count) same damaged.damaged in
+    read.sound (damage_at (key_of_format key read.format) (header_bytes read.format header) file read.ps count read.log there)

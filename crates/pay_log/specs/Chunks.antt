@@ -1,10 +1,11 @@
--- Chunks: what each chunk begins with, a payload's length in four bytes, the payload, and a checksum
--- under the log's key over the chunk's place and all of these.
+-- Chunks: what each chunk begins with, a payload's length in four bytes, the payload, and a
+-- checksum under the log's key over the chunk's place and all of these.
 use Rattle.std.specs.Prelude.{◌+◌, ◌≡◌, ◌≢◌, ◌⊎◌, ℕ, ◌≤◌, ◌<◌, take, drop, List, [], ◌∷◌, ◌++◌}
 use Rattle.std.specs.Prelude.{length, slice_index}
 use Rattle.std.specs.Int.{w32, from_be_bytes, to_be_bytes}
 use Rattle.pay_hmac.specs.Mac.{mac}
-use Rattle.pay_log.specs.Keys.{LogKeyFields, bytes_beside, front_len, front_of, head_len, place_bytes}
+use Rattle.pay_log.specs.Keys.{LogKeyFields, bytes_beside, front_len, front_of, head_len}
+use Rattle.pay_log.specs.Keys.{place_bytes}
 use Rattle.pay_log.specs.declared.limits.TheConstants.{MOST_PAYLOAD}
 
 -- these bytes begin with those
@@ -31,14 +32,14 @@ abbrev pub next_place : LogKeyFields → ℕ → List ℕ → ℕ
 next_place key place payload = place + (bytes_beside key + length payload)
 
 -- the number in four bytes
-abbrev pub number_in : List ℕ → ℕ
-number_in bytes =
+abbrev pub number_of_four : List ℕ → ℕ
+number_of_four bytes =
     from_be_bytes w32
     (slice_index bytes 0 ∷ slice_index bytes 1 ∷ slice_index bytes 2 ∷ slice_index bytes 3 ∷ [])
 
 -- the number after what a chunk begins with
 abbrev pub length_at : LogKeyFields → List ℕ → ℕ
-length_at key bytes = number_in (drop (front_len key) bytes)
+length_at key bytes = number_of_four (drop (front_len key) bytes)
 
 -- At this place a head stands at the front of these bytes, that of a payload of so many.
 pub record IsHead (key : LogKeyFields) (place : ℕ) (bytes : List ℕ) (n : ℕ) : Type 0 where

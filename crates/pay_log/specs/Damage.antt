@@ -1,12 +1,13 @@
--- A chunk after the end of a log: what a crash leaves has none but by chance, so the log is damaged.
+-- A chunk after the end of a log: what a crash leaves has none but by chance, so the log is
+-- damaged.
 use Rattle.std.specs.Prelude.{◌≡◌, ℕ, ◌+◌, ◌<◌, ◌^◌, List, ◌++◌, drop, length}
 use Rattle.pay_log.specs.Chunks.{BeginsWith, chunk_of, IsShort}
 use Rattle.pay_log.specs.Keys.{LogKeyFields}
 use Rattle.pay_log.specs.Logs.{IsLog, end_place, log_bytes}
 use Rattle.pay_log.specs.declared.key.Format.TheVariants.{First}
 
--- So many bytes after this place, where bytes have their first, a chunk stands. A chunk of the first
--- format doesn't say for which place it was made: it counts at its own alone.
+-- So many bytes after this place, where bytes have their first, a chunk stands. A chunk of the
+-- first format doesn't say for which place it was made: it counts at its own alone.
 pub record IsChunkAt (key : LogKeyFields) (place : ℕ) (bytes : List ℕ) (at : ℕ) : Type 0 where
   pub payload : List ℕ
   pub short : IsShort payload

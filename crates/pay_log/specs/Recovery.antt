@@ -13,8 +13,8 @@ use Rattle.pay_log.specs.Logs.{IsLog, IsSynced, end_place, log_bytes}
 use Rattle.pay_log.specs.Sinks.{TakesAll}
 
 -- this key in that format
-abbrev pub key_in : List ℕ → Format → LogKeyFields
-key_in key format = record { format = format; bytes = key }
+abbrev pub key_of_format : List ℕ → Format → LogKeyFields
+key_of_format key format = record { format = format; bytes = key }
 
 -- The first so many bytes are so many chunks, whose payloads were taken.
 pub record HasReadTo {S : Type 0} (takes : S → S → List ℕ → Type 0) (key : LogKeyFields)
@@ -38,17 +38,18 @@ pub record IsReadLog {S : Type 0} (takes : S → S → List ℕ → Type 0) (key
     (header : Header) (file : List ℕ) (old new : S) (len : ℕ) : Type 0 where
   pub format : Format
   pub ps : List (List ℕ)
-  pub log : IsLog (key_in key format) (header_bytes format header) file ps
-  pub sound : HasChunkIn (key_in key format) (end_place (key_in key format) ps) log.rest → ⊥
-  pub place : len ≡ end_place (key_in key format) ps
+  pub log : IsLog (key_of_format key format) (header_bytes format header) file ps
+  pub sound :
+      HasChunkIn (key_of_format key format) (end_place (key_of_format key format) ps) log.rest → ⊥
+  pub place : len ≡ end_place (key_of_format key format) ps
   pub size : HEADER_LEN + len
-      ≡ length (log_bytes (key_in key format) (header_bytes format header) ps)
+      ≡ length (log_bytes (key_of_format key format) (header_bytes format header) ps)
   pub taken : TakesAll takes old new ps
 
 -- In one of the formats the file is a damaged log of so many chunks.
 pub record IsDamagedLog (key : List ℕ) (header : Header) (file : List ℕ) (count : ℕ) : Type 0 where
   pub format : Format
-  pub damaged : IsDamaged (key_in key format) (header_bytes format header) file count
+  pub damaged : IsDamaged (key_of_format key format) (header_bytes format header) file count
 
 -- These bytes begin with the chunks of payloads that were taken and of one that is refused, because
 -- of the record of this number.
@@ -69,7 +70,7 @@ pub record IsRefusedLog {S : Type 0} (takes : S → S → List ℕ → Type 0)
   pub format : Format
   pub headed : take HEADER_LEN file ≡ header_bytes format header
   pub refused :
-      HasRefused takes refuses (key_in key format) (drop HEADER_LEN file) old number
+      HasRefused takes refuses (key_of_format key format) (drop HEADER_LEN file) old number
 
 -- A log of no payload yet.
 pub record IsBegun {D : Type 0} (is_known : D → Type 0) (seen : D → List ℕ) (log : Log D)
@@ -94,8 +95,8 @@ pub record IsRecovered {D S : Type 0} (is_known : D → Type 0) (seen : D → Li
     (header : Header) (file : List ℕ) (old new : S) (len : ℕ) (log : Log D) : Type 0 where
   pub format : Format
   pub ps : List (List ℕ)
-  pub was : IsLog (key_in log.key.bytes format) (header_bytes format header) file ps
+  pub was : IsLog (key_of_format log.key.bytes format) (header_bytes format header) file ps
   pub size : HEADER_LEN + len
-      ≡ length (log_bytes (key_in log.key.bytes format) (header_bytes format header) ps)
+      ≡ length (log_bytes (key_of_format log.key.bytes format) (header_bytes format header) ps)
   pub taken : TakesAll takes old new ps
   pub settled : IsSynced is_known seen may_leave log (header_bytes written header) ps

@@ -1,7 +1,7 @@
 //! The key of a log, and what each chunk begins with.
 
-ghost use Rattle.std.specs.Prelude.{◌≡◌, ◌++◌, ◌↔◌, ◌≤◌, ◌+◌, ◌^◌, ◌<◌, List, ℕ, IfSome, IfNone, IsTrue};
-ghost use Rattle.std.specs.Prelude.{OnOk, length, take, drop};
+ghost use Rattle.std.specs.Prelude.{◌≡◌, ◌++◌, ◌↔◌, ◌≤◌, ◌^◌, ◌<◌, List, ℕ, IsTrue, OnOk, length};
+ghost use Rattle.std.specs.Prelude.{take, drop};
 ghost use Rattle.pay_log.specs.Chunks.{BeginsWith, IsShort, chunk_of};
 ghost use Rattle.pay_log.specs.Keys.{front_len, front_of, head_len, open_mark, place_bytes};
 ghost use Rattle.pay_log.specs.Keys.{secret_mark};

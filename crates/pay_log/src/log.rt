@@ -1,6 +1,6 @@
 //! A log over a device: it is read once, written anew, and then grows by one chunk a call.
 
-ghost use Rattle.std.specs.Prelude.{◌≡◌, ◌≢◌, ◌⊎◌, ◌++◌, ◌∷◌, [], ℕ, List, IfErr, IfOk, OnErr, OnOk};
+ghost use Rattle.std.specs.Prelude.{◌≡◌, ◌⊎◌, ◌++◌, ◌∷◌, [], ℕ, List, IfErr, IfOk, OnErr, OnOk};
 ghost use Rattle.std.specs.Prelude.{false, true, take};
 ghost use Rattle.pay_log.specs.Chunks.{IsShort};
 ghost use Rattle.pay_log.specs.Damage.{IsByChance, IsDamaged};
@@ -8,7 +8,8 @@ ghost use Rattle.pay_log.specs.Device.{IsUnchanged, LeavesOnly};
 ghost use Rattle.pay_log.specs.Faults.{IsReadFault};
 ghost use Rattle.pay_log.specs.Headers.{IsForeignHeader, header_bytes};
 ghost use Rattle.pay_log.specs.Logs.{IsSynced, IsWithOrWithout};
-ghost use Rattle.pay_log.specs.Recovery.{IsBegun, IsDamagedLog, IsRecovered, IsRefusedLog, key_in};
+ghost use Rattle.pay_log.specs.Recovery.{IsBegun, IsDamagedLog, IsRecovered, IsRefusedLog};
+ghost use Rattle.pay_log.specs.Recovery.{key_of_format};
 ghost use Rattle.pay_log.specs.Sinks.{TakesAll};
 ghost use Rattle.pay_log.specs.declared.mismatch.Mismatch.{Mismatch};
 
@@ -41,7 +42,7 @@ impl<D: Device + Drop> Log<D> {
     ) -> Result<Log<D>, DeviceFault>
         ensures created { IfOk result (λ log. D.is_known device → D.seen device ≡ [] →
             IsSynced D.is_known D.seen D.may_leave log (header_bytes Format.Second header.now) []) }
-        ensures key { IfOk result (λ log. log.key ≡ key_in key.now Format.Second) }
+        ensures key { IfOk result (λ log. log.key ≡ key_of_format key.now Format.Second) }
     {
         let mut log = Log::begin(alloc, device, key, header)?;
         log.device.sync()?;
@@ -57,7 +58,7 @@ impl<D: Device + Drop> Log<D> {
     ) -> Result<Log<D>, DeviceFault>
         ensures begun { IfOk result (λ log. D.is_known device → D.seen device ≡ [] →
             IsBegun D.is_known D.seen log (header_bytes Format.Second header.now)) }
-        ensures key { IfOk result (λ log. log.key ≡ key_in key.now Format.Second) }
+        ensures key { IfOk result (λ log. log.key ≡ key_of_format key.now Format.Second) }
         ensures place { IfOk result (λ log. log.place ≡ 0) }
         ensures works { IfOk result (λ log. log.has_failed ≡ false) }
     {
@@ -175,7 +176,7 @@ pub fn recover<D: Device + Drop, S: Sink + Drop>(
         (D.seen old.old) sink r.sink r.len r.log) }
     ensures undamaged { IfOk result (λ _. D.is_known old.old → (count : ℕ)
         → IsDamagedLog key.now header.now (D.seen old.old) count → ⊥) }
-    ensures key { IfOk result (λ r. r.log.key ≡ key_in key.now Format.Second) }
+    ensures key { IfOk result (λ r. r.log.key ≡ key_of_format key.now Format.Second) }
     ensures fault { IfErr result IsReadFault }
     ensures foreign { (part : Mismatch) → result ≡ Err (LogFault.Foreign part)
         → D.is_known old.old

@@ -41,7 +41,7 @@ impl LossyFile {
 
     /// What a crash leaves, with these bytes in the place of those that no sync came after, or as
     /// many of them as there were.
-    pub fn crashed(self, tail: &[u8]) -> Result<LossyFile, AllocError>
+    pub fn after_crash(self, tail: &[u8]) -> Result<LossyFile, AllocError>
         ensures left { IfOk result (λ after.
             Torn (length self.unsynced.items) self.synced.items (lossy_bytes after)) }
         ensures synced { IfOk result (λ after. after.unsynced.items ≡ []) }
@@ -57,7 +57,7 @@ impl LossyFile {
     }
 
     // What a crash may leave now.
-    fn left(&self) -> Result<Left, AllocError>
+    fn may_leave(&self) -> Result<Left, AllocError>
         ensures { IfOk result (λ left. (left.synced.items ≡ self.now.synced.items)
             × (left.unsynced_len ≡ length self.now.unsynced.items)) }
     {
@@ -118,7 +118,7 @@ impl Device for LossyFile {
         let Ok(next) = concatenate(self.alloc, &self.unsynced, bytes) else {
             return Err(DiskFailed);
         };
-        let Ok(left) = self.left() else {
+        let Ok(left) = self.may_leave() else {
             return Err(DiskFailed);
         };
         let Ok(()) = self.past.push(left) else {
@@ -132,7 +132,7 @@ impl Device for LossyFile {
         let Ok(next) = concatenate(self.alloc, &self.synced, &self.unsynced) else {
             return Err(DiskFailed);
         };
-        let Ok(left) = self.left() else {
+        let Ok(left) = self.may_leave() else {
             return Err(DiskFailed);
         };
         let Ok(()) = self.past.push(left) else {

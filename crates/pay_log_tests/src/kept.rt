@@ -77,10 +77,6 @@ impl<R: Wait + Clock> Device for Shared<'_, R> {
         self.disk.lock(self.rt).append(bytes)
     }
 
-    fn cut(&mut self, len: usize) -> Result<(), DiskFailed> {
-        self.disk.lock(self.rt).cut(len)
-    }
-
     fn sync(&mut self) -> Result<(), DiskFailed> {
         for _ in 0..TURNS {
             if self.missing.load(Ordering::SeqCst) == 0 {
@@ -104,24 +100,57 @@ fn alone(alloc: Global) -> Result<(Genesis, Keys), Fail>
     Ok((genesis, keys))
 }
 
-/// A disk with a log of no record, whose call of this number fails, where so many bytes of an
-/// append are written.
-fn new_disk(alloc: Global, fails: usize, torn: usize) -> Result<FailingDisk, Fail> {
-    let (genesis, keys) = alone(alloc)?;
-    let header = log_header(alloc, &genesis, &keys)?;
-    Ok(FailingDisk::new(header.encode(alloc)?, fails, torn))
+/// The disks of a start: one that has a log, and one for the new log, whose call of this number
+/// fails, where so many bytes of an append are written.
+struct Disks {
+    old: Mutex<FailingDisk>,
+    new: Mutex<FailingDisk>,
 }
 
-/// What starts again on a disk.
+impl Disks {
+    fn of(alloc: Global, log: Vec<u8>, fails: usize, torn: usize) -> Disks {
+        Disks {
+            old: Mutex::new(FailingDisk::new(log, usize::MAX, 0)),
+            new: Mutex::new(FailingDisk::new(Vec::new(alloc), fails, torn)),
+        }
+    }
+
+    fn sound(alloc: Global, log: Vec<u8>) -> Disks {
+        Disks::of(alloc, log, usize::MAX, 0)
+    }
+
+    /// What the new log has.
+    fn written<R: Wait>(&self, rt: &R, alloc: Global) -> Result<Vec<u8>, Fail> {
+        Ok(self.new.lock(rt).bytes.to_vec(alloc)?)
+    }
+}
+
+/// A log of no record.
+fn log_of_none(alloc: Global) -> Result<Vec<u8>, Fail> {
+    let (genesis, keys) = alone(alloc)?;
+    let header = log_header(alloc, &genesis, &keys)?;
+    Ok(header.encode(alloc)?)
+}
+
+/// What starts again on disks.
 fn start<'a, R: Wait + Clock>(
     rt: &'a R,
     alloc: Global,
-    disk: &'a Mutex<FailingDisk>,
+    disks: &'a Disks,
     missing: &'a AtomicU32,
 ) -> Result<Result<Started<'a, R>, LogFault>, Fail> {
     let (genesis, keys) = alone(alloc)?;
-    let device = Shared { rt, disk, missing };
-    Ok(restart(alloc, device, &HmacSha256, &genesis, &keys))
+    let mut old = Shared {
+        rt,
+        disk: &disks.old,
+        missing,
+    };
+    let new = Shared {
+        rt,
+        disk: &disks.new,
+        missing,
+    };
+    Ok(restart(alloc, &mut old, new, &HmacSha256, &genesis, &keys))
 }
 
 /// A node of a member, with three seats.
@@ -183,31 +212,35 @@ fn pay_each<S: Beginning, R: Wait, D: Device + Drop>(
     Ok((acknowledged, stops))
 }
 
-/// Pays under each id on a disk whose call of this number fails.
+/// Pays under each id on a disk whose call of this number fails. A start that fails leaves the old
+/// log.
 fn pay_until_crash<R: Wait + Clock>(
     rt: &R,
     alloc: Global,
     fails: usize,
     torn: usize,
 ) -> Result<Ended, Fail> {
-    let disk = Mutex::new(new_disk(alloc, fails, torn)?);
+    let none = log_of_none(alloc)?;
+    let disks = Disks::of(alloc, none.to_vec(alloc)?, fails, torn);
     let missing = AtomicU32::new(0);
-    let (acknowledged, stops) = match start(rt, alloc, &disk, &missing)? {
-        Ok(
-            Restarted {
-                member,
-                ids: _ids,
-                following,
-            },
-        ) => {
-            let kept = Kept::new(alloc, following);
-            pay_each::<Brand, _, _>(rt, alloc, member, &kept, &disk)?
-        }
-        Err(_) => (0, true),
+    let Ok(
+        Restarted {
+            member,
+            following,
+            ..
+        },
+    ) = start(rt, alloc, &disks, &missing)?
+    else {
+        return Ok(Ended {
+            bytes: none,
+            acknowledged: 0,
+            stops: true,
+        });
     };
-    let bytes = disk.lock(rt).bytes.to_vec(alloc)?;
+    let kept = Kept::new(alloc, following);
+    let (acknowledged, stops) = pay_each::<Brand, _, _>(rt, alloc, member, &kept, &disks.new)?;
     Ok(Ended {
-        bytes,
+        bytes: disks.written(rt, alloc)?,
         acknowledged,
         stops,
     })
@@ -220,9 +253,9 @@ fn payments_on<R: Wait + Clock>(
     alloc: Global,
     bytes: Vec<u8>,
 ) -> Result<Option<usize>, Fail> {
-    let disk = Mutex::new(FailingDisk::new(bytes, usize::MAX, 0));
+    let disks = Disks::sound(alloc, bytes);
     let missing = AtomicU32::new(0);
-    let Restarted { member, ids, .. } = start(rt, alloc, &disk, &missing)??;
+    let Restarted { member, ids, .. } = start(rt, alloc, &disks, &missing)??;
     let mut asks: usize = 0;
     for entry in member.history() {
         match &entry.event {
@@ -276,24 +309,25 @@ fn live_once<R: Wait + Clock>(
     bytes: Vec<u8>,
     id: u64,
 ) -> Result<Vec<u8>, Fail> {
-    let disk = Mutex::new(FailingDisk::new(bytes, usize::MAX, 0));
+    let disks = Disks::sound(alloc, bytes);
     let missing = AtomicU32::new(0);
     let Restarted {
         member,
         ids,
         following,
-    } = start(rt, alloc, &disk, &missing)??;
+        ..
+    } = start(rt, alloc, &disks, &missing)??;
     let kept = Kept::new(alloc, following);
     let next = u32::try_from(ids.len()).unwrap_or(u32::MAX);
     if !pay_next::<Brand, _, _>(rt, alloc, member, &kept, next, id)? {
         return Err(Fail::new("not kept"));
     }
-    Ok(disk.lock(rt).bytes.to_vec(alloc)?)
+    disks.written(rt, alloc)
 }
 
 #[test]
 fn each_payment_keeps_its_id_in_a_life_of_its_own(rt: HostRuntime) -> Result<(), Fail> {
-    let mut bytes = new_disk(rt.alloc(), usize::MAX, 0)?.bytes;
+    let mut bytes = log_of_none(rt.alloc())?;
     for id in IDS {
         bytes = live_once(&rt, rt.alloc(), bytes, *id)?;
     }
@@ -337,18 +371,17 @@ fn paid_at_once<R: Wait + Threads + Clock + Sync>(
     rt: &R,
     alloc: Global,
 ) -> Result<(bool, usize, Vec<u8>), Fail> {
-    let disk = Mutex::new(new_disk(alloc, usize::MAX, 0)?);
+    let disks = Disks::sound(alloc, log_of_none(alloc)?);
     let missing = AtomicU32::new(0);
     let Restarted {
         member,
         following,
         ..
-    } = start(rt, alloc, &disk, &missing)??;
+    } = start(rt, alloc, &disks, &missing)??;
     let kept = Kept::new(alloc, following);
     let all = all_pay::<Brand, _, _>(rt, alloc, member, &kept, &missing)?;
-    let calls = disk.lock(rt).calls;
-    let bytes = disk.lock(rt).bytes.to_vec(alloc)?;
-    Ok((all, calls, bytes))
+    let calls = disks.new.lock(rt).calls;
+    Ok((all, calls, disks.written(rt, alloc)?))
 }
 
 #[test]
@@ -356,7 +389,7 @@ fn those_that_wait_share_a_sync(rt: HostRuntime) -> Result<(), Fail> {
     for _ in 0..20 {
         let (all, calls, bytes) = paid_at_once(&rt, rt.alloc())?;
         assert!(rt; all);
-        // a cut and a sync of the recovery, and an append and a sync of one or two groups
+        // a header and a sync of the recovery, and an append and a sync of one or two groups
         assert!(rt; calls == 4 || calls == 6, "{calls} calls");
     }
     Ok(())

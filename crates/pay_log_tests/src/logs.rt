@@ -220,7 +220,7 @@ fn texts_behind_a_crash(alloc: Global, torn: &[u8]) -> Result<Option<usize>, Fai
     }
     let mut disk = log.into_device();
     disk.append(&[0; 200])?;
-    let mut left = disk.crashed(torn)?;
+    let mut left = disk.after_crash(torn)?;
     let new = LossyFile::new(alloc, Vec::new(alloc));
     let payloads = Payloads::new(alloc);
     let Recovered { sink, .. } = recover(alloc, &mut left, new, &KEY, &HEADER, payloads)?;

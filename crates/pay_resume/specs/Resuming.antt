@@ -16,7 +16,7 @@ use Rattle.pay_log.specs.declared.log.Log.{Log}
 use Rattle.pay_log.specs.Chunks.{BeginsWith, chunks_of}
 use Rattle.pay_log.specs.Headers.{header_bytes}
 use Rattle.pay_log.specs.Logs.{IsLog, IsSynced, log_bytes}
-use Rattle.pay_log.specs.Recovery.{key_in}
+use Rattle.pay_log.specs.Recovery.{key_of_format}
 
 -- an entry as it stands in a log: with the id under which its owner asked for it, if it is an ask
 pub record LoggedFields : Type 0 where
@@ -87,9 +87,9 @@ pub record IsLogOf (record_of : LoggedFields → List ℕ) (IsLoggable : LoggedF
     (key : List ℕ) (header : Header) (file : List ℕ) (m : MemberFields) (ids : List ℕ) (len : ℕ)
     (ps : List (List ℕ)) : Type 0 where
   pub format : Format
-  pub was : IsLog (key_in key format) (header_bytes format header) file ps
+  pub was : IsLog (key_of_format key format) (header_bytes format header) file ps
   pub size : HEADER_LEN + len
-      ≡ length (log_bytes (key_in key format) (header_bytes format header) ps)
+      ≡ length (log_bytes (key_of_format key format) (header_bytes format header) ps)
   pub records : IsOfRecords record_of IsLoggable m ids ps
 
 -- And the new log is synced with them.
@@ -101,8 +101,8 @@ pub record IsResumed {D : Type 0} (is_known : D → Type 0) (seen : D → List �
   pub was : IsLogOf record_of IsLoggable log.key.bytes header file m ids len ps
   pub settled : IsSynced is_known seen may_leave log (header_bytes Second header) ps
 
--- In a log, after payloads that a member took, one stands whose record of this number isn't what the
--- member has there.
+-- In a log, after payloads that a member took, one stands whose record of this number isn't what
+-- the member has there.
 pub record IsIllegalLog (record_of : LoggedFields → List ℕ) (IsLoggable : LoggedFields → Type 0)
     (key : List ℕ) (header : Header) (file : List ℕ) (old : MemberFields) (number : ℕ)
     : Type 0 where
@@ -111,7 +111,7 @@ pub record IsIllegalLog (record_of : LoggedFields → List ℕ) (IsLoggable : Lo
   pub payload : List ℕ
   pub headed : take HEADER_LEN file ≡ header_bytes format header
   pub stands : BeginsWith (drop HEADER_LEN file)
-      (chunks_of (key_in key format) 0 (before ++ payload ∷ []))
+      (chunks_of (key_of_format key format) 0 (before ++ payload ∷ []))
   pub at : MemberFields
   pub ids : List ℕ
   pub taken : HasResumed record_of IsLoggable old at [] ids (flat_map (λ p. p) before)

@@ -6,7 +6,7 @@ ghost use Rattle.pay_log.specs.declared.mismatch.Mismatch.{Mismatch};
 ghost use Rattle.pay_log.specs.Device.{IsUnchanged};
 ghost use Rattle.pay_log.specs.Faults.{IsReadFault};
 ghost use Rattle.pay_log.specs.Headers.{IsForeignHeader};
-ghost use Rattle.pay_log.specs.Recovery.{IsDamagedLog, key_in};
+ghost use Rattle.pay_log.specs.Recovery.{IsDamagedLog, key_of_format};
 ghost use Rattle.pay_resume.specs.Resuming.{HasResumed, IsIllegalLog, IsLogOf, IsOfRecords};
 ghost use Rattle.pay_resume.specs.Resuming.{IsRefusedAt, IsResumed};
 
@@ -70,7 +70,7 @@ pub fn resume<D: Device + Drop, I: Instance + Drop, B: Settle + Drop, R: Records
     ensures records { IfOk result (λ r. (ps : List (List ℕ))
         × IsOfRecords (R.record_of records.now) (R.is_loggable records.now)
         r.0.member r.0.ids.items ps) }
-    ensures log { IfOk result (λ r. r.1.key ≡ key_in key.now Format.Second) }
+    ensures log { IfOk result (λ r. r.1.key ≡ key_of_format key.now Format.Second) }
     ensures resumed { IfOk result (λ r. D.is_known old.old → D.is_known new → D.seen new ≡ [] →
         IsResumed D.is_known D.seen D.may_leave (R.record_of records.now)
         (R.is_loggable records.now) header.now (D.seen old.old) r.0.member r.0.ids.items r.0.len

@@ -71,7 +71,7 @@ pub(crate) fn open_member<R: Files<File = File>>(
     let FoundLog { old, new, rest } = open_log(rt, alloc, path)?;
     let mut old = old;
     match restart(alloc, &mut old, new, &tagger, genesis, keys) {
-        Ok(kept) => settled(rt, alloc, path, old, rest, kept),
+        Ok(kept) => settle_member(rt, alloc, path, old, rest, kept),
         Err(fault) => {
             rest.forget(rt, alloc, path)?;
             Err(fault)
@@ -80,7 +80,7 @@ pub(crate) fn open_member<R: Files<File = File>>(
 }
 
 // The member of a log that was written anew, which gets the old one's name.
-fn settled<R: Files<File = File>>(
+fn settle_member<R: Files<File = File>>(
     rt: &R,
     alloc: Global,
     path: &str,

@@ -3,7 +3,7 @@ use Rattle.pay_log.specs.Chunks.{chunks_of, last_place}
 use Rattle.pay_log.specs.Headers.{header_bytes}
 use Rattle.pay_log.specs.Keys.{LogKeyFields}
 use Rattle.pay_log.specs.Logs.{IsLog, log_bytes}
-use Rattle.pay_log.specs.Recovery.{key_in}
+use Rattle.pay_log.specs.Recovery.{key_of_format}
 use Rattle.pay_log.specs.declared.key.Format.TheVariants.{Second}
 use Rattle.pay_log.proofs.Copied.{all_grown, all_taken}
 use Rattle.pay_log.proofs.Found.{read_sound}
@@ -49,14 +49,14 @@ returns-clause-recovered g c known known_new empty =
     let file : List ℕ = g.D.Device.seen c.args.old.now in
     let begun = c.in_ok-log.ensures.begun known_new empty in
     let grown = all_grown g.D.Device.is_known g.D.Device.seen g.S.Sink.takes _ c.read_log.new.sink read.ps read.taken in
-    let key : log_1.key ≡ key_in c.args.key.now Second = grown.key ∙ c.in_ok-log.ensures.key in
+    let key : log_1.key ≡ key_of_format c.args.key.now Second = grown.key ∙ c.in_ok-log.ensures.key in
     let bytes : c.args.key.now ≡ log_1.key.bytes = sym (ap (λ (k : LogKeyFields). k.bytes) key) in
     let known_1 = grown.known begun.known in
     record {
       format = read.format;
       ps = read.ps;
-      was = subst (λ (k : List ℕ). IsLog (key_in k read.format) (header_bytes read.format c.args.header.now) file read.ps) bytes read.log;
-      size = read.size ∙ (λ i. length (log_bytes (key_in (bytes i) read.format) (header_bytes read.format c.args.header.now) read.ps));
+      was = subst (λ (k : List ℕ). IsLog (key_of_format k read.format) (header_bytes read.format c.args.header.now) file read.ps) bytes read.log;
+      size = read.size ∙ (λ i. length (log_bytes (key_of_format (bytes i) read.format) (header_bytes read.format c.args.header.now) read.ps));
       taken = all_taken g.D.Device.is_known g.D.Device.seen g.S.Sink.takes _ c.read_log.new.sink read.ps read.taken;
       settled = record {
         works = grown.works ∙ c.in_ok-log.ensures.works;

@@ -4,7 +4,7 @@ use Rattle.std.proofs.lemmas.Bool.{false≢true}
 use Rattle.pay_log.specs.Damage.{HasChunkIn, IsDamaged}
 use Rattle.pay_log.specs.Headers.{header_bytes}
 use Rattle.pay_log.specs.Keys.{LogKeyFields}
-use Rattle.pay_log.specs.Recovery.{HasRead, key_in}
+use Rattle.pay_log.specs.Recovery.{HasRead, key_of_format}
 use Rattle.pay_log.proofs.Headed.{header_length}
 use Rattle.pay_log.proofs.Found.{found, found_damaged, found_sound}
 use Rattle.pay_log.proofs.reading.read_log.Goals as goal
@@ -15,7 +15,7 @@ truth = search rules
 pub returns-then-branch-clause-damaged : goal.returns-then-branch-clause-damaged
 returns-then-branch-clause-damaged g c count said known =
     let format = c.in_ok-format.format in
-    let key : LogKeyFields = key_in c.args.key.now format in
+    let key : LogKeyFields = key_of_format c.args.key.now format in
     let header : List ℕ = header_bytes format c.args.header.now in
     let file : List ℕ = g.D.Device.seen c.args.device.now in
     let len = c.in_ok-len.field-0.len in
@@ -40,7 +40,7 @@ returns-then-branch-clause-damaged g c count said known =
 pub returns-clause-read : goal.returns-clause-read
 returns-clause-read g c known =
     let format = c.in_ok-format.format in
-    let key : LogKeyFields = key_in c.args.key.now format in
+    let key : LogKeyFields = key_of_format c.args.key.now format in
     let header : List ℕ = header_bytes format c.args.header.now in
     let file : List ℕ = g.D.Device.seen c.args.device.now in
     let len = c.in_ok-len.field-0.len in

@@ -15,6 +15,6 @@ returns-clause-crash c known file left =
 pub returns-clause-time : goal.returns-clause-time
 returns-clause-time c known =
     let old = c.args.self.now in
-    let left = c.in-Ok-left.left in
+    let left = c.in-Ok-may_leave.left in
     elapses_to old.past.items c.push.new.self.items left old.synced.items (length old.unsynced.items) (λ f. Torn (length c.in-Ok.next.items) old.synced.items f)
-    c.in-Ok-left.ensures.0 c.in-Ok-left.ensures.1 c.in-Ok-push.ensures.items
+    c.in-Ok-may_leave.ensures.0 c.in-Ok-may_leave.ensures.1 c.in-Ok-push.ensures.items

@@ -6,5 +6,5 @@ use Rattle.pay_log.proofs.lossy.LossyFileDevice.sync.Goals as goal
 pub returns-clause-time : goal.returns-clause-time
 returns-clause-time c known =
     let old = c.args.self.now in
-    elapses_to old.past.items c.push.new.self.items c.in-Ok-left.left old.synced.items (length old.unsynced.items) (λ f. Torn (length c.new.result.items) c.in-Ok.next.items f)
-    c.in-Ok-left.ensures.0 c.in-Ok-left.ensures.1 c.in-Ok-push.ensures.items
+    elapses_to old.past.items c.push.new.self.items c.in-Ok-may_leave.left old.synced.items (length old.unsynced.items) (λ f. Torn (length c.new.result.items) c.in-Ok.next.items f)
+    c.in-Ok-may_leave.ensures.0 c.in-Ok-may_leave.ensures.1 c.in-Ok-push.ensures.items
