@@ -10,3 +10,4 @@ pub mod Outcomes
 pub mod Sending
 pub mod Saying
 pub mod Sockets
+pub mod Starts

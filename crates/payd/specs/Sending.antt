@@ -1,7 +1,7 @@
 -- The answers of a desk, as a client passes them on and counts them.
 use Rattle.std.specs.Prelude.{◌≡◌, ℕ, Bool, true, false, ◌||◌, if◌then◌else◌, List, [], ◌∷◌, ◌++◌}
 use Rattle.std.specs.Prelude.{Option, Some, None, Result, Ok, Err, codes, nat_eq, nat_lt, ◌==◌}
-use Rattle.std.specs.Prelude.{◌-◌, ◌^◌}
+use Rattle.std.specs.Prelude.{◌-◌, ◌^◌, ◌⊎◌}
 use Rattle.std.specs.List.{starts_with}
 use Rattle.std.specs.Str.{bytes_eq}
 use Rattle.pay_io.specs.Device.{next_count}
@@ -62,3 +62,14 @@ id_behind (word ∷ words) =
 -- the id in a line that begins as a payment
 abbrev pub payment_id : List ℕ → Option ℕ
 payment_id line = id_behind (words_of line)
+
+-- a payment came before enough of the node's peers were heard
+abbrev pub IsEarly : List ℕ → Type 0
+IsEarly line = line ≡ codes "refused 6 TooEarly"
+
+-- Such an answer may be held: it is left out and isn't counted. Any other line is passed on.
+abbrev pub RelaysOrHolds : Relay → Option (List ℕ) → List ℕ → Bool → Relay → Type 0
+RelaysOrHolds old None text on new = Relays old None text on new
+RelaysOrHolds old (Some line) text on new =
+    Relays old (Some line) text on new
+    ⊎ (IsEarly line × (text ≡ []) × (on ≡ true) × (new ≡ old))

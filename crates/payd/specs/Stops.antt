@@ -15,7 +15,7 @@ use Rattle.pay_node.specs.declared.close_fault.CloseFault.TheVariants as close
 use Rattle.payd.specs.declared.stop.Stop.{Stop}
 use Rattle.payd.specs.declared.stop.Stop.TheVariants.{Engine, Genesis, Keys, Ports, Export, Close}
 use Rattle.payd.specs.declared.stop.Stop.TheVariants.{Log, Unkept, Socket, Nobody, Unanswered, Port}
-use Rattle.payd.specs.declared.stop.Stop.TheVariants.{Clock}
+use Rattle.payd.specs.declared.stop.Stop.TheVariants.{Clock, Forgets}
 
 -- why there is no member to export
 abbrev pub node_stop : NodeFault → Stop
@@ -45,6 +45,7 @@ status_of Clock = 3
 status_of (Log log.Disk) = 4
 status_of (Log log.Forgotten) = 4
 status_of (Unkept fault) = 4
+status_of Forgets = 4
 status_of _ = 2
 
 -- the file that has the fault, and whose key in it; refused memory is no file's

@@ -2,7 +2,7 @@
 
 use crate::metrics::{OwnFigures, metrics_text};
 use pay_io::MOST_READS;
-use pay_net::{NodeFigures, Watcher};
+use pay_net::NodeFigures;
 use pay_text::number;
 use std::alloc::{AllocError, Global};
 use std::fs::File;
@@ -87,9 +87,9 @@ impl<'a, R: Files> FiguresFile<'a, R> {
     }
 }
 
-impl<R: Files<File = File> + Eprint> Watcher for FiguresFile<'_, R> {
-    // Where it can't be written, that is said once and the node goes on.
-    fn watch(&self, figures: &NodeFigures) {
+impl<R: Files<File = File> + Eprint> FiguresFile<'_, R> {
+    /// Writes it anew. Where it can't be written, that is said once and the node goes on.
+    pub(crate) fn watch(&self, figures: &NodeFigures) {
         if self.write(figures).is_err() && !self.has_failed.swap(true, Ordering::SeqCst) {
             let path = self.path.as_str();
             let _ = eprintln!(self.rt; "payd: {path} can't be written");

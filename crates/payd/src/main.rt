@@ -17,6 +17,7 @@ mod dials;
 mod figures;
 mod files;
 mod folders;
+mod holding;
 mod jobs;
 mod keeping;
 mod metrics;
@@ -304,14 +305,15 @@ fn tagger_of(alloc: Global, keys: &Keys) -> Result<PreparedHmac, AllocError> {
     PreparedHmac::new(alloc, shared.as_slice())
 }
 
-/// A fault in the frames has its line already; another one is named on standard error.
+/// A fault in the frames has its line already, as has a member that has forgotten; another fault is
+/// named on standard error.
 fn status_of(rt: &impl Eprint, ended: Result<(), Stop>) -> ExitCode
     ensures { exit_status result ≡ ended_status ended.entry }
 {
     match ended {
         Ok(()) => ExitCode::SUCCESS,
         Err(stop) => {
-            if !matches!(stop, Stop::Engine(EngineFault::Frame(_))) {
+            if !matches!(stop, Stop::Engine(EngineFault::Frame(_)) | Stop::Forgets) {
                 let _ = eprintln!(rt; "payd: {stop}");
                 say_place(rt, stop.place());
                 if let Stop::Log(fault) = &stop {

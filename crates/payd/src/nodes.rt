@@ -2,6 +2,7 @@
 
 ghost use Rattle.std.specs.Prelude.{◌≡◌, IfErr, IfOk, OnOk, length};
 ghost use Rattle.pay_link.specs.Keys.{IsKeysOf};
+ghost use Rattle.payd.specs.Starts.{is_found};
 ghost use Rattle.payd.specs.Stops.{IsUnconcluded};
 
 use crate::ahead::ahead_of;
@@ -13,7 +14,7 @@ use crate::keeping::SayingKept;
 use crate::ports::ports_of;
 use crate::saying::{Found, Saying, say_in_memory, say_node, say_start, say_view};
 use crate::sockets::{NamedSocket, listen, socket_path};
-use crate::staying::{Lines, judge_new, judge_stay};
+use crate::staying::{Ends, Lines, judge_new, judge_stay};
 use crate::stop::Stop;
 use crate::{OwnMember, tagger_of};
 use pay_audit::write_export;
@@ -160,24 +161,40 @@ where
     let member: OwnMember = Member::new(alloc, genesis, keys)?;
     say_in_memory(rt);
     let start = NodeStart::fresh(alloc, member);
-    let has_failed = AtomicBool::new(false);
+    let (has_failed, forgets) = (AtomicBool::new(false), AtomicBool::new(false));
     let reads = AtomicU64::new(0);
-    let saying = Saying { rt, figures: None };
-    let lines = Lines {
+    let saying = Saying {
         rt,
-        inner: Reader::new(rt.reader()),
-        stays: false,
-        has_failed: &has_failed,
-        reads: &reads,
+        figures: None,
+        forgets: &forgets,
     };
-    serve(
-        alloc,
-        rt,
-        start,
-        &tagger,
-        &meeting.config(&saying, &Unkept, None),
-        lines,
-    )
+    let ends = Ends {
+        has_failed: &has_failed,
+        forgets: &forgets,
+    };
+    let lines = Lines::new(rt, Reader::new(rt.reader()), false, ends, &reads);
+    serve_fresh(alloc, rt, start, &tagger, meeting, &saying, lines)
+}
+
+// The same, of a member that is made.
+fn serve_fresh<'a, R, In>(
+    alloc: Global,
+    rt: &R,
+    start: OwnStart,
+    tagger: &PreparedHmac,
+    meeting: &Meeting,
+    saying: &Saying<'_, R>,
+    lines: Lines<'_, R, In>,
+) -> Result<(), Stop<'a>>
+where
+    R: Files<File = File> + Print + Eprint + Threads + Wait + Clock + Sync,
+    R: Net<Listener = TcpListener, Stream = TcpStream>,
+    R::Dir: Send + Sync,
+    In: pay_io::Input + Drop,
+    requires { length meeting.now.ports ≡ length start.member.keys.keys }
+{
+    let config = meeting.config(saying, &Unkept, None);
+    serve(alloc, rt, start, tagger, &config, lines)
 }
 
 // The node of a member that is kept in a folder.
@@ -196,19 +213,18 @@ where
     R::Dir: Send + Sync,
     requires { length meeting.now.ports ≡ length kept.member.keys.keys }
 {
-    let has_failed = AtomicBool::new(false);
+    let (has_failed, forgets) = (AtomicBool::new(false), AtomicBool::new(false));
     let reads = AtomicU64::new(0);
     let saying = Saying {
         rt,
         figures: Some(FiguresFile::new(rt, alloc, folder, &reads)?),
+        forgets: &forgets,
     };
-    let lines = Lines {
-        rt,
-        inner: Reader::new(rt.reader()),
-        stays,
+    let ends = Ends {
         has_failed: &has_failed,
-        reads: &reads,
+        forgets: &forgets,
     };
+    let lines = Lines::new(rt, Reader::new(rt.reader()), stays, ends, &reads);
     let ended = serve_restarted(alloc, rt, kept, found, meeting, &saying, lines);
     saying.leave();
     if has_failed.load(Ordering::SeqCst) {
@@ -251,26 +267,36 @@ where
         ..
     } = kept;
     let tagger = tagger_of(alloc, member.keys())?;
-    let found = Found::of(&member, found);
+    let said = Found::of(&member, found);
     say_node(alloc, rt, member.genesis(), member.keys(), &meeting.ports)?;
-    let start = start_again(alloc, member, ids.as_slice())?;
-    say_start(rt, found);
+    let start = start_again(alloc, member, ids.as_slice(), found)?;
+    say_start(rt, said);
     let keeper = SayingKept {
         rt,
         kept: Kept::new(alloc, following),
-        has_failed: lines.has_failed,
+        has_failed: lines.has_failed(),
     };
     let config = meeting.config(saying, &keeper, Some(FiguresFile::<R>::every()));
     serve(alloc, rt, start, &tagger, &config, lines)
 }
 
-// What a node starts from that goes on with a member, whose owner's ids are these.
-fn start_again<'a>(alloc: Global, member: OwnMember, ids: &[u64]) -> Result<OwnStart, Stop<'a>>
+// What a node starts from that goes on with a member, whose owner's ids are these. A member that
+// was found in a log may have forgotten what it sent.
+fn start_again<'a>(
+    alloc: Global,
+    member: OwnMember,
+    ids: &[u64],
+    found: FoundAs,
+) -> Result<OwnStart, Stop<'a>>
     ensures member { IfOk result (λ start. start.member ≡ member) }
+    ensures compares { IfOk result (λ start. start.compares ≡ is_found found) }
 {
     let count = member.history().len() as u64;
     match NodeStart::again(alloc, member, ids) {
-        Ok(start) => Ok(start),
+        Ok(start) => Ok(match found {
+            FoundAs::New => start,
+            FoundAs::Log { .. } => start.comparing(),
+        }),
         Err(StartFault::Memory) => Err(Stop::Log(LogFault::Memory)),
         Err(StartFault::Ids) => Err(Stop::Log(LogFault::Illegal(count))),
     }
@@ -296,6 +322,10 @@ where
     let mut lines = lines;
     let writer = Writer::new(io::writer(rt));
     let (ended, _writer) = run_node(rt, alloc, start, tagger, config, &mut lines, writer);
+    // that is said already
+    if config.observer.forgets.load(Ordering::SeqCst) {
+        return Err(Stop::Forgets);
+    }
     let (member, receipts) = ended?;
     conclude(rt, &member, receipts)
 }

@@ -14,6 +14,7 @@ use pay_record::log_header;
 use std::alloc::{AllocError, Global};
 use std::fs::File;
 use std::rt::Files;
+use std::sync::atomic::{AtomicBool, Ordering};
 
 /// What is said of a member that no folder keeps.
 const IN_MEMORY: &str =
@@ -35,12 +36,14 @@ const CHANGED: &str =
     "the log ended cleanly and isn't whole any more: put that very log back, and never an \
 older one";
 
-/// Says on standard error what becomes of a node's peers, a line each time, and has its figures
-/// written.
+/// Says on standard error what becomes of a node's peers, a line each time, and that its member has
+/// forgotten what it sent, and has its figures written.
 #[derive(Drop)]
 pub(crate) struct Saying<'a, R> {
     pub(crate) rt: &'a R,
     pub(crate) figures: Option<FiguresFile<'a, R>>,
+    /// Whether the member has forgotten.
+    pub(crate) forgets: &'a AtomicBool,
 }
 
 impl<R: Files> Saying<'_, R> {
@@ -57,6 +60,13 @@ impl<R: Files<File = File> + Eprint> Watcher for Saying<'_, R> {
         if let Some(file) = &self.figures {
             file.watch(figures);
         }
+    }
+
+    fn forgets(&self) {
+        let fault = LogFault::Forgotten;
+        let _ = eprintln!(self.rt; "payd: log {fault}");
+        say_advice(self.rt, fault);
+        self.forgets.store(true, Ordering::SeqCst);
     }
 }
 

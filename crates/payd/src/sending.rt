@@ -3,22 +3,24 @@
 ghost use Rattle.std.specs.Prelude.{◌≡◌, IfOk};
 ghost use Rattle.std.specs.List.{flat_map};
 ghost use Rattle.pay_io.specs.Device.{next_count};
-ghost use Rattle.payd.specs.Sending.{Relays, counted_if, is_last, is_refusal, line_text};
-ghost use Rattle.payd.specs.Sending.{said_of};
+ghost use Rattle.payd.specs.Sending.{RelaysOrHolds, Relays, counted_if, is_last, is_refusal};
+ghost use Rattle.payd.specs.Sending.{line_text, said_of};
 
-use crate::sent::{LineNotes, SentLines};
+use crate::holding::Holding;
+use crate::sent::{LineNotes, SentLines, payment_id};
 use crate::sockets::socket_path;
 use crate::stop::Stop;
 use pay_cli::SendWords;
 use pay_engine::EngineFault;
-use pay_io::{Reader, StreamFault, Writer, write_all};
+use pay_io::{DeviceFailed, Reader, StreamFault, Writer, write_all};
 use pay_text::{Answer, Answerer, Text, run_lines};
 use std::alloc::{AllocError, Global};
 use std::net::{Net, Shutdown};
 use std::os::unix::net::UnixStream;
 use std::sync::atomic::{AtomicU64, Ordering};
 use std::sync::{Arc, Wait};
-use std::{io, str};
+use std::time::{Clock, Duration};
+use std::{io, str, thread};
 
 /// How long a line of an answer may be: that of `FRONT` has fewer than a thousand bytes in the
 /// largest group.
@@ -26,6 +28,9 @@ const MOST_ANSWER: usize = 4096;
 
 /// How many bytes of standard input are sent at a time.
 const PIECE: usize = 4096;
+
+/// How long a payment that comes too early waits before it is sent again.
+const PAUSE_MILLIS: u64 = 100;
 
 /// The count of lines that were sent, while some may follow, and where they can't be read.
 const STILL_SENDING: u64 = u64::MAX;
@@ -62,20 +67,30 @@ impl Answerer for Relay {
     }
 }
 
-/// A relay that says on standard error which lines were refused.
+/// A relay that says on standard error which lines were refused, and leaves answers out whose lines
+/// are sent again.
 #[derive(Drop)]
 struct Naming<'a, R> {
     relay: Relay,
     rt: &'a R,
     lines: &'a SentLines,
+    holding: &'a Holding,
 }
 
 impl<R: Eprint + Wait> Answerer for Naming<'_, R> {
-    ghost says = { λ old line text on new. Relays old.relay line text on new.relay };
+    ghost says = { λ old line text on new. RelaysOrHolds old.relay line text on new.relay };
 
     ghost gives_up = { λ old new. new.relay ≡ old.relay };
 
     fn answer(&mut self, alloc: Global, line: Option<&[u8]>) -> Result<Answer, AllocError> {
+        if let Some(line) = line {
+            if is_last(line) && self.holding.holds(self.rt, line) {
+                return Ok(Answer {
+                    text: Text::Fixed(""),
+                    goes_on: true,
+                });
+            }
+        }
         let answer = self.relay.answer(alloc, line)?;
         if let Some(line) = line {
             self.name(line);
@@ -145,20 +160,35 @@ pub(crate) struct Sending {
     /// The lines, or nothing: then they are those of standard input.
     text: Vec<u8>,
     lines: Arc<SentLines>,
+    holding: Arc<Holding>,
     sent: Arc<AtomicU64>,
 }
 
 impl Sending {
     /// Sends the lines, and ends the stream behind them.
-    pub(crate) fn send(self, rt: &(impl Input + Wait)) {
-        let mut notes = LineNotes::new(self.alloc, &self.lines);
-        let count = if self.text.is_empty() {
-            send_input(rt, &mut Reader::new(rt.reader()), &self.stream, &mut notes)
-        } else {
-            send_text(rt, self.text.as_slice(), &self.stream, &mut notes)
-        };
+    pub(crate) fn send(self, rt: &(impl Input + Wait + Clock)) {
+        let count = self.send_lines(rt);
         self.sent.store(count, Ordering::SeqCst);
         let _ = self.stream.shutdown(Shutdown::Write);
+    }
+
+    // Sends the lines, and answers how many they are.
+    fn send_lines(&self, rt: &(impl Input + Wait + Clock)) -> u64 {
+        let stream = &self.stream;
+        let lines: &SentLines = &self.lines;
+        let holding: &Holding = &self.holding;
+        let mut sender = LineSender {
+            rt,
+            writer: Writer::new(stream),
+            notes: LineNotes::new(self.alloc, lines),
+            holding,
+            line: Vec::new(self.alloc),
+        };
+        if self.text.is_empty() {
+            sender.send_input(&mut Reader::new(rt.reader()))
+        } else {
+            sender.send_text(self.text.as_slice())
+        }
     }
 }
 
@@ -167,6 +197,7 @@ impl Sending {
 pub(crate) struct Answers {
     stream: UnixStream,
     lines: Arc<SentLines>,
+    holding: Arc<Holding>,
     sent: Arc<AtomicU64>,
 }
 
@@ -186,6 +217,7 @@ impl Answers {
             relay,
             rt,
             lines: &self.lines,
+            holding: &self.holding,
         };
         let mut reader = Reader::new(&self.stream);
         let mut writer = Writer::new(io::writer(rt));
@@ -209,6 +241,7 @@ pub(crate) fn call<'a>(
     let text = text_of(alloc, words.lines.as_slice())?;
     let sent = Arc::new(alloc, AtomicU64::new(STILL_SENDING))?;
     let lines = Arc::new(alloc, SentLines::new(alloc))?;
+    let holding = Arc::new(alloc, Holding::new())?;
     let Ok(own) = stream.try_clone() else {
         return Err(Stop::Engine(EngineFault::Memory));
     };
@@ -217,6 +250,7 @@ pub(crate) fn call<'a>(
         stream: own,
         text,
         lines: Arc::try_clone(&lines)?,
+        holding: Arc::try_clone(&holding)?,
         sent: Arc::try_clone(&sent)?,
     };
     Ok((
@@ -224,6 +258,7 @@ pub(crate) fn call<'a>(
         Answers {
             stream,
             lines,
+            holding,
             sent,
         },
     ))
@@ -274,38 +309,92 @@ fn text_of(alloc: Global, lines: &[&str]) -> Result<Vec<u8>, AllocError>
     Ok(text)
 }
 
-// Sends a text of whole lines, and answers how many they are.
-fn send_text(rt: &impl Wait, text: &[u8], stream: &UnixStream, notes: &mut LineNotes<'_>) -> u64 {
-    let mut writer = Writer::new(stream);
-    if notes.note(rt, text).is_err() || write_all(&mut writer, text).is_err() {
-        return STILL_SENDING;
-    }
-    notes.count()
+/// Sends lines, and notes and counts them.
+#[derive(Drop)]
+struct LineSender<'a, 'b, R> {
+    rt: &'b R,
+    writer: Writer<&'a UnixStream>,
+    notes: LineNotes<'a>,
+    holding: &'a Holding,
+    // what was given of a line that isn't sent yet
+    line: Vec<u8>,
 }
 
-// Sends an input, and answers how many lines it has.
-fn send_input(
-    rt: &impl Wait,
-    reader: &mut impl pay_io::Input,
-    stream: &UnixStream,
-    notes: &mut LineNotes<'_>,
-) -> u64 {
-    let mut writer = Writer::new(stream);
-    let mut piece = [0u8; PIECE];
-    for _ in 0..u64::MAX {
-        let Ok(size) = reader.read(&mut piece) else {
-            return UNREAD;
-        };
-        if size == 0 {
-            break;
-        }
-        let sent = &piece[..size];
-        if notes.note(rt, sent).is_err() || write_all(&mut writer, sent).is_err() {
-            return STILL_SENDING;
+impl<R: Wait + Clock> LineSender<'_, '_, R> {
+    // Sends a text of whole lines, and answers how many they are.
+    fn send_text(&mut self, text: &[u8]) -> u64 {
+        match self.send_piece(text) {
+            Ok(()) => self.notes.count(),
+            Err(_) => STILL_SENDING,
         }
     }
-    match notes.end(rt) {
-        Ok(()) => notes.count(),
-        Err(_) => STILL_SENDING,
+
+    // Sends an input, and answers how many lines it has.
+    fn send_input(&mut self, reader: &mut impl pay_io::Input) -> u64 {
+        let mut piece = [0u8; PIECE];
+        for _ in 0..u64::MAX {
+            let Ok(size) = reader.read(&mut piece) else {
+                return UNREAD;
+            };
+            if size == 0 {
+                break;
+            }
+            if self.send_piece(&piece[..size]).is_err() {
+                return STILL_SENDING;
+            }
+        }
+        match self.send_end() {
+            Ok(()) => self.notes.count(),
+            Err(_) => STILL_SENDING,
+        }
+    }
+
+    // Sends a piece of a text: as it comes once payments flow, and else line by line.
+    fn send_piece(&mut self, piece: &[u8]) -> Result<(), DeviceFailed> {
+        if self.line.is_empty() && self.holding.flows(self.rt) {
+            self.notes.note(self.rt, piece).map_err(|_| DeviceFailed)?;
+            return write_all(&mut self.writer, piece);
+        }
+        for byte in piece {
+            self.line.push(*byte).map_err(|_| DeviceFailed)?;
+            if *byte == b'\n' || self.line.len() >= PIECE {
+                self.send_line()?;
+            }
+        }
+        Ok(())
+    }
+
+    // Sends the line that was given, or a part of it; a payment again as long as it is held.
+    fn send_line(&mut self) -> Result<(), DeviceFailed> {
+        self.note_line()?;
+        write_all(&mut self.writer, self.line.as_slice())?;
+        if payment_id(self.line.as_slice()).is_some() {
+            self.send_again()?;
+        }
+        self.line.clear();
+        Ok(())
+    }
+
+    fn send_again(&mut self) -> Result<(), DeviceFailed> {
+        for _ in 0..u64::MAX {
+            if !self.holding.wait(self.rt, self.notes.count()) {
+                break;
+            }
+            thread::sleep(self.rt, Duration::from_millis(PAUSE_MILLIS));
+            write_all(&mut self.writer, self.line.as_slice())?;
+        }
+        Ok(())
+    }
+
+    // Sends what the input ends with, if that is no whole line.
+    fn send_end(&mut self) -> Result<(), DeviceFailed> {
+        self.note_line()?;
+        self.notes.end(self.rt).map_err(|_| DeviceFailed)?;
+        write_all(&mut self.writer, self.line.as_slice())
+    }
+
+    fn note_line(&mut self) -> Result<(), DeviceFailed> {
+        let line = self.line.as_slice();
+        self.notes.note(self.rt, line).map_err(|_| DeviceFailed)
     }
 }

@@ -97,8 +97,8 @@ impl<'a> LineNotes<'a> {
     }
 }
 
-// The id in a line that begins as a payment.
-fn payment_id(line: &[u8]) -> Option<u64>
+/// The id in a line that begins as a payment.
+pub(crate) fn payment_id(line: &[u8]) -> Option<u64>
     ensures { result ≡ payment_id line.now }
 {
     let mut words = Words::new(line);

@@ -11,7 +11,7 @@ use std::sync::atomic::{AtomicBool, AtomicU64, Ordering};
 use std::thread;
 use std::time::{Clock, Duration};
 
-/// How long a node that stays sleeps before it looks again whether its log failed.
+/// How long a node that stays sleeps before it looks again whether it has to end.
 const PAUSE_MILLIS: u64 = 500;
 
 /// Only a node with a folder may stay.
@@ -38,47 +38,100 @@ pub(crate) fn judge_new<'a>(words: &NodeWords) -> Result<(), Stop<'a>>
     Ok(())
 }
 
-/// Lines behind whose end, or a read that failed, a read may wait until the node's log fails.
+/// Lines behind whose end, or a read that failed, a read may wait until the node has to end. They
+/// can't be read any more once its member has forgotten what it sent.
 #[derive(Drop)]
 pub(crate) struct Lines<'a, R, In> {
-    pub(crate) rt: &'a R,
-    pub(crate) inner: In,
-    pub(crate) stays: bool,
+    rt: &'a R,
+    inner: In,
+    stays: bool,
+    ends: Ends<'a>,
+    // how often they were read by now, for others
+    reads: &'a AtomicU64,
+    calls: u64,
+    failures: u64,
+}
+
+/// Why a node has to end before its lines do.
+#[derive(Clone, Copy)]
+pub(crate) struct Ends<'a> {
+    /// Its log failed.
     pub(crate) has_failed: &'a AtomicBool,
-    /// How often they were read by now.
-    pub(crate) reads: &'a AtomicU64,
+    /// Its member has forgotten what it sent.
+    pub(crate) forgets: &'a AtomicBool,
+}
+
+impl Ends<'_> {
+    // Whether it has to, by now.
+    fn are_there(&self) -> bool {
+        self.has_failed.load(Ordering::SeqCst) || self.forgets.load(Ordering::SeqCst)
+    }
+}
+
+impl<'a, R, In> Lines<'a, R, In> {
+    /// Nothing was read yet.
+    pub(crate) fn new(
+        rt: &'a R,
+        inner: In,
+        stays: bool,
+        ends: Ends<'a>,
+        reads: &'a AtomicU64,
+    ) -> Lines<'a, R, In> {
+        Lines {
+            rt,
+            inner,
+            stays,
+            ends,
+            reads,
+            calls: 0,
+            failures: 0,
+        }
+    }
+
+    /// Whether the log of the node failed.
+    pub(crate) fn has_failed(&self) -> &'a AtomicBool {
+        self.ends.has_failed
+    }
 }
 
 impl<R: Wait + Clock, In: Input> Input for Lines<'_, R, In> {
     ghost remaining = { λ lines. In.remaining lines.inner };
 
-    ghost call_count = { λ lines. In.call_count lines.inner };
+    ghost call_count = { λ lines. lines.calls };
 
-    ghost failure_count = { λ lines. In.failure_count lines.inner };
+    ghost failure_count = { λ lines. lines.failures };
 
     fn read(&mut self, buffer: &mut [u8]) -> Result<usize, DeviceFailed> {
+        self.calls = self.calls.saturating_add(1);
+        self.reads.store(self.calls, Ordering::SeqCst);
+        if self.ends.forgets.load(Ordering::SeqCst) {
+            self.failures = self.failures.saturating_add(1);
+            return Err(DeviceFailed);
+        }
         let read = self.inner.read(buffer);
-        self.reads.store(self.inner.calls(), Ordering::SeqCst);
         if self.stays && !has_more(&read) {
-            self.wait_for_fault();
+            self.wait_for_end();
+        }
+        if read.is_err() {
+            self.failures = self.failures.saturating_add(1);
         }
         read
     }
 
     fn calls(&self) -> u64 {
-        self.inner.calls()
+        self.calls
     }
 
     fn failures(&self) -> u64 {
-        self.inner.failures()
+        self.failures
     }
 }
 
 impl<R: Wait + Clock, In> Lines<'_, R, In> {
-    // Sleeps until the log fails, which may be never.
-    fn wait_for_fault(&self) {
+    // Sleeps until the node has to end, which may be never.
+    fn wait_for_end(&self) {
         for _ in self.rt.forever() {
-            if self.has_failed.load(Ordering::SeqCst) {
+            if self.ends.are_there() {
                 return;
             }
             thread::sleep(self.rt, Duration::from_millis(PAUSE_MILLIS));

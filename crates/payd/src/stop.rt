@@ -38,6 +38,9 @@ pub(crate) enum Stop<'a> {
     /// The node ended so because its log failed.
     #[error("engine {0}")]
     Unkept(EngineFault),
+    /// The member of a node has forgotten what it sent, as was said already.
+    #[error("log {}", LogFault::Forgotten)]
+    Forgets,
     /// A member is to be made that has no folder.
     #[error("new: only with --data")]
     New,
@@ -184,7 +187,7 @@ impl<'a> Stop<'a> {
             | Stop::Nobody(_)
             | Stop::Unanswered
             | Stop::Clock => 3,
-            Stop::Unkept(_) | Stop::Log(LogFault::Disk | LogFault::Forgotten) => 4,
+            Stop::Unkept(_) | Stop::Forgets | Stop::Log(LogFault::Disk | LogFault::Forgotten) => 4,
             Stop::Genesis(..)
             | Stop::Keys(..)
             | Stop::Ports(..)
