@@ -163,37 +163,36 @@ where
     let start = NodeStart::fresh(alloc, member);
     let (has_failed, forgets) = (AtomicBool::new(false), AtomicBool::new(false));
     let reads = AtomicU64::new(0);
-    let saying = Saying {
-        rt,
-        figures: None,
-        forgets: &forgets,
-    };
     let ends = Ends {
         has_failed: &has_failed,
         forgets: &forgets,
     };
-    let lines = Lines::new(rt, Reader::new(rt.reader()), false, ends, &reads);
-    serve_fresh(alloc, rt, start, &tagger, meeting, &saying, lines)
+    serve_fresh(alloc, rt, start, &tagger, meeting, ends, &reads)
 }
 
 // The same, of a member that is made.
-fn serve_fresh<'a, R, In>(
+fn serve_fresh<'a, 'x, R>(
     alloc: Global,
-    rt: &R,
+    rt: &'x R,
     start: OwnStart,
     tagger: &PreparedHmac,
     meeting: &Meeting,
-    saying: &Saying<'_, R>,
-    lines: Lines<'_, R, In>,
+    ends: Ends<'x>,
+    reads: &'x AtomicU64,
 ) -> Result<(), Stop<'a>>
 where
-    R: Files<File = File> + Print + Eprint + Threads + Wait + Clock + Sync,
+    R: Files<File = File> + Input + Print + Eprint + Threads + Wait + Clock + Sync,
     R: Net<Listener = TcpListener, Stream = TcpStream>,
     R::Dir: Send + Sync,
-    In: pay_io::Input + Drop,
     requires { length meeting.now.ports ≡ length start.member.keys.keys }
 {
-    let config = meeting.config(saying, &Unkept, None);
+    let saying = Saying {
+        rt,
+        figures: None,
+        forgets: ends.forgets,
+    };
+    let lines = Lines::new(rt, Reader::new(rt.reader()), false, ends, reads);
+    let config = meeting.config(&saying, &Unkept, None);
     serve(alloc, rt, start, tagger, &config, lines)
 }
 
