@@ -99,7 +99,7 @@ def test_manual_and_completions():
             same(text.count(f".SH {command.upper()}\n"), 1, f"the manual page on {command}")
         with open(os.path.join(prefix, "share", "man", "man5", "payd.5"), encoding="utf-8") as page:
             text = page.read()
-        for said in (".SH FOLDERS\n", ".SH A MEMBER'S LOG\n", "the mark \\fBplog\\fR\n", "\\fB3 BadGenesis\\fR"):
+        for said in (".SH FOLDERS\n", ".SH A MEMBER'S LOG\n", "the keys' fingerprint", "\\fB3 BadGenesis\\fR"):
             same(said in text, True, f"the manual page on files has {said!r}")
         script = os.path.join(prefix, "share", "bash-completion", "completions", "payd")
         write_json(folder, "my keys.json", {})

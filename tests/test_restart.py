@@ -158,7 +158,7 @@ def test_folders_of_others():
         ):
             shows(export(place, **words), 2, "", f"payd: log 3 Foreign {name}\n", of=f"{words}")
         for content, name in ((b"", "NoLog"), (log[: HEADER_LEN - 1], "NoLog"), (b"x" + log[1:], "NoLog"),
-                              (log[:8] + b"\x02" + log[9:], "Version")):
+                              (log[:8] + b"\x03" + log[9:], "Version")):
             made = made_folder(place, "made", content)
             shows(export(place, 0, "made"), 2, "", f"payd: log 3 Foreign {name}\n", of=f"a file of {content[:9]!r}")
             shows(node_on(place, 0, "made"), 2, "", f"payd: log 3 Foreign {name}\n", of=f"a node on {content[:9]!r}")
@@ -501,15 +501,15 @@ def with_a_fault(library, name, least=3, **more):
 
 
 def at_a_second_start(library, name):
-    """The same in a folder that a kill left, with a torn end: it has what was answered before, however its start fails,
-    and what that has since answered; each start writes the log anew."""
+    """The same in a folder that a kill left, with a torn end: it has what was answered before, however its start fails;
+    each start writes the log anew."""
     words = words_in(library)
     killed, torn = os.path.join(library.place.name, f"{name}-killed"), b"plog"
     same(library.run([*words, killed, "--new"], LINES)[0][0], 0, "the first start")
     os.remove(os.path.join(killed, "ended"))
     with open(os.path.join(killed, "log"), "ab") as log:
         log.write(torn)
-    wanted = ANSWERS + "asked 12 seq 12\n"
+    wanted = ANSWERS + EARLY + "\n"
     for place in range(1, 1000):
         folder = f"{killed}-{place}"
         shutil.copytree(killed, folder)

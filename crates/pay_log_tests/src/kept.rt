@@ -102,6 +102,7 @@ fn alone(alloc: Global) -> Result<(Genesis, Keys), Fail>
 
 /// The disks of a start: one that has a log, and one for the new log, whose call of this number
 /// fails, where so many bytes of an append are written.
+#[derive(Drop)]
 struct Disks {
     old: Mutex<FailingDisk>,
     new: Mutex<FailingDisk>,
@@ -120,7 +121,7 @@ impl Disks {
     }
 
     /// What the new log has.
-    fn written<R: Wait>(&self, rt: &R, alloc: Global) -> Result<Vec<u8>, Fail> {
+    fn new_log<R: Wait>(&self, rt: &R, alloc: Global) -> Result<Vec<u8>, Fail> {
         Ok(self.new.lock(rt).bytes.to_vec(alloc)?)
     }
 }
@@ -240,7 +241,7 @@ fn pay_until_crash<R: Wait + Clock>(
     let kept = Kept::new(alloc, following);
     let (acknowledged, stops) = pay_each::<Brand, _, _>(rt, alloc, member, &kept, &disks.new)?;
     Ok(Ended {
-        bytes: disks.written(rt, alloc)?,
+        bytes: disks.new_log(rt, alloc)?,
         acknowledged,
         stops,
     })
@@ -322,7 +323,7 @@ fn live_once<R: Wait + Clock>(
     if !pay_next::<Brand, _, _>(rt, alloc, member, &kept, next, id)? {
         return Err(Fail::new("not kept"));
     }
-    disks.written(rt, alloc)
+    disks.new_log(rt, alloc)
 }
 
 #[test]
@@ -381,7 +382,7 @@ fn paid_at_once<R: Wait + Threads + Clock + Sync>(
     let kept = Kept::new(alloc, following);
     let all = all_pay::<Brand, _, _>(rt, alloc, member, &kept, &missing)?;
     let calls = disks.new.lock(rt).calls;
-    Ok((all, calls, disks.written(rt, alloc)?))
+    Ok((all, calls, disks.new_log(rt, alloc)?))
 }
 
 #[test]
