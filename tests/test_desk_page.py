@@ -1,4 +1,4 @@
-"""Black-box tests of tools/desk-page: what it answers to whom, and the page in a real browser."""
+"""Black-box tests of payd desk-page: what it answers to whom, and the page in a real browser."""
 
 import http.client
 import json
@@ -188,12 +188,14 @@ def test_page_tells_what_the_node_tells():
 
 def test_pages_words():
     for words, status, said in (
-        (["--data", "x", "--keys", "/none"], 1, "/none: No such file"),
+        (["--data", "x", "--keys", "/none"], 1, "cannot read /none: No such file"),
         (["--data", "x", "--keys", f"{TOP}/examples/genesis.json"], 1, "it is no file of keys"),
         (["--data", "x", "--keys", f"{TOP}/examples/keys-0.json", "--port", "70000"], 1, "port 70000"),
         (["--data", "x", "--keys", f"{TOP}/examples/keys-0.json", "--socket", "y"], 2, "not allowed with"),
         (["--keys", f"{TOP}/examples/keys-0.json"], 2, "--data --socket is required"),
-        ([], 2, "--keys"),
+        ([], 2, "--data --socket is required"),
+        (["--data", "/none"], 1, "/none: there is no member here"),
+        (["--socket", "y"], 1, "--keys is missing"),
     ):
         done = subprocess.run([PAGE, *words], capture_output=True, text=True, timeout=SECONDS)
         same((done.returncode, said in done.stderr), (status, True), f"{words}: {done.stderr}")
@@ -303,7 +305,7 @@ def test_node_ends_and_starts_behind_the_page():
         same(tab.run("return sessionStorage.getItem('order')"), None, "the form's id")
         group.settle([1, 0, 0, 0], [70, 30, 0, 50])
         page.end()
-        until(lambda: tab.text("#node").startswith("tools/desk-page doesn’t answer"), True, of="what it says")
+        until(lambda: tab.text("#node").startswith("payd desk-page doesn’t answer"), True, of="what it says")
 
 
 @in_browser

@@ -1,5 +1,6 @@
 """Black-box tests of the shop and of the customer's script in examples/."""
 
+import glob
 import os
 import subprocess
 
@@ -62,23 +63,26 @@ def test_shop_refuses_what_it_cant_take():
 def test_order_is_paid_by_the_script():
     """Killed, and called again while the node is away, it pays once."""
     with Folders([100, 0, 0, 50]) as group:
-        shop, folder = Shop(group.place.name), group.place.name
-        words = [PAY_ORDER, os.path.join(folder, "data-0"), "0", "1", "1", "30", os.path.join(folder, "notes")]
+        shop, folder = Shop(group.place.name), os.path.join(group.place.name, "data-0")
+        words = [PAY_ORDER, folder, "1", "1", "30"]
         try:
             same(shop.ask("order 0 30"), "order 1", "an order")
-            group.kill(0)
             for _ in range(3):
                 child = subprocess.Popen(words, stdout=subprocess.PIPE, stderr=subprocess.PIPE, start_new_session=True)
-                until(lambda: os.path.exists(os.path.join(folder, "notes", "1")), True, of="the note")
+                until(lambda: bool(glob.glob(os.path.join(folder, "orders", "*"))), True, of="the order that is kept")
                 os.killpg(child.pid, 9)
                 child.communicate()
+            group.kill(0)
+            away = subprocess.Popen(words, stdout=subprocess.PIPE, stderr=subprocess.PIPE, text=True)
+            same(away.stderr.readline().startswith("payd pay: nobody listens"), True, "what is said of the node")
             group.start(0)
-            for _ in range(2):
-                done = subprocess.run(words, capture_output=True, text=True, timeout=SECONDS)
-                same((done.returncode, done.stdout), (0, "order 1 seq 0\n"), f"the script: {done.stderr}")
+            output, errors = away.communicate(timeout=SECONDS)
+            same((away.returncode, output), (0, "order 1 seq 0\n"), f"the script that waited: {errors}")
+            done = subprocess.run(words, capture_output=True, text=True, timeout=SECONDS)
+            same((done.returncode, done.stdout), (0, "order 1 seq 0\n"), f"the script: {done.stderr}")
             same(shop.ask("paid 1 0"), "noted 1 0", "the payment")
             until(lambda: shop.ask("show 1"), "order 1 paid seq 0 kept", of="the order")
-            done = subprocess.run([*words[:5], "31", words[6]], capture_output=True, text=True, timeout=SECONDS)
+            done = subprocess.run([*words[:4], "31"], capture_output=True, text=True, timeout=SECONDS)
             same((done.returncode, done.stdout), (1, ""), "another payment for the order")
             group.settle([1, 0, 0, 0], [70, 30, 0, 50])
         finally:

@@ -40,6 +40,10 @@ def number_of(text):
     return int(text)
 
 
+class Refused(Wrong):
+    """A query that has to be answered wasn't."""
+
+
 class View:
     """An account as its node told of it last."""
 
@@ -72,7 +76,8 @@ class View:
         """The answer to a query, which has to be one."""
         answer = self.desk.ask(line)
         if answer[0].startswith("refused "):
-            raise Wrong(f"the node refuses {line}: {answer[0]}")
+            reason = answer[0].rpartition(" ")[2]
+            raise Refused(f"the node refuses {line}: {answer[0]}. {WHY_REFUSED.get(reason, '')}".strip())
         return answer
 
     def look(self):
@@ -89,6 +94,10 @@ class View:
         # (but for what has settled since it was asked for)
         self.waiting = [it for it in waiting if it["entry"] >= front[self.account]]
         self.short = short if self.waiting == waiting else 0
+
+    def read_sums(self):
+        self.waiting, self.short = self.read_waiting()
+        self.balance = self.read_balance(self.account)
 
     def read_front(self):
         return [int(word) for word in self.ask("FRONT")[0].split(" ")[1:]]
@@ -177,15 +186,13 @@ class View:
 
     def verdict(self, amount):
         """Whether a payment of this amount is covered once all that wait are settled, by fresh answers."""
-        self.waiting, self.short = self.read_waiting()
-        self.balance = self.read_balance(self.account)
+        self.read_sums()
+        free = self.free()
+        if free is not None and amount <= free:
+            return COVERED
         if self.total is None:
             self.read_total()
-        # (what is beyond it is more than what is free as well)
-        if self.total is not None and amount > self.total:
-            return BEYOND
-        free = self.free()
-        return COVERED if free is not None and amount <= free else UNCOVERED
+        return BEYOND if self.total is not None and amount > self.total else UNCOVERED
 
     def pay(self, form):
         """What comes of a form: the payment's seq, a refusal, or what has to be agreed to first."""

@@ -69,6 +69,11 @@ def is_count(value, most):
     return type(value) is int and 0 <= value <= most
 
 
+def genesis_digest(members, faults, opening):
+    """SHA-256 of members, faults and openings, in hexadecimal, as the header of a member's log has it."""
+    return hashlib.sha256(struct.pack(f">HH{members}Q", members, faults, *opening)).hexdigest()
+
+
 class Group:
     """What a group's file says, checked."""
 
@@ -147,9 +152,7 @@ class Group:
         return [f"{it % 100_000:05}" for it in groups]
 
     def genesis_digest(self):
-        """SHA-256 of members, faults and openings, in hexadecimal, as the header of a member's log has it."""
-        parts = struct.pack(f">HH{self.members}Q", self.members, self.faults, *self.opening)
-        return hashlib.sha256(parts).hexdigest()
+        return genesis_digest(self.members, self.faults, self.opening)
 
     def own(self, secret):
         """The number of the member whose secret this is."""

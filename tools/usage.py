@@ -1,11 +1,31 @@
 """What a script says of how it is called."""
 
+import argparse
 import contextlib
 import os
 import sys
 
-# As argparse ends where words are wrong.
-WRONG_USAGE = 2
+# As argparse ends where words are wrong, and as the program where a file can't be read or written.
+WRONG_USAGE, UNWRITTEN = 2, 3
+
+
+def parser(text):
+    """A parser of words whose help is this text: what it is about, its usage, and more."""
+    about, usage, *more = text.strip().split("\n\n")
+    how = {"usage": usage[len("usage: ") :], "description": "\n\n".join([about, *more])}
+    return argparse.ArgumentParser(**how, formatter_class=argparse.RawDescriptionHelpFormatter)
+
+
+def run(name, main):
+    """The status of a script, which may not read or write all that it has to."""
+    try:
+        return main()
+    except OSError as error:
+        with contextlib.suppress(OSError):
+            # (what couldn't be written would be tried once more at the end)
+            os.dup2(os.open(os.devnull, os.O_WRONLY), sys.stdout.fileno())
+            print(f"payd {name}: {error}", file=sys.stderr)
+        return UNWRITTEN
 
 
 def read_words(text, takes=lambda words: not words):

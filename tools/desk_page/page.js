@@ -45,7 +45,7 @@ async function look() {
     // The next answer is shown whatever it is.
     known = "";
     const isGone = why instanceof TypeError;
-    tellNode(`${isGone ? "tools/desk-page doesn’t answer: is it still running?" : why.message} ${asOf()}`, true);
+    tellNode(`${isGone ? "payd desk-page doesn’t answer: is it still running?" : why.message} ${asOf()}`, true);
   }
 }
 
