@@ -1,4 +1,4 @@
-"""The pictures of tools/draw: what is in them is counted."""
+"""The pictures of payd draw: what is in them is counted."""
 
 import os
 import re
@@ -21,7 +21,7 @@ ENDS = {"split-votes": (1, "forged 17")}
 def drawn(script, status=0, ended=None):
     """The picture of a script; a run that ends before it says so, and so does its picture."""
     done = subprocess.run([DRAW, script], capture_output=True, text=True, timeout=SECONDS)
-    same((done.returncode, done.stderr), (status, f"tools/draw: {ended}\n" if ended else ""), f"a picture of {script}")
+    same((done.returncode, done.stderr), (status, f"payd draw: {ended}\n" if ended else ""), f"a picture of {script}")
     picture = xml.fromstring(done.stdout)
     if ended:
         same([it.text for it in picture.iter() if it.text][-1], ended, f"the last words of {script}")
@@ -99,7 +99,7 @@ def test_pictures_to_nobody():
         with open(short, "w", encoding="ascii") as file:
             file.write('{"members": 1, "faults": 0, "opening": [7], "liars": []}\n')
         for script in (short, os.path.join(EXAMPLES, "honest-day.txt")):
-            wanted = [(1, f"tools/draw: {why}\n") for why in UNWRITTEN]
+            wanted = [(1, f"payd draw: {why}\n") for why in UNWRITTEN]
             same([*run_to_nobody([DRAW, script])], wanted, f"a picture of {script} to nobody")
 
 

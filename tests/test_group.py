@@ -1,4 +1,4 @@
-"""Tests of tools/group: what it writes, what it refuses, and that a group's keys open nothing of another group."""
+"""Tests of payd group: what it writes, what it refuses, and that a group's keys open nothing of another group."""
 
 import contextlib
 import hashlib
@@ -31,7 +31,7 @@ def tool(folder, *words):
 
 def does(folder, *words):
     status, output, errors = tool(folder, *words)
-    same((status, errors), (0, ""), f"tools/group {' '.join(words)}")
+    same((status, errors), (0, ""), f"payd group {' '.join(words)}")
     return output
 
 
@@ -165,7 +165,7 @@ def test_secrets_and_keys_are_for_their_owner_alone():
 def test_nothing_is_written_over():
     with set_up() as folder:
         was = read(folder, "0.secret")
-        same(tool(folder, "new", "0.secret"), (1, "", "tools/group: 0.secret: File exists\n"), "a second secret")
+        same(tool(folder, "new", "0.secret"), (1, "", "payd group: 0.secret: File exists\n"), "a second secret")
         same(read(folder, "0.secret"), was, "the first one")
 
 
@@ -195,18 +195,18 @@ def test_a_file_that_is_no_group_is_refused():
         for change, why in rows:
             put(folder, "other.json", json.dumps({**group, **change}))
             for words in (["show", "other.json"], ["keys", "other.json", "0.secret"]):
-                same(tool(folder, *words), (1, "", f"tools/group: other.json: {why}\n"), f"{words[0]} of {change}")
+                same(tool(folder, *words), (1, "", f"payd group: other.json: {why}\n"), f"{words[0]} of {change}")
         put(folder, "other.json", read(folder, "group.json").replace("{\n", '{"faults": 0,\n', 1))
-        twice = "tools/group: other.json: an object in it names something twice\n"
+        twice = "payd group: other.json: an object in it names something twice\n"
         same(tool(folder, "show", "other.json"), (1, "", twice), "a member that stands twice")
 
 
 def test_a_secret_of_nobody_has_no_keys():
     with set_up() as folder:
         does(folder, "new", "other.secret")
-        none = "tools/group: other.secret: the secret's public key is none of the group's\n"
+        none = "payd group: other.secret: the secret's public key is none of the group's\n"
         same(tool(folder, "keys", "group.json", "other.secret"), (1, "", none), "the keys of another's secret")
-        no = "tools/group: group.json: it is no secret that 'new' wrote\n"
+        no = "payd group: group.json: it is no secret that 'new' wrote\n"
         same(tool(folder, "keys", "group.json", "group.json"), (1, "", no), "keys of what is no secret")
 
 
@@ -278,7 +278,7 @@ def test_no_next_group():
             (["--leaves", "0:1", "--leaves", "0:2", "group.json", *exports], "a member leaves twice"),
             (["--leaves", "0:1", "group.json", *exports], "faults has to be fewer than a third of the members"),
         ):
-            same(tool(folder, "next", *words), (1, "", f"tools/group: {why}\n"), f"{words}")
+            same(tool(folder, "next", *words), (1, "", f"payd group: {why}\n"), f"{words}")
 
 
 # ---- nodes

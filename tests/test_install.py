@@ -15,6 +15,7 @@ import pytest
 from runs import SECONDS, TOP, key_texts, payd, same
 
 COMMANDS = "check", "sim", "desk", "node", "send", "export", "audit", "book", "statement", "journal"
+TOOLS = "pay", "status", "follow", "desk-page", "group", "report", "draw"
 ALONE = {"members": 1, "faults": 0, "opening": [7]}
 
 
@@ -27,7 +28,7 @@ def installer():
     """The script in a repository that holds the program to be proved, which the one that runs here may not be."""
     for name in ("HANDLES", "README.md", "crates", "crates.txt", "payd", "payd-prove"):
         os.symlink(os.path.join(TOP, name), os.path.join(KEPT.name, name))
-    for name in ("docs", "examples", "tools"):
+    for name in ("docs", "examples", "tests/models", "tools"):
         shutil.copytree(os.path.join(TOP, name), os.path.join(KEPT.name, name))
     holds = f"import building as it; it.keep(it.PROVED, it.sums().whole, {payd()!r})"
     subprocess.run([sys.executable, "-c", holds], cwd=os.path.join(KEPT.name, "tools"), check=True)
@@ -70,13 +71,21 @@ def test_installed_tools_stand_alone():
     with tempfile.TemporaryDirectory() as folder:
         prefix = os.path.join(folder, "prefix")
         subprocess.run([installer(), prefix], check=True, capture_output=True, timeout=SECONDS)
-        group, report, page = (os.path.join(prefix, "bin", f"payd-{it}") for it in ("group", "report", "desk-page"))
-        status, output, errors = run_in(folder, [group, "--help"])
-        same((status, "fingerprint" in output, errors), (0, True, ""), "the tool for groups")
+        payd = os.path.join(prefix, "bin", "payd")
+        for word in TOOLS:
+            status, output, errors = run_in(folder, [payd, word, "--help"])
+            same((status, f"usage: payd {word} " in output, errors), (0, True, ""), word)
         exports = [os.path.join(TOP, "examples", f"export-{it}.json") for it in (0, 2)]
-        status, output, errors = run_in(folder, [report, *exports])
+        status, output, errors = run_in(folder, [payd, "report", *exports])
         same((status, "4 fork 0 1 owner 3 seq 0" in output, errors), (0, True, ""), "the report")
-        words = [page, "--keys", os.path.join(TOP, "examples", "keys-0.json"), "--data", folder]
+        status, output, errors = run_in(folder, [payd, "draw", os.path.join(TOP, "examples", "honest-day.txt")])
+        same((status, output[:5], errors), (0, "<svg ", ""), "a picture")
+        said = "payd status: gone: there is no member here: it has no log\n"
+        same(run_in(folder, [payd, "status", "--data", "gone"]), (2, "", said), "no member")
+        said = run_in(folder, [os.path.join(prefix, "lib", "payd", "payd"), "--help"])[1]
+        with open(os.path.join(prefix, "libexec", "payd", "words"), encoding="ascii") as file:
+            same(run_in(folder, [payd, "--help"]), (0, said + file.read(), ""), "what payd says of itself")
+        words = [payd, "desk-page", "--keys", os.path.join(TOP, "examples", "keys-0.json"), "--data", folder]
         with subprocess.Popen(words, stdout=subprocess.PIPE, text=True) as child:
             try:
                 address = child.stdout.readline().strip()
@@ -95,7 +104,7 @@ def test_manual_and_completions():
         subprocess.run([installer(), prefix], check=True, capture_output=True, timeout=SECONDS)
         with open(os.path.join(prefix, "share", "man", "man1", "payd.1"), encoding="ascii") as page:
             text = page.read()
-        for command in COMMANDS:
+        for command in (*COMMANDS, *(it.replace("-", "\\-") for it in TOOLS)):
             same(text.count(f".SH {command.upper()}\n"), 1, f"the manual page on {command}")
         with open(os.path.join(prefix, "share", "man", "man5", "payd.5"), encoding="utf-8") as page:
             text = page.read()
@@ -115,6 +124,12 @@ def test_manual_and_completions():
             ("send --data m", ["my keys.json"]),
             ("node --so", ["--socket"]),
             ("se", ["send"]),
+            ("pa", ["pay"]),
+            ("pay --even", ["--even-if-uncovered"]),
+            ("pay --data m", ["my keys.json"]),
+            ("desk-page --ke", ["--keys"]),
+            ("group my", ["my keys.json"]),
+            ("follow --f", ["--from"]),
         ):
             ask = f"source '{script}'; COMP_WORDS=(payd {words}); COMP_CWORD=$((${{#COMP_WORDS[@]}} - 1)); _payd"
             told = run_in(folder, ["bash", "-c", f"{ask}; printf '%s\\n' \"${{COMPREPLY[@]}}\" | sort"])
@@ -136,7 +151,8 @@ def test_completions_for_each_shell():
             with open(os.path.join(folder, place), encoding="ascii") as file:
                 words = set(re.findall(r"[a-z]+", file.read()))
             options = "genesis keys ports dials ahead data stay socket jobs all date".split()
-            same({*COMMANDS, *options} - words, set(), f"words that the completions for {shell} lack")
+            tools = {part for it in TOOLS for part in it.split("-")}
+            same({*COMMANDS, *tools, *options} - words, set(), f"words that the completions for {shell} lack")
 
 
 def completions_are_read(shell):

@@ -1,4 +1,4 @@
-"""Black-box tests of tools/report: what its pages tell is parsed, and held against the model."""
+"""Black-box tests of payd report: what its pages tell is parsed, and held against the model."""
 
 import html.parser
 import json
@@ -215,7 +215,7 @@ def test_pages_to_nobody():
             file = os.path.join(folder, name)
             with open(file, "w", encoding="ascii") as text:
                 json.dump(audits.export([7], lists, [len(lists[0])], [7]), text)
-            wanted = [(1, f"tools/report: {why}\n") for why in UNWRITTEN]
+            wanted = [(1, f"payd report: {why}\n") for why in UNWRITTEN]
             same([*run_to_nobody([REPORT, file])], wanted, f"a {name} page to nobody")
 
 
@@ -225,7 +225,7 @@ def test_no_page():
         ([{**PAID, "front": []}], "export 2 BadShape"),
     ):
         status, text, errors = report(exports)
-        same((status, text, errors), (1, "", f"tools/report: payd: {fault} in {len(exports) - 1}.json\n"), f"{exports}")
-    same(report([], "gone"), (1, "", "tools/report: payd: file gone\n"), "no file")
+        same((status, text, errors), (1, "", f"payd report: payd: {fault} in {len(exports) - 1}.json\n"), f"{exports}")
+    same(report([], "gone"), (1, "", "payd report: payd: file gone\n"), "no file")
     status, text, errors = report([])
-    same((status, text, "usage: tools/report" in errors), (2, "", True), "no words")
+    same((status, text, "usage: payd report" in errors), (2, "", True), "no words")

@@ -1,9 +1,12 @@
-"""Completions of the program's commands for shells, made of what its --help says."""
+"""Completions of the program's commands and the tools for shells, made of what their --help says."""
 
 import re
 
 COMMAND = re.compile(r"^  (\w+) ", re.MULTILINE)
 OPTION = re.compile(r"^ +(?:-\w, )?(--\w+)(?: <(.+?)>)?", re.MULTILINE)
+# A tool in the list of their words, and an option in a tool's usage.
+WORD = re.compile(r"^  ([\w-]+)  ", re.MULTILINE)
+OPTION_OF_TOOL = re.compile(r"(--[a-z-]+)(?: ([A-Z][^\s|)\]]*))?")
 # What may stand after an option, by what --help calls it; a file or a folder where it isn't here.
 TAKES = {"COUNT": "1 2 4 8", "COUNT|always": "always", "YYYY-MM-DD": None}
 OF_FILES = re.compile("<(?:FILE|EXPORT)>")
@@ -26,6 +29,17 @@ class Command:
         self.options = {option: takes for option, takes in OPTION.findall(part(text, "Options")) if option != "--help"}
         usage = re.sub(r"--\w+ <.+?>", "", text.partition("Usage: ")[2].partition("\n")[0])
         self.takes_files = OF_FILES.search(usage) is not None
+
+
+class Tool:
+    """The same of a tool, by its usage: all its words may be files."""
+
+    takes_files = True
+
+    def __init__(self, name, text):
+        self.name = name
+        usage = text.partition("usage: ")[2].partition("\n\n")[0]
+        self.options = {**dict(OPTION_OF_TOOL.findall(usage)), "--help": ""}
 
 
 def bash(commands):

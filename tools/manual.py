@@ -17,11 +17,11 @@ def escaped(text):
 
 
 def of_commands(version, about, helps):
-    """The page of the program, and of each of its commands."""
+    """The page of the program, and of each of its commands and tools."""
     parts = [f'.TH PAYD 1 "" "payd {version}"', ".SH NAME", "payd \\- a payment ledger without consensus", ".SH USAGE"]
     parts += [".nf", escaped(about.strip()), ".fi"]
     for command, text in helps.items():
-        parts += [f".SH {command.upper()}", ".nf", escaped(text.strip()), ".fi"]
+        parts += [f".SH {escaped(command.upper())}", ".nf", escaped(text.strip()), ".fi"]
     parts += [".SH SEE ALSO", ".BR payd (5)"]
     return "\n".join(parts) + "\n"
 
