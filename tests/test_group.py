@@ -102,7 +102,9 @@ def test_each_member_derives_its_own_file_of_keys():
     """As the model has it, alike for both of a pair, and for each pair another key."""
     with set_up() as folder:
         group = json.loads(read(folder, "group.json"))
-        made = [json.loads(does(folder, "keys", "group.json", f"{own}.secret")) for own in range(MEMBERS)]
+        for own in range(MEMBERS):
+            write_keys(folder, own)
+        made = [json.loads(read(folder, f"keys-{own}")) for own in range(MEMBERS)]
         for own in range(MEMBERS):
             same(made[own], group_model.keys(group, own, secret_of(folder, own)), f"the keys of member {own}")
             for peer in range(MEMBERS):
@@ -110,19 +112,22 @@ def test_each_member_derives_its_own_file_of_keys():
         same(len({key for it in made for key in it["keys"]}), 1 + MEMBERS * (MEMBERS - 1) // 2, "different keys")
 
 
-def test_a_fingerprint_is_of_all_but_ports_and_names():
+def test_a_fingerprint_is_of_all_but_ports_and_hosts():
     with set_up() as folder:
         group = json.loads(read(folder, "group.json"))
         was = does(folder, "show", "group.json").splitlines()[-1]
         same(was, f"fingerprint {group_model.fingerprint(group)}", "the fingerprint")
-        put(folder, "other.json", json.dumps({**group, "ports": [1, 2, 3, 4], "names": ["a", "b", "ç", "d"]}))
-        same(does(folder, "show", "other.json").splitlines()[-1], was, "that with other ports and names")
+        moved = {"ports": [1, 2, 3, 4], "hosts": ["a", "b.example", "c", "1.2.3.4"]}
+        put(folder, "other.json", json.dumps({**group, **moved}))
+        same(does(folder, "show", "other.json").splitlines()[-1], was, "that with other ports and hosts")
         public = group["public"]
         others = {
             "faults": 0,
             "opening": [101, 0, 0, 50],
             "group": "0" * 64,
             "public": [public[1], public[0], *public[2:]],
+            "names": ["Ann", "Bob", "Cy", "Di"],
+            "former": "0" * 64,
         }
         for name, value in others.items():
             put(folder, "other.json", json.dumps({**group, name: value}))
@@ -134,29 +139,46 @@ def test_a_file_shows_who_is_in_the_group():
     with set_up() as folder:
         group = {**json.loads(read(folder, "group.json")), "ports": [7, 8, 9, 10], "names": ["Ann", "Bob", "Cy", "Di"]}
         put(folder, "named.json", json.dumps(group))
-        lines = does(folder, "show", "named.json").splitlines()[:-1]
+        put(folder, "named.json", json.dumps({**group, "hosts": ["a", "b", "c", "d"], "former": "1" * 64}))
+        lines = does(folder, "show", "named.json").splitlines()
+        text = group_model.canonical({**group, "former": "1" * 64}).encode("ascii")
         digest = hashlib.sha256(struct.pack(">HH4Q", 4, 1, 100, 0, 0, 50)).hexdigest()
         wanted = [
             "4 members, of whom 1 may lie; 150 in all",
-            "member 0 Ann: opens with 100, port 7",
-            "member 1 Bob: opens with 0, port 8",
-            "member 2 Cy: opens with 0, port 9",
-            "member 3 Di: opens with 50, port 10",
+            "member 0 Ann: opens with 100, port 7 at a",
+            "member 1 Bob: opens with 0, port 8 at b",
+            "member 2 Cy: opens with 0, port 9 at c",
+            "member 3 Di: opens with 50, port 10 at d",
+            "goes on for the group 1111111111111111",
+            f"digest {hashlib.sha256(text).hexdigest()[:16]}, which its files of keys have",
             f"genesis {digest[:8]}, which a node says at its start",
         ]
-        same(lines, wanted, "what is shown")
+        same(lines[:-1], wanted, "what is shown")
 
 
 def test_secrets_and_keys_are_for_their_owner_alone():
-    """Whatever files are made that others may read otherwise."""
+    """At each moment: the calls that open their files make them so. Whatever the umask, which may only take more."""
     with set_up() as folder:
-        path = os.path.join(folder, "keys.json")
-        with open(path, "w", encoding="ascii") as file:
-            os.fchmod(file.fileno(), 0o644)
-            words = [sys.executable, TOOL, "keys", "group.json", "0.secret"]
-            subprocess.run(words, cwd=folder, stdout=file, check=True)
-        for name in ("0.secret", "keys.json"):
-            same(stat.S_IMODE(os.stat(os.path.join(folder, name)).st_mode), 0o600, f"who may read {name}")
+        opened = []
+        script = f"""
+import os, runpy, sys
+os.umask(0)
+was = os.open
+def seen(name, flags, *mode, **other):
+    if flags & os.O_ACCMODE != os.O_RDONLY:
+        print(name, bool(flags & os.O_EXCL), *map(oct, mode), file=sys.stderr)
+    return was(name, flags, *mode, **other)
+os.open = seen
+sys.path.insert(0, {os.path.dirname(TOOL)!r})
+sys.argv[:] = sys.argv[1:]
+runpy.run_path({TOOL!r}, run_name="__main__")
+"""
+        for words in (["new", "4.secret"], ["keys", "group.json", "0.secret", "keys.json"]):
+            ask = [sys.executable, "-c", script, TOOL, *words]
+            done = subprocess.run(ask, cwd=folder, capture_output=True, text=True, timeout=SECONDS)
+            opened += done.stderr.splitlines()
+            same(stat.S_IMODE(os.stat(os.path.join(folder, words[-1])).st_mode), 0o600, f"who may read {words[-1]}")
+        same(opened, ["4.secret True 0o600", "keys.json True 0o600"], "the files that are opened to be written")
 
 
 # ---- what is refused
@@ -167,6 +189,15 @@ def test_nothing_is_written_over():
         was = read(folder, "0.secret")
         same(tool(folder, "new", "0.secret"), (1, "", "payd group: 0.secret: File exists\n"), "a second secret")
         same(read(folder, "0.secret"), was, "the first one")
+        os.symlink("away", os.path.join(folder, "keys"))
+        told = (1, "", "tools/group: keys: File exists\n")
+        same(tool(folder, "keys", "group.json", "0.secret", "keys"), told, "keys where a link leads away")
+        same(tool(folder, "keys", "group.json", "0.secret")[0], 2, "keys without a file")
+
+
+# Empty, no text, with what can't be seen, of another alphabet, to be taken for a number or for several words.
+NO_NAMES = "", 7, "c\n", "c\u200b", "\u0430nn", "ç", " c", "c ", "c  d", "7", "c:d", "c,d", "-c", "c" * 33
+ALIKE = ("Bob", "Bob"), ("Bob", "bob"), ("Bob", "B0b"), ("Al", "AI"), ("Al", "A1"), ("Barny", "Bamy"), ("A B", "A-B")
 
 
 def test_a_file_that_is_no_group_is_refused():
@@ -174,6 +205,8 @@ def test_a_file_that_is_no_group_is_refused():
         group = json.loads(read(folder, "group.json"))
         public, digits = group["public"], "32 bytes in hexadecimal, in small letters"
         members = "for each of the 4 members"
+        names, alike = "isn't a name of ASCII letters and digits", "have names that look alike"
+        hosts = "isn't a host, or one with its key for WireGuard"
         rows = [
             ({"members": 0}, "a group has 1 to 128 members"),
             ({"members": True}, "a group has 1 to 128 members"),
@@ -183,7 +216,11 @@ def test_a_file_that_is_no_group_is_refused():
             ({"opening": [2**63 - 1, 1, 0, 0]}, f"the openings come to more than {2**63 - 1}"),
             ({"ports": [1, 2, 3, 65536]}, "ports: that of member 3 isn't a port"),
             ({"names": ["a", "b", "c"]}, f"names has to be a list with one {members}"),
-            ({"names": ["a", "b", "c\n", "d"]}, "names: that of member 2 isn't a name"),
+            ({"ports": [1, 2, 3, 2]}, "members 1 and 3 have one port"),
+            *(({"names": ["a", "b", it, "d"]}, f"names: that of member 2 {names}") for it in NO_NAMES),
+            *(({"names": ["a", one, "c", other]}, f"members 1 and 3 {alike}") for one, other in ALIKE),
+            *(({"hosts": ["a", it, "c", "d"]}, f"hosts: that of member 1 {hosts}") for it in ("-oX=y", "a b", "::1")),
+            ({"former": "00"}, f"former has to be {digits}"),
             ({"group": "00"}, f"group has to be {digits}"),
             ({"public": [*public[:3], "aa"]}, f"public: that of member 3 isn't {digits}"),
             ({"public": [*public[:3], public[1]]}, "members 1 and 3 have one public key"),
@@ -194,7 +231,7 @@ def test_a_file_that_is_no_group_is_refused():
         ]
         for change, why in rows:
             put(folder, "other.json", json.dumps({**group, **change}))
-            for words in (["show", "other.json"], ["keys", "other.json", "0.secret"]):
+            for words in (["show", "other.json"], ["keys", "other.json", "0.secret", "keys"]):
                 same(tool(folder, *words), (1, "", f"payd group: other.json: {why}\n"), f"{words[0]} of {change}")
         put(folder, "other.json", read(folder, "group.json").replace("{\n", '{"faults": 0,\n', 1))
         twice = "payd group: other.json: an object in it names something twice\n"
@@ -205,9 +242,9 @@ def test_a_secret_of_nobody_has_no_keys():
     with set_up() as folder:
         does(folder, "new", "other.secret")
         none = "payd group: other.secret: the secret's public key is none of the group's\n"
-        same(tool(folder, "keys", "group.json", "other.secret"), (1, "", none), "the keys of another's secret")
+        same(tool(folder, "keys", "group.json", "other.secret", "keys"), (1, "", none), "the keys of another's secret")
         no = "payd group: group.json: it is no secret that 'new' wrote\n"
-        same(tool(folder, "keys", "group.json", "group.json"), (1, "", no), "keys of what is no secret")
+        same(tool(folder, "keys", "group.json", "group.json", "keys"), (1, "", no), "keys of what is no secret")
 
 
 # ---- the next group
@@ -240,7 +277,10 @@ def test_the_next_group_opens_with_the_balances_of_the_book():
         wanted = {**group, "opening": [70, 30, 0, 50], "group": after["group"]}
         same(after, wanted, "all but openings and `group` stays")
         same(after["group"] != group["group"], True, "`group` is another one")
-        keys = [json.loads(does(folder, "keys", name, "0.secret"))["keys"] for name in ("group.json", "next.json")]
+        keys = []
+        for name in ("group.json", "next.json"):
+            write_keys(folder, 0, name)
+            keys.append(json.loads(read(folder, "keys-0"))["keys"])
         same(set(keys[0]) & set(keys[1]), {""}, "keys that both groups have")
 
 
@@ -295,7 +335,10 @@ def nodes_of(stack, folder, ports, running=range(MEMBERS)):
 
 
 def write_keys(folder, own, group="group.json"):
-    put(folder, f"keys-{own}", does(folder, "keys", group, f"{own}.secret"))
+    """In place of what there is."""
+    with contextlib.suppress(FileNotFoundError):
+        os.unlink(os.path.join(folder, f"keys-{own}"))
+    does(folder, "keys", group, f"{own}.secret", f"keys-{own}")
 
 
 def test_nodes_run_on_a_groups_file():

@@ -1,7 +1,8 @@
 """A group's file: what it says, the text that its keys hang on, and the keys of its members.
 
 The file is a genesis and a file of ports with more members: `group`, 32 random bytes in hexadecimal; `public`, the
-X25519 public key of each member in hexadecimal; and, where wanted, `names`.
+X25519 public key of each member in hexadecimal; where wanted, `names`, and `hosts`, where each member's machine is
+found; and of a group that goes on for another, that one's digest as `former`.
 """
 
 import hashlib
@@ -22,6 +23,13 @@ GREATEST_PORT = 2**16 - 1
 KEY_BYTES = 32
 # Five digits each, some 199 bits in all: too many for two files to be made with one fingerprint.
 FINGERPRINT_GROUPS = 12
+# How many of the digest's digits a file of keys says.
+DIGITS_OF_KEYS = 16
+
+# Letters, digits, and between them single blanks, full stops, lines; a letter first, so that no name is a number.
+NAME = re.compile("[A-Za-z](?:[ ._-]?[A-Za-z0-9]){0,31}")
+# The name of a machine or its address, as it stands in commands and configurations; behind a blank WireGuard's key.
+HOST = re.compile("[A-Za-z0-9](?:[A-Za-z0-9.-]{0,251}[A-Za-z0-9])?(?: [A-Za-z0-9+/]{43}=)?")
 
 
 class Failure(Exception):
@@ -69,9 +77,14 @@ def is_count(value, most):
     return type(value) is int and 0 <= value <= most
 
 
-def genesis_digest(members, faults, opening):
-    """SHA-256 of members, faults and openings, in hexadecimal, as the header of a member's log has it."""
-    return hashlib.sha256(struct.pack(f">HH{members}Q", members, faults, *opening)).hexdigest()
+def is_text_of(pattern):
+    return lambda it: isinstance(it, str) and pattern.fullmatch(it) is not None
+
+
+def look_of(name):
+    """How a name looks at a glance, alike for two that are easily taken for one another."""
+    look = re.sub("[ ._-]", "", name.translate(str.maketrans("I10", "llo"))).lower()
+    return look.replace("rn", "m").replace("vv", "w")
 
 
 class Group:
@@ -81,7 +94,7 @@ class Group:
         try:
             self.members, self.faults, self.opening = given["members"], given["faults"], given["opening"]
             self.ports, self.group, self.public = given["ports"], given["group"], given["public"]
-            self.names = given.get("names")
+            self.names, self.hosts, self.former = (given.get(it) for it in ("names", "hosts", "former"))
         except (KeyError, TypeError, AttributeError) as error:
             raise Failure("it isn't an object with members, faults, opening, ports, group and public") from error
         self.check_genesis()
@@ -99,18 +112,27 @@ class Group:
 
     def check_lists(self):
         self.check_list("ports", self.ports, lambda it: is_count(it, GREATEST_PORT) and it > 0, "a port")
+        self.check_differ(self.ports, "one port")
         if self.names is not None:
-            self.check_list("names", self.names, lambda it: isinstance(it, str) and it.isprintable() and it, "a name")
-        if not is_key(self.group):
-            raise Failure(f"group has to be {KEY_BYTES} bytes in hexadecimal, in small letters")
+            self.check_list("names", self.names, is_text_of(NAME), "a name of ASCII letters and digits")
+            self.check_differ([look_of(it) for it in self.names], "names that look alike")
+        if self.hosts is not None:
+            self.check_list("hosts", self.hosts, is_text_of(HOST), "a host, or one with its key for WireGuard")
+        for name, digits in (("group", self.group), ("former", self.former)):
+            if not (is_key(digits) or name == "former" and digits is None):
+                raise Failure(f"{name} has to be {KEY_BYTES} bytes in hexadecimal, in small letters")
 
     def check_public(self):
         self.check_list("public", self.public, is_key, f"{KEY_BYTES} bytes in hexadecimal, in small letters")
+        self.check_differ(self.public, "one public key")
         for member, public in enumerate(self.public):
-            if public in self.public[:member]:
-                raise Failure(f"members {self.public.index(public)} and {member} have one public key")
             if shared_by(bytes([1] * KEY_BYTES), bytes.fromhex(public)) is None:
                 raise Failure(f"the public key of member {member} is none: anyone would know this member's keys")
+
+    def check_differ(self, given, what):
+        for member, it in enumerate(given):
+            if it in given[:member]:
+                raise Failure(f"members {given.index(it)} and {member} have {what}")
 
     def check_list(self, name, given, fits, what):
         if not isinstance(given, list) or len(given) != self.members:
@@ -119,22 +141,17 @@ class Group:
             if not fits(it):
                 raise Failure(f"{name}: that of member {member} isn't {what}")
 
+    def called(self, member):
+        return f"member {member}" if self.names is None else f"member {member} {self.names[member]}"
+
     def text(self):
         """The file, a line for each of its members."""
-        named = {} if self.names is None else {"names": self.names}
-        parts = {
-            "members": self.members,
-            "faults": self.faults,
-            "opening": self.opening,
-            "ports": self.ports,
-            "group": self.group,
-            "public": self.public,
-            **named,
-        }
+        names = "members", "faults", "opening", "ports", "group", "public", "names", "hosts", "former"
+        parts = {name: getattr(self, name) for name in names if getattr(self, name) is not None}
         return "{\n" + ",\n".join(f'  "{name}": {json.dumps(value)}' for name, value in parts.items()) + "\n}\n"
 
     def canonical(self):
-        """What the keys hang on: all that the file says but ports and names, however it is laid out."""
+        """What the keys hang on: all that the file says but ports and hosts, however it is laid out."""
         lines = [
             "payd group 1",
             f"members {self.members}",
@@ -142,8 +159,14 @@ class Group:
             f"opening {' '.join(map(str, self.opening))}",
             f"group {self.group}",
             *(f"public {it}" for it in self.public),
+            *(f"name {it}" for it in self.names or []),
+            *(f"former {it}" for it in [self.former] if it is not None),
         ]
         return "".join(f"{line}\n" for line in lines).encode("ascii")
+
+    def digest(self):
+        """SHA-256 of the canonical text, in hexadecimal."""
+        return hashlib.sha256(self.canonical()).hexdigest()
 
     def fingerprint(self):
         """Groups of digits to be read aloud: of SHA-512 of the canonical text, five bytes each, modulo 100,000."""
@@ -165,10 +188,10 @@ class Group:
         """The key of two members, as either has it."""
         shared = shared_by(secret, bytes.fromhex(self.public[peer]))
         one, other = sorted([own, peer])
-        return derived(shared, hashlib.sha256(self.canonical()).digest(), f"payd pair {one} {other}".encode("ascii"))
+        return derived(shared, bytes.fromhex(self.digest()), f"payd pair {one} {other}".encode("ascii"))
 
     def keys(self, secret):
         """The file of keys of the member whose secret this is."""
         own = self.own(secret)
         keys = ["" if peer == own else self.key(secret, own, peer).hex() for peer in range(self.members)]
-        return json.dumps({"own": own, "keys": keys}) + "\n"
+        return json.dumps({"own": own, "keys": keys, "digest": self.digest()[:DIGITS_OF_KEYS]}) + "\n"

@@ -50,7 +50,11 @@ def canonical(group):
         "opening " + " ".join(str(it) for it in group["opening"]),
         f"group {group['group']}",
     ]
-    return "\n".join(parts + [f"public {it}" for it in group["public"]]) + "\n"
+    parts += [f"public {it}" for it in group["public"]]
+    parts += [f"name {it}" for it in group.get("names", [])]
+    if "former" in group:
+        parts.append(f"former {group['former']}")
+    return "\n".join(parts) + "\n"
 
 
 def fingerprint(group):
@@ -66,4 +70,4 @@ def keys(group, own, secret):
     for peer, public in enumerate(group["public"]):
         info = f"payd pair {min(own, peer)} {max(own, peer)}".encode("ascii")
         found.append("" if peer == own else hkdf(x25519(secret, bytes.fromhex(public)), salt, info).hex())
-    return {"own": own, "keys": found}
+    return {"own": own, "keys": found, "digest": salt.hex()[:16]}
