@@ -274,8 +274,9 @@ def test_the_next_group_opens_with_the_balances_of_the_book():
         same((status, errors), (0, "".join(f"{told}{line}\n" for line in lines)), "what is told")
         put(folder, "next.json", text)
         after = json.loads(text)
-        wanted = {**group, "opening": [70, 30, 0, 50], "group": after["group"]}
-        same(after, wanted, "all but openings and `group` stays")
+        former = hashlib.sha256(group_model.canonical(group).encode("ascii")).hexdigest()
+        wanted = {**group, "opening": [70, 30, 0, 50], "group": after["group"], "former": former}
+        same(after, wanted, "all but openings, `group` and `former` stays")
         same(after["group"] != group["group"], True, "`group` is another one")
         keys = []
         for name in ("group.json", "next.json"):
@@ -286,8 +287,7 @@ def test_the_next_group_opens_with_the_balances_of_the_book():
 
 def test_a_member_that_leaves_gives_its_balance_to_an_heir():
     with set_up() as folder:
-        named = {**json.loads(read(folder, "group.json")), "names": ["Ann", "Bob", "Cy", "Di"]}
-        put(folder, "named.json", json.dumps(named))
+        named = put_named(folder)
         exports = put_exports(folder, (0, 1))
         words = ["--leaves", "0:1", "--faults", "0", "named.json", *exports]
         status, text, errors = tool(folder, "next", *words)
@@ -295,9 +295,117 @@ def test_a_member_that_leaves_gives_its_balance_to_an_heir():
         told = (status, after["members"], after["opening"], after["names"])
         same(told, (0, 3, [100, 0, 50], named["names"][1:]), "who is in the next group")
         same((after["public"], after["ports"]), (named["public"][1:], named["ports"][1:]), "of those that stay")
-        lines = ["member 0 leaves: its balance goes to member 1"]
-        lines += [f"member {it} is member {it - 1} now" for it in (1, 2, 3)]
+        lines = ["member 0 Ann leaves: its balance goes to member 1 Bob"]
+        lines += [f"member {it} {named['names'][it]} is member {it - 1} now" for it in (1, 2, 3)]
         same(errors.splitlines()[:4], lines, "what is told")
+
+
+NAMES, HOSTS = ["Ann", "Bob", "Cy", "Di"], ["a.example", "b.example", "c.example", "d.example"]
+
+
+def put_named(folder):
+    """The group's file with names and hosts, and a port that is free among its own."""
+    group = json.loads(read(folder, "group.json"))
+    named = {**group, "names": NAMES, "hosts": HOSTS, "ports": [11000, 11001, 11003, 11004]}
+    put(folder, "named.json", json.dumps(named))
+    return named
+
+
+def changes(folder):
+    """The options by which member 2 leaves, member 1 has another key, and Eve and Flo join; and the three keys."""
+    other, eve, flo = (does(folder, "new", f"{it}.secret").strip() for it in ("other", "eve", "flo"))
+    words = ["--leaves", "2:3", "--rekeys", f"1:{other}", "--joins", f"{eve}:Eve:25@e.example"]
+    return [*words, "--joins", f"{flo}:Flo@f.example"], (other, eve, flo)
+
+
+def test_members_join_and_have_other_keys():
+    with set_up() as folder:
+        named, exports, (words, keys) = put_named(folder), put_exports(folder, (0, 1)), changes(folder)
+        status, text, errors = tool(folder, "next", *words, "named.json", *exports)
+        after = json.loads(text)
+        wanted = {
+            "members": 5,
+            "faults": 1,
+            "opening": [70, 30, 50, 25, 0],
+            "ports": [11000, 11001, 11004, 11002, 11005],
+            "group": after["group"],
+            "public": [named["public"][0], keys[0], named["public"][3], *keys[1:]],
+            "names": ["Ann", "Bob", "Di", "Eve", "Flo"],
+            "hosts": ["a.example", "b.example", "d.example", "e.example", "f.example"],
+            "former": hashlib.sha256(group_model.canonical(named).encode("ascii")).hexdigest(),
+        }
+        same((status, after), (0, wanted), "the next group")
+        lines = [
+            "member 2 Cy leaves: its balance goes to member 3 Di",
+            "member 1 Bob has another public key",
+            "member 3 Di is member 2 now",
+            "member 3 Eve joins: opens with 25, which it brings",
+            "member 4 Flo joins: opens with 0, which it brings",
+            "not settled, by the old numbers: waits account 3 Di entry 0 seq 0 to 0 Ann amount 60 short 10",
+        ]
+        same(errors.splitlines(), lines, "what is told")
+        put(folder, "next.json", text)
+        does(folder, "keys", "next.json", "other.secret", "keys")
+        same(json.loads(read(folder, "keys"))["own"], 1, "the number of the member with another key")
+
+
+def test_what_is_not_settled_is_told_by_names():
+    with set_up() as folder:
+        put_named(folder)
+        _, _, errors = tool(folder, "next", "named.json", *put_exports(folder, (0, 2, 3)))
+        told = "not settled, by the old numbers: "
+        lines = ["waits account 3 Di entry 0 seq 0 to 0 Ann amount 60 short 10"]
+        lines += ["beyond 1 account 3 Di seq 1 (export-2)"]
+        same(errors, "".join(f"{told}{line}\n" for line in lines), "what is told")
+
+
+def test_any_member_makes_the_next_group_anew():
+    """With the options that were agreed nothing differs; without them, and with another file, each thing is said."""
+    with set_up() as folder:
+        put_named(folder)
+        exports, (words, _) = put_exports(folder, (0, 1)), changes(folder)
+        _, text, told = tool(folder, "next", *words, "named.json", *exports)
+        put(folder, "next.json", text)
+        print_of = does(folder, "show", "next.json").splitlines()[-1]
+        made = tool(folder, "check-next", *words, "named.json", "next.json", *exports)
+        same(made, (0, f"as the exports have it\n{print_of}\n", told), "with the options")
+        status, lines, _ = tool(folder, "check-next", "named.json", "next.json", *exports)
+        wanted = [
+            "member 1 Bob isn't in it with its key",
+            "member 2 Cy isn't in it with its key",
+            "member 3 Di is member 2 there",
+            "member 1 Bob is in it with a new key, and opens with 30",
+            "member 3 Eve is in it with a new key, and opens with 25",
+            "member 4 Flo is in it with a new key, and opens with 0",
+        ]
+        same((status, lines.splitlines()), (1, wanted), "without the options")
+
+
+def test_a_next_group_that_is_another_is_told_of():
+    with set_up() as folder:
+        named, exports = put_named(folder), put_exports(folder, (0, 1))
+        _, text, _ = tool(folder, "next", "named.json", *exports)
+        after = json.loads(text)
+        former = after.pop("former")
+        for change, wanted in (
+            (
+                {"opening": [100, 0, 0, 50]},
+                ["member 0 Ann opens with 100 in place of 70", "member 1 Bob opens with 0 in place of 30"],
+            ),
+            ({"opening": [70, 30, 0, 51]}, ["member 3 Di opens with 51 in place of 50"]),
+            ({"names": ["Ann", "Bob", "Cy", "Dee"]}, ["member 3 Di is named Dee in place of Di"]),
+            ({"ports": [1, 11001, 11003, 11004]}, ["member 0 Ann has port 1 in place of 11000"]),
+            ({"hosts": ["z", *HOSTS[1:]]}, ["member 0 Ann has host z in place of a.example"]),
+            ({"hosts": None}, [f"member {it} {NAMES[it]} has host nothing in place of {HOSTS[it]}" for it in range(4)]),
+            ({"faults": 0}, ["faults is 0 in place of 1"]),
+            ({"former": None}, [f"former is nothing in place of {former}"]),
+        ):
+            put(folder, "next.json", json.dumps({**after, "former": former, **change}))
+            status, lines, _ = tool(folder, "check-next", "named.json", "next.json", *exports)
+            same((status, lines.splitlines()), (1, wanted), f"what is said of {change}")
+        put(folder, "next.json", json.dumps({**after, "former": former, "group": named["group"]}))
+        why = "tools/group: next.json: its `group` is that of named.json, and has to be drawn anew\n"
+        same(tool(folder, "check-next", "named.json", "next.json", *exports), (1, "", why), "a `group` used again")
 
 
 def test_no_next_group():
@@ -305,20 +413,31 @@ def test_no_next_group():
         exports = put_exports(folder, (0, 1))
         other = {**json.loads(read(folder, "group.json")), "opening": [101, 0, 0, 50]}
         put(folder, "other.json", json.dumps(other))
+        key = does(folder, "new", "new.secret").strip()
         for words, why in (
             (["group.json", exports[0]], "these exports have no book: 6 few 1"),
             (["group.json", exports[0], "gone"], "these exports have no book: payd: file gone"),
             (["group.json", *exports, exports[0]], "these exports have no book: 5 twice 0 2 (export-0, export-0)"),
             (["other.json", *exports], "these exports are of another group than other.json"),
             (["--leaves", "0:4", "group.json", *exports], "there is no member 4"),
+            (["--rekeys", f"4:{key}", "group.json", *exports], "there is no member 4"),
             (
                 ["--leaves", "0:1", "--leaves", "1:2", "group.json", *exports],
                 "member 1, who is to get the balance of member 0, leaves too",
             ),
             (["--leaves", "0:1", "--leaves", "0:2", "group.json", *exports], "a member leaves twice"),
+            (
+                ["--leaves", "0:1", "--rekeys", f"0:{key}", "group.json", *exports],
+                "member 0 leaves, and needs no other key",
+            ),
             (["--leaves", "0:1", "group.json", *exports], "faults has to be fewer than a third of the members"),
+            (["--joins", other["public"][1], "group.json", *exports], "members 1 and 4 have one public key"),
+            (["--joins", f"{key}:{2**63}", "group.json", *exports], "opening: that of member 4 isn't a balance"),
+            (["--joins", f"{key}:Eve", "group.json", *exports], "a newcomer has what the group hasn't: names"),
+            (["--joins", f"{key}@e", "group.json", *exports], "a newcomer has what the group hasn't: hosts"),
         ):
             same(tool(folder, "next", *words), (1, "", f"payd group: {why}\n"), f"{words}")
+        same(tool(folder, "next", "--joins", f"{key}:Eve:5:6", "group.json", *exports)[0], 2, "too many parts")
 
 
 # ---- nodes
