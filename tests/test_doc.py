@@ -13,7 +13,7 @@ from inventory import files_below, read_crates, read_file
 
 MOST_WORDS = 900
 
-PAGES = ["README.md", "CONTRIBUTING.md"]
+PAGES = ["README.md", "CONTRIBUTING.md", "CHANGELOG.md"]
 PAGES += [f"docs/{it}" for it in files_below(f"{TOP}/docs", ".md")]
 # Calls, laws, types and records in backticks, and after a colon the clauses that are named of each of them.
 NAMED = re.compile(r"((?:`[\w:]+`(?:, | and )?)+): ((?:`\w+`(?: \([^)]*\))?(?:, | and )?)+)")
