@@ -190,7 +190,7 @@ def test_nothing_is_written_over():
         same(tool(folder, "new", "0.secret"), (1, "", "payd group: 0.secret: File exists\n"), "a second secret")
         same(read(folder, "0.secret"), was, "the first one")
         os.symlink("away", os.path.join(folder, "keys"))
-        told = (1, "", "tools/group: keys: File exists\n")
+        told = (1, "", "payd group: keys: File exists\n")
         same(tool(folder, "keys", "group.json", "0.secret", "keys"), told, "keys where a link leads away")
         same(tool(folder, "keys", "group.json", "0.secret")[0], 2, "keys without a file")
 
@@ -404,7 +404,7 @@ def test_a_next_group_that_is_another_is_told_of():
             status, lines, _ = tool(folder, "check-next", "named.json", "next.json", *exports)
             same((status, lines.splitlines()), (1, wanted), f"what is said of {change}")
         put(folder, "next.json", json.dumps({**after, "former": former, "group": named["group"]}))
-        why = "tools/group: next.json: its `group` is that of named.json, and has to be drawn anew\n"
+        why = "payd group: next.json: its `group` is that of named.json, and has to be drawn anew\n"
         same(tool(folder, "check-next", "named.json", "next.json", *exports), (1, "", why), "a `group` used again")
 
 

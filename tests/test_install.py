@@ -26,7 +26,7 @@ KEPT = tempfile.TemporaryDirectory()
 @functools.lru_cache(None)
 def installer():
     """The script in a repository that holds the program to be proved, which the one that runs here may not be."""
-    for name in ("HANDLES", "README.md", "crates", "crates.txt", "payd", "payd-prove"):
+    for name in ("HANDLES", "CHANGELOG.md", "README.md", "crates", "crates.txt", "payd", "payd-prove"):
         os.symlink(os.path.join(TOP, name), os.path.join(KEPT.name, name))
     for name in ("docs", "examples", "tests/models", "tools"):
         shutil.copytree(os.path.join(TOP, name), os.path.join(KEPT.name, name))
@@ -63,7 +63,7 @@ def test_installed_program_stands_alone():
         unit = os.path.join(folder, "prefix", "lib", "systemd", "system", "payd-node.service")
         with open(unit, encoding="ascii") as file:
             same(f"\nExecStart={payd} node " in file.read(), True, "the program of its service")
-        for page in ("README.md", "docs/OPERATING.md", "docs/COMMANDS.md"):
+        for page in ("README.md", "CHANGELOG.md", "docs/OPERATING.md", "docs/COMMANDS.md"):
             same(os.path.isfile(os.path.join(folder, "prefix", "share", "doc", "payd", page)), True, page)
 
 
@@ -85,6 +85,9 @@ def test_installed_tools_stand_alone():
         said = run_in(folder, [os.path.join(prefix, "lib", "payd", "payd"), "--help"])[1]
         with open(os.path.join(prefix, "libexec", "payd", "words"), encoding="ascii") as file:
             same(run_in(folder, [payd, "--help"]), (0, said + file.read(), ""), "what payd says of itself")
+        with open(os.path.join(prefix, "libexec", "payd", "draw"), "w", encoding="ascii") as file:
+            file.write("#!/bin/sh\necho $#\nexec cat\n")
+        same(run_in(folder, [payd, "draw", "a b", ""], b"a\nb"), (0, "2\na\nb", ""), "a tool's words and input")
         words = [payd, "desk-page", "--keys", os.path.join(TOP, "examples", "keys-0.json"), "--data", folder]
         with subprocess.Popen(words, stdout=subprocess.PIPE, text=True) as child:
             try:

@@ -6,10 +6,12 @@ import os
 import pty
 import select
 import signal
+import socket
 import subprocess
 import termios
 import threading
 
+from clients import Client
 from nodes import PATIENCE, Node, until, write_json
 from payers import PAY, pay, payments_are_killed
 from restarts import Folders
@@ -114,7 +116,7 @@ def test_words_of_a_payment():
             (["Bo", "1"], "there is no terminal to ask at: --yes pays without"),
             (["--yes", "--keys", f"{group.place.name}/keys-1", "Bo", "1"], "that of 0"),
             (["--yes", "--group", f"{TOP}/vectors/none", "Bo", "1"], "No such file or directory"),
-            (["--yes", "--group", f"{TOP}/examples/keys-0.json", "--fly", "Bo", "1"], "--fly"),
+            (["--yes", "--group", f"{TOP}/examples/keys-0.json", "--fly", "Bo", "1"], "payd pay: error: "),
         ):
             status, output, errors = pay(folder, *words)
             same((status, output, said in errors), (2, "", True), f"{words}: {errors}")
@@ -132,7 +134,8 @@ class Terminal:
     def __init__(self, folder, *words):
         self.own, end = pty.openpty()
         how = {"start_new_session": True, "preexec_fn": lambda: fcntl.ioctl(end, termios.TIOCSCTTY, 0)}
-        self.child = subprocess.Popen([PAY, "--data", folder, *words], stdin=end, stdout=end, stderr=end, **how)
+        words = [os.path.join(TOP, "payd"), "pay", "--data", folder, *words]
+        self.child = subprocess.Popen(words, stdin=end, stdout=end, stderr=end, **how)
         os.close(end)
         self.text = ""
 
@@ -212,6 +215,49 @@ def test_interrupted_payment_goes_on():
         group.settle([1, 0, 0, 0], [70, 30, 0, 50])
 
 
+def orders_in(folder):
+    """The lines of the orders that are kept."""
+    place = os.path.join(folder, "orders")
+    for name in os.listdir(place) if os.path.isdir(place) else []:
+        with open(os.path.join(place, name), encoding="ascii") as file:
+            yield json.load(file)["line"]
+
+
+class Between(threading.Thread):
+    """A socket before a node's, where a payment's answer is lost: which orders were kept when its line came."""
+
+    def __init__(self, folder):
+        super().__init__(daemon=True)
+        self.folder, self.path, self.seen = folder, os.path.join(folder, "between"), None
+        self.listens = socket.socket(socket.AF_UNIX)
+        self.listens.bind(self.path)
+        self.listens.listen()
+
+    def run(self):
+        client, node = self.listens.accept()[0], Client(os.path.join(self.folder, "desk"))
+        with self.listens, client, client.makefile("r", encoding="ascii") as lines:
+            for line in lines:
+                answer = node.ask(line[:-1])
+                if line.startswith("PAY "):
+                    self.seen = line[:-1] in orders_in(self.folder)
+                    break
+                client.sendall(f"{answer}\n".encode())
+        node.close()
+
+
+def test_order_is_kept_before_the_node_is_asked():
+    """So it is paid once, though the answer is lost."""
+    with Named(OPENING) as group:
+        folder, words = group.folder(0), ["--yes", "--order", "x", "Bo", "30"]
+        between = Between(folder)
+        between.start()
+        status, output, errors = pay(folder, "--socket", between.path, *words)
+        same((status, output, "--order x goes on with it, and pays once" in errors), (3, "", True), errors)
+        same(between.seen, True, "whether the order was kept before")
+        same(pay(folder, *words)[:2], (0, "settled: 30 to Bo, order x, seq 0\n"), "the order again")
+        group.settle([1, 0, 0, 0], [70, 30, 0, 50])
+
+
 def test_payments_that_are_killed_pay_once():
     same(payments_are_killed(kills=20, seed=1) > 5, True, "orders")
 
@@ -260,8 +306,8 @@ def test_payments_are_followed_behind_a_restart():
     with Named(OPENING) as group:
         group.pay(0, 7, 1, 30, 0)
         group.settle([1, 0, 0, 0])
-        followers = [follow(group, 1, *it) for it in (["--from", "0"], ["--from", "0,0,0,0", "--all", "--json"], [])]
-        own, every, late = followers
+        followers = [follow(group, 1, *it) for it in (["--from", "0"], ["--from", "0,0,0,0", "--all", "--json"])]
+        own, every = followers
         try:
             same(own.line(), "Ada paid 30 to Bo, seq 0 entry 0", "what was there")
             first = {"account": 0, "entry": 0, "seq": 0, "to": 1, "amount": 30}
@@ -275,11 +321,13 @@ def test_payments_are_followed_behind_a_restart():
             group.start(1)
             group.pay(1, 1, 2, 4, 0)
             group.settle([1, 1, 0, 1])
-            for it in (own, late):
-                same(it.line(), "Bo paid 4 to Cy, seq 0 entry 0", "what came behind the restart")
-            lines = [json.loads(every.line()) for _ in range(2)]
-            wanted = [{**first, "account": 1, "to": 2, "amount": 4}, {**first, "account": 3, "to": 0, "amount": 5}]
-            same(sorted(lines, key=lambda it: it["account"]), wanted, "all that came")
+            same(own.line(), "Bo paid 4 to Cy, seq 0 entry 0", "what came behind the restart")
+            group.pay(1, 2, 2, 1, 1)
+            same(own.line(), "Bo paid 1 to Cy, seq 1 entry 1", "what came then")
+            lines = [json.loads(every.line()) for _ in range(3)]
+            parts = (1, 0, 2, 4), (1, 1, 2, 1), (3, 0, 0, 5)
+            wanted = [{"account": it[0], "entry": it[1], "seq": it[1], "to": it[2], "amount": it[3]} for it in parts]
+            same(sorted(lines, key=lambda it: (it["account"], it["entry"])), wanted, "all that came")
             own.child.send_signal(signal.SIGINT)
             same(own.end(), (0, "", ""), "the end of one")
         finally:
@@ -292,3 +340,18 @@ def test_payments_are_followed_behind_a_restart():
             again.kill()
         for words in ("1,2", "x", "-1"):
             same(tool("follow", group.folder(1), "--from", words)[:2], (2, ""), f"--from {words}")
+
+
+def test_following_begins_with_what_settles_then():
+    with Named(OPENING) as group:
+        group.pay(0, 0, 1, 1, 0)
+        group.settle([1, 0, 0, 0])
+        follower, paid = follow(group, 1), 1
+        try:
+            while not select.select([follower.child.stdout], [], [], 0.2)[0]:
+                group.pay(0, paid, 1, 1, paid)
+                paid += 1
+            shown = int(follower.line().rpartition(" ")[2])
+            same(0 < shown < paid, True, f"the first entry that is shown of {paid}: {shown}")
+        finally:
+            follower.kill()

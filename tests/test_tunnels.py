@@ -1,4 +1,4 @@
-"""Tests of `tools/group tunnels`: that what it makes is taken by the programs it is for, and leads where it should."""
+"""Tests of `payd group tunnels`: that what it makes is taken by the programs it is for, and leads where it should."""
 
 import configparser
 import contextlib
@@ -277,7 +277,7 @@ def test_no_tunnels():
             ),
         ):
             why = why.replace("{folder}", os.path.realpath(folder))
-            same(tool(folder, "tunnels", *words), (1, "", f"tools/group: {why}\n"), f"{words}")
+            same(tool(folder, "tunnels", *words), (1, "", f"payd group: {why}\n"), f"{words}")
         same(os.path.exists(os.path.join(folder, "new")), False, "whether a folder was made")
         same(tool(folder, "tunnels", "--as", "carrier-pigeon", "group.json", "0", "new")[0], 2, "another kind")
         same(tool(folder, "tunnels", "--as", "ssh", "--port", "65536", "group.json", "0", "new")[0], 2, "no port")

@@ -3,7 +3,7 @@
 import os
 import subprocess
 
-from runs import SECONDS, TOP, same
+from runs import SECONDS, TOP, same, shows
 
 import building
 
@@ -16,6 +16,8 @@ def test_payd_runs_its_tools(repository):
         status, output, errors = repository.run("payd", word, "--help")
         same((status, f"usage: payd {word} " in output, errors), (0, True, ""), word)
     same(repository.run("payd", "status", "--data", "gone")[0], 2, "a tool's status")
+    repository.write("tools/draw", "#!/bin/sh\necho $#\nexec cat\n", 0o755)
+    shows(repository.run("payd", "draw", "a b", "", stream=b"a\nb"), 0, "2\na\nb", of="a tool's words and input")
     same(repository.calls(), [], "what was compiled for that")
     with open(os.path.join(TOP, "tools", "words"), encoding="ascii") as file:
         words = file.read()

@@ -87,6 +87,11 @@ def look_of(name):
     return look.replace("rn", "m").replace("vv", "w")
 
 
+def genesis_digest(members, faults, opening):
+    """SHA-256 of members, faults and openings, in hexadecimal, as the header of a member's log has it."""
+    return hashlib.sha256(struct.pack(f">HH{members}Q", members, faults, *opening)).hexdigest()
+
+
 class Group:
     """What a group's file says, checked."""
 

@@ -12,7 +12,8 @@ WRONG_USAGE, UNWRITTEN = 2, 3
 def parser(text):
     """A parser of words whose help is this text: what it is about, its usage, and more."""
     about, usage, *more = text.strip().split("\n\n")
-    how = {"usage": usage[len("usage: ") :], "description": "\n\n".join([about, *more])}
+    usage = usage[len("usage: ") :]
+    how = {"prog": " ".join(usage.split()[:2]), "usage": usage, "description": "\n\n".join([about, *more])}
     return argparse.ArgumentParser(**how, formatter_class=argparse.RawDescriptionHelpFormatter)
 
 
