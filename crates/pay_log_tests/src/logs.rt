@@ -210,6 +210,13 @@ fn log_is_written_anew_or_stays(rt: HostRuntime) -> Result<(), Fail> {
     Ok(())
 }
 
+/// The bytes from a place up to another, as far as there are any.
+fn part(bytes: &[u8], from: usize, to: usize) -> &[u8] {
+    let to = to.min(bytes.len());
+    let from = from.min(to);
+    &bytes[from..to]
+}
+
 /// How many texts are read again of a log of all texts on a lossy disk, once a crash came in the
 /// midst of a further write, and left these bytes of it.
 fn texts_behind_a_crash(alloc: Global, torn: &[u8]) -> Result<Option<usize>, Fail> {
@@ -233,7 +240,8 @@ fn lossy_disk_loses_no_acknowledged_text(rt: HostRuntime) -> Result<(), Fail> {
     let bytes = texts_bytes(alloc)?;
     for len in 0..bytes.len() {
         // what stood elsewhere is no chunk but for its mark, cut anywhere
-        let torn = &bytes[ENDS[2]..ENDS[2].saturating_add(len).min(ENDS[3] - 1)];
+        let end = ENDS[2].saturating_add(len).min(ENDS[3] - 1);
+        let torn = part(&bytes, ENDS[2], end);
         assert_eq!(rt; texts_behind_a_crash(alloc, torn)?, Some(3), "{len} bytes");
     }
     Ok(())
@@ -244,8 +252,8 @@ fn missing_chunk_is_damage(rt: HostRuntime) -> Result<(), Fail> {
     let alloc = rt.alloc();
     let bytes = texts_bytes(alloc)?;
     for missing in 0..3 {
-        let mut rest = bytes[..ENDS[missing]].to_vec(alloc)?;
-        rest.extend_from_slice(&bytes[ENDS[missing + 1]..])?;
+        let mut rest = part(&bytes, 0, ENDS[missing]).to_vec(alloc)?;
+        rest.extend_from_slice(part(&bytes, ENDS[missing + 1], ENDS[3]))?;
         let mut disk = sound_disk(alloc, rest.as_slice())?;
         let mut payloads = Payloads::new(alloc);
         let read = read_log(alloc, &mut disk, &KEY, &HEADER, &mut payloads);
