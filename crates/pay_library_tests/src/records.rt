@@ -42,14 +42,14 @@ const ROWS: &[Row] = &[
         opening: &[100, 0, 0, 50],
         own: 1,
         key: "5268806d6f884adbc7aa73a1042eed8384bbe8a235b9645cd88851a4f879ccef",
-        header: "70617964206c6f670140b2192d016df4e14893a0c63697d1a2d811ce48aef0476fdf912986f7560cdd000187c97eb9b455eec45cca114b7317c1abe5bcbb9d6f8a73a647ea7c53904e5ab7",
+        header: "70617964206c6f670240b2192d016df4e14893a0c63697d1a2d811ce48aef0476fdf912986f7560cdd000187c97eb9b455eec45cca114b7317c1abe5bcbb9d6f8a73a647ea7c53904e5ab7",
     },
     Row {
         faults: 0,
         opening: &[7],
         own: 0,
         key: "ea0a50c6cfd3eb3838f90aeeed34df7cac232b8c51b3720d5c91e2e0b369a713",
-        header: "70617964206c6f67012e5ebca3efeda7a5312dafbe9183d263dd2c40d3066b7b8a676fff3202ee4bb900003b07a4ce17eb7bf0b95cef0fe69157af8e0b3a7e18fc1b3584e6f745c50e2139",
+        header: "70617964206c6f67022e5ebca3efeda7a5312dafbe9183d263dd2c40d3066b7b8a676fff3202ee4bb900003b07a4ce17eb7bf0b95cef0fe69157af8e0b3a7e18fc1b3584e6f745c50e2139",
     },
 ];
 

@@ -3,14 +3,12 @@
 
 ghost use Rattle.std.specs.Prelude.{◌≡◌};
 
-use crate::node::step::ECHOED;
-use crate::node::trial::{OwnMember, Tried, brings, fault_at_closing, member_of, node_of};
+use crate::node::trial::{OwnMember, Tried, fault_at_closing, member_of, node_of};
 use crate::peers::rows::{FOUR, SEND, SEND_OF_2};
 use crate::peers::told::Told;
 use pay_hmac::{HmacSha256, Tagger};
 use pay_io::{Reader, Writer};
-use pay_member::MemberFault;
-use pay_node::{Beginning, Gate, Receipt, Seat};
+use pay_node::{Beginning, Gate, Seat};
 use pay_peers::{Ahead, Asking, Dial, Dialed, Dials, NodeContext, run_readers};
 use std::alloc::Global;
 use std::marker::Brand;
@@ -118,51 +116,19 @@ fn frame_of(peer: u16) -> &'static [u8] {
     if peer == 0 { SEND } else { SEND_OF_2 }
 }
 
-// Whether each seat was told of one frame that was taken, and the held one's of a repeat too if it
-// is to be.
-fn are_told(seats: &[Seat], held: u16, repeats: bool) -> bool {
+// Whether each seat was told of one frame.
+fn are_told(seats: &[Seat]) -> bool {
     for seat in seats {
-        let count = if repeats && seat.stamp() == held {
-            2
-        } else {
-            1
-        };
-        if !is_told(seat.receipts(), count) {
+        if seat.receipts().len() != 1 {
             return false;
         }
     }
     true
 }
 
-// Whether there are so many receipts, of which the second is that of a repeat.
-fn is_told(receipts: &[Receipt], count: usize) -> bool {
-    let is_repeat = match receipts.get(1) {
-        Some(receipt) => receipt.fault() == Some(MemberFault::Repeat(1)),
-        None => true,
-    };
-    receipts.len() == count && is_repeat
-}
-
 // The peer whose frames come from a seat.
 fn peer_of(seat: &Seat) -> u16 {
     if seat.stamp() == 0 { 0 } else { 2 }
-}
-
-// Brings its one frame from the held seat before any worker does, and says whether it was taken.
-fn takes_first<S: Beginning, R: Wait>(
-    rt: &R,
-    alloc: Global,
-    node: &Tried<S>,
-    seats: &mut [Seat],
-    held: u16,
-) -> bool {
-    match seats.get_mut(usize::from(held)) {
-        Some(seat) => {
-            let frame = frame_of(peer_of(seat));
-            brings(rt, alloc, node, seat, frame, ECHOED, true) == Some(true)
-        }
-        None => false,
-    }
 }
 
 // Each seat with its peer.
@@ -239,59 +205,37 @@ fn held_seats<S: Beginning + Send + Sync, R: Threads + Wait + Clock + Sync>(
     in_time.then_some(seats)
 }
 
-/// Two workers, of which one is held where its frame's tag is made or after that, and whether that
-/// frame is a repeat.
+/// Two workers, of which one is held where its frame's tag is made or after that.
 #[derive(Clone, Copy, Debug)]
 struct Row {
     held: u16,
     at_tag: bool,
-    repeats: bool,
 }
 
 const ROWS: &[Row] = &[
     Row {
         held: 0,
         at_tag: false,
-        repeats: false,
     },
     Row {
         held: 1,
         at_tag: false,
-        repeats: false,
-    },
-    Row {
-        held: 0,
-        at_tag: false,
-        repeats: true,
-    },
-    Row {
-        held: 1,
-        at_tag: false,
-        repeats: true,
     },
     Row {
         held: 0,
         at_tag: true,
-        repeats: false,
     },
     Row {
         held: 1,
         at_tag: true,
-        repeats: false,
     },
 ];
 
 // Whether a node closes with these seats, and each was told what it has to be.
-fn is_closed<S: Beginning>(
-    alloc: Global,
-    node: Tried<S>,
-    seats: Option<Vec<Seat>>,
-    row: Row,
-) -> bool {
+fn is_closed<S: Beginning>(alloc: Global, node: Tried<S>, seats: Option<Vec<Seat>>) -> bool {
     match seats {
         Some(seats) => {
-            fault_at_closing(alloc, node, seats.as_slice()).is_none()
-                && are_told(seats.as_slice(), row.held, row.repeats)
+            fault_at_closing(alloc, node, seats.as_slice()).is_none() && are_told(seats.as_slice())
         }
         None => false,
     }
@@ -304,10 +248,9 @@ where
     R: Threads + Wait + Clock + Sync,
     requires { member ≡ S.beginning }
 {
-    let (node, mut seats) = node_of::<S>(alloc, member, FOUR.seats)?;
-    let is_ready = !row.repeats || takes_first(rt, alloc, &node, seats.as_mut_slice(), row.held);
+    let (node, seats) = node_of::<S>(alloc, member, FOUR.seats)?;
     let seats = held_seats(rt, alloc, &node, row.held, row.at_tag, seats);
-    Some(is_closed(alloc, node, seats, row) && is_ready)
+    Some(is_closed(alloc, node, seats))
 }
 
 fn overlaps<R: Threads + Wait + Clock + Sync>(rt: &R, alloc: Global, row: Row) -> Option<bool> {
