@@ -10,7 +10,7 @@ use Rattle.pay_io.specs.declared.limits.TheConstants.{MOST_READS}
 use Rattle.pay_io.specs.Device.{WroteBeginning}
 use Rattle.pay_frame.specs.Frame.{FrameFields}
 use Rattle.pay_frame.specs.Stream.{IsBytes, IsFramesThen, IsStream, EveryStream, Parts}
-use Rattle.pay_engine.specs.Handling.{Steps, HandledAll, HandledPrefix, HasHandled, IsTail, Open, Ended, Start}
+use Rattle.pay_engine.specs.Handling.{Stage, Steps, HandledAll, HandledPrefix, HasHandled, IsTail, Open, Ended, Start}
 use Rattle.pay_engine.proofs.Handlings.{Grows, begins_input, so_far}
 use Rattle.pay_engine.specs.Exact.{Function, IsText, BeginsText, TakesFrames, Writes, WritesBeginning, WritesText, exactly, ending_text, state_after, text_from, texts_from}
 
@@ -33,8 +33,11 @@ module _ {S : Type 0} (h : Function S) where
       ∙ sym (append_assoc (h.text s f) (texts_from h (h.after s f) fs) (text_from h (state_after h (h.after s f) fs) gs e))
 
   -- all of the text
-  whole : (start : Start S) (new : S) (left after : Option (List ℕ)) (ending : Option FrameFault) → HandledAll (exactly h) start new left after ending → WritesText h start new after ending
-  whole start new left after ending all = go start.input refl where
+  whole : (start : Start S) (stage : Stage S) (ending : Option FrameFault) → HandledAll (exactly h) start stage ending → WritesText h start stage ending
+  whole start stage ending all = go start.input refl where
+    new : S
+    new = stage.state
+
     are : (new ≡ state_after h start.state all.frames) × (all.text ≡ texts_from h start.state all.frames)
     are = are_texts start.state new all.frames all.text all.handled
 
@@ -42,7 +45,7 @@ module _ {S : Type 0} (h : Function S) where
     last None = refl
     last (Some fault) = ap (λ q. h.fault_text q fault) are.0
 
-    go : (input : Option (List ℕ)) → start.input ≡ input → WritesText h start new after ending
+    go : (input : Option (List ℕ)) → start.input ≡ input → WritesText h start stage ending
     go None is = rw is tt
     go (Some bytes) is = rw is (
       start.first ++ (all.text ++ Rattle.pay_engine.specs.Handling.ending_text (exactly h) new ending),
@@ -110,8 +113,14 @@ module _ {S : Type 0} (h : Function S) where
     parts = sym (append-nil (start.first ++ (text ++ h.fault_text new fault)));
   }
 
-  part : (every : EveryStream) (parts : Parts) (grows : Grows) (start : Start S) (new : S) (left after : Option (List ℕ)) → HandledPrefix (exactly h) start new left after → WritesBeginning h start after
-  part every parts grows start new left after some = go start.input refl where
+  part : (every : EveryStream) (parts : Parts) (grows : Grows) (start : Start S) (stage : Stage S) → HandledPrefix (exactly h) start stage → WritesBeginning h start stage.after
+  part every parts grows start stage some = go start.input refl where
+    new : S
+    new = stage.state
+
+    after : Option (List ℕ)
+    after = stage.after
+
     are : (new ≡ state_after h start.state some.frames) × (some.text ≡ texts_from h start.state some.frames)
     are = are_texts start.state new some.frames some.text some.handled
 
@@ -119,19 +128,19 @@ module _ {S : Type 0} (h : Function S) where
     go None is = rw is tt
     go (Some bytes) is =
         let tail : IsTail (exactly h) (Some bytes) new some.read some.frames some.tail = rw is at some.follows in
-        let consumed : Consumes (Some bytes) left some.read = rw is at some.consumed in
+        let consumed : Consumes (Some bytes) stage.left some.read = rw is at some.consumed in
         subst (λ (known : Option (List ℕ)). IfSome known (λ bytes. IsBytes bytes → BeginsText h start after bytes)) (sym is)
-        (λ each. begins start after bytes (start.first ++ (some.text ++ some.tail)) (starts every parts grows start new bytes some.read some.text some.tail left some.frames each are.1 are.0 consumed tail) some.written)
+        (λ each. begins start after bytes (start.first ++ (some.text ++ some.tail)) (starts every parts grows start new bytes some.read some.text some.tail stage.left some.frames each are.1 are.0 consumed tail) some.written)
 
   -- by how it ended
-  pub writes : (every : EveryStream) (parts : Parts) (grows : Grows) (start : Start S) (new : S) (left after : Option (List ℕ)) (result : Result ⊤ EngineFault) → HasHandled (exactly h) start new left after result → Writes h start new left after result
-  writes every parts grows start new left after (Ok _) (inl all) = (whole start new left after None all.0, all.1)
-  writes every parts grows start new left after (Ok _) (inr upto) = absurd upto.stopped
-  writes every parts grows start new left after (Err (Frame fault)) all = whole start new left after (Some fault) all
-  writes every parts grows start new left after (Err Memory) some = part every parts grows start new left after some
-  writes every parts grows start new left after (Err Read) read = part every parts grows start new left after (so_far (exactly h) start new left after read.1.0 read.0 read.1.1)
-  writes every parts grows start new left after (Err Write) some = part every parts grows start new left after some
-  writes every parts grows start new left after (Err Bound) read = part every parts grows start new left after (so_far (exactly h) start new left after read.0 MOST_READS read.1)
+  pub writes : (every : EveryStream) (parts : Parts) (grows : Grows) (start : Start S) (stage : Stage S) (result : Result ⊤ EngineFault) → HasHandled (exactly h) start stage result → Writes h start stage result
+  writes every parts grows start stage (Ok _) (inl all) = (whole start stage None all.0, all.1)
+  writes every parts grows start stage (Ok _) (inr upto) = absurd upto.stopped
+  writes every parts grows start stage (Err (Frame fault)) all = whole start stage (Some fault) all
+  writes every parts grows start stage (Err Memory) some = part every parts grows start stage some
+  writes every parts grows start stage (Err Read) read = part every parts grows start stage (so_far (exactly h) start stage.state stage.left stage.after read.1.0 read.0 read.1.1)
+  writes every parts grows start stage (Err Write) some = part every parts grows start stage some
+  writes every parts grows start stage (Err Bound) read = part every parts grows start stage (so_far (exactly h) start stage.state stage.left stage.after read.0 MOST_READS read.1)
 
   -- ---- the state behind some frames
 
@@ -139,28 +148,31 @@ module _ {S : Type 0} (h : Function S) where
   stream_begins None frames ending stream = tt
   stream_begins (Some bytes) frames ending stream = (stream.rest, stream.cut)
 
-  took_all : (start : Start S) (new : S) (left after : Option (List ℕ)) (ending : Option FrameFault) → HandledAll (exactly h) start new left after ending → TakesFrames h start new
-  took_all start new left after ending all = record {
+  took_all : (start : Start S) (stage : Stage S) (ending : Option FrameFault) → HandledAll (exactly h) start stage ending → TakesFrames h start stage.state
+  took_all start stage ending all = record {
     frames = all.frames;
     each = all.stream.cut.each;
     begins = stream_begins start.input all.frames ending all.whole;
-    state = (are_texts start.state new all.frames all.text all.handled).0;
+    state = (are_texts start.state stage.state all.frames all.text all.handled).0;
   }
 
-  took_some : (grows : Grows) (start : Start S) (new : S) (left after : Option (List ℕ)) → HandledPrefix (exactly h) start new left after → TakesFrames h start new
-  took_some grows start new left after some = by_tail some.tail some.follows where
+  took_some : (grows : Grows) (start : Start S) (stage : Stage S) → HandledPrefix (exactly h) start stage → TakesFrames h start stage.state
+  took_some grows start stage some = by_tail some.tail some.follows where
+    new : S
+    new = stage.state
+
     state : new ≡ state_after h start.state some.frames
     state = (are_texts start.state new some.frames some.text some.handled).0
 
     by_tail : (tail : List ℕ) → IsTail (exactly h) start.input new some.read some.frames tail → TakesFrames h start new
-    by_tail tail (Open rest cut) = record { frames = some.frames; each = cut.each; begins = begins_input start.input left some.read rest some.frames grows some.consumed cut; state = state }
+    by_tail tail (Open rest cut) = record { frames = some.frames; each = cut.each; begins = begins_input start.input stage.left some.read rest some.frames grows some.consumed cut; state = state }
     by_tail tail (Ended fault stream whole) = record { frames = some.frames; each = stream.cut.each; begins = stream_begins start.input some.frames (Some fault) whole; state = state }
 
-  pub took : (grows : Grows) (start : Start S) (new : S) (left after : Option (List ℕ)) (result : Result ⊤ EngineFault) → HasHandled (exactly h) start new left after result → TakesFrames h start new
-  took grows start new left after (Ok _) (inl all) = took_all start new left after None all.0
-  took grows start new left after (Ok _) (inr upto) = absurd upto.stopped
-  took grows start new left after (Err (Frame fault)) all = took_all start new left after (Some fault) all
-  took grows start new left after (Err Memory) some = took_some grows start new left after some
-  took grows start new left after (Err Read) read = took_some grows start new left after (so_far (exactly h) start new left after read.1.0 read.0 read.1.1)
-  took grows start new left after (Err Write) some = took_some grows start new left after some
-  took grows start new left after (Err Bound) read = took_some grows start new left after (so_far (exactly h) start new left after read.0 MOST_READS read.1)
+  pub took : (grows : Grows) (start : Start S) (stage : Stage S) (result : Result ⊤ EngineFault) → HasHandled (exactly h) start stage result → TakesFrames h start stage.state
+  took grows start stage (Ok _) (inl all) = took_all start stage None all.0
+  took grows start stage (Ok _) (inr upto) = absurd upto.stopped
+  took grows start stage (Err (Frame fault)) all = took_all start stage (Some fault) all
+  took grows start stage (Err Memory) some = took_some grows start stage some
+  took grows start stage (Err Read) read = took_some grows start stage (so_far (exactly h) start stage.state stage.left stage.after read.1.0 read.0 read.1.1)
+  took grows start stage (Err Write) some = took_some grows start stage some
+  took grows start stage (Err Bound) read = took_some grows start stage (so_far (exactly h) start stage.state stage.left stage.after read.0 MOST_READS read.1)

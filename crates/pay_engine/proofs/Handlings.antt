@@ -1,25 +1,29 @@
 -- A stream that is handled frame by frame, and read by read.
-use Rattle.std.proofs.Common.{eqb, ◌≡◌, ℕ, ◌+◌, ◌-◌, ◌<◌, ◌≤◌, ◌⊎◌, inl, inr, List, [], ◌∷◌, ◌++◌, length, take, drop, length-drop, refl, sym, ◌∙◌, ap, subst, arith, append_assoc, Option, Some, None, Result, Ok, Err}
-use Rattle.std.specs.Prelude.{IfSome, Bool, true, false}
-use Rattle.std.specs.List.{All, flat_map}
-use Rattle.std.proofs.lemmas.List.Elements.{All-nil, All-cons, All-head, All-tail}
-use Rattle.std.proofs.lemmas.Grind.{flat_map-append}
+use Rattle.std.proofs.Common.{eqb, ◌≡◌, ℕ, ◌+◌, ◌<◌, ◌≤◌, ◌⊎◌, inl, inr, List, [], ◌∷◌, ◌++◌, length, take, drop, length-drop, refl, sym, ◌∙◌, ap, subst, arith, append_assoc, Option, Some, None}
+use Rattle.std.specs.Prelude.{IfSome, false}
+use Rattle.std.proofs.lemmas.List.Elements.{All-nil}
 use Rattle.std.proofs.lemmas.Bool.Decides.{nat_tests}
 use Rattle.std.specs.Io.KnownBytes.{Appends, Consumes, IsAtEnd, Keeps}
 use Rattle.std.proofs.KnownBytes.{Appends-nil, Appends-trans, Consumes-nil, Consumes-trans}
-use Rattle.std.proofs.lemmas.List.{append-nil, length-append, nil_from_length, take_all}
-use Rattle.std.proofs.Math.Seq.{take-append-add, drop-append_seam}
+use Rattle.std.proofs.lemmas.List.{append-nil, drop-drop, drop_at, length-append, nil_from_length}
+use Rattle.std.proofs.Math.Seq.{take-append-add}
 use Rattle.pay_frame.specs.declared.fault.FrameFault.{FrameFault}
 use Rattle.pay_engine.specs.declared.limits.TheConstants.{GREATEST_READ}
 use Rattle.pay_io.specs.Sliding.{ReadsMore}
 use Rattle.pay_io.specs.Device.{Gave, WroteBeginning}
 use Rattle.pay_frame.specs.Frame.{FrameFields, IsFrame, frame_bytes}
-use Rattle.pay_frame.specs.Reading.{IsFault, IsReading}
+use Rattle.pay_frame.specs.Reading.{HasFrame, IsFault}
 use Rattle.pay_frame.specs.Stream.{IsFramesThen, IsStream}
-use Rattle.pay_engine.specs.Handling.{Handling, Steps, Start, HandledAll, HandledPrefix, HandledUpTo, StopsAmong, HandlesBatch, InProgress, Open, Ended, StepsPrefix}
+use Rattle.pay_engine.specs.declared.frame_handler.Handled.{Handled}
+use Rattle.pay_engine.specs.declared.frame_handler.Next.{Next}
+use Rattle.pay_engine.specs.declared.frame_handler.Next.TheVariants.{Leave}
+use Rattle.pay_engine.specs.Handling.{Handling, Steps, Start, Stage, HandledAll, HandledFront, HandledPrefix, HandledSome, HandledUpTo, InProgress, IsNext, Open, Ended}
 
 abbrev pub Grows : Type 0
 Grows = (bytes rest more : List ℕ) (frames : List FrameFields) → IsFramesThen bytes frames rest → IsFramesThen (bytes ++ more) frames (rest ++ more)
+
+abbrev pub OneMore : Type 0
+OneMore = (bytes held rest : List ℕ) (frames : List FrameFields) (f : FrameFields) → IsFramesThen bytes frames held → IsFrame f → held ≡ frame_bytes f ++ rest → IsFramesThen bytes (frames ++ f ∷ []) rest
 
 abbrev pub ForGood : Type 0
 ForGood = (read held more : List ℕ) (frames : List FrameFields) (fault : FrameFault) → IsFramesThen read frames held → IsFault held fault → IsStream (read ++ more) frames (Some fault)
@@ -75,61 +79,12 @@ nothing_more old new left rest count more zero =
     let none : more.piece ≡ [] = nil_from_length more.piece (more.sized ∙ zero) in
     (subst (Consumes left rest) none more.taken, more.appended ∙ ap (λ xs. old ++ xs) none ∙ append-nil old)
 
--- the first of some frames in front
-pub first_of_them : (x r : List ℕ) (fs gs : List FrameFields) → IsFramesThen x (fs ++ gs) r → IsFramesThen x fs (flat_map frame_bytes gs ++ r)
-first_of_them x r fs gs cut = record {
-  each = all_left fs cut.each;
-  parts = cut.parts ∙ ap (λ xs. xs ++ r) (flat_map-append frame_bytes fs gs) ∙ append_assoc (flat_map frame_bytes fs) (flat_map frame_bytes gs) r;
-} where
-  all_left : (fs : List FrameFields) → All IsFrame (fs ++ gs) → All IsFrame fs
-  all_left [] each = All-nil IsFrame
-  all_left (f ∷ fs) each = All-cons IsFrame f fs (All-head IsFrame f (fs ++ gs) each) (all_left fs (All-tail IsFrame f (fs ++ gs) each))
+-- behind a frame in front of what is left
+pub behind_frame : (xs : List ℕ) (size count : ℕ) (f : FrameFields) (front : HasFrame (drop size xs) f) → count ≡ length (frame_bytes f) → drop (size + count) xs ≡ front.rest
+behind_frame xs size count f front sized = sym (drop-drop count size xs) ∙ ap (drop count) front.spelled ∙ drop_at (frame_bytes f) front.rest count (sym sized)
 
-abbrev pub ReadAgain : Type 0
-ReadAgain = (f : FrameFields) (rest : List ℕ) (answer : Result (Option (FrameFields × ℕ)) FrameFault) → IsFrame f → IsReading (frame_bytes f ++ rest) answer → answer ≡ Ok (Some (f, length (frame_bytes f)))
-
--- the frame in front of what is left of a batch
-pub record IsNext (rest left : List ℕ) (f : FrameFields) (others : List FrameFields) : Type 0 where
-  pub more : List FrameFields
-  pub is : others ≡ f ∷ more
-  pub cut : IsFramesThen left more []
-
-front_in : FrameFields × ℕ → Result (Option (FrameFields × ℕ)) FrameFault → FrameFields × ℕ
-front_in d (Ok (Some front)) = front
-front_in d (Ok None) = d
-front_in d (Err fault) = d
-
-nothing_in_front : (rest : List ℕ) (f : FrameFields) (size : ℕ) → rest ≡ [] → 0 < size → IsReading rest (Ok (Some (f, size))) → ⊥
-nothing_in_front rest f size none some reading =
-    let sized = reading.1 in
-    omega (arith, ap length none, ap length reading.0.spelled, length-append (frame_bytes f) reading.0.rest)
-
-pub next_of : ReadAgain → (rest left : List ℕ) (f : FrameFields) (size : ℕ) (others : List FrameFields) → 0 < size → IsFramesThen rest others [] → IsReading rest (Ok (Some (f, size))) → left ≡ take (length rest - size) (drop size rest) → IsNext rest left f others
-unfolding front_in
-next_of again rest left f size [] some cut reading is = absurd (nothing_in_front rest f size cut.parts some reading)
-next_of again rest left f size (g ∷ gs) some cut reading is =
-    let behind : List ℕ = flat_map frame_bytes gs ++ [] in
-    let parts : rest ≡ frame_bytes g ++ behind = cut.parts ∙ append_assoc (frame_bytes g) (flat_map frame_bytes gs) [] in
-    let same = again g behind (Ok (Some (f, size))) (All-head IsFrame g gs cut.each) (subst (λ xs. IsReading xs (Ok (Some (f, size)))) parts reading) in
-    let front : (f, size) ≡ (g, length (frame_bytes g)) = ap (front_in (f, size)) same in
-    let frame : f ≡ g = ap (λ x. x.0) front in
-    let count : size ≡ length (frame_bytes g) = ap (λ x. x.1) front in
-    let left_is : left ≡ behind = is ∙ take_all (length rest - size) (drop size rest) (omega (arith, length-drop size rest)) ∙ ap (λ n. drop n rest) count ∙ ap (drop (length (frame_bytes g))) parts ∙ drop-append_seam (frame_bytes g) behind in
-    record { more = gs; is = ap (λ x. x ∷ gs) (sym frame); cut = record { each = All-tail IsFrame g gs cut.each; parts = left_is } }
-
-abbrev pub is_front : Result (Option (FrameFields × ℕ)) FrameFault → Bool
-is_front (Ok (Some front)) = true
-is_front (Ok None) = false
-is_front (Err fault) = false
-
-pub none_left : ReadAgain → (rest : List ℕ) (answer : Result (Option (FrameFields × ℕ)) FrameFault) (others : List FrameFields) → IsFramesThen rest others [] → IsReading rest answer → is_front answer ≡ false → others ≡ []
-none_left again rest answer [] cut reading none = refl
-none_left again rest answer (g ∷ gs) cut reading none =
-    let behind : List ℕ = flat_map frame_bytes gs ++ [] in
-    let parts : rest ≡ frame_bytes g ++ behind = cut.parts ∙ append_assoc (frame_bytes g) (flat_map frame_bytes gs) [] in
-    let same = again g behind answer (All-head IsFrame g gs cut.each) (subst (λ xs. IsReading xs answer) parts reading) in
-    let never : true ≡ false = sym (ap is_front same) ∙ none in
-    absurd cc
+abbrev pub stage_at : {S : Type 0} → S → Option (List ℕ) → Option (List ℕ) → Stage S
+stage_at state left after = record { state = state; left = left; after = after }
 
 module _ {S : Type 0} (h : Handling S) where
   -- ---- more frames
@@ -153,7 +108,7 @@ module _ {S : Type 0} (h : Handling S) where
 
   -- ---- it goes on
 
-  pub at_start : (start : Start S) (after : Option (List ℕ)) (held : List ℕ) → IsFramesThen [] [] [] → held ≡ [] → Appends start.before after start.first → InProgress h start start.state start.input after held 0
+  pub at_start : (start : Start S) (after : Option (List ℕ)) (held : List ℕ) → IsFramesThen [] [] [] → held ≡ [] → Appends start.before after start.first → InProgress h start (stage_at start.state start.input after) held 0
   at_start start after held none empty written =
       record {
         read = [];
@@ -170,7 +125,7 @@ module _ {S : Type 0} (h : Handling S) where
   -- some frames were handled, and their texts are written
   pub handles_more :
       (start : Start S) (state next : S) (left after later : Option (List ℕ)) (held rest : List ℕ) (fs : List FrameFields) (reads : ℕ)
-      → (g : InProgress h start state left after held reads) → IsFramesThen g.read (g.frames ++ fs) rest → (more : List ℕ) → Steps h state next fs more → Appends after later more → InProgress h start next left later rest reads
+      → (g : InProgress h start (stage_at state left after) held reads) → IsFramesThen g.read (g.frames ++ fs) rest → (more : List ℕ) → Steps h state next fs more → Appends after later more → InProgress h start (stage_at next left later) rest reads
   handles_more start state next left after later held rest fs reads g cut more are written =
       record {
         read = g.read;
@@ -186,7 +141,7 @@ module _ {S : Type 0} (h : Handling S) where
 
   pub reads_more :
       (start : Start S) (state : S) (left rest after : Option (List ℕ)) (held piece : List ℕ) (reads : ℕ) → Grows
-      → InProgress h start state left after held reads → Consumes left rest piece → 0 < length piece → length piece ≤ GREATEST_READ → InProgress h start state rest after (held ++ piece) (reads + 1)
+      → InProgress h start (stage_at state left after) held reads → Consumes left rest piece → 0 < length piece → length piece ≤ GREATEST_READ → InProgress h start (stage_at state rest after) (held ++ piece) (reads + 1)
   reads_more start state left rest after held piece reads grows g consumed some fits =
       let few = g.few in
       let many = g.many in
@@ -207,7 +162,7 @@ module _ {S : Type 0} (h : Handling S) where
   -- some frames more were handled, and a beginning of their texts is written
   pub some_written :
       (start : Start S) (state next : S) (left after later : Option (List ℕ)) (held rest : List ℕ) (fs : List FrameFields) (reads : ℕ)
-      → (g : InProgress h start state left after held reads) → IsFramesThen g.read (g.frames ++ fs) rest → (more : List ℕ) → Steps h state next fs more → WroteBeginning after later more → HandledPrefix h start next left later
+      → (g : InProgress h start (stage_at state left after) held reads) → IsFramesThen g.read (g.frames ++ fs) rest → (more : List ℕ) → Steps h state next fs more → WroteBeginning after later more → HandledPrefix h start (stage_at next left later)
   some_written start state next left after later held rest fs reads g cut more are wrote =
       record {
         read = g.read;
@@ -220,12 +175,12 @@ module _ {S : Type 0} (h : Handling S) where
         written = subst (WroteBeginning start.before later) (append_assoc start.first g.text more ∙ ap (λ xs. start.first ++ xs) (sym (append-nil (g.text ++ more)))) (begins start.before after later (start.first ++ g.text) more g.written wrote);
       }
 
-  pub so_far : (start : Start S) (state : S) (left after : Option (List ℕ)) (held : List ℕ) (reads : ℕ) → InProgress h start state left after held reads → HandledPrefix h start state left after
+  pub so_far : (start : Start S) (state : S) (left after : Option (List ℕ)) (held : List ℕ) (reads : ℕ) → InProgress h start (stage_at state left after) held reads → HandledPrefix h start (stage_at state left after)
   so_far start state left after held reads g =
       some_written start state state left after after held held [] reads g (subst (λ fs. IsFramesThen g.read fs held) (sym (append-nil g.frames)) g.cut) [] (refl, refl) (none_written after [])
 
   -- a read failed, or no more may be made
-  pub read_all : (start : Start S) (state : S) (left rest after : Option (List ℕ)) (held : List ℕ) (reads : ℕ) → Consumes left rest [] → InProgress h start state left after held reads → InProgress h start state rest after held reads
+  pub read_all : (start : Start S) (state : S) (left rest after : Option (List ℕ)) (held : List ℕ) (reads : ℕ) → Consumes left rest [] → InProgress h start (stage_at state left after) held reads → InProgress h start (stage_at state rest after) held reads
   read_all start state left rest after held reads none g = record {
     read = g.read;
     consumed = subst (Consumes start.input rest) (append-nil g.read) (Consumes-trans start.input left rest g.read [] g.consumed none);
@@ -238,7 +193,7 @@ module _ {S : Type 0} (h : Handling S) where
     many = g.many;
   }
 
-  pub first_failed : (start : Start S) (after : Option (List ℕ)) → IsFramesThen [] [] [] → WroteBeginning start.before after start.first → HandledPrefix h start start.state start.input after
+  pub first_failed : (start : Start S) (after : Option (List ℕ)) → IsFramesThen [] [] [] → WroteBeginning start.before after start.first → HandledPrefix h start (stage_at start.state start.input after)
   first_failed start after nothing written = record {
     read = [];
     consumed = Consumes-nil start.input;
@@ -255,7 +210,7 @@ module _ {S : Type 0} (h : Handling S) where
   -- behind a frame
   pub stops :
       (start : Start S) (state next : S) (left after later : Option (List ℕ)) (held rest : List ℕ) (fs : List FrameFields) (f : FrameFields) (reads : ℕ)
-      → (g : InProgress h start state left after held reads) → IsFramesThen g.read (g.frames ++ (fs ++ f ∷ [])) rest → (more : List ℕ) → Steps h state next fs more → h.may_stop next f → Appends after later more → HandledUpTo h start next left later
+      → (g : InProgress h start (stage_at state left after) held reads) → IsFramesThen g.read (g.frames ++ (fs ++ f ∷ [])) rest → (more : List ℕ) → Steps h state next fs more → h.may_stop next f → Appends after later more → HandledUpTo h start (stage_at next left later)
   stops start state next left after later held rest fs f reads g cut more are is written =
       record {
         read = g.read;
@@ -272,7 +227,7 @@ module _ {S : Type 0} (h : Handling S) where
 
   -- at the input's end
   pub all : (start : Start S) (state : S) (left rest after : Option (List ℕ)) (held : List ℕ) (reads : ℕ)
-      → (g : InProgress h start state left after held reads) → Consumes left rest [] → IsStream g.read g.frames None → IfSome start.input (λ bytes. IsStream bytes g.frames None) → HandledAll h start state rest after None
+      → (g : InProgress h start (stage_at state left after) held reads) → Consumes left rest [] → IsStream g.read g.frames None → IfSome start.input (λ bytes. IsStream bytes g.frames None) → HandledAll h start (stage_at state rest after) None
   unfolding read_all
   all start state left rest after held reads g none stream whole =
       record {
@@ -288,7 +243,7 @@ module _ {S : Type 0} (h : Handling S) where
 
   -- at a fault, with its text
   pub all_to : (start : Start S) (state : S) (left rest after later : Option (List ℕ)) (held : List ℕ) (reads : ℕ) (fault : FrameFault)
-      → (g : InProgress h start state left after held reads) → Consumes left rest [] → IsStream g.read g.frames (Some fault) → IfSome start.input (λ bytes. IsStream bytes g.frames (Some fault)) → Appends after later (h.fault_text state fault) → HandledAll h start state rest later (Some fault)
+      → (g : InProgress h start (stage_at state left after) held reads) → Consumes left rest [] → IsStream g.read g.frames (Some fault) → IfSome start.input (λ bytes. IsStream bytes g.frames (Some fault)) → Appends after later (h.fault_text state fault) → HandledAll h start (stage_at state rest later) (Some fault)
   unfolding read_all
   all_to start state left rest after later held reads fault g none stream whole written =
       record {
@@ -303,7 +258,7 @@ module _ {S : Type 0} (h : Handling S) where
       }
 
   pub some_to : (start : Start S) (state : S) (left rest after later : Option (List ℕ)) (held : List ℕ) (reads : ℕ) (fault : FrameFault)
-      → (g : InProgress h start state left after held reads) → Consumes left rest [] → IsStream g.read g.frames (Some fault) → IfSome start.input (λ bytes. IsStream bytes g.frames (Some fault)) → WroteBeginning after later (h.fault_text state fault) → HandledPrefix h start state rest later
+      → (g : InProgress h start (stage_at state left after) held reads) → Consumes left rest [] → IsStream g.read g.frames (Some fault) → IfSome start.input (λ bytes. IsStream bytes g.frames (Some fault)) → WroteBeginning after later (h.fault_text state fault) → HandledPrefix h start (stage_at state rest later)
   unfolding read_all
   some_to start state left rest after later held reads fault g none stream whole wrote =
       record {
@@ -320,23 +275,23 @@ module _ {S : Type 0} (h : Handling S) where
   -- ---- reading
 
   -- every read gave bytes
-  pub gave : (start : Start S) (state : S) (left after : Option (List ℕ)) (held : List ℕ) (reads count : ℕ) → InProgress h start state left after held reads → count ≤ reads → Gave count start.input left
+  pub gave : (start : Start S) (state : S) (left after : Option (List ℕ)) (held : List ℕ) (reads count : ℕ) → InProgress h start (stage_at state left after) held reads → count ≤ reads → Gave count start.input left
   gave start state left after held reads count g le = let many = g.many in (g.read, g.consumed, omega arith)
 
   -- what is held behind a piece that was read
   pub fed_piece :
       (start : Start S) (state : S) (left rest after : Option (List ℕ)) (old new : List ℕ) (count reads : ℕ) → Grows
-      → ReadsMore old new left rest count → length new ≤ GREATEST_READ → 0 < count → InProgress h start state left after old reads → InProgress h start state rest after new (reads + 1)
+      → ReadsMore old new left rest count → length new ≤ GREATEST_READ → 0 < count → InProgress h start (stage_at state left after) old reads → InProgress h start (stage_at state rest after) new (reads + 1)
   fed_piece start state left rest after old new count reads grows more most some going =
       let sized = more.sized in
       let whole = ap length more.appended ∙ length-append old more.piece in
-      subst (λ xs. InProgress h start state rest after xs (reads + 1)) (sym more.appended)
+      subst (λ xs. InProgress h start (stage_at state rest after) xs (reads + 1)) (sym more.appended)
       (reads_more start state left rest after old more.piece reads grows going more.taken (omega arith) (omega arith))
 
   -- the same is held
   abbrev pub held_again :
       (start : Start S) (state : S) (left after : Option (List ℕ)) (old new : List ℕ) (reads : ℕ)
-      → new ≡ old → InProgress h start state left after old reads → InProgress h start state left after new reads
+      → new ≡ old → InProgress h start (stage_at state left after) old reads → InProgress h start (stage_at state left after) new reads
   held_again start state left after old new reads same g = record {
     read = g.read;
     consumed = g.consumed;
@@ -349,78 +304,91 @@ module _ {S : Type 0} (h : Handling S) where
     many = g.many;
   }
 
-  -- ---- a batch
+  -- ---- the frames in front
 
-  -- where a batch is with some of its bytes left: the frames before them were handled
-  pub record IsAmong (before after : S) (rest : List ℕ) (fs : List FrameFields) (old new : List ℕ) : Type 0 where
-    pub first : List FrameFields
-    pub others : List FrameFields
-    pub parts : fs ≡ first ++ others
-    pub cut : IsFramesThen rest others []
+  -- the frames of so many bytes were handled
+  pub record IsAmong (before after : S) (held : List ℕ) (size : ℕ) (old new : List ℕ) : Type 0 where
+    pub within : size ≤ length held
+    pub frames : List FrameFields
+    pub cut : IsFramesThen held frames (drop size held)
     pub text : List ℕ
-    pub handled : Steps h before after first text
+    pub handled : Steps h before after frames text
     pub longer : new ≡ old ++ text
 
-  pub among_at_start : (before : S) (rest old : List ℕ) (fs : List FrameFields) → IsFramesThen rest fs [] → IsAmong before before rest fs old old
-  among_at_start before rest old fs cut = record { first = []; others = fs; parts = refl; cut = cut; text = []; handled = (refl, refl); longer = sym (append-nil old) }
+  pub among_at_start : (before : S) (held old : List ℕ) → IsFramesThen held [] held → IsAmong before before held 0 old old
+  among_at_start before held old none = record { within = omega arith; frames = []; cut = none; text = []; handled = (refl, refl); longer = sym (append-nil old) }
 
   one_handled : (before after : S) (f : FrameFields) (text : List ℕ) → h.step before after f text → Steps h before after (f ∷ []) text
   one_handled before after f text does = (after, text, [], does, (refl, refl), sym (append-nil text))
 
-  pub among_more : (before between after : S) (rest left : List ℕ) (f : FrameFields) (fs : List FrameFields) (old mid new text : List ℕ)
-      → (a : IsAmong before between rest fs old mid) → IsNext rest left f a.others → h.step between after f text → new ≡ mid ++ text → IsAmong before after left fs old new
-  among_more before between after rest left f fs old mid new text a next does longer = record {
-    first = a.first ++ f ∷ [];
-    others = next.more;
-    parts = a.parts ∙ ap (λ xs. a.first ++ xs) next.is ∙ sym (append_assoc a.first (f ∷ []) next.more);
-    cut = next.cut;
-    text = a.text ++ text;
-    handled = handled_more before between after a.first (f ∷ []) a.text text a.handled (one_handled between after f text does);
-    longer = longer ∙ ap (λ xs. xs ++ text) a.longer ∙ append_assoc old a.text text;
-  }
+  pub among_more : (before between after : S) (held : List ℕ) (size count : ℕ) (f : FrameFields) (old mid new text : List ℕ) → OneMore
+      → IsAmong before between held size old mid → (front : HasFrame (drop size held) f) → count ≡ length (frame_bytes f) → h.step between after f text → new ≡ mid ++ text → IsAmong before after held (size + count) old new
+  among_more before between after held size count f old mid new text more a front sized does longer =
+      let left = behind_frame held size count f front sized in
+      let within = a.within in
+      record {
+        within = omega (arith, length-drop size held, ap length front.spelled, length-append (frame_bytes f) front.rest);
+        frames = a.frames ++ f ∷ [];
+        cut = subst (IsFramesThen held (a.frames ++ f ∷ [])) (sym left) (more held (drop size held) front.rest a.frames f a.cut front.is front.spelled);
+        text = a.text ++ text;
+        handled = handled_more before between after a.frames (f ∷ []) a.text text a.handled (one_handled between after f text does);
+        longer = longer ∙ ap (λ xs. xs ++ text) a.longer ∙ append_assoc old a.text text;
+      }
 
-  pub among_all : (before after : S) (rest : List ℕ) (fs : List FrameFields) (old new : List ℕ) → (a : IsAmong before after rest fs old new) → a.others ≡ [] → HandlesBatch h before after fs old new (Ok true)
-  among_all before after rest fs old new a none =
-      (a.text, subst (λ xs. Steps h before after xs a.text) (sym (a.parts ∙ ap (λ xs. a.first ++ xs) none ∙ append-nil a.first)) a.handled, a.longer)
+  pub among_failed : (before between after : S) (held : List ℕ) (size count : ℕ) (f : FrameFields) (old mid : List ℕ) → OneMore
+      → IsAmong before between held size old mid → HasFrame (drop size held) f → count ≡ length (frame_bytes f) → (after ≡ between) ⊎ ((text : List ℕ) × h.step between after f text) → HandledSome h before after held
+  among_failed before between after held size count f old mid more a front sized (inl same) =
+      record { frames = a.frames; rest = drop size held; cut = a.cut; text = a.text; handled = subst (λ s. Steps h before s a.frames a.text) (sym same) a.handled }
+  among_failed before between after held size count f old mid more a front sized (inr does) =
+      let all = among_more before between after held size count f old mid (mid ++ does.0) does.0 more a front sized does.1 refl in
+      record { frames = all.frames; rest = drop (size + count) held; cut = all.cut; text = all.text; handled = all.handled }
 
-  pub among_failed : (before between after : S) (rest left : List ℕ) (f : FrameFields) (fs : List FrameFields) (old mid : List ℕ)
-      → (a : IsAmong before between rest fs old mid) → IsNext rest left f a.others → (after ≡ between) ⊎ ((text : List ℕ) × h.step between after f text) → StepsPrefix h before after fs
-  among_failed before between after rest left f fs old mid a next (inl same) =
-      record { first = a.first; others = a.others; parts = a.parts; text = a.text; handled = subst (λ s. Steps h before s a.first a.text) (sym same) a.handled }
-  among_failed before between after rest left f fs old mid a next (inr does) =
-      let more = among_more before between after rest left f fs old mid (mid ++ does.0) does.0 a next does.1 refl in
-      record { first = more.first; others = more.others; parts = more.parts; text = more.text; handled = more.handled }
+  pub among_ends : (before after : S) (held : List ℕ) (size : ℕ) (old new : List ℕ) (next : Next)
+      → IsAmong before after held size old new → IsNext h after size (drop size held) next → HandledFront h before after held old new (record { size = size; next = next })
+  among_ends before after held size old new next a is = record { within = a.within; frames = a.frames; cut = a.cut; text = a.text; handled = a.handled; longer = a.longer; next = is }
 
-  pub among_ends : (before between after : S) (rest left : List ℕ) (f : FrameFields) (fs : List FrameFields) (old mid new : List ℕ)
-      → (a : IsAmong before between rest fs old mid) → IsNext rest left f a.others → h.may_stop between f → after ≡ between → new ≡ mid → StopsAmong h before after fs old new
-  among_ends before between after rest left f fs old mid new a next is same longer = record {
-    first = a.first;
-    last = f;
-    others = next.more;
-    parts = a.parts ∙ ap (λ xs. a.first ++ xs) next.is;
+  -- it is left at the frame behind them
+  pub among_leaves : (before between after : S) (held : List ℕ) (size : ℕ) (f : FrameFields) (old mid new : List ℕ) → OneMore
+      → IsAmong before between held size old mid → HasFrame (drop size held) f → h.may_stop between f → after ≡ between → new ≡ mid → HandledFront h before after held old new (record { size = size; next = Leave })
+  among_leaves before between after held size f old mid new more a front is same longer = record {
+    within = a.within;
+    frames = a.frames;
+    cut = a.cut;
     text = a.text;
-    handled = subst (λ s. Steps h before s a.first a.text) (sym same) a.handled;
-    stopped = subst (λ s. h.may_stop s f) (sym same) is;
+    handled = subst (λ s. Steps h before s a.frames a.text) (sym same) a.handled;
     longer = longer ∙ a.longer;
-  }
+    next = (f, front.rest, one front, subst (λ s. h.may_stop s f) (sym same) is);
+  } where
+    one : (front : HasFrame (drop size held) f) → IsFramesThen (drop size held) (f ∷ []) front.rest
+    one front = more (drop size held) (drop size held) front.rest [] f (record { each = All-nil IsFrame; parts = refl }) front.is front.spelled
 
-  -- ---- what a batch wrote
+  -- ---- behind the frames in front
 
-  pub record Batch (before after : S) (fs : List FrameFields) (old new : List ℕ) : Type 0 where
-    pub first : List FrameFields
-    pub others : List FrameFields
-    pub parts : fs ≡ first ++ others
-    pub text : List ℕ
-    pub handled : Steps h before after first text
-    pub longer : new ≡ old ++ text
+  abbrev pub Joins : Type 0
+  Joins = (bytes held rest : List ℕ) (first more : List FrameFields) → IsFramesThen bytes first held → IsFramesThen held more rest → IsFramesThen bytes (first ++ more) rest
 
-  pub batch_of : (before after : S) (fs : List FrameFields) (old new : List ℕ) (on : Bool) → HandlesBatch h before after fs old new (Ok on) → Batch before after fs old new
-  batch_of before after fs old new true is = record { first = fs; others = []; parts = sym (append-nil fs); text = is.0; handled = is.1; longer = is.2 }
-  batch_of before after fs old new false is = record { first = is.first; others = is.last ∷ is.others; parts = is.parts; text = is.text; handled = is.handled; longer = is.longer }
+  pub front_handled :
+      (start : Start S) (state next : S) (left after later : Option (List ℕ)) (held new : List ℕ) (front : Handled) (reads : ℕ) → Joins
+      → HandledFront h state next held [] new front → Appends after later new → InProgress h start (stage_at state left after) held reads → InProgress h start (stage_at next left later) (drop front.size held) reads
+  front_handled start state next left after later held new front reads joins a written g =
+      handles_more start state next left after later held (drop front.size held) a.frames reads g (joins g.read held _ g.frames a.frames g.cut a.cut) a.text a.handled (subst (Appends after later) a.longer written)
 
-  -- behind the first frames of a batch
-  pub behind : (start : Start S) (state : S) (left after : Option (List ℕ)) (held rest : List ℕ) (fs first others : List FrameFields) (reads : ℕ)
-      → ((bytes held rest : List ℕ) (first more : List FrameFields) → IsFramesThen bytes first held → IsFramesThen held more rest → IsFramesThen bytes (first ++ more) rest)
-      → (g : InProgress h start state left after held reads) → IsFramesThen held fs rest → fs ≡ first ++ others → IsFramesThen g.read (g.frames ++ first) (flat_map frame_bytes others ++ rest)
-  behind start state left after held rest fs first others reads more g cut parts =
-      more g.read held _ g.frames first g.cut (first_of_them held rest first others (subst (λ xs. IsFramesThen held xs rest) parts cut))
+  pub front_unwritten :
+      (start : Start S) (state next : S) (left after later : Option (List ℕ)) (held new : List ℕ) (front : Handled) (reads : ℕ) → Joins
+      → HandledFront h state next held [] new front → WroteBeginning after later new → InProgress h start (stage_at state left after) held reads → HandledPrefix h start (stage_at next left later)
+  front_unwritten start state next left after later held new front reads joins a wrote g =
+      some_written start state next left after later held (drop front.size held) a.frames reads g (joins g.read held _ g.frames a.frames g.cut a.cut) a.text a.handled (subst (WroteBeginning after later) a.longer wrote)
+
+  pub some_handled :
+      (start : Start S) (state next : S) (left after : Option (List ℕ)) (held : List ℕ) (reads : ℕ) → Joins
+      → HandledSome h state next held → InProgress h start (stage_at state left after) held reads → HandledPrefix h start (stage_at next left after)
+  some_handled start state next left after held reads joins a g =
+      some_written start state next left after after held a.rest a.frames reads g (joins g.read held a.rest g.frames a.frames g.cut a.cut) a.text a.handled (none_written after a.text)
+
+  pub front_left :
+      (start : Start S) (state next : S) (left after later : Option (List ℕ)) (held new : List ℕ) (front : Handled) (reads : ℕ) → Joins
+      → HandledFront h state next held [] new front → front.next ≡ Leave → Appends after later new → InProgress h start (stage_at state left after) held reads → HandledUpTo h start (stage_at next left later)
+  front_left start state next left after later held new front reads joins a is written g =
+      let last : IsNext h next front.size (drop front.size held) Leave = subst (IsNext h next front.size (drop front.size held)) is a.next in
+      stops start state next left after later held last.1 a.frames last.0 reads g
+      (joins g.read held last.1 g.frames (a.frames ++ last.0 ∷ []) g.cut (joins held (drop front.size held) last.1 a.frames (last.0 ∷ []) a.cut last.2)) a.text a.handled last.3 (subst (Appends after later) a.longer written)

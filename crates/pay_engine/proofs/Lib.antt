@@ -1,3 +1,2 @@
 pub mod Handlings
-pub mod Fronts
 pub mod Exactly

@@ -10,7 +10,7 @@ use Rattle.pay_frame.specs.declared.fault.FrameFault.{FrameFault}
 use Rattle.pay_io.specs.Device.{WroteBeginning}
 use Rattle.pay_frame.specs.Frame.{FrameFields, IsFrame}
 use Rattle.pay_frame.specs.Stream.{IsBytes, IsFramesThen, IsStream}
-use Rattle.pay_engine.specs.Handling.{Handling, never, Start}
+use Rattle.pay_engine.specs.Handling.{Handling, never, Stage, Start}
 
 -- What a frame makes of a state, and its text; and the text of the fault that ends a stream.
 pub record Function (S : Type 0) : Type 0 where
@@ -58,11 +58,11 @@ pub record IsText {S : Type 0} (h : Function S) (first : List ℕ) (old new : S)
 
 -- the text of all the input is written, and the input ends so
 abbrev pub WritesText :
-    {S : Type 0} → Function S → Start S → S → Option (List ℕ) → Option FrameFault → Type 0
-WritesText h start new after ending =
+    {S : Type 0} → Function S → Start S → Stage S → Option FrameFault → Type 0
+WritesText h start stage ending =
     IfSome start.input (λ bytes.
-    (text : List ℕ) × IsText h start.first start.state new bytes text ending
-    × Appends start.before after text)
+    (text : List ℕ) × IsText h start.first start.state stage.state bytes text ending
+    × Appends start.before stage.after text)
 
 -- these bytes have a text, and a beginning of it is written
 pub record BeginsText {S : Type 0} (h : Function S) (start : Start S) (after : Option (List ℕ))
@@ -81,14 +81,13 @@ WritesBeginning h start after =
 -- What is written, by how it ended: the whole text at the input's end, or up to the fault in what
 -- was read; else a beginning of it.
 abbrev pub Writes :
-    {S : Type 0} → Function S → Start S → S → Option (List ℕ) → Option (List ℕ)
-    → Result ⊤ EngineFault → Type 0
-Writes h start new left after (Ok _) = WritesText h start new after None × IsAtEnd left
-Writes h start new left after (Err (Frame fault)) = WritesText h start new after (Some fault)
-Writes h start new left after (Err Memory) = WritesBeginning h start after
-Writes h start new left after (Err Read) = WritesBeginning h start after
-Writes h start new left after (Err Write) = WritesBeginning h start after
-Writes h start new left after (Err Bound) = WritesBeginning h start after
+    {S : Type 0} → Function S → Start S → Stage S → Result ⊤ EngineFault → Type 0
+Writes h start stage (Ok _) = WritesText h start stage None × IsAtEnd stage.left
+Writes h start stage (Err (Frame fault)) = WritesText h start stage (Some fault)
+Writes h start stage (Err Memory) = WritesBeginning h start stage.after
+Writes h start stage (Err Read) = WritesBeginning h start stage.after
+Writes h start stage (Err Write) = WritesBeginning h start stage.after
+Writes h start stage (Err Bound) = WritesBeginning h start stage.after
 
 -- The state is the one after some frames, which the input begins with.
 pub record TakesFrames {S : Type 0} (h : Function S) (start : Start S) (new : S) : Type 0 where

@@ -26,6 +26,7 @@ pub enum EngineFault {
 impl EngineFault {
     ghost use Rattle.pay_engine.specs.EngineFault.{engine_number, engine_name};
 
+    // promise: order of refusals (number, name)
     const fn entry(self) -> (u8, &'static str)
         ensures number { result.0 ≡ engine_number self }
         ensures name { result.1.now ≡ engine_name self }

@@ -1,12 +1,32 @@
-ghost use Rattle.std.specs.Prelude.{◌≡◌, ◌+◌, ◌++◌, ◌<◌, ◌≤◌, ℕ, List, [], OnOk, length};
+ghost use Rattle.std.specs.Prelude.{◌≡◌, ◌+◌, ◌++◌, ◌≤◌, ℕ, List, OnOk, length};
 ghost use Rattle.pay_frame.specs.Frame.{FrameFields};
 ghost use Rattle.pay_frame.specs.Lent.{fields_of};
-ghost use Rattle.pay_frame.specs.Stream.{IsFramesThen};
-ghost use Rattle.pay_engine.specs.Handling.{Handling, HandlesBatch, HandlesOne};
+ghost use Rattle.pay_engine.specs.Handling.{Handling, HandlesFront, HandlesOne};
 
 use crate::limits::GREATEST_READ;
-use pay_frame::{CUTTER_ROOM, FrameFault, FrameRef, frame_sizes, read, read_again};
+use pay_frame::{CUTTER_ROOM, FrameFault, FrameRef, frame_sizes, read, stream_grows};
 use std::alloc::{AllocError, Global};
+
+/// What stands behind the frames that were handled.
+#[derive(Clone, Copy, Debug, PartialEq, Eq)]
+pub enum Next {
+    /// A frame, before which the texts are written.
+    Frame,
+    /// No whole frame.
+    Partial,
+    /// Bytes with this fault.
+    Fault(FrameFault),
+    /// A frame at which the stream is left.
+    Leave,
+}
+
+/// How far the frames in front of held bytes were handled.
+#[derive(Clone, Copy, Debug, PartialEq, Eq)]
+pub struct Handled {
+    /// How many bytes the frames have.
+    pub size: usize,
+    pub next: Next,
+}
 
 /// What is done with the frames of a stream.
 pub trait FrameHandler<S> {
@@ -15,10 +35,10 @@ pub trait FrameHandler<S> {
     // Whether the state allows this many further frames.
     ghost has_room: { Self → S → ℕ → Type 0 };
 
-    /// How many of the frames that the held bytes begin with are handled at most before their texts
-    /// are written.
-    fn at_once(&self, held: &[u8]) -> usize
-        ensures some { 0 < result };
+    /// Whether a frame may be handled while so many bytes of texts wait to be written.
+    fn goes_along(&self, _state: &S, _waiting: usize, _frame: &FrameRef<'_>) -> bool {
+        true
+    }
 
     /// How many bytes are held at most, so that a read gives no more.
     fn buffer_size(&self) -> usize
@@ -41,36 +61,50 @@ pub trait FrameHandler<S> {
         ensures handles { HandlesOne (handling self.now) state.old state.new
             (fields_of frame.entry) out.old.items out.new.items result };
 
-    /// Handles the frames that the bytes are, and appends their texts to `out`.
-    /// Returns whether the stream goes on. They are handled one after the other, where a handler
-    /// has no better way.
-    fn handle_batch(
+    /// Handles the frames that the held bytes begin with, and appends their texts to `out`: all, or
+    /// those before one for which the texts are to be written first, or at which the stream is
+    /// left. Returns how many bytes they have, and what follows them.
+    // promise: handled once (handles)
+    fn handle_front(
         &self,
         alloc: Global,
         state: &mut S,
-        frames: &[u8],
+        held: &[u8],
         out: &mut Vec<u8>,
-    ) -> Result<bool, AllocError>
-        requires room { (n : ℕ) → n ≤ length frames.now → has_room self.now state.old n }
-        requires whole { (fs : List FrameFields) × IsFramesThen frames.now fs [] }
-        ensures handles { (fs : List FrameFields) → IsFramesThen frames.now fs []
-            → HandlesBatch (handling self.now) state.old state.new fs
-            out.old.items out.new.items result }
+    ) -> Result<Handled, AllocError>
+        requires room { (n : ℕ) → n ≤ length held.now → has_room self.now state.old n }
+        ensures handles { HandlesFront (handling self.now) state.old state.new
+            held.now out.old.items out.new.items result }
     {
         // laws that the proof stands on: the calls do nothing
         frame_sizes();
-        read_again();
-        let mut rest = frames;
+        stream_grows();
+        let mut size = 0;
         'frames: loop {
-            match read(rest) {
-                Ok(Some((frame, size))) => {
-                    if !self.handle(alloc, state, frame, out)? {
-                        return Ok(false);
+            match read(&held[size..]) {
+                Ok(Some((frame, length))) => {
+                    if size > 0 && !self.goes_along(state, out.len(), &frame) {
+                        return Ok(Handled {
+                            size,
+                            next: Next::Frame,
+                        });
                     }
-                    rest = &rest[size..];
+                    if !self.handle(alloc, state, frame, out)? {
+                        return Ok(Handled {
+                            size,
+                            next: Next::Leave,
+                        });
+                    }
+                    size += length;
                 }
-                Ok(None) => return Ok(true),
-                Err(_) => return Ok(true),
+                Ok(None) => return Ok(Handled {
+                    size,
+                    next: Next::Partial,
+                }),
+                Err(fault) => return Ok(Handled {
+                    size,
+                    next: Next::Fault(fault),
+                }),
             }
         }
     }

@@ -1,23 +1,24 @@
 //! Laws of the definitions alone. Each body does nothing but name the laws that it stands on: the
 //! contract is the law.
 
-ghost use Rattle.std.specs.Prelude.{◌≡◌, ℕ, List, Option, Result, ⊤};
+ghost use Rattle.std.specs.Prelude.{◌≡◌, Result, ⊤};
 ghost use Rattle.pay_engine.specs.declared.engine_fault.EngineFault.{EngineFault};
 ghost use Rattle.pay_engine.specs.EngineFault.{engine_entry, engine_of};
 ghost use Rattle.pay_io.specs.StreamFault.{stream_entry};
 ghost use Rattle.pay_io.specs.declared.stream_fault.StreamFault.{StreamFault};
-ghost use Rattle.pay_engine.specs.Handling.{HasHandled, Start};
+ghost use Rattle.pay_engine.specs.Handling.{HasHandled, Stage, Start};
 ghost use Rattle.pay_engine.specs.Exact.{Function, TakesFrames, Writes, exactly};
 
 /// Where what is made of a frame is a function of the state, the text written is that of the bytes
 /// read, and the state the one after their frames.
+// promise: handled once
 pub fn exact_text<S>()
-    ensures text { (h : Function S) (start : Start S) (new : S) (left after : Option (List ℕ))
-        (result : Result ⊤ EngineFault) → HasHandled (exactly h) start new left after result
-        → Writes h start new left after result }
-    ensures took { (h : Function S) (start : Start S) (new : S) (left after : Option (List ℕ))
-        (result : Result ⊤ EngineFault) → HasHandled (exactly h) start new left after result
-        → TakesFrames h start new }
+    ensures text { (h : Function S) (start : Start S) (stage : Stage S)
+        (result : Result ⊤ EngineFault) → HasHandled (exactly h) start stage result
+        → Writes h start stage result }
+    ensures took { (h : Function S) (start : Start S) (stage : Stage S)
+        (result : Result ⊤ EngineFault) → HasHandled (exactly h) start stage result
+        → TakesFrames h start stage.state }
 {
     pay_frame::every_stream();
     pay_frame::stream_goes_on();

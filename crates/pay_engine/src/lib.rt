@@ -16,7 +16,7 @@ mod limits;
 mod stream;
 
 pub use engine_fault::EngineFault;
-pub use frame_handler::FrameHandler;
+pub use frame_handler::{FrameHandler, Handled, Next};
 pub use laws::{exact_text, faults_keep_their_names};
 pub use limits::GREATEST_READ;
 pub use stream::handle_stream;

@@ -5,6 +5,8 @@ use Rattle.pay_frame.specs.declared.fault.FrameFault.TheVariants.{BadLength, Bad
 use Rattle.pay_frame.specs.declared.fault.FrameFault.TheVariants.{BadValueLength, BadSeq, BadWant}
 use Rattle.pay_frame.specs.declared.fault.FrameFault.TheVariants.{Truncated, Trailing}
 
+-- change: a fault of a frame, as `BadKind`: `specs/Reading.antt`; models `examples/frames.py`,
+--   `tests/models/damage.py`
 abbrev pub fault_entry : FrameFault → ℕ × List ℕ
 fault_entry BadLength = (1, codes "BadLength")
 fault_entry BadVersion = (2, codes "BadVersion")

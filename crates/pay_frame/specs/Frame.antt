@@ -64,6 +64,7 @@ pub record IsBody (body : BodyFields) : Type 0 where
 
 -- the limits of a frame. Its value and tag are lists of numbers here: where they stand in a slice
 -- each is a byte.
+-- term: frame: one message from one member to one other, with a tag
 pub record IsFrame (f : FrameFields) : Type 0 where
   pub from : f.from < 2 ^ 16
   pub to : f.to < 2 ^ 16

@@ -6,6 +6,7 @@ use crate::kind::Kind;
 use std::alloc::{AllocError, Global};
 use std::marker::Model;
 
+// term: body: a frame's kind, owner, seq and value
 /// A frame's message without its addresses: its kind, the broadcast that it belongs to (owner and
 /// sequence number) and a value.
 ///
@@ -54,6 +55,7 @@ impl Body {
         self.owner
     }
 
+    // promise: one reading (limits)
     pub fn seq(&self) -> u32
         ensures value { result ≡ self.now.seq }
         ensures limits { IsBody self.now }
@@ -61,6 +63,7 @@ impl Body {
         self.seq
     }
 
+    // promise: one reading (limits)
     pub fn value(&self) -> &[u8]
         ensures value { result.now ≡ self.now.value }
         ensures limits { IsBody self.now }

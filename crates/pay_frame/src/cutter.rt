@@ -6,6 +6,7 @@ use pay_io::SlidingBuffer;
 use std::alloc::{AllocError, Global};
 use std::marker::Model;
 
+// term: cutter: what cuts a stream into frames, or a text into lines, as its bytes come
 /// Splits a stream of bytes into frames, however the stream is cut into pieces.
 ///
 /// It buffers at most `CUTTER_ROOM` bytes. `new` allocates the buffer, and no later call allocates.
@@ -43,6 +44,7 @@ impl Cutter {
     ghost use Rattle.pay_frame.specs.Passing.{Passes};
 
     /// An empty cutter. This is the only call that allocates.
+    // promise: one stream
     pub fn new(alloc: Global) -> Result<Cutter, AllocError>
         ensures empty { IfOk result (λ cutter. cutter ≡ nothing_held) }
     {
@@ -54,6 +56,7 @@ impl Cutter {
 
     /// Buffers as much of the piece as fits, and returns how many bytes that is: none after `next`
     /// returned a fault.
+    // promise: memory; one stream
     pub fn feed(&mut self, piece: &[u8]) -> usize
         ensures feeds { Feeds self.old self.new piece.now result }
     {
@@ -65,6 +68,7 @@ impl Cutter {
 
     /// Removes and returns the next frame of the stream, if it is complete. Once it has returned a
     /// fault, every later call of `next` and `end` returns the same one.
+    // promise: memory; one stream
     pub fn next(&mut self) -> Result<Option<FrameRef<'_>>, FrameFault>
         ensures* hands_out { sem 𝓛 (follows_so the_row the_row
             self.entry.ghost_name none (λ _ _. ⊤)
@@ -79,6 +83,7 @@ impl Cutter {
 
     /// Removes the complete frames in front, at most `most` of them, and returns their count, as
     /// that many calls of `next` would. `given_bytes` lends their bytes.
+    // promise: memory; one stream
     pub fn pass_frames(&mut self, most: usize) -> Result<usize, FrameFault>
         requires most { 0 < most }
         ensures passes { IfOk result (PassesFrames self.old self.new most) }
@@ -100,6 +105,7 @@ impl Cutter {
     }
 
     /// The bytes of the frames that were removed last.
+    // promise: one stream
     pub fn given_bytes(&self) -> &[u8]
         ensures { result.now ≡ self.now.given }
     {
@@ -108,6 +114,7 @@ impl Cutter {
 
     /// Whether the stream may end here, with no complete frame in front: `Ok` if nothing is
     /// buffered, else the fault of the buffered bytes, or `Truncated`.
+    // promise: memory; one stream
     pub fn end(&self) -> Result<(), FrameFault>
         requires drained { IsDrained self.now.bytes }
         ensures ends { EndsWith self.now result }

@@ -26,6 +26,7 @@ pub enum FrameFault {
 }
 
 impl FrameFault {
+    // promise: order of refusals (number, name)
     const fn entry(self) -> (u8, &'static str)
         ensures number { result.0 ≡ fault_number self }
         ensures name { result.1.now ≡ name_of self }

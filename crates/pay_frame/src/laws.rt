@@ -15,30 +15,35 @@ ghost use Rattle.pay_frame.specs.Cutting.{IsDrained};
 ghost use Rattle.std.specs.List.{flat_map};
 
 /// Encoding is injective: equal bytes encode equal fields.
+// promise: one reading
 pub fn one_spelling()
     ensures law { (f g : FrameFields) → IsFrame f → IsFrame g →
         frame_bytes f ≡ frame_bytes g → f ≡ g }
 {}
 
 /// No frame is a proper prefix of another.
+// promise: one reading
 pub fn none_begins_another()
     ensures law { (f g : FrameFields) (rest : List ℕ) → IsFrame f → IsFrame g →
         frame_bytes g ≡ frame_bytes f ++ rest → rest ≡ [] }
 {}
 
 /// At most one frame is a prefix of any bytes, and it determines the rest.
+// promise: one reading
 pub fn one_front()
     ensures law { (f g : FrameFields) (x y : List ℕ) → IsFrame f → IsFrame g →
         frame_bytes f ++ x ≡ frame_bytes g ++ y → (f ≡ g) × (x ≡ y) }
 {}
 
 /// Bytes have at most one reading: a frame, a proper prefix and each fault exclude one another.
+// promise: one reading
 pub fn one_reading()
     ensures law { (bytes : List ℕ) (one other : Result (Option (FrameFields × ℕ)) Fault) →
         IsReading bytes one → IsReading bytes other → one ≡ other }
 {}
 
 /// An encoded frame is read back, whatever follows it.
+// promise: one reading
 pub fn read_again()
     ensures law { (f : FrameFields) (rest : List ℕ)
         (answer : Result (Option (FrameFields × ℕ)) Fault) → IsFrame f →
@@ -55,6 +60,7 @@ pub fn stream_is_frames_and_rest()
 /// Two cutters that took the same bytes, in whatever pieces and with whatever calls of `next`
 /// between them, have returned the same frames and hold the same bytes once neither has a complete
 /// frame.
+// promise: one stream
 pub fn cuts_do_not_matter()
     ensures law { (one two : List CutterCall) (a b : Held) →
         Runs nothing_held one a → Runs nothing_held two b →
@@ -63,6 +69,7 @@ pub fn cuts_do_not_matter()
 {}
 
 /// The fault of bytes is one of the first six, so never `Truncated` or `Trailing`.
+// promise: one reading
 pub fn faults_of_bytes()
     ensures law { (bytes : List ℕ) (fault : Fault) → IsFault bytes fault → fault_number fault ≤ 6 }
 {}
@@ -73,6 +80,7 @@ pub fn nothing_is_a_beginning()
 {}
 
 /// Reading bytes as one frame has exactly one answer.
+// promise: one reading
 pub fn one_answer()
     ensures unique { (bytes : List ℕ) (one other : Result FrameFields Fault) →
         IsOneReading bytes one → IsOneReading bytes other → one ≡ other }
@@ -81,6 +89,7 @@ pub fn one_answer()
 {}
 
 /// `one_frame` computes the frame that the bytes are, if they are one frame and nothing else.
+// promise: one reading
 pub fn one_frame_is()
     ensures law { (bytes : List ℕ) (f : FrameFields) →
         (one_frame bytes ≡ Some f) ↔ IsOneFrame bytes f }

@@ -23,6 +23,7 @@ const WANT: u8 = 4;
 /// Decodes the frame in front of the bytes, and returns it with its size, or `None` where the bytes
 /// are a proper prefix of some frame, as no bytes at all are. Otherwise the first wrong byte names
 /// the fault, which is never `Truncated` or `Trailing`.
+// promise: order of refusals; memory; one reading
 pub fn read(bytes: &[u8]) -> Result<Option<(FrameRef<'_>, usize)>, FrameFault>
     ensures reading { IsReading bytes.now (sized_of result) }
 {
@@ -34,6 +35,7 @@ pub fn read(bytes: &[u8]) -> Result<Option<(FrameRef<'_>, usize)>, FrameFault>
 
 /// Decodes bytes that are one frame and nothing else: `Truncated` where they end inside it,
 /// `Trailing` where more bytes follow it, else `read`'s fault.
+// promise: memory; one reading
 pub fn read_one(bytes: &[u8]) -> Result<FrameRef<'_>, FrameFault>
     ensures one { IsOneReading bytes.now (one_of result) }
 {

@@ -13,17 +13,20 @@ ghost use Rattle.pay_frame.specs.Stream.{Parts, stream_end};
 use crate::limits::{GREATEST_FRAME, LEAST_LENGTH};
 
 /// Any bytes read in one of the three ways: as a frame, as the beginning of one, or as a fault.
+// promise: one reading
 pub fn every_reading()
     ensures law { (bytes : List ℕ) → IsBytes bytes
         → (answer : Result (Option (FrameFields × ℕ)) Fault) × IsReading bytes answer }
 {}
 
 /// Any bytes are a stream: some frames, and an end.
+// promise: one stream
 pub fn every_stream()
     ensures law { EveryStream }
 {}
 
 /// Bytes are one stream: its frames and its end depend on the bytes alone.
+// promise: one stream
 pub fn one_stream()
     ensures frames { (bytes : List ℕ) (one two : List FrameFields) (a b : Option Fault)
         → IsStream bytes one a → IsStream bytes two b → one ≡ two }
@@ -53,6 +56,7 @@ pub fn stream_goes_on()
 {}
 
 /// A fault ends a stream, whatever comes after it.
+// promise: one stream
 pub fn fault_is_for_good()
     ensures fault { (bytes more : List ℕ) (fault : Fault)
         → IsFault bytes fault → IsFault (bytes ++ more) fault }
@@ -64,6 +68,7 @@ pub fn fault_is_for_good()
 /// After each call of a cutter, what it was fed is the frames that it handed out and then what it
 /// holds. Its first fault is one of what it holds, and what it answers at the end is the stream's
 /// end.
+// promise: one stream
 pub fn cutter_follows_stream()
     ensures feed { (old new : Held) (piece read : List ℕ) (taken : ℕ) (frames : List FrameFields)
         → Feeds old new piece taken → IsFramesThen read frames old.bytes

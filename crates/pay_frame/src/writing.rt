@@ -8,6 +8,7 @@ use std::alloc::{AllocError, Global};
 const VERSION: u8 = 1;
 
 /// Encodes a frame's head, the bytes before its value.
+// promise: memory; one reading
 pub fn head_into(head: &mut [u8; 24], from: u16, to: u16, number: u64, body: &Body)
     ensures spelled { head.new ≡ head_bytes from to number body.now }
 {
@@ -48,6 +49,7 @@ pub fn head_into(head: &mut [u8; 24], from: u16, to: u16, number: u64, body: &Bo
 }
 
 /// Encodes a frame.
+// promise: one reading
 pub fn write(
     alloc: Global,
     from: u16,

@@ -25,6 +25,7 @@ impl Tagger for HmacSha256 {
 }
 
 /// The tag of `text` under a key of any length.
+// promise: memory; tags
 pub fn mac(key: &[u8], text: &[u8]) -> [u8; 32]
     ensures { result ≡ mac key.now text.now }
 {

@@ -8,18 +8,21 @@ ghost use Rattle.sha2.specs.Sha256.{sha256};
 
 /// The definition gives two of the tags that RFC 4231 publishes, one for a key shorter than a block
 /// and one for a longer key.
+// promise: tags
 pub fn published_tags()
     ensures short_key { mac case_2_key case_2_text ≡ case_2_tag }
     ensures long_key { mac case_6_key case_6_text ≡ case_6_tag }
 {}
 
 /// A key longer than a block tags as its digest does.
+// promise: tags
 pub fn long_key()
     ensures { (key text : List ℕ) → block_bytes < length key
         → mac key text ≡ mac (sha256 key) text }
 {}
 
 /// Every tag has 32 bytes.
+// promise: tags
 pub fn tag_length()
     ensures { (key text : List ℕ) → length (mac key text) ≡ 32 }
 {}

@@ -25,6 +25,7 @@ impl Model for PreparedHmac {
 
 impl PreparedHmac {
     /// A tagger with these keys prepared.
+    // promise: tags
     pub fn new(alloc: Global, keys: &[[u8; 32]]) -> Result<PreparedHmac, AllocError>
         ensures { IfOk result (λ tagger. tagger ≡ keys.now) }
     {

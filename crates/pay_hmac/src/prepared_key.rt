@@ -28,6 +28,7 @@ impl Model for PreparedKey {
 
 impl PreparedKey {
     /// Hashes the key's two pads.
+    // promise: tags
     pub fn new(bytes: &[u8; 32]) -> PreparedKey
         ensures { result ≡ bytes.now }
     {
@@ -40,14 +41,17 @@ impl PreparedKey {
     }
 
     /// Whether it was prepared from these bytes.
+    // promise: tags
     pub fn is_for(&self, bytes: &[u8; 32]) -> bool
         ensures { IsTrue result ↔ (self.now ≡ bytes.now) }
     {
-        self.bytes == *bytes
+        // (most other keys have another first byte, which is cheaper to see)
+        self.bytes[0] == bytes[0] && self.bytes == *bytes
     }
 
     /// The tag of the text whose first part is `head` and whose second is `rest`.
     #[tactic(auto, unfolding(crate::specs::Mac::mac, crate::specs::Mac::inner_digest))]
+    // promise: tags
     pub fn tag(&self, head: &[u8], rest: &[u8]) -> [u8; 32]
         ensures { result ≡ mac self.now (head.now ++ rest.now) }
     {

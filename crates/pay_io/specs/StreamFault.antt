@@ -3,6 +3,9 @@ use Rattle.std.specs.Prelude.{ℕ, List, ◌++◌, codes, decimal}
 use Rattle.pay_io.specs.declared.stream_fault.StreamFault.{StreamFault}
 use Rattle.pay_io.specs.declared.stream_fault.StreamFault.TheVariants.{Memory, Read, Write, Bound}
 
+-- change: a fault of a device, as `Read`: `specs/Counts.antt`; engines:
+--   `pay_engine/specs/Handling.antt`, `pay_text/specs/Engine.antt`; its status in
+--   `payd/src/stop.rt`; `tests/test_hostile.py`
 abbrev pub stream_entry : StreamFault → ℕ × List ℕ
 stream_entry Memory = (0, codes "Memory")
 stream_entry Read = (2, codes "Read")

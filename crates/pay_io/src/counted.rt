@@ -23,6 +23,7 @@ pub type Reader<R> = Counted<R>;
 pub type Writer<W> = Counted<W>;
 
 impl<D> Counted<D> {
+    // promise: known bytes (inner)
     pub fn new(inner: D) -> Counted<D>
         ensures inner { result.inner ≡ inner }
         ensures calls { result.calls ≡ 0 }

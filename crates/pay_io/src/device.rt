@@ -23,6 +23,7 @@ pub trait Input {
 
     /// Fills a prefix of the buffer and returns its length. Into a buffer with room it reads
     /// nothing only at the end of the input.
+    // promise: failing devices (called, failed); known bytes (bound, bytes)
     fn read(&mut self, buffer: &mut [u8]) -> Result<usize, DeviceFailed>
         ensures bound { ReadsAtMost result buffer.new }
         ensures bytes { ReadConsumes (remaining self.old) (remaining self.new) result buffer.new }
@@ -49,6 +50,7 @@ pub trait Output {
 
     /// Writes a prefix of the bytes and returns its length. Writing nothing of a non-empty slice is
     /// a failure.
+    // promise: failing devices (some, called, failed); known bytes (bound, bytes)
     fn write(&mut self, bytes: &[u8]) -> Result<usize, DeviceFailed>
         ensures bound { WritesAtMost result bytes.now }
         ensures some { IfOk result (λ count. 0 < length bytes.now → 0 < count) }
@@ -66,6 +68,7 @@ pub trait Output {
 }
 
 /// Writes all the bytes. After a failure, a prefix of them has been written.
+// promise: failing devices (ok, none_failed, beginning, failed)
 pub fn write_all<W: Output>(writer: &mut W, bytes: &[u8]) -> Result<(), DeviceFailed>
     ensures ok { OnOk result (Appends (W.contents writer.old) (W.contents writer.new) bytes.now) }
     ensures none_failed { OnOk result (W.failure_count writer.new ≡ W.failure_count writer.old) }

@@ -5,6 +5,7 @@ use std::alloc::{AllocError, AllocFailed};
 use std::fmt;
 use thiserror::Error;
 
+// `run_desk` and `run_sim` answer `StreamFault`, since they meet no frame's fault.
 /// Why what reads an `Input` and writes an `Output` ended early.
 #[derive(Clone, Copy, Debug, PartialEq, Eq, Error)]
 pub enum StreamFault {
@@ -21,6 +22,7 @@ pub enum StreamFault {
 impl StreamFault {
     ghost use Rattle.pay_io.specs.StreamFault.{stream_number, stream_name};
 
+    // promise: order of refusals (number, name)
     const fn entry(self) -> (u8, &'static str)
         ensures number { result.0 ≡ stream_number self }
         ensures name { result.1.now ≡ stream_name self }

@@ -6,6 +6,7 @@ use crate::device::{Output, write_all};
 use crate::stream_fault::StreamFault;
 
 /// Writes a whole text. After a failure, a prefix of it has been written.
+// promise: failing devices (ok, none_failed, beginning, failed)
 pub fn write_text<W: Output>(writer: &mut W, text: &[u8]) -> Result<(), StreamFault>
     ensures ok { OnOk result (Appends (W.contents writer.old) (W.contents writer.new) text.now) }
     ensures none_failed { OnOk result (W.failure_count writer.new ≡ W.failure_count writer.old) }

@@ -7,6 +7,9 @@ use Rattle.pay_link.specs.declared.keys_fault.KeysFault.TheVariants as keys
 use Rattle.pay_link.specs.declared.link_fault.LinkFault.{LinkFault}
 use Rattle.pay_link.specs.declared.link_fault.LinkFault.TheVariants as link
 
+-- change: a refusal of a frame, as `BadTag`: `specs/Opening.antt`; whether a connection goes
+--   on: `pay_peers/specs/Ahead.antt`, `specs/Answering.antt`; models
+--   `tests/models/model.py`, `tests/models/damage.py`
 abbrev pub genesis_fault_entry : GenesisFault → ℕ × List ℕ
 genesis_fault_entry genesis.Memory = (0, codes "Memory")
 genesis_fault_entry genesis.BadJson = (1, codes "BadJson")

@@ -4,6 +4,7 @@ use Rattle.pay_link.specs.declared.link_fault.LinkFault.{LinkFault}
 use Rattle.pay_link.specs.declared.link_fault.LinkFault.TheVariants.{Gap, Repeat}
 
 -- whether a number is the next one: a lower one was taken before, a higher one leaves a gap
+-- page: `turn`: a number is the next one, lower or higher: "no duplication" of the book's links
 abbrev pub turn : ℕ → ℕ → Result ⊤ LinkFault
 turn next number =
     if number == next then Ok tt

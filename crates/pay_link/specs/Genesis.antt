@@ -14,6 +14,8 @@ pub record GenesisFields : Type 0 where
   pub opening : List ℕ
 
 -- the limits of a genesis
+-- page: `IsGenesis`: the limits, of which N > 3f is the book's bound for Byzantine broadcast
+--   (chapter 3)
 pub record IsGenesis (g : GenesisFields) : Type 0 where
   pub some : 1 ≤ g.members
   pub few : g.members ≤ MOST_MEMBERS

@@ -10,6 +10,8 @@ use Rattle.serde_json.specs.Find.{as_array, as_number, as_str, as_u64, get}
 use Rattle.serde_json.specs.Read.{read}
 
 -- the value of bytes that are UTF-8 and a text of JSON
+-- page: `value_in`, `key_in`: the value of bytes that are UTF-8 and JSON, by the grammar of
+--   `serde_json` within that crate's limits; the 32 bytes of 64 digits, as `hex` reads them
 unfoldable pub value_in : List ℕ → Option Data
 value_in bytes = if is_utf8 bytes then read bytes else None
 

@@ -17,6 +17,7 @@ abbrev pub no_key : List ℕ
 no_key = replicate 32 0
 
 -- the limits of a member's keys
+-- page: `IsKeys`, `key_for`: a member and its keys, one for each pair as in the book
 pub record IsKeys (k : KeyFields) : Type 0 where
   pub own : k.own < length k.keys
   pub few : length k.keys ≤ MOST_MEMBERS

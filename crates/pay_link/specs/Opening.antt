@@ -49,6 +49,7 @@ if_tagged k f =
     if bytes_eq f.tag (right_tag (key_for k f.from) f) then Ok (opened_fields k f) else Err BadTag
 
 -- the first cause of refusal that holds, or the opened frame
+-- page: `judgement`, `Opens`: the first of four causes to refuse a frame, or that it opens
 unfoldable pub judgement : KeyFields → FrameFields → Result OpenedFields LinkFault
 judgement k f =
     if f.to == k.own

@@ -6,6 +6,8 @@ use Rattle.pay_hmac.specs.Mac.{mac}
 use Rattle.pay_link.specs.Keys.{KeyFields, key_for}
 
 -- what the tag of a frame is over: all bytes that stand before it
+-- page: `tagged_bytes`, `sealed_frame`: a tag is over all bytes before it, where the book's covers
+--   sender, receiver and message; the rightly tagged frame of a body for a peer
 unfoldable pub tagged_bytes : ℕ → ℕ → ℕ → BodyFields → List ℕ
 tagged_bytes from to number body = head_bytes from to number body ++ body.value
 

@@ -8,6 +8,9 @@ use std::alloc::{AllocError, Global};
 use std::marker::Model;
 use std::sync::Arc;
 
+// A stored frame is a `Checked`, so a history itself says that its frames are rightly tagged.
+// Copies share it, so it is there once, and `Checked::copy` takes no allocator.
+// term: owned: of a frame: kept by itself, with the key that it was opened under
 /// A frame by itself that was opened, with the key that it was opened under. Copies share it.
 ///
 /// Its type keeps that the frame is within its limits, that its tag is right under that key, and
@@ -56,6 +59,7 @@ impl Checked {
         self.parts.number()
     }
 
+    // promise: owned frames
     pub fn body(&self) -> &Body
         ensures value { result.now ≡ self.now.frame.body }
         ensures limits { IsChecked self.now }
@@ -63,6 +67,7 @@ impl Checked {
         self.parts.body()
     }
 
+    // promise: owned frames
     pub fn tag(&self) -> &[u8; TAG_LEN]
         ensures value { result.now ≡ self.now.frame.tag }
         ensures limits { IsChecked self.now }
@@ -71,6 +76,7 @@ impl Checked {
     }
 
     /// The key that sender and receiver share.
+    // promise: owned frames
     pub fn key(&self) -> &[u8; 32]
         ensures value { result.now ≡ self.now.key }
         ensures limits { IsChecked self.now }
@@ -79,6 +85,7 @@ impl Checked {
     }
 
     /// Whether it is for the member with these keys, and was opened under the right one of them.
+    // promise: owned frames
     pub fn is_for(&self, keys: &Keys) -> bool
         ensures { IsTrue result ↔ IsFor keys.now self.now }
     {
@@ -89,6 +96,7 @@ impl Checked {
     }
 
     /// The same frame under the same key, shared with this one.
+    // promise: owned frames
     pub fn copy(&self) -> Result<Checked, AllocError>
         ensures { IfOk result (λ copy. copy ≡ self.now) }
     {

@@ -23,6 +23,7 @@ impl Model for Fronts {
 
 impl Fronts {
     /// Nothing was taken from anyone.
+    // promise: numbers in turn
     pub fn new(alloc: Global, members: u16) -> Result<Fronts, AllocError>
         ensures { IfOk result (λ fronts. fronts ≡ replicate members 0) }
     {
@@ -39,6 +40,7 @@ impl Fronts {
     }
 
     /// Whether this is the next number from a member.
+    // promise: memory; numbers in turn
     pub fn judge(&self, from: u16, number: u64) -> Result<(), LinkFault>
         requires { from < length self.now }
         ensures { result ≡ turn (slice_index self.now from) number }
@@ -47,6 +49,7 @@ impl Fronts {
     }
 
     /// The next number from a member was taken.
+    // promise: memory; numbers in turn
     pub fn advance(&mut self, from: u16)
         requires member { from < length self.old }
         requires below_the_last { slice_index self.old from + 1 < 2 ^ 64 }

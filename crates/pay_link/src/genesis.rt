@@ -10,6 +10,7 @@ use pay_frame::MOST_MEMBERS;
 use std::alloc::{AllocError, Global};
 use std::marker::Model;
 
+// term: genesis: how many members there are, how many may lie, and what each account opens with
 /// What a ledger begins with: its members, how many of them may lie, and what each account holds. A
 /// member is its number, from 0, and owns the account of that number.
 ///
@@ -35,6 +36,7 @@ impl Model for Genesis {
 
 impl Genesis {
     /// Memory is looked for last.
+    // promise: order of refusals; files
     pub fn new(
         alloc: Global,
         members: u64,
@@ -70,6 +72,7 @@ impl Genesis {
     }
 
     /// The genesis that a file of JSON says.
+    // promise: order of refusals; files
     pub fn read(alloc: Global, bytes: &[u8]) -> Result<Genesis, GenesisFault>
         ensures value { (result ≡ genesis_in bytes.now) ⊎ (result ≡ Err GenesisFault.Memory) }
         ensures limits { IfOk result IsGenesis }

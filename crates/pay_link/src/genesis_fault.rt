@@ -8,22 +8,24 @@ use thiserror::Error;
 /// Why there is no genesis, in the order in which it is tested; memory stands apart.
 #[derive(Clone, Copy, Debug, PartialEq, Eq, Error)]
 pub enum GenesisFault {
+    /// There is no memory: the file may be right.
     Memory,
-    /// The file isn't JSON.
+    /// It isn't JSON.
     BadJson,
-    /// It lacks a member, or one isn't of the type that it should be.
+    /// It lacks a member, or one has the wrong type.
     BadShape,
-    /// No member, or more than there can be.
+    /// N is 0, or more than 128.
     BadCount,
-    /// The members aren't more than three times those that may lie.
+    /// N isn't more than 3f.
     BadFaults,
-    /// Not one opening for each member.
+    /// There isn't one opening for each member.
     BadOpening,
-    /// The accounts together begin with more than they can.
+    /// The openings together are more than 2^63 - 1.
     BadTotal,
 }
 
 impl GenesisFault {
+    // promise: order of refusals (number, name)
     const fn entry(self) -> (u8, &'static str)
         ensures number { result.0 ≡ genesis_fault_number self }
         ensures name { result.1.now ≡ genesis_fault_name self }

@@ -7,7 +7,10 @@ ghost use Rattle.pay_link.specs.Json as file;
 use serde_json::Value;
 use std::alloc::{AllocError, Global};
 
+// `serde_json` decides what JSON is: of members of one name the last counts; nesting deeper than
+// 127, a number out of a float's range, a lone surrogate and a byte order mark are no JSON.
 /// The value that these bytes are read as, or none.
+// promise: files
 pub fn value_in(alloc: Global, bytes: &[u8]) -> Result<Option<Value>, AllocError>
     ensures { IfOk result (λ found. option_map view found ≡ file.value_in bytes.now) }
 {
@@ -24,6 +27,7 @@ pub fn value_in(alloc: Global, bytes: &[u8]) -> Result<Option<Value>, AllocError
 }
 
 /// The whole number at this name.
+// promise: files
 pub fn number_at(value: &Value, name: &str) -> Option<u64>
     ensures { result ≡ file.number_at name.now (view value.now) }
 {
@@ -31,6 +35,7 @@ pub fn number_at(value: &Value, name: &str) -> Option<u64>
 }
 
 /// The whole numbers of the list at this name.
+// promise: files
 pub fn numbers_at(alloc: Global, value: &Value, name: &str) -> Result<Option<Vec<u64>>, AllocError>
     ensures { IfOk result (λ found.
         option_map (λ numbers. numbers.items) found ≡ file.numbers_at name.now (view value.now)) }
@@ -49,6 +54,7 @@ pub fn numbers_at(alloc: Global, value: &Value, name: &str) -> Result<Option<Vec
 }
 
 /// The texts of the list at this name.
+// promise: files
 pub(crate) fn texts_at<'a>(
     alloc: Global,
     value: &'a Value,

@@ -38,6 +38,7 @@ impl Model for Keys {
 impl Keys {
     /// The keys of a member of this genesis. What stands at the own place isn't kept. Memory is
     /// looked for last.
+    // promise: order of refusals; files
     pub fn new(
         alloc: Global,
         genesis: &Genesis,
@@ -59,6 +60,7 @@ impl Keys {
     }
 
     /// The keys that a file of JSON says for a member of this genesis.
+    // promise: order of refusals; files
     pub fn read(alloc: Global, genesis: &Genesis, bytes: &[u8]) -> Result<Keys, KeysFault>
         ensures value { (result ≡ keys_in_file genesis.now.members bytes.now)
             ⊎ (result ≡ Err KeysFault.Memory) }

@@ -8,20 +8,22 @@ use thiserror::Error;
 /// Why there are no keys, in the order in which it is tested; memory stands apart.
 #[derive(Clone, Copy, Debug, PartialEq, Eq, Error)]
 pub enum KeysFault {
+    /// There is no memory: the file may be right.
     Memory,
-    /// The file isn't JSON.
+    /// It isn't JSON.
     BadJson,
-    /// It lacks a member, or one isn't of the type that it should be.
+    /// It lacks a member, or one has the wrong type.
     BadShape,
-    /// The keys are of no member of the genesis.
+    /// There is no such member.
     BadOwn,
-    /// Not one key for each member.
+    /// There aren't N keys.
     BadKeyCount,
-    /// The first place whose text is no key, or at the own place isn't empty.
+    /// A text isn't 64 hexadecimal digits, or at the own place isn't empty: the first such place.
     BadKey(u16),
 }
 
 impl KeysFault {
+    // promise: order of refusals (number, name)
     const fn entry(self) -> (u8, &'static str)
         ensures number { result.0 ≡ keys_fault_number self }
         ensures name { result.1.now ≡ keys_fault_name self }

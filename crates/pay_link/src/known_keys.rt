@@ -9,6 +9,7 @@ use crate::keys::{Keys, NO_KEY};
 use std::alloc::{AllocError, Global};
 
 /// The test keys of a member.
+// promise: files
 pub fn test_keys(alloc: Global, genesis: &Genesis, own: u16) -> Result<Keys, AllocError>
     requires { own < genesis.now.members }
     ensures value { IfOk result (λ keys. keys ≡ test_keys_of genesis.now.members own) }

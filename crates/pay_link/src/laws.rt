@@ -22,11 +22,13 @@ use crate::link_fault::LinkFault;
 use pay_frame::{Kind, MOST_MEMBERS};
 
 /// A genesis has no fault exactly where its limits hold.
+// promise: files
 pub fn genesis_limits()
     ensures { (g : GenesisFields) → (genesis_fault g ≡ None) ↔ IsGenesis g }
 {}
 
 /// Each fault of a genesis comes exactly where its own cause holds and no earlier one.
+// promise: files
 pub fn genesis_causes()
     ensures count { (g : GenesisFields) → (genesis_fault g ≡ Some GenesisFault.BadCount)
         ↔ ((g.members ≡ 0) ⊎ (MOST_MEMBERS < g.members)) }
@@ -42,6 +44,7 @@ pub fn genesis_causes()
 
 /// A file of a genesis isn't JSON exactly where it has no value, and of a wrong shape exactly where
 /// its value says no genesis.
+// promise: files
 pub fn genesis_file_faults()
     ensures json { (bytes : List ℕ) → (genesis_in bytes ≡ Err GenesisFault.BadJson)
         ↔ (value_in bytes ≡ None) }
@@ -51,6 +54,7 @@ pub fn genesis_file_faults()
 
 /// Keys have no fault exactly where they are of a member and as many as the members; each fault
 /// comes exactly where its own cause holds and no earlier one.
+// promise: files
 pub fn keys_causes()
     ensures none { (members : ℕ) (k : KeyFields) → (keys_fault members k ≡ None)
         ↔ ((k.own < members) × (length k.keys ≡ members)) }
@@ -65,6 +69,7 @@ pub fn keys_causes()
 /// A file of keys isn't JSON exactly where it has no value, and of a wrong shape exactly where its
 /// value says no keys. After whose they are and how many, the least place without a key is named;
 /// where there is none, the keys are those that the texts say.
+// promise: files
 pub fn keys_file_faults()
     ensures json { (members : ℕ) (bytes : List ℕ)
         → (keys_in_file members bytes ≡ Err KeysFault.BadJson)
@@ -81,6 +86,7 @@ pub fn keys_file_faults()
 {}
 
 /// The keys that are kept of a member's are those for its peers, and none for itself.
+// promise: files
 pub fn peers_keys_are_kept()
     ensures members { (k : KeyFields) → length (kept_keys k).keys ≡ length k.keys }
     ensures peer { (k : KeyFields) (p : ℕ) → IsPeer k p
@@ -90,6 +96,7 @@ pub fn peers_keys_are_kept()
 
 /// A number is taken exactly where it is the next one, a repeat is one below it and a gap one above
 /// it. Both name the next one.
+// promise: numbers in turn
 pub fn numbers_in_turn()
     ensures next { (next number : ℕ) → (turn next number ≡ Ok tt) ↔ (number ≡ next) }
     ensures repeat { (next number told : ℕ) → (turn next number ≡ Err (LinkFault.Repeat told))
@@ -100,6 +107,7 @@ pub fn numbers_in_turn()
 
 /// A frame opens exactly where it is for the member, from a peer, about a member's broadcast and
 /// rightly tagged, and it is then what was opened.
+// promise: opening
 pub fn judgement_opens()
     ensures { (k : KeyFields) (f : FrameFields) (o : OpenedFields) →
         (judgement k f ≡ Ok o) ↔ (Opens k f × (o ≡ opened_fields k f)) }
@@ -107,6 +115,7 @@ pub fn judgement_opens()
 
 /// Each refusal comes exactly where its own cause holds and no earlier one. Whether a number is the
 /// next one isn't asked yet.
+// promise: opening
 pub fn judgement_refuses()
     ensures not_for_me { (k : KeyFields) (f : FrameFields) →
         (judgement k f ≡ Err LinkFault.NotForMe) ↔ (f.to ≢ k.own) }
@@ -127,6 +136,7 @@ pub fn judgement_refuses()
 
 /// What opens at a member, once it is owned, is for that member; and what is for a member opens
 /// there again, and is then what was owned. Its bytes are that frame and nothing else.
+// promise: owned frames
 pub fn owned_opens_again()
     ensures kept { (k : KeyFields) (f : FrameFields) (o : OpenedFields) → IsFrame f
         → f.body.kind ≢ Kind.Want → judgement k f ≡ Ok o
@@ -138,6 +148,7 @@ pub fn owned_opens_again()
 {}
 
 /// What one of two members seals for the other opens there, where both have one key for each other.
+// promise: sealing
 pub fn sealed_opens()
     ensures { (a b : KeyFields) (number : ℕ) (body : BodyFields) → IsPeer b a.own
         → key_for a b.own ≡ key_for b a.own → body.owner < length b.keys
@@ -145,6 +156,7 @@ pub fn sealed_opens()
 {}
 
 /// Two members' test keys for each other are the same.
+// promise: files
 pub fn shared_test_keys()
     ensures { (members x y : ℕ) → x < members → y < members
         → key_for (test_keys_of members x) y ≡ key_for (test_keys_of members y) x }

@@ -11,20 +11,22 @@ use thiserror::Error;
 /// the last two where it is taken.
 #[derive(Clone, Copy, Debug, PartialEq, Eq, Error)]
 pub enum LinkFault {
+    /// It is for another receiver.
     NotForMe,
-    /// The sender is no member, or is the receiver itself.
+    /// The sender is no member, or oneself.
     UnknownSender,
-    /// The owner of the broadcast is no member.
+    /// The owner is no member.
     UnknownOwner,
     /// The tag isn't the one under the key that is shared with the sender.
     BadTag,
-    /// A number that was taken before; the next one is given.
+    /// Its number is below the next one, which is given.
     Repeat(u64),
-    /// A number beyond the next one, which is given.
+    /// Its number is above the next one, which is given.
     Gap(u64),
 }
 
 impl LinkFault {
+    // promise: order of refusals (number, name)
     const fn entry(self) -> (u8, &'static str)
         ensures number { result.0 ≡ link_fault_number self }
         ensures name { result.1.now ≡ link_fault_name self }

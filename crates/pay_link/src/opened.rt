@@ -40,6 +40,7 @@ impl<'a> Model for Opened<'a> {
 }
 
 impl<'a> Opened<'a> {
+    // promise: opening
     pub fn frame(&self) -> &FrameRef<'a>
         ensures value { fields_of result.now ≡ self.now.frame }
         ensures limits { IsOpened self.now }
@@ -49,6 +50,7 @@ impl<'a> Opened<'a> {
 
     /// The frame by itself, with its key. The value is copied. A WANT is answered at once and never
     /// kept.
+    // promise: owned frames
     pub fn own(&self, alloc: Global) -> Result<Checked, AllocError>
         requires { self.now.frame.body.kind ≢ Kind.Want }
         ensures { IfOk result (λ checked. checked ≡ checked_fields self.now) }
@@ -70,9 +72,11 @@ impl<'a> Opened<'a> {
     }
 }
 
+// term: open: of a frame: to be for this member, from another, about one, and rightly tagged
 /// Opens a frame that was sent to the member with these keys, or names the first cause of refusal.
 /// It takes no memory and waits for nobody.
 #[tactic(auto, using(crate::proofs::Judged::judged))]
+// promise: order of refusals; memory; opening
 pub fn open<'a, T: Tagger>(t: &T, keys: &Keys, frame: FrameRef<'a>) -> Result<Opened<'a>, LinkFault>
     ensures { result ≡ judgement keys.now (fields_of frame.entry) }
 {

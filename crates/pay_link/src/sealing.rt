@@ -14,7 +14,9 @@ use pay_frame::{Body, HEAD_LEN, Kind, TAG_LEN, head_into, write};
 use pay_hmac::Tagger;
 use std::alloc::{AllocError, Global};
 
+// term: seal: to encode a frame for a peer, with its tag
 /// The bytes of a frame to a peer, with its right tag.
+// promise: sealing
 pub fn seal<T: Tagger>(
     alloc: Global,
     t: &T,
@@ -36,6 +38,7 @@ pub fn seal<T: Tagger>(
 ///
 /// At the peer, where that has the same key for the sender, its bytes open, and what is owned there
 /// is this very frame. So handing it on within one process takes one tag.
+// promise: sealing
 pub fn seal_checked<T: Tagger>(
     alloc: Global,
     t: &T,
@@ -62,8 +65,10 @@ pub fn seal_checked<T: Tagger>(
     Ok(checked)
 }
 
+// term: WANT: a frame that asks a peer for the frame at one place of its outbound list
 /// The bytes of a WANT to a peer, with its right tag: it asks for the frames from a number on. It
 /// takes no memory.
+// promise: memory; sealing
 pub fn want<T: Tagger>(t: &T, keys: &Keys, to: u16, number: u64) -> [u8; WANT_LEN]
     requires { IsPeer keys.now to }
     ensures bytes { result ≡ frame_bytes (want_frame keys.now to number) }

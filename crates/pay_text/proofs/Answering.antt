@@ -7,7 +7,16 @@ use Rattle.std.proofs.Math.Seq.{take-append-add}
 use Rattle.pay_io.specs.declared.stream_fault.StreamFault.{StreamFault}
 use Rattle.pay_io.specs.Device.{WroteBeginning}
 use Rattle.pay_text.specs.Answers.{Answers}
-use Rattle.pay_text.specs.Engine.{AnswersAll, AnswersFirst, Went, Goes}
+use Rattle.pay_text.specs.Engine.{Answering, AnswersAll, AnswersFirst, AnswersUntil, AnswersSome, Dialogue, Intake}
+
+abbrev pub answering : {A : Type 0} → (A → Option (List ℕ) → List ℕ → Bool → A → Type 0) → (A → A → Type 0) → Answering A
+answering says gives_up = record { says = says; gives_up = gives_up }
+
+abbrev pub said_by : {A : Type 0} → A → Option (List ℕ) → Dialogue A
+said_by a written = record { answerer = a; written = written }
+
+abbrev pub intake : Option (List ℕ) → Option (List ℕ) → ℕ → Intake
+intake input left reads = record { input = input; left = left; reads = reads }
 
 module _ {A : Type 0} (says : A → Option (List ℕ) → List ℕ → Bool → A → Type 0) where
   pub answers_one : (a new : A) (line : Option (List ℕ)) (text : List ℕ) (on : Bool) → says a line text on new → Answers says a (line ∷ []) text on new
@@ -24,10 +33,10 @@ module _ {A : Type 0} (says : A → Option (List ℕ) → List ℕ → Bool → 
       (front, back ++ more, true, next, said, ap (λ (t : List ℕ). t ++ more) parts ∙ append_assoc front back more, answers_join next mid new first others back more on after rest)
   answers_join a mid new (line ∷ first) others text more on (front, back, false, next, said, parts, after) rest = absurd (let h = after.over in cc)
 
-  pub went_nowhere : (lines : List (Option (List ℕ))) (a : A) (w : Option (List ℕ)) → Went says lines lines a a w w
+  pub went_nowhere : (lines : List (Option (List ℕ))) (a : A) (w : Option (List ℕ)) → AnswersUntil says lines lines (said_by a w) (said_by a w)
   went_nowhere lines a w = record { answered = []; parts = refl; text = []; answers = (refl, refl, refl); written = Appends-nil w }
 
-  pub went_further : (lines mid left : List (Option (List ℕ))) (old a new : A) (before w after : Option (List ℕ)) → Went says lines mid old a before w → Went says mid left a new w after → Went says lines left old new before after
+  pub went_further : (lines mid left : List (Option (List ℕ))) (old a new : A) (before w after : Option (List ℕ)) → AnswersUntil says lines mid (said_by old before) (said_by a w) → AnswersUntil says mid left (said_by a w) (said_by new after) → AnswersUntil says lines left (said_by old before) (said_by new after)
   went_further lines mid left old a new before w after p q = record {
     answered = p.answered ++ q.answered;
     parts = p.parts ∙ ap (λ (ls : List (Option (List ℕ))). p.answered ++ ls) q.parts ∙ sym (append_assoc p.answered q.answered left);
@@ -36,18 +45,18 @@ module _ {A : Type 0} (says : A → Option (List ℕ) → List ℕ → Bool → 
     written = Appends-trans before w after p.text q.text p.written q.written;
   }
 
-  pub all_further : (lines mid : List (Option (List ℕ))) (old a new : A) (before w after : Option (List ℕ)) (on : Bool) → Went says lines mid old a before w → AnswersAll says a mid w after on new → AnswersAll says old lines before after on new
+  pub all_further : (lines mid : List (Option (List ℕ))) (old a new : A) (before w after : Option (List ℕ)) (on : Bool) → AnswersUntil says lines mid (said_by old before) (said_by a w) → AnswersAll says mid (said_by a w) (said_by new after) on → AnswersAll says lines (said_by old before) (said_by new after) on
   all_further lines mid old a new before w after on p q = record {
     text = p.text ++ q.text;
     answers = subst (λ (ls : List (Option (List ℕ))). Answers says old ls (p.text ++ q.text) on new) (sym p.parts) (answers_join old a new p.answered mid p.text q.text on p.answers q.answers);
     written = Appends-trans before w after p.text q.text p.written q.written;
   }
 
-  pub nothing_left : (a : A) (w : Option (List ℕ)) → AnswersAll says a [] w w true a
+  pub nothing_left : (a : A) (w : Option (List ℕ)) → AnswersAll says [] (said_by a w) (said_by a w) true
   nothing_left a w = record { text = []; answers = (refl, refl, refl); written = Appends-nil w }
 
 module _ {A : Type 0} (says : A → Option (List ℕ) → List ℕ → Bool → A → Type 0) (gives_up : A → A → Type 0) where
-  pub first_further : (lines mid : List (Option (List ℕ))) (old a new : A) (before w after : Option (List ℕ)) → Went says lines mid old a before w → AnswersFirst says gives_up a mid w after new → AnswersFirst says gives_up old lines before after new
+  pub first_further : (lines mid : List (Option (List ℕ))) (old a new : A) (before w after : Option (List ℕ)) → AnswersUntil says lines mid (said_by old before) (said_by a w) → AnswersFirst (answering says gives_up) mid (said_by a w) (said_by new after) → AnswersFirst (answering says gives_up) lines (said_by old before) (said_by new after)
   first_further lines mid old a new before w after p q =
       let wrote = q.wrote in
       let within = wrote.within in
@@ -68,7 +77,7 @@ module _ {A : Type 0} (says : A → Option (List ℕ) → List ℕ → Bool → 
         ends = q.ends;
       }
 
-  pub goes_further : (lines mid left : List (Option (List ℕ))) (old a new : A) (before w after : Option (List ℕ)) (r : Result Bool StreamFault) → Went says lines mid old a before w → Goes says gives_up mid left a new w after r → Goes says gives_up lines left old new before after r
+  pub goes_further : (lines mid left : List (Option (List ℕ))) (old a new : A) (before w after : Option (List ℕ)) (r : Result Bool StreamFault) → AnswersUntil says lines mid (said_by old before) (said_by a w) → AnswersSome (answering says gives_up) mid left (said_by a w) (said_by new after) r → AnswersSome (answering says gives_up) lines left (said_by old before) (said_by new after) r
   goes_further lines mid left old a new before w after (Ok true) p q = went_further says lines mid left old a new before w after p q
   goes_further lines mid left old a new before w after (Ok false) p q = all_further says lines mid old a new before w after false p q
   goes_further lines mid left old a new before w after (Err fault) p q = first_further lines mid old a new before w after p q
@@ -77,14 +86,14 @@ module _ {A : Type 0} (says : A → Option (List ℕ) → List ℕ → Bool → 
   none_written w = record { count = 0; within = omega arith; written = Appends-nil w }
 
   -- nothing more is answered
-  pub broken_off : (lines : List (Option (List ℕ))) (a new : A) (w : Option (List ℕ)) → (new ≡ a) ⊎ gives_up a new → AnswersFirst says gives_up a lines w w new
+  pub broken_off : (lines : List (Option (List ℕ))) (a new : A) (w : Option (List ℕ)) → (new ≡ a) ⊎ gives_up a new → AnswersFirst (answering says gives_up) lines (said_by a w) (said_by new w)
   broken_off lines a new w ends = record { first = []; others = lines; parts = refl; text = []; on = true; mid = a; answers = (refl, refl, refl); wrote = none_written w; ends = ends }
 
   -- one line is answered, and its answer written
-  pub one_answered : (a new : A) (line : Option (List ℕ)) (left : List (Option (List ℕ))) (text : List ℕ) (on : Bool) (w after : Option (List ℕ)) → says a line text on new → Appends w after text → Goes says gives_up (line ∷ left) left a new w after (Ok on)
+  pub one_answered : (a new : A) (line : Option (List ℕ)) (left : List (Option (List ℕ))) (text : List ℕ) (on : Bool) (w after : Option (List ℕ)) → says a line text on new → Appends w after text → AnswersSome (answering says gives_up) (line ∷ left) left (said_by a w) (said_by new after) (Ok on)
   one_answered a new line left text true w after said appended = record { answered = line ∷ []; parts = refl; text = text; answers = answers_one says a new line text true said; written = appended }
   one_answered a new line left text false w after said appended = record { text = text; answers = answers_last says a new line left text said; written = appended }
 
   -- or not all of its answer is
-  pub one_broken : (a new : A) (line : Option (List ℕ)) (left : List (Option (List ℕ))) (text : List ℕ) (on : Bool) (w after : Option (List ℕ)) → says a line text on new → WroteBeginning w after text → AnswersFirst says gives_up a (line ∷ left) w after new
+  pub one_broken : (a new : A) (line : Option (List ℕ)) (left : List (Option (List ℕ))) (text : List ℕ) (on : Bool) (w after : Option (List ℕ)) → says a line text on new → WroteBeginning w after text → AnswersFirst (answering says gives_up) (line ∷ left) (said_by a w) (said_by new after)
   one_broken a new line left text on w after said wrote = record { first = line ∷ []; others = left; parts = refl; text = text; on = on; mid = new; answers = answers_one says a new line text on said; wrote = wrote; ends = inl refl }

@@ -4,14 +4,14 @@ use Rattle.std.specs.Prelude.{Option, Result}
 use Rattle.std.specs.Io.KnownBytes.{Appends}
 use Rattle.std.proofs.KnownBytes.{Appends-nil, Appends-trans}
 use Rattle.std.proofs.Math.Seq.{take-append-add}
-use Rattle.std.proofs.lemmas.List.{take-append-le}
+use Rattle.std.proofs.lemmas.List.{take-append-le, take_all}
 use Rattle.pay_io.specs.declared.stream_fault.StreamFault.{StreamFault}
 use Rattle.pay_io.specs.declared.stream_fault.StreamFault.TheVariants.{Memory, Read, Write, Bound}
 use Rattle.pay_io.specs.Device.{WroteBeginning}
 use Rattle.pay_text.specs.Answers.{Answers}
-use Rattle.pay_text.specs.Engine.{AnswersFirst, Goes}
-use Rattle.pay_text.specs.Outbox.{Puts, PutWent, BrokeOff, GoesPut, HasWritten}
-use Rattle.pay_text.proofs.Answering.{answers_join, answers_last, answers_one}
+use Rattle.pay_text.specs.Engine.{AnswersFirst, AnswersSome}
+use Rattle.pay_text.specs.Outbox.{Backlog, Puts, PutsUntil, BrokeOff, PutsSome, HasWritten}
+use Rattle.pay_text.proofs.Answering.{answering, said_by, answers_join, answers_last, answers_one}
 
 -- ---- an outbox
 
@@ -26,6 +26,13 @@ puts_all a b c old new text out more none = record {
   out = old ++ text;
   written = Appends-trans a b c old text out more;
   all = sym (append-nil (old ++ text)) ∙ ap (λ xs. (old ++ text) ++ xs) (sym none);
+}
+
+pub began_all : (a b : Option (List ℕ)) (text : List ℕ) → Appends a b text → WroteBeginning a b text
+began_all a b text written = record {
+  count = length text;
+  within = omega arith;
+  written = subst (λ (xs : List ℕ). Appends a b xs) (sym (take_all (length text) text (omega arith))) written;
 }
 
 pub began_further : (a b c : Option (List ℕ)) (out text : List ℕ) → Appends a b out → WroteBeginning b c text → WroteBeginning a c (out ++ text)
@@ -64,24 +71,27 @@ all_of text out waits all = sym all
 
 -- ---- answers
 
+abbrev pub waiting : {A : Type 0} → A → Option (List ℕ) → List ℕ → Backlog A
+waiting a written waits = record { answerer = a; written = written; waits = waits }
+
 module _ {A : Type 0} (says : A → Option (List ℕ) → List ℕ → Bool → A → Type 0) (gives_up : A → A → Type 0) where
-  pub put_nowhere : (lines : List (Option (List ℕ))) (a : A) (w : Option (List ℕ)) (waits : List ℕ) → PutWent says lines lines a a w w waits waits
+  pub put_nowhere : (lines : List (Option (List ℕ))) (a : A) (w : Option (List ℕ)) (waits : List ℕ) → PutsUntil says lines lines (waiting a w waits) (waiting a w waits)
   put_nowhere lines a w waits = record { answered = []; parts = refl; text = []; answers = (refl, refl, refl); puts = puts_nothing w waits }
 
-  pub one_put : (a new : A) (line : Option (List ℕ)) (left : List (Option (List ℕ))) (text : List ℕ) (on : Bool) (w after : Option (List ℕ)) (waited waits : List ℕ) → says a line text on new → Puts w after waited waits text → GoesPut says gives_up (line ∷ left) left a new w after waited waits (Ok on)
+  pub one_put : (a new : A) (line : Option (List ℕ)) (left : List (Option (List ℕ))) (text : List ℕ) (on : Bool) (w after : Option (List ℕ)) (waited waits : List ℕ) → says a line text on new → Puts w after waited waits text → PutsSome (answering says gives_up) (line ∷ left) left (waiting a w waited) (waiting new after waits) (Ok on)
   one_put a new line left text true w after waited waits said puts = record { answered = line ∷ []; parts = refl; text = text; answers = answers_one says a new line text true said; puts = puts }
   one_put a new line left text false w after waited waits said puts = record { text = text; answers = answers_last says a new line left text said; puts = puts }
 
-  pub one_refused : (a new : A) (lines left : List (Option (List ℕ))) (w : Option (List ℕ)) (waits : List ℕ) → gives_up a new → GoesPut says gives_up lines left a new w w waits waits (Err Memory)
+  pub one_refused : (a new : A) (lines left : List (Option (List ℕ))) (w : Option (List ℕ)) (waits : List ℕ) → gives_up a new → PutsSome (answering says gives_up) lines left (waiting a w waits) (waiting new w waits) (Err Memory)
   one_refused a new lines left w waits gave = record { first = []; others = lines; parts = refl; text = []; mid = a; answers = (refl, refl, refl); puts = puts_nothing w waits; ends = gave }
 
-  pub one_broken_off : (a new : A) (line : Option (List ℕ)) (left : List (Option (List ℕ))) (text : List ℕ) (on : Bool) (w after : Option (List ℕ)) (waited waits : List ℕ) → says a line text on new → WroteBeginning w after (waited ++ text) → GoesPut says gives_up (line ∷ left) left a new w after waited waits (Err Write)
+  pub one_broken_off : (a new : A) (line : Option (List ℕ)) (left : List (Option (List ℕ))) (text : List ℕ) (on : Bool) (w after : Option (List ℕ)) (waited waits : List ℕ) → says a line text on new → WroteBeginning w after (waited ++ text) → PutsSome (answering says gives_up) (line ∷ left) left (waiting a w waited) (waiting new after waits) (Err Write)
   one_broken_off a new line left text on w after waited waits said wrote = record { first = line ∷ []; others = left; parts = refl; text = text; on = on; answers = answers_one says a new line text on said; wrote = wrote }
 
   broke_further :
-      (lines mid left : List (Option (List ℕ))) (old a new : A) (before w after : Option (List ℕ)) (waited held : List ℕ)
-      → PutWent says lines mid old a before w waited held → BrokeOff says mid a new w after held → BrokeOff says lines old new before after waited
-  broke_further lines mid left old a new before w after waited held p q =
+      (lines mid left : List (Option (List ℕ))) (old a new : A) (before w after : Option (List ℕ)) (waited held waits : List ℕ)
+      → PutsUntil says lines mid (waiting old before waited) (waiting a w held) → BrokeOff says mid (waiting a w held) (waiting new after waits) → BrokeOff says lines (waiting old before waited) (waiting new after waits)
+  broke_further lines mid left old a new before w after waited held waits p q =
       let puts = p.puts in
       let all : puts.out ++ (held ++ q.text) ≡ waited ++ (p.text ++ q.text) =
       sym (append_assoc puts.out held q.text) ∙ ap (λ xs. xs ++ q.text) (sym puts.all) ∙ append_assoc waited p.text q.text
@@ -98,8 +108,8 @@ module _ {A : Type 0} (says : A → Option (List ℕ) → List ℕ → Bool → 
 
   pub put_further :
       (lines mid left : List (Option (List ℕ))) (old a new : A) (before w after : Option (List ℕ)) (waited held waits : List ℕ) (r : Result Bool StreamFault)
-      → PutWent says lines mid old a before w waited held → GoesPut says gives_up mid left a new w after held waits r
-      → GoesPut says gives_up lines left old new before after waited waits r
+      → PutsUntil says lines mid (waiting old before waited) (waiting a w held) → PutsSome (answering says gives_up) mid left (waiting a w held) (waiting new after waits) r
+      → PutsSome (answering says gives_up) lines left (waiting old before waited) (waiting new after waits) r
   put_further lines mid left old a new before w after waited held waits (Ok true) p q = record {
     answered = p.answered ++ q.answered;
     parts = p.parts ∙ ap (λ (ls : List (Option (List ℕ))). p.answered ++ ls) q.parts ∙ sym (append_assoc p.answered q.answered left);
@@ -122,15 +132,15 @@ module _ {A : Type 0} (says : A → Option (List ℕ) → List ℕ → Bool → 
     puts = puts_further before w after waited held waits p.text q.text p.puts q.puts;
     ends = q.ends;
   }
-  put_further lines mid left old a new before w after waited held waits (Err Read) p q = broke_further lines mid left old a new before w after waited held p q
-  put_further lines mid left old a new before w after waited held waits (Err Write) p q = broke_further lines mid left old a new before w after waited held p q
-  put_further lines mid left old a new before w after waited held waits (Err Bound) p q = broke_further lines mid left old a new before w after waited held p q
+  put_further lines mid left old a new before w after waited held waits (Err Read) p q = broke_further lines mid left old a new before w after waited held waits p q
+  put_further lines mid left old a new before w after waited held waits (Err Write) p q = broke_further lines mid left old a new before w after waited held waits p q
+  put_further lines mid left old a new before w after waited held waits (Err Bound) p q = broke_further lines mid left old a new before w after waited held waits p q
 
   -- ---- what waited is written
 
   all_written :
       (lines left : List (Option (List ℕ))) (old new : A) (before w after : Option (List ℕ)) (waits : List ℕ) (on : Bool)
-      → GoesPut says gives_up lines left old new before w [] waits (Ok on) → Appends w after waits → Goes says gives_up lines left old new before after (Ok on)
+      → PutsSome (answering says gives_up) lines left (waiting old before []) (waiting new w waits) (Ok on) → Appends w after waits → AnswersSome (answering says gives_up) lines left (said_by old before) (said_by new after) (Ok on)
   all_written lines left old new before w after waits true p out = record {
     answered = p.answered;
     parts = p.parts;
@@ -149,7 +159,7 @@ module _ {A : Type 0} (says : A → Option (List ℕ) → List ℕ → Bool → 
 
   not_written :
       (lines left : List (Option (List ℕ))) (old new : A) (before w after : Option (List ℕ)) (waits : List ℕ) (on : Bool)
-      → GoesPut says gives_up lines left old new before w [] waits (Ok on) → WroteBeginning w after waits → AnswersFirst says gives_up old lines before after new
+      → PutsSome (answering says gives_up) lines left (waiting old before []) (waiting new w waits) (Ok on) → WroteBeginning w after waits → AnswersFirst (answering says gives_up) lines (said_by old before) (said_by new after)
   not_written lines left old new before w after waits true p wrote = record {
     first = p.answered;
     others = left;
@@ -175,7 +185,7 @@ module _ {A : Type 0} (says : A → Option (List ℕ) → List ℕ → Bool → 
 
   gave_up :
       (lines left : List (Option (List ℕ))) (old new : A) (before w after : Option (List ℕ)) (waits : List ℕ)
-      → GoesPut says gives_up lines left old new before w [] waits (Err Memory) → WroteBeginning w after waits → AnswersFirst says gives_up old lines before after new
+      → PutsSome (answering says gives_up) lines left (waiting old before []) (waiting new w waits) (Err Memory) → WroteBeginning w after waits → AnswersFirst (answering says gives_up) lines (said_by old before) (said_by new after)
   gave_up lines left old new before w after waits p wrote = record {
     first = p.first;
     others = p.others;
@@ -190,7 +200,7 @@ module _ {A : Type 0} (says : A → Option (List ℕ) → List ℕ → Bool → 
 
   broke_off :
       (lines left : List (Option (List ℕ))) (old new : A) (before after : Option (List ℕ)) (waits : List ℕ)
-      → GoesPut says gives_up lines left old new before after [] waits (Err Write) → AnswersFirst says gives_up old lines before after new
+      → PutsSome (answering says gives_up) lines left (waiting old before []) (waiting new after waits) (Err Write) → AnswersFirst (answering says gives_up) lines (said_by old before) (said_by new after)
   broke_off lines left old new before after waits p = record {
     first = p.first;
     others = p.others;
@@ -205,12 +215,14 @@ module _ {A : Type 0} (says : A → Option (List ℕ) → List ℕ → Bool → 
 
   pub goes_written :
       (lines left : List (Option (List ℕ))) (old new : A) (before w after : Option (List ℕ)) (waits : List ℕ) (answered result : Result Bool StreamFault)
-      → GoesPut says gives_up lines left old new before w [] waits answered → HasWritten answered w after waits result → Goes says gives_up lines left old new before after result
+      → PutsSome (answering says gives_up) lines left (waiting old before []) (waiting new w waits) answered → HasWritten answered w after waits result → AnswersSome (answering says gives_up) lines left (said_by old before) (said_by new after) result
   goes_written lines left old new before w after waits answered (Ok on) p (same, out) =
-      all_written lines left old new before w after waits on (subst (GoesPut says gives_up lines left old new before w [] waits) same p) out
-  goes_written lines left old new before w after waits answered (Err fault) p (inl (same, memory, wrote)) =
-      gave_up lines left old new before w after waits (subst (GoesPut says gives_up lines left old new before w [] waits) (same ∙ ap Err memory) p) wrote
+      all_written lines left old new before w after waits on (subst (PutsSome (answering says gives_up) lines left (waiting old before []) (waiting new w waits)) same p) out
+  goes_written lines left old new before w after waits answered (Err fault) p (inl (same, memory, out)) =
+      gave_up lines left old new before w after waits (subst (PutsSome (answering says gives_up) lines left (waiting old before []) (waiting new w waits)) (same ∙ ap Err memory) p) (began_all w after waits out)
   goes_written lines left old new before w after waits answered (Err fault) p (inr (inl (same, failed, silent))) =
-      broke_off lines left old new before after waits (subst (λ (at : Option (List ℕ)). GoesPut says gives_up lines left old new before at [] waits (Err Write)) (sym silent) (subst (GoesPut says gives_up lines left old new before w [] waits) (same ∙ ap Err failed) p))
-  goes_written lines left old new before w after waits answered (Err fault) p (inr (inr (on, same, failed, wrote))) =
-      not_written lines left old new before w after waits on (subst (GoesPut says gives_up lines left old new before w [] waits) same p) wrote
+      broke_off lines left old new before after waits (subst (λ (at : Option (List ℕ)). PutsSome (answering says gives_up) lines left (waiting old before []) (waiting new at waits) (Err Write)) (sym silent) (subst (PutsSome (answering says gives_up) lines left (waiting old before []) (waiting new w waits)) (same ∙ ap Err failed) p))
+  goes_written lines left old new before w after waits answered (Err fault) p (inr (inr (inl (same, failed, wrote)))) =
+      gave_up lines left old new before w after waits (subst (PutsSome (answering says gives_up) lines left (waiting old before []) (waiting new w waits)) same p) wrote
+  goes_written lines left old new before w after waits answered (Err fault) p (inr (inr (inr (on, same, failed, wrote)))) =
+      not_written lines left old new before w after waits on (subst (PutsSome (answering says gives_up) lines left (waiting old before []) (waiting new w waits)) same p) wrote

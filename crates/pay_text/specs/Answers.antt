@@ -23,6 +23,7 @@ Either false P Q = Q
 -- may follow still, and who has then answered them. `says` is what becomes of who answers by one
 -- line: who it was, the line, or nothing where it is over the bound, the answer, whether a line may
 -- follow, and who it is then.
+-- page: `Answers`: the answers to lines, in order, up to one after which no line may follow
 abbrev pub Answers : {A : Type 0} → (A → Option (List ℕ) → List ℕ → Bool → A → Type 0) → A
     → List (Option (List ℕ)) → List ℕ → Bool → A → Type 0
 Answers {A} says a [] text on last = (text ≡ []) × (on ≡ true) × (last ≡ a)

@@ -5,6 +5,7 @@ use Rattle.pay_io.specs.declared.stream_fault.StreamFault.{StreamFault}
 use Rattle.pay_io.specs.declared.stream_fault.StreamFault.TheVariants.{Memory, Read, Write, Bound}
 use Rattle.pay_io.specs.Device.{WroteBeginning}
 use Rattle.pay_text.specs.Answers.{Answers}
+use Rattle.pay_text.specs.Engine.{Answering}
 
 -- A text is put after what waits: all of that is written, or waits still, in order.
 pub record Puts (before after : Option (List ℕ)) (old new text : List ℕ) : Type 0 where
@@ -12,66 +13,66 @@ pub record Puts (before after : Option (List ℕ)) (old new text : List ℕ) : T
   pub written : Appends before after out
   pub all : old ++ text ≡ out ++ new
 
+-- Who answers, what is written, and what waits.
+pub record Backlog (A : Type 0) : Type 0 where
+  pub answerer : A
+  pub written : Option (List ℕ)
+  pub waits : List ℕ
+
+-- a text is put after a backlog
+abbrev pub PutsAfter : {A : Type 0} → Backlog A → Backlog A → List ℕ → Type 0
+PutsAfter old new text = Puts old.written new.written old.waits new.waits text
+
 -- Of the lines to come these are left. The others are answered, and their answers put.
-pub record PutWent {A : Type 0} (says : A → Option (List ℕ) → List ℕ → Bool → A → Type 0)
-    (lines left : List (Option (List ℕ))) (old new : A) (before after : Option (List ℕ))
-    (waited waits : List ℕ) : Type 0 where
+pub record PutsUntil {A : Type 0} (says : A → Option (List ℕ) → List ℕ → Bool → A → Type 0)
+    (lines left : List (Option (List ℕ))) (old new : Backlog A) : Type 0 where
   pub answered : List (Option (List ℕ))
   pub parts : lines ≡ answered ++ left
   pub text : List ℕ
-  pub answers : Answers says old answered text true new
-  pub puts : Puts before after waited waits text
+  pub answers : Answers says old.answerer answered text true new.answerer
+  pub puts : PutsAfter old new text
 
 -- The last line is answered that may be, and all answers put.
 pub record PutAll {A : Type 0} (says : A → Option (List ℕ) → List ℕ → Bool → A → Type 0)
-    (lines : List (Option (List ℕ))) (old new : A) (before after : Option (List ℕ))
-    (waited waits : List ℕ) : Type 0 where
+    (lines : List (Option (List ℕ))) (old new : Backlog A) : Type 0 where
   pub text : List ℕ
-  pub answers : Answers says old lines text false new
-  pub puts : Puts before after waited waits text
+  pub answers : Answers says old.answerer lines text false new.answerer
+  pub puts : PutsAfter old new text
 
 -- The first lines are answered and their answers put; at the next one memory was refused.
-pub record PutFirst {A : Type 0} (says : A → Option (List ℕ) → List ℕ → Bool → A → Type 0)
-    (gives_up : A → A → Type 0) (lines : List (Option (List ℕ))) (old new : A)
-    (before after : Option (List ℕ)) (waited waits : List ℕ) : Type 0 where
+pub record PutFirst {A : Type 0} (answering : Answering A) (lines : List (Option (List ℕ)))
+    (old new : Backlog A) : Type 0 where
   pub first : List (Option (List ℕ))
   pub others : List (Option (List ℕ))
   pub parts : lines ≡ first ++ others
   pub text : List ℕ
   pub mid : A
-  pub answers : Answers says old first text true mid
-  pub puts : Puts before after waited waits text
-  pub ends : gives_up mid new
+  pub answers : Answers answering.says old.answerer first text true mid
+  pub puts : PutsAfter old new text
+  pub ends : answering.gives_up mid new.answerer
 
 -- The first lines are answered; a write failed, and a beginning of what waited and of their answers
 -- is written.
 pub record BrokeOff {A : Type 0} (says : A → Option (List ℕ) → List ℕ → Bool → A → Type 0)
-    (lines : List (Option (List ℕ))) (old new : A) (before after : Option (List ℕ))
-    (waited : List ℕ) : Type 0 where
+    (lines : List (Option (List ℕ))) (old new : Backlog A) : Type 0 where
   pub first : List (Option (List ℕ))
   pub others : List (Option (List ℕ))
   pub parts : lines ≡ first ++ others
   pub text : List ℕ
   pub on : Bool
-  pub answers : Answers says old first text on new
-  pub wrote : WroteBeginning before after (waited ++ text)
+  pub answers : Answers says old.answerer first text on new.answerer
+  pub wrote : WroteBeginning old.written new.written (old.waits ++ text)
 
 -- what lines come to, by how it ended
-abbrev pub GoesPut : {A : Type 0} → (A → Option (List ℕ) → List ℕ → Bool → A → Type 0)
-    → (A → A → Type 0) → List (Option (List ℕ)) → List (Option (List ℕ)) → A → A → Option (List ℕ)
-    → Option (List ℕ) → List ℕ → List ℕ → Result Bool StreamFault → Type 0
-GoesPut says gives_up lines left old new before after waited waits (Ok true) =
-    PutWent says lines left old new before after waited waits
-GoesPut says gives_up lines left old new before after waited waits (Ok false) =
-    PutAll says lines old new before after waited waits
-GoesPut says gives_up lines left old new before after waited waits (Err Memory) =
-    PutFirst says gives_up lines old new before after waited waits
-GoesPut says gives_up lines left old new before after waited waits (Err Read) =
-    BrokeOff says lines old new before after waited
-GoesPut says gives_up lines left old new before after waited waits (Err Write) =
-    BrokeOff says lines old new before after waited
-GoesPut says gives_up lines left old new before after waited waits (Err Bound) =
-    BrokeOff says lines old new before after waited
+abbrev pub PutsSome :
+    {A : Type 0} → Answering A → List (Option (List ℕ)) → List (Option (List ℕ)) → Backlog A
+    → Backlog A → Result Bool StreamFault → Type 0
+PutsSome answering lines left old new (Ok true) = PutsUntil answering.says lines left old new
+PutsSome answering lines left old new (Ok false) = PutAll answering.says lines old new
+PutsSome answering lines left old new (Err Memory) = PutFirst answering lines old new
+PutsSome answering lines left old new (Err Read) = BrokeOff answering.says lines old new
+PutsSome answering lines left old new (Err Write) = BrokeOff answering.says lines old new
+PutsSome answering lines left old new (Err Bound) = BrokeOff answering.says lines old new
 
 -- What waited is appended to what was answered, by how that ended and what came of writing it.
 -- After a write that failed nothing more is written.
@@ -79,6 +80,7 @@ abbrev pub HasWritten : Result Bool StreamFault → Option (List ℕ) → Option
     → Result Bool StreamFault → Type 0
 HasWritten answered before after waited (Ok on) = (answered ≡ Ok on) × Appends before after waited
 HasWritten answered before after waited (Err fault) =
-    ((answered ≡ Err fault) × (fault ≡ Memory) × WroteBeginning before after waited)
+    ((answered ≡ Err fault) × (fault ≡ Memory) × Appends before after waited)
     ⊎ ((answered ≡ Err fault) × (fault ≡ Write) × (after ≡ before))
+    ⊎ ((answered ≡ Err Memory) × (fault ≡ Write) × WroteBeginning before after waited)
     ⊎ ((on : Bool) × (answered ≡ Ok on) × (fault ≡ Write) × WroteBeginning before after waited)

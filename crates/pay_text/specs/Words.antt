@@ -13,6 +13,9 @@ onto_first b (part ∷ parts) = (b ∷ part) ∷ parts
 
 -- What stands between the blanks of a line. Two blanks beside each other, and one at an end, have
 -- an empty word there; a line without a blank is one word.
+-- page: `words_of`, `number_of`, `lines_of`: words, numbers and lines [as commands have
+--   them](COMMANDS.md); words may be empty, the last line may lack its line feed, and a line
+--   over its bound is nothing (`within`)
 unfoldable pub words_of : List ℕ → List (List ℕ)
 words_of [] = [] ∷ []
 words_of (b ∷ bytes) = if b == blank then [] ∷ words_of bytes else onto_first b (words_of bytes)

@@ -40,6 +40,7 @@ pub trait Answerer {
     ghost gives_up: { Self → Self → Type 0 };
 
     /// Answers a line, or `None` for one that is over the bound.
+    // promise: answers in order (err)
     fn answer(&mut self, alloc: Global, line: Option<&[u8]>) -> Result<Answer, AllocError>
         ensures ok { IfOk result (λ a.
             says self.old (option_copied line.entry) (text_bytes a.text) a.goes_on self.new) }

@@ -33,6 +33,7 @@ impl Model for LineCutter {
 impl LineCutter {
     /// A cutter for lines of at most `bound` bytes, to which no byte was pushed. This is the only
     /// call that allocates.
+    // promise: lines and words
     pub fn new(alloc: Global, bound: usize) -> Result<LineCutter, AllocError>
         ensures { IfOk result (λ cutter. cutter ≡ record { bound = bound; line = Some [] }) }
     {
@@ -45,6 +46,7 @@ impl LineCutter {
     }
 
     /// Adds a byte to the line.
+    // promise: lines and words
     pub fn push(&mut self, byte: u8)
         ensures { self.new
             ≡ record self.old { line = line_with_byte self.old.bound self.old.line byte } }
@@ -60,6 +62,7 @@ impl LineCutter {
     }
 
     /// The bytes of the line so far, or `None` if they are over the bound.
+    // promise: lines and words
     pub fn line(&self) -> Option<&[u8]>
         ensures { option_copied result ≡ self.now.line }
     {
@@ -70,6 +73,7 @@ impl LineCutter {
     }
 
     /// Whether no byte of the line was pushed.
+    // promise: lines and words
     pub fn is_empty(&self) -> bool
         ensures { result ≡ is_nothing self.now.line }
     {
@@ -77,6 +81,7 @@ impl LineCutter {
     }
 
     /// Begins the next line.
+    // promise: lines and words
     pub fn clear(&mut self)
         ensures { self.new ≡ record self.old { line = Some [] } }
     {

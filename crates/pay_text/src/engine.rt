@@ -1,11 +1,11 @@
 ghost use Rattle.std.specs.Prelude.{◌≡◌, ◌⊎◌, ◌+◌, ◌++◌, ◌∷◌, ℕ, Bool, List, Option, Some, Ok, Err};
 ghost use Rattle.std.specs.Prelude.{[], OnOk};
 ghost use Rattle.std.specs.Prelude.{IsErrOf};
-ghost use Rattle.pay_io.specs.Counts.{KeepsCounts, itself};
+ghost use Rattle.pay_io.specs.Counts.{KeepsCounts, counts_of, no_other_faults};
 ghost use Rattle.pay_io.specs.Device.{next_count};
 ghost use Rattle.pay_text.specs.Cutting.{lines_after};
-ghost use Rattle.pay_text.specs.Engine.{Goes, IsGoing, Reads, WritesByEnd};
-ghost use Rattle.pay_text.specs.Outbox.{GoesPut, HasWritten};
+ghost use Rattle.pay_text.specs.Engine.{AnswersSome, Dialogue, IsGoing, Reads, WritesByEnd};
+ghost use Rattle.pay_text.specs.Outbox.{PutsSome, HasWritten};
 
 use crate::answerer::{Answer, Answerer};
 use crate::cutter::LineCutter;
@@ -25,6 +25,7 @@ const PIECE: usize = 4096;
 ///
 /// After a fault what was written is a prefix of the answers, and the answerer is what the answered
 /// lines made of it, or it gave up at the next one.
+// promise: early ends (counts, none_failed, all_written); answers in order (text)
 pub fn run_lines<A: Answerer, R: Input, W: Output>(
     alloc: Global,
     bound: usize,
@@ -32,11 +33,14 @@ pub fn run_lines<A: Answerer, R: Input, W: Output>(
     reader: &mut R,
     writer: &mut W,
 ) -> Result<bool, StreamFault>
-    ensures text { WritesByEnd A.says A.gives_up bound answerer.old answerer.new
-        (R.remaining reader.old)
-        (R.remaining reader.new) (W.contents writer.old) (W.contents writer.new) result }
-    ensures counts { KeepsCounts itself R.call_count R.failure_count R.remaining
-        W.failure_count reader.old reader.new writer.old writer.new result }
+    ensures text { WritesByEnd (record { says = A.says; gives_up = A.gives_up }) bound
+        (record { answerer = answerer.old; written = W.contents writer.old })
+        (record { answerer = answerer.new; written = W.contents writer.new })
+        (R.remaining reader.old) (R.remaining reader.new) result }
+    ensures counts { let counted =
+        counts_of R.call_count R.failure_count R.remaining W.failure_count in
+        KeepsCounts no_other_faults
+        (counted reader.old writer.old) (counted reader.new writer.new) result }
     ensures none_failed { OnOk result (R.failure_count reader.new ≡ R.failure_count reader.old) }
     ensures all_written { OnOk result (W.failure_count writer.new ≡ W.failure_count writer.old) }
 {
@@ -68,11 +72,14 @@ fn read_once<A: Answerer, R: Input, W: Output>(
     writer: &mut W,
 ) -> Result<Option<bool>, StreamFault>
     requires { outbox.old ≡ [] }
-    ensures reads { (old : A) (input before : Option (List ℕ)) (reads : ℕ)
-        → IsGoing A.says cutter.old.bound cutter.old.line old answerer.old input
-        (R.remaining reader.old) before (W.contents writer.old) reads
-        → Reads A.says A.gives_up cutter.old.bound cutter.new.line old answerer.new input
-        (R.remaining reader.new) before (W.contents writer.new) reads result }
+    ensures reads { (old : Dialogue A) (input : Option (List ℕ)) (reads : ℕ)
+        → IsGoing A.says cutter.old.bound cutter.old.line
+        (record { input = input; left = R.remaining reader.old; reads = reads }) old
+        (record { answerer = answerer.old; written = W.contents writer.old })
+        → Reads (record { says = A.says; gives_up = A.gives_up })
+        cutter.old.bound cutter.new.line
+        (record { input = input; left = R.remaining reader.new; reads = reads + 1 }) old
+        (record { answerer = answerer.new; written = W.contents writer.new }) result }
     ensures cutter { OnOk result (cutter.new.bound ≡ cutter.old.bound) }
     ensures empty { OnOk result (outbox.new ≡ []) }
     ensures bound { ¬ (IsErrOf result StreamFault.Bound) }
@@ -81,6 +88,9 @@ fn read_once<A: Answerer, R: Input, W: Output>(
         → R.failure_count reader.new ≡ next_count (R.failure_count reader.old) }
     ensures write { IsErrOf result StreamFault.Write
         → W.failure_count writer.new ≡ next_count (W.failure_count writer.old) }
+    ensures memory { IsErrOf result StreamFault.Memory
+        → (R.failure_count reader.new ≡ R.failure_count reader.old)
+        × (W.failure_count writer.new ≡ W.failure_count writer.old) }
     ensures none_failed { OnOk result (R.failure_count reader.new ≡ R.failure_count reader.old) }
     ensures all_written { OnOk result (W.failure_count writer.new ≡ W.failure_count writer.old) }
 {
@@ -113,16 +123,19 @@ fn take_piece<A: Answerer, W: Output>(
     writer: &mut W,
 ) -> Result<bool, StreamFault>
     requires { outbox.old ≡ [] }
-    ensures goes { (more : List ℕ) → Goes A.says A.gives_up
+    ensures goes { (more : List ℕ) → AnswersSome (record { says = A.says; gives_up = A.gives_up })
         (lines_after cutter.old.bound cutter.old.line (piece.now ++ more))
         (lines_after cutter.old.bound cutter.new.line more)
-        answerer.old answerer.new (W.contents writer.old) (W.contents writer.new) result }
+        (record { answerer = answerer.old; written = W.contents writer.old })
+        (record { answerer = answerer.new; written = W.contents writer.new }) result }
     ensures cutter { OnOk result (cutter.new.bound ≡ cutter.old.bound) }
     ensures empty { OnOk result (outbox.new ≡ []) }
     ensures read { ¬ (IsErrOf result StreamFault.Read) }
     ensures bound { ¬ (IsErrOf result StreamFault.Bound) }
     ensures write { IsErrOf result StreamFault.Write
         → W.failure_count writer.new ≡ next_count (W.failure_count writer.old) }
+    ensures memory { IsErrOf result StreamFault.Memory
+        → W.failure_count writer.new ≡ W.failure_count writer.old }
     ensures all_written { OnOk result (W.failure_count writer.new ≡ W.failure_count writer.old) }
 {
     let answered = answer_lines(alloc, answerer, cutter, piece, outbox, writer);
@@ -139,21 +152,26 @@ fn answer_last<A: Answerer, W: Output>(
     writer: &mut W,
 ) -> Result<bool, StreamFault>
     requires { outbox.old ≡ [] }
-    ensures goes { Goes A.says A.gives_up (cutter.old.line ∷ []) []
-        answerer.old answerer.new (W.contents writer.old) (W.contents writer.new) result }
+    ensures goes { AnswersSome (record { says = A.says; gives_up = A.gives_up })
+        (cutter.old.line ∷ []) []
+        (record { answerer = answerer.old; written = W.contents writer.old })
+        (record { answerer = answerer.new; written = W.contents writer.new }) result }
     ensures cutter { OnOk result (cutter.new.bound ≡ cutter.old.bound) }
     ensures empty { OnOk result (outbox.new ≡ []) }
     ensures read { ¬ (IsErrOf result StreamFault.Read) }
     ensures bound { ¬ (IsErrOf result StreamFault.Bound) }
     ensures write { IsErrOf result StreamFault.Write
         → W.failure_count writer.new ≡ next_count (W.failure_count writer.old) }
+    ensures memory { IsErrOf result StreamFault.Memory
+        → W.failure_count writer.new ≡ W.failure_count writer.old }
     ensures all_written { OnOk result (W.failure_count writer.new ≡ W.failure_count writer.old) }
 {
     let answered = answer_line(alloc, answerer, cutter, outbox, writer);
     finish_writing(outbox, writer, answered)
 }
 
-/// Writes the answers that wait, but after a write that failed, and passes on how answering ended.
+/// Writes the answers that wait, but after a write that failed, and passes on how answering ended,
+/// if they are written.
 fn finish_writing<W: Output>(
     outbox: &mut Outbox,
     writer: &mut W,
@@ -167,8 +185,12 @@ fn finish_writing<W: Output>(
     ensures write { IsErrOf result StreamFault.Write
         → ((answered ≡ Err StreamFault.Write)
         × (W.failure_count writer.new ≡ W.failure_count writer.old))
+        ⊎ ((answered ≡ Err StreamFault.Memory)
+        × (W.failure_count writer.new ≡ next_count (W.failure_count writer.old)))
         ⊎ ((on : Bool) × (answered ≡ Ok on)
         × (W.failure_count writer.new ≡ next_count (W.failure_count writer.old))) }
+    ensures memory { IsErrOf result StreamFault.Memory → (answered ≡ Err StreamFault.Memory)
+        × (W.failure_count writer.new ≡ W.failure_count writer.old) }
     ensures all_written { OnOk result (W.failure_count writer.new ≡ W.failure_count writer.old) }
 {
     match answered {
@@ -177,7 +199,7 @@ fn finish_writing<W: Output>(
             Ok(may_follow)
         }
         Err(StreamFault::Memory) => {
-            let _ = outbox.flush(writer);
+            outbox.flush(writer)?;
             answered
         }
         Err(_) => answered,
@@ -193,16 +215,27 @@ fn answer_lines<A: Answerer, W: Output>(
     outbox: &mut Outbox,
     writer: &mut W,
 ) -> Result<bool, StreamFault>
-    ensures goes { (more : List ℕ) → GoesPut A.says A.gives_up
+    ensures goes { (more : List ℕ) → PutsSome (record { says = A.says; gives_up = A.gives_up })
         (lines_after cutter.old.bound cutter.old.line (piece.now ++ more))
         (lines_after cutter.old.bound cutter.new.line more)
-        answerer.old answerer.new (W.contents writer.old) (W.contents writer.new)
-        outbox.old outbox.new result }
+        (record {
+          answerer = answerer.old;
+          written = W.contents writer.old;
+          waits = outbox.old;
+        })
+        (record {
+          answerer = answerer.new;
+          written = W.contents writer.new;
+          waits = outbox.new;
+        })
+        result }
     ensures cutter { OnOk result (cutter.new.bound ≡ cutter.old.bound) }
     ensures read { ¬ (IsErrOf result StreamFault.Read) }
     ensures bound { ¬ (IsErrOf result StreamFault.Bound) }
     ensures write { IsErrOf result StreamFault.Write
         → W.failure_count writer.new ≡ next_count (W.failure_count writer.old) }
+    ensures memory { IsErrOf result StreamFault.Memory
+        → W.failure_count writer.new ≡ W.failure_count writer.old }
     ensures all_written { OnOk result (W.failure_count writer.new ≡ W.failure_count writer.old) }
 {
     for byte in piece {
@@ -224,14 +257,26 @@ fn answer_line<A: Answerer, W: Output>(
     writer: &mut W,
 ) -> Result<bool, StreamFault>
     ensures goes { (left : List (Option (List ℕ)))
-        → GoesPut A.says A.gives_up (cutter.old.line ∷ left) left
-        answerer.old answerer.new (W.contents writer.old) (W.contents writer.new)
-        outbox.old outbox.new result }
+        → PutsSome (record { says = A.says; gives_up = A.gives_up })
+        (cutter.old.line ∷ left) left
+        (record {
+          answerer = answerer.old;
+          written = W.contents writer.old;
+          waits = outbox.old;
+        })
+        (record {
+          answerer = answerer.new;
+          written = W.contents writer.new;
+          waits = outbox.new;
+        })
+        result }
     ensures cutter { OnOk result (cutter.new ≡ record cutter.old { line = Some [] }) }
     ensures read { ¬ (IsErrOf result StreamFault.Read) }
     ensures bound { ¬ (IsErrOf result StreamFault.Bound) }
     ensures write { IsErrOf result StreamFault.Write
         → W.failure_count writer.new ≡ next_count (W.failure_count writer.old) }
+    ensures memory { IsErrOf result StreamFault.Memory
+        → W.failure_count writer.new ≡ W.failure_count writer.old }
     ensures all_written { OnOk result (W.failure_count writer.new ≡ W.failure_count writer.old) }
 {
     let Answer { text, goes_on } = answerer.answer(alloc, cutter.line())?;

@@ -4,6 +4,7 @@ ghost use Rattle.pay_text.specs.Numbers.{number_of};
 
 /// The number that a word is: decimal, without a sign and without a zero in front of other digits,
 /// and of at most 64 bits.
+// promise: lines and words
 pub fn number(word: &[u8]) -> Option<u64>
     ensures { result ≡ number_of word.now }
 {

@@ -24,6 +24,7 @@ impl<'a> Model for Words<'a> {
 }
 
 impl<'a> Words<'a> {
+    // promise: lines and words
     pub fn new(line: &'a [u8]) -> Words<'a>
         ensures { result ≡ words_of line.now }
     {
@@ -31,6 +32,7 @@ impl<'a> Words<'a> {
     }
 
     /// Takes the next word.
+    // promise: lines and words
     pub fn next_word(&mut self) -> Option<&'a [u8]>
         ensures word { option_copied result ≡ first_word self.old }
         ensures rest { self.new ≡ drop 1 self.old }
@@ -49,6 +51,7 @@ impl<'a> Words<'a> {
     }
 
     /// Takes the next word, and answers the number that it is.
+    // promise: lines and words
     pub fn next_number(&mut self) -> Option<u64>
         ensures number { result ≡ first_number self.old }
         ensures rest { self.new ≡ drop 1 self.old }
@@ -57,6 +60,7 @@ impl<'a> Words<'a> {
     }
 
     /// Whether all words are taken.
+    // promise: lines and words
     pub fn is_done(&self) -> bool
         ensures { result ≡ is_none self.now }
     {

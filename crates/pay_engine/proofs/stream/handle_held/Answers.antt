@@ -1,100 +1,95 @@
-use Rattle.std.proofs.Common.{drop, take, ◌≡◌, ◌∙◌, ◌++◌, ◌∷◌, [], append_assoc, arith, true, false, Ok, Err, ℕ, inr, sym, subst, rules}
+use Rattle.std.proofs.Common.{◌≡◌, ap, [], arith, drop, length, length-drop, Err, ℕ, inr, rules}
 use Rattle.std.specs.Io.KnownBytes.{Appends}
 use Rattle.std.proofs.KnownBytes.{Consumes-nil}
 use Rattle.pay_engine.specs.declared.engine_fault.EngineFault.TheVariants.{Memory, Write}
+use Rattle.pay_engine.specs.declared.frame_handler.Next.TheVariants.{Frame, Partial}
 use Rattle.pay_io.specs.Device.{WroteBeginning}
 use Rattle.pay_frame.specs.Reading.{IsFault}
-use Rattle.pay_frame.specs.Stream.{IsFramesThen}
-use Rattle.pay_engine.specs.Handling.{StopsAmong, HandlesBatch, InProgress, StepsPrefix}
-use Rattle.pay_engine.proofs.Handlings.{Batch, batch_of, behind, given_at_fault, handles_more, none_written, room_after, some_written, stops, stream_at_fault}
-use Rattle.pay_frame.specs.Cutting.{IsFront}
-use Rattle.pay_engine.proofs.Fronts.{cut_of}
+use Rattle.pay_engine.specs.Handling.{HandledFront, HandledSome, InProgress, IsNext}
+use Rattle.pay_engine.proofs.Handlings.{stage_at, front_handled, front_left, front_unwritten, given_at_fault, room_after, some_handled, stream_at_fault}
 use Rattle.pay_engine.proofs.stream.handle_held.Goals as goal
 
-pub returns-then-count-eq0-clause-begins : goal.returns-then-count-eq0-clause-begins
-returns-then-count-eq0-clause-begins g c = λ _. rw c.bytes.ensures at (c.in-Ok.ensures.front.none c.if-count-eq0.true).1
-
-pub returns-in_err-goes_on-in-Ok-clause-handles : goal.returns-in_err-goes_on-in-Ok-clause-handles
-returns-in_err-goes_on-in-Ok-clause-handles g c =
+pub returns-in_err-size-clause-handles : goal.returns-in_err-size-clause-handles
+returns-in_err-size-clause-handles g c =
     let h = g.H.FrameHandler.handling c.args.handler.now in
-    let passed : IsFront c.batches.read.bytes c.at_once.result c.in-Ok.size c.in-Ok.count = rw c.bytes.ensures at c.in-Ok.ensures.front in
-    let cut : IsFramesThen c.batches.read.bytes passed.frames (drop c.in-Ok.size c.batches.read.bytes) = cut_of c.stream_grows.ensures.piece c.batches.read.bytes c.at_once.result c.in-Ok.size c.in-Ok.count passed in
-    let given : IsFramesThen (take c.in-Ok.size c.bytes-in-Ok.result.now) passed.frames [] = rw c.bytes-in-Ok.ensures passed.cut in
-    let some : StepsPrefix h c.batches.state c.handle_batch.new.state passed.frames = c.in_err-goes_on-in-Ok.ensures.handles passed.frames given in
+    let some : HandledSome h c.fronts.state c.handle_front.new.state c.fronts.read.bytes = rw c.bytes.ensures at c.in_err-size.ensures.handles in
     let memory : c.from_residual.result ≡ Err Memory = search rules in
-    rw memory (λ start left reads going.
-    let was = c.batches.invariant.handles start left reads going in
-    some_written h start c.batches.state c.handle_batch.new.state left _ _ c.batches.read.bytes _ some.first reads was
-    (behind h start c.batches.state left _ c.batches.read.bytes (drop c.in-Ok.size c.batches.read.bytes) passed.frames some.first some.others reads c.stream_grows.ensures.frames was cut some.parts) some.text some.handled (none_written _ some.text))
+    rw memory (λ start left reads going. some_handled h start c.fronts.state c.handle_front.new.state left _ c.fronts.read.bytes reads c.stream_grows.ensures.frames some (c.fronts.invariant.handles start left reads going))
 
-pub returns-in_err-write_text-in-Ok-clause-handles : goal.returns-in_err-write_text-in-Ok-clause-handles
-returns-in_err-write_text-in-Ok-clause-handles g c =
+pub returns-in_err-write_text-clause-handles : goal.returns-in_err-write_text-clause-handles
+returns-in_err-write_text-clause-handles g c =
     let h = g.H.FrameHandler.handling c.args.handler.now in
     let contents = g.Out.Output.contents in
-    let passed : IsFront c.batches.read.bytes c.at_once.result c.in-Ok.size c.in-Ok.count = rw c.bytes.ensures at c.in-Ok.ensures.front in
-    let cut : IsFramesThen c.batches.read.bytes passed.frames (drop c.in-Ok.size c.batches.read.bytes) = cut_of c.stream_grows.ensures.piece c.batches.read.bytes c.at_once.result c.in-Ok.size c.in-Ok.count passed in
-    let given : IsFramesThen (take c.in-Ok.size c.bytes-in-Ok.result.now) passed.frames [] = rw c.bytes-in-Ok.ensures passed.cut in
-    let some : Batch h c.batches.state c.handle_batch.new.state passed.frames [] c.handle_batch.new.out.items = batch_of h _ _ passed.frames [] _ c.in_ok-goes_on-in-Ok.goes_on (subst (λ xs. HandlesBatch h c.batches.state c.handle_batch.new.state passed.frames xs c.handle_batch.new.out.items (Ok c.in_ok-goes_on-in-Ok.goes_on)) c.clear.ensures.items (c.in_ok-goes_on-in-Ok.ensures.handles passed.frames given)) in
-    let write : c.from_residual-in_err-write_text-in-Ok.result ≡ Err Write = search rules in
-    let told : WroteBeginning (contents c.batches.writer) (contents c.write_text.new.writer) c.handle_batch.new.out.items = rw c.deref.ensures.value at c.in_err-write_text-in-Ok.ensures.beginning in
-    let wrote : WroteBeginning (contents c.batches.writer) (contents c.write_text.new.writer) some.text = subst (WroteBeginning (contents c.batches.writer) (contents c.write_text.new.writer)) some.longer told in
-    rw write (λ start left reads going.
-    let was = c.batches.invariant.handles start left reads going in
-    some_written h start c.batches.state c.handle_batch.new.state left _ _ c.batches.read.bytes _ some.first reads was
-    (behind h start c.batches.state left _ c.batches.read.bytes (drop c.in-Ok.size c.batches.read.bytes) passed.frames some.first some.others reads c.stream_grows.ensures.frames was cut some.parts) some.text some.handled wrote)
+    let held = c.fronts.read.bytes in
+    let front : HandledFront h c.fronts.state c.handle_front.new.state held [] c.handle_front.new.out.items c.in_ok-size.field-0 = rw (c.clear.ensures.items, c.bytes.ensures) at c.in_ok-size.ensures.handles in
+    let told : WroteBeginning (contents c.fronts.writer) (contents c.write_text.new.writer) c.handle_front.new.out.items = rw c.deref.ensures.value at c.in_err-write_text.ensures.beginning in
+    let write : c.from_residual-in_err-write_text.result ≡ Err Write = search rules in
+    rw write (λ start left reads going. front_unwritten h start c.fronts.state c.handle_front.new.state left (contents c.fronts.writer) (contents c.write_text.new.writer) held c.handle_front.new.out.items c.in_ok-size.field-0 reads c.stream_grows.ensures.frames front told (c.fronts.invariant.handles start left reads going))
 
-pub returns-then-not-goes_on-clause-handles : goal.returns-then-not-goes_on-clause-handles
-returns-then-not-goes_on-clause-handles g c =
+pub fronts-preserved : goal.fronts-preserved
+fronts-preserved g c =
     let h = g.H.FrameHandler.handling c.args.handler.now in
     let contents = g.Out.Output.contents in
-    let passed : IsFront c.batches.read.bytes c.at_once.result c.in-Ok.size c.in-Ok.count = rw c.bytes.ensures at c.in-Ok.ensures.front in
-    let cut : IsFramesThen c.batches.read.bytes passed.frames (drop c.in-Ok.size c.batches.read.bytes) = cut_of c.stream_grows.ensures.piece c.batches.read.bytes c.at_once.result c.in-Ok.size c.in-Ok.count passed in
-    let given : IsFramesThen (take c.in-Ok.size c.bytes-in-Ok.result.now) passed.frames [] = rw c.bytes-in-Ok.ensures passed.cut in
-    let off : c.in_ok-goes_on-in-Ok.goes_on ≡ false = search rules in
-    let some : StopsAmong h c.batches.state c.handle_batch.new.state passed.frames [] c.handle_batch.new.out.items = rw (off, c.clear.ensures.items) at (c.in_ok-goes_on-in-Ok.ensures.handles passed.frames given) in
-    let told : Appends (contents c.batches.writer) (contents c.write_text.new.writer) c.handle_batch.new.out.items = rw c.deref.ensures.value at c.in_ok-write_text-in-Ok.ensures.ok in
-    let written : Appends (contents c.batches.writer) (contents c.write_text.new.writer) some.text = subst (Appends (contents c.batches.writer) (contents c.write_text.new.writer)) some.longer told in
-    let parts : passed.frames ≡ (some.first ++ some.last ∷ []) ++ some.others = some.parts ∙ sym (append_assoc some.first (some.last ∷ []) some.others) in
-    λ start left reads going.
-    let was = c.batches.invariant.handles start left reads going in
-    inr (stops h start c.batches.state c.handle_batch.new.state left _ _ c.batches.read.bytes _ some.first some.last reads was
-    (behind h start c.batches.state left _ c.batches.read.bytes (drop c.in-Ok.size c.batches.read.bytes) passed.frames (some.first ++ some.last ∷ []) some.others reads c.stream_grows.ensures.frames was cut parts) some.text some.handled some.stopped written)
-
-pub batches-preserved : goal.batches-preserved
-batches-preserved g c =
-    let h = g.H.FrameHandler.handling c.args.handler.now in
-    let contents = g.Out.Output.contents in
-    let passed : IsFront c.batches.read.bytes c.at_once.result c.in-Ok.size c.in-Ok.count = rw c.bytes.ensures at c.in-Ok.ensures.front in
-    let cut : IsFramesThen c.batches.read.bytes passed.frames c.consume.new.self.bytes = rw c.consume.ensures.left (cut_of c.stream_grows.ensures.piece c.batches.read.bytes c.at_once.result c.in-Ok.size c.in-Ok.count passed) in
-    let given : IsFramesThen (take c.in-Ok.size c.bytes-in-Ok.result.now) passed.frames [] = rw c.bytes-in-Ok.ensures passed.cut in
-    let on : c.in_ok-goes_on-in-Ok.goes_on ≡ true = search rules in
-    let all : HandlesBatch h c.batches.state c.handle_batch.new.state passed.frames [] c.handle_batch.new.out.items (Ok true) = rw (on, c.clear.ensures.items) at (c.in_ok-goes_on-in-Ok.ensures.handles passed.frames given) in
-    let told : Appends (contents c.batches.writer) (contents c.write_text.new.writer) c.handle_batch.new.out.items = rw c.deref.ensures.value at c.in_ok-write_text-in-Ok.ensures.ok in
-    let written : Appends (contents c.batches.writer) (contents c.write_text.new.writer) all.0 = subst (Appends (contents c.batches.writer) (contents c.write_text.new.writer)) all.2 told in
-    let count = c.frame_sizes.ensures.count c.batches.read.bytes c.consume.new.self.bytes passed.frames cut in
+    let held = c.fronts.read.bytes in
+    let front : HandledFront h c.fronts.state c.handle_front.new.state held [] c.handle_front.new.out.items c.in_ok-size.field-0 = rw (c.clear.ensures.items, c.bytes.ensures) at c.in_ok-size.ensures.handles in
+    let told : Appends (contents c.fronts.writer) (contents c.write_text.new.writer) c.handle_front.new.out.items = rw c.deref.ensures.value at c.in_ok-write_text.ensures.ok in
     let Room : g.row.S.Denot → ℕ → Type 0 = λ s m. g.H.FrameHandler.has_room c.args.handler.now s m in
+    let count = c.frame_sizes.ensures.count held (drop c.in_ok-size.field-0.size held) front.frames front.cut in
+    let shorter : length c.consume.new.self.bytes ≡ length (drop c.in_ok-size.field-0.size held) = ap length c.consume.ensures.left in
     record {
-      handles = λ start left reads going.
-          let was = c.batches.invariant.handles start left reads going in
-          handles_more h start c.batches.state c.handle_batch.new.state left _ _ c.batches.read.bytes c.consume.new.self.bytes passed.frames reads was
-          (c.stream_grows.ensures.frames was.read c.batches.read.bytes c.consume.new.self.bytes was.frames passed.frames was.cut cut) all.0 all.1 written;
-      room = λ n le. room_after h Room (λ s t f text m. g.met.H.FrameHandler.keeps_room c.args.handler.now s t f text m) c.batches.state c.handle_batch.new.state passed.frames all.0 n all.1 (c.batches.invariant.room _ (omega arith));
-      writes = c.in_ok-write_text-in-Ok.ensures.none_failed ∙ c.batches.invariant.writes;
-      same_room = c.consume.ensures.room ∙ c.batches.invariant.same_room;
+      handles = λ start left reads going. rw c.consume.ensures.left (front_handled h start c.fronts.state c.handle_front.new.state left (contents c.fronts.writer) (contents c.write_text.new.writer) held c.handle_front.new.out.items c.in_ok-size.field-0 reads c.stream_grows.ensures.frames front told (c.fronts.invariant.handles start left reads going));
+      room = λ n le. room_after h Room (λ s t f text m. g.met.H.FrameHandler.keeps_room c.args.handler.now s t f text m) c.fronts.state c.handle_front.new.state front.frames front.text n front.handled (c.fronts.invariant.room _ (omega arith));
+      writes = search rules;
+      same_room = search rules;
     }
 
-pub returns-in-Err-clause-handles : goal.returns-in-Err-clause-handles
-returns-in-Err-clause-handles g c =
+pub fronts-smaller : goal.fronts-smaller
+fronts-smaller g c =
     let h = g.H.FrameHandler.handling c.args.handler.now in
-    let held = c.batches.read.bytes in
-    let wrong : IsFault held c.in-Err.fault = rw c.bytes.ensures at c.in-Err.ensures.fault in
-    λ start left reads going.
-    let was : InProgress h start c.batches.state left (g.Out.Output.contents c.batches.writer) held reads = c.batches.invariant.handles start left reads going in
-    c.end_at.ensures.handles start left left held reads reads was (Consumes-nil left) (given_at_fault was.read held was.frames c.in-Err.fault c.fault_is_for_good.ensures.stream was.cut wrong)
-    (stream_at_fault start.input left was.read held was.frames c.in-Err.fault c.fault_is_for_good.ensures.stream was.consumed was.cut wrong)
+    let contents = g.Out.Output.contents in
+    let held = c.fronts.read.bytes in
+    let front : HandledFront h c.fronts.state c.handle_front.new.state held [] c.handle_front.new.out.items c.in_ok-size.field-0 = rw (c.clear.ensures.items, c.bytes.ensures) at c.in_ok-size.ensures.handles in
+    let some : IsNext h c.handle_front.new.state c.in_ok-size.field-0.size (drop c.in_ok-size.field-0.size held) Frame = rw c.in-Frame.is at front.next in
+    let within = front.within in
+    rw c.consume.ensures.left (omega (arith, length-drop c.in_ok-size.field-0.size held))
 
-pub batches-smaller : goal.batches-smaller
-batches-smaller g c =
-    let passed : IsFront c.batches.read.bytes c.at_once.result c.in-Ok.size c.in-Ok.count = rw c.bytes.ensures at c.in-Ok.ensures.front in
-    let cut : IsFramesThen c.batches.read.bytes passed.frames c.consume.new.self.bytes = rw c.consume.ensures.left (cut_of c.stream_grows.ensures.piece c.batches.read.bytes c.at_once.result c.in-Ok.size c.in-Ok.count passed) in
-    omega (arith, c.frame_sizes.ensures.count c.batches.read.bytes c.consume.new.self.bytes passed.frames cut, passed.counted, c.if-count-eq0.false)
+pub returns-in-Partial-clause-handles : goal.returns-in-Partial-clause-handles
+returns-in-Partial-clause-handles g c =
+    let h = g.H.FrameHandler.handling c.args.handler.now in
+    let contents = g.Out.Output.contents in
+    let held = c.fronts.read.bytes in
+    let front : HandledFront h c.fronts.state c.handle_front.new.state held [] c.handle_front.new.out.items c.in_ok-size.field-0 = rw (c.clear.ensures.items, c.bytes.ensures) at c.in_ok-size.ensures.handles in
+    let told : Appends (contents c.fronts.writer) (contents c.write_text.new.writer) c.handle_front.new.out.items = rw c.deref.ensures.value at c.in_ok-write_text.ensures.ok in
+    λ start left reads going. rw c.consume.ensures.left (front_handled h start c.fronts.state c.handle_front.new.state left (contents c.fronts.writer) (contents c.write_text.new.writer) held c.handle_front.new.out.items c.in_ok-size.field-0 reads c.stream_grows.ensures.frames front told (c.fronts.invariant.handles start left reads going))
+
+pub returns-in-Partial-clause-begins : goal.returns-in-Partial-clause-begins
+returns-in-Partial-clause-begins g c =
+    let h = g.H.FrameHandler.handling c.args.handler.now in
+    let contents = g.Out.Output.contents in
+    let held = c.fronts.read.bytes in
+    let front : HandledFront h c.fronts.state c.handle_front.new.state held [] c.handle_front.new.out.items c.in_ok-size.field-0 = rw (c.clear.ensures.items, c.bytes.ensures) at c.in_ok-size.ensures.handles in
+    let begins : IsNext h c.handle_front.new.state c.in_ok-size.field-0.size (drop c.in_ok-size.field-0.size held) Partial = rw c.in-Partial.is at front.next in
+    λ _. rw c.consume.ensures.left begins
+
+pub returns-in-Leave-clause-handles : goal.returns-in-Leave-clause-handles
+returns-in-Leave-clause-handles g c =
+    let h = g.H.FrameHandler.handling c.args.handler.now in
+    let contents = g.Out.Output.contents in
+    let held = c.fronts.read.bytes in
+    let front : HandledFront h c.fronts.state c.handle_front.new.state held [] c.handle_front.new.out.items c.in_ok-size.field-0 = rw (c.clear.ensures.items, c.bytes.ensures) at c.in_ok-size.ensures.handles in
+    let told : Appends (contents c.fronts.writer) (contents c.write_text.new.writer) c.handle_front.new.out.items = rw c.deref.ensures.value at c.in_ok-write_text.ensures.ok in
+    λ start left reads going. inr (front_left h start c.fronts.state c.handle_front.new.state left (contents c.fronts.writer) (contents c.write_text.new.writer) held c.handle_front.new.out.items c.in_ok-size.field-0 reads c.stream_grows.ensures.frames front c.in-Leave.is told (c.fronts.invariant.handles start left reads going))
+
+pub returns-in-Fault-clause-handles : goal.returns-in-Fault-clause-handles
+returns-in-Fault-clause-handles g c =
+    let h = g.H.FrameHandler.handling c.args.handler.now in
+    let contents = g.Out.Output.contents in
+    let held = c.fronts.read.bytes in
+    let front : HandledFront h c.fronts.state c.handle_front.new.state held [] c.handle_front.new.out.items c.in_ok-size.field-0 = rw (c.clear.ensures.items, c.bytes.ensures) at c.in_ok-size.ensures.handles in
+    let told : Appends (contents c.fronts.writer) (contents c.write_text.new.writer) c.handle_front.new.out.items = rw c.deref.ensures.value at c.in_ok-write_text.ensures.ok in
+    let rest = drop c.in_ok-size.field-0.size held in
+    let wrong : IsFault rest c.in-Fault.fault = rw c.in-Fault.is at front.next in
+    λ start left reads going.
+    let was : InProgress h start (stage_at c.handle_front.new.state left (contents c.write_text.new.writer)) rest reads = front_handled h start c.fronts.state c.handle_front.new.state left (contents c.fronts.writer) (contents c.write_text.new.writer) held c.handle_front.new.out.items c.in_ok-size.field-0 reads c.stream_grows.ensures.frames front told (c.fronts.invariant.handles start left reads going) in
+    c.end_at.ensures.handles start left left rest reads was (Consumes-nil left) (given_at_fault was.read rest was.frames c.in-Fault.fault c.fault_is_for_good.ensures.stream was.cut wrong)
+    (stream_at_fault start.input left was.read rest was.frames c.in-Fault.fault c.fault_is_for_good.ensures.stream was.consumed was.cut wrong)

@@ -1,10 +1,15 @@
-use Rattle.std.proofs.Common.{◌≡◌, ap, ℕ, [], Err, true, false, arith, rules}
+use Rattle.std.proofs.Common.{◌≡◌, ◌∙◌, ◌<◌, ◌≤◌, ap, ℕ, [], Err, Some, None, inl, length, true, false, arith, rules, sym}
 use Rattle.std.proofs.lemmas.Grind.{common_steps}
+use Rattle.std.specs.Io.KnownBytes.{IsAtEnd}
+use Rattle.std.proofs.lemmas.List.{nil_from_length}
 use Rattle.pay_engine.specs.declared.engine_fault.EngineFault.{EngineFault}
 use Rattle.pay_engine.specs.declared.engine_fault.EngineFault.TheVariants.{Memory, Write}
+use Rattle.pay_frame.specs.declared.fault.FrameFault.TheVariants.{Truncated}
+use Rattle.pay_frame.specs.Stream.{CutOff, IsStream, Nothing}
 use Rattle.pay_io.specs.declared.limits.TheConstants.{MOST_READS}
+use Rattle.pay_engine.specs.declared.limits.TheConstants.{GREATEST_READ}
 use Rattle.pay_engine.specs.Handling.{Start}
-use Rattle.pay_engine.proofs.Handlings.{first_failed, at_start, none_written, room_after, gave}
+use Rattle.pay_engine.proofs.Handlings.{all, at_start, fed_piece, first_failed, gave, none_written, nothing_more, nothing_read, read_all, room_after, some_bytes, stream_at_end}
 use Rattle.pay_engine.proofs.stream.handle_stream.Goals as goal
 
 pub returns-in_err-read-clause-handled : goal.returns-in_err-read-clause-handled
@@ -33,32 +38,81 @@ loop-init g c =
       writes = search rules;
     }
 
-pub read_once-requires-clause-room : goal.read_once-requires-clause-room
-read_once-requires-clause-room g c = λ n le.
-    let h = g.H.FrameHandler.handling c.args.handler.now in
+pub returns-in-Err-clause-handled : goal.returns-in-Err-clause-handled
+returns-in-Err-clause-handled g c =
+    let same : c.fill.new.self.bytes ≡ c.loop.read.bytes = c.in-Err.ensures.kept in
     let going = c.loop.invariant.handling in
-    let few = going.few in
-    let Room : g.row.S.Denot → ℕ → Type 0 = λ s m. g.H.FrameHandler.has_room c.args.handler.now s m in
-    let count = c.frame_sizes.ensures.count going.read c.loop.work.read.bytes going.frames going.cut in
-    room_after h Room (λ s t f text m. g.met.H.FrameHandler.keeps_room c.args.handler.now s t f text m) c.args.state.now c.loop.state going.frames going.text n going.handled (c.requires.room _ (omega arith))
+    (c.loop.counter, (c.loop.read.bytes, read_all _ _ _ _ _ _ _ c.loop.counter (nothing_read _ _ c.in-Err.ensures.none) going, c.loop.invariant.begins))
 
-pub returns-in_err-read_once-clause-handled : goal.returns-in_err-read_once-clause-handled
-returns-in_err-read_once-clause-handled g c =
-    let e : EngineFault = c.in_err-read_once.field-0.0 in
-    let same : c.from_residual-in_err-read_once.result ≡ Err e = search rules in
-    rw same (c.in_err-read_once.ensures.handles _ _ c.loop.invariant.handling)
+pub returns-then-is_empty-clause-handled : goal.returns-then-is_empty-clause-handled
+returns-then-is_empty-clause-handled g c =
+    let remaining = g.In.Input.remaining in
+    let more = c.in-Ok.ensures.reads in
+    let zero : c.in-Ok.count ≡ 0 = omega arith in
+    let none = nothing_more c.loop.read.bytes c.fill.new.self.bytes (remaining c.loop.reader) (remaining c.fill.new.reader) c.in-Ok.count more zero in
+    let end : IsAtEnd (remaining c.fill.new.reader) = more.end zero in
+    let short : length c.bytes.result.now ≡ 0 = search rules in
+    let empty : c.loop.read.bytes ≡ [] = sym none.1 ∙ sym c.bytes.ensures ∙ nil_from_length c.bytes.result.now short in
+    let going = c.loop.invariant.handling in
+    let stream : IsStream going.read going.frames None = record { rest = c.loop.read.bytes; cut = going.cut; ends = Nothing empty } in
+    inl (all _ _ _ _ _ _ _ c.loop.counter going none.0 stream (stream_at_end _ _ _ going.read going.frames None going.consumed none.0 end stream), end)
+
+pub returns-then-count-eq0-clause-handled : goal.returns-then-count-eq0-clause-handled
+returns-then-count-eq0-clause-handled g c =
+    let remaining = g.In.Input.remaining in
+    let more = c.in-Ok.ensures.reads in
+    let zero : c.in-Ok.count ≡ 0 = c.if-count-eq0.true in
+    let none = nothing_more c.loop.read.bytes c.fill.new.self.bytes (remaining c.loop.reader) (remaining c.fill.new.reader) c.in-Ok.count more zero in
+    let end : IsAtEnd (remaining c.fill.new.reader) = more.end zero in
+    let held : c.bytes.result.now ≡ c.loop.read.bytes = c.bytes.ensures ∙ none.1 in
+    let some : 0 < length c.loop.read.bytes = some_bytes c.bytes.result.now c.loop.read.bytes (search rules) held in
+    let going = c.loop.invariant.handling in
+    let stream : IsStream going.read going.frames (Some Truncated) = record { rest = c.loop.read.bytes; cut = going.cut; ends = CutOff some c.loop.invariant.begins } in
+    c.end_at.ensures.handles _ _ _ _ c.loop.counter going none.0 stream (stream_at_end _ _ _ going.read going.frames (Some Truncated) going.consumed none.0 end stream)
+
+pub handle_held-requires : goal.handle_held-requires
+handle_held-requires g c = record {
+  room = λ n le.
+      let h = g.H.FrameHandler.handling c.args.handler.now in
+      let going = c.loop.invariant.handling in
+      let few = going.few in
+      let Room : g.row.S.Denot → ℕ → Type 0 = λ s m. g.H.FrameHandler.has_room c.args.handler.now s m in
+      let count = c.frame_sizes.ensures.count going.read c.loop.read.bytes going.frames going.cut in
+      room_after h Room (λ s t f text m. g.met.H.FrameHandler.keeps_room c.args.handler.now s t f text m) c.args.state.now c.loop.state going.frames going.text n going.handled (c.requires.room _ (omega (arith, c.fill.ensures.most, c.fill.ensures.room, c.loop.invariant.most_room)));
+}
+
+pub returns-in_err-handle_held-clause-handled : goal.returns-in_err-handle_held-clause-handled
+returns-in_err-handle_held-clause-handled g c =
+    let h = g.H.FrameHandler.handling c.args.handler.now in
+    let rest = g.In.Input.remaining c.fill.new.reader in
+    let few : length c.fill.new.self.bytes ≤ GREATEST_READ = omega (arith, c.fill.ensures.most, c.fill.ensures.room, c.loop.invariant.most_room) in
+    let some : 0 < c.in-Ok.count = omega (arith, c.if-count-eq0.false) in
+    let going = fed_piece h _ c.loop.state (g.In.Input.remaining c.loop.reader) rest (g.Out.Output.contents c.loop.writer) c.loop.read.bytes c.fill.new.self.bytes c.in-Ok.count c.loop.counter c.stream_grows.ensures.piece c.in-Ok.ensures.reads few some c.loop.invariant.handling in
+    let e : EngineFault = c.in_err-handle_held.field-0.0 in
+    let same : c.from_residual-in_err-handle_held.result ≡ Err e = search rules in
+    rw same (c.in_err-handle_held.ensures.handles _ _ _ going)
 
 pub returns-then-not-branch-clause-handled : goal.returns-then-not-branch-clause-handled
 returns-then-not-branch-clause-handled g c =
-    let off : c.in_ok-read_once.field-0 ≡ false = search rules in
-    rw off at (c.in_ok-read_once.ensures.handles _ _ c.loop.invariant.handling)
+    let h = g.H.FrameHandler.handling c.args.handler.now in
+    let rest = g.In.Input.remaining c.fill.new.reader in
+    let few : length c.fill.new.self.bytes ≤ GREATEST_READ = omega (arith, c.fill.ensures.most, c.fill.ensures.room, c.loop.invariant.most_room) in
+    let some : 0 < c.in-Ok.count = omega (arith, c.if-count-eq0.false) in
+    let going = fed_piece h _ c.loop.state (g.In.Input.remaining c.loop.reader) rest (g.Out.Output.contents c.loop.writer) c.loop.read.bytes c.fill.new.self.bytes c.in-Ok.count c.loop.counter c.stream_grows.ensures.piece c.in-Ok.ensures.reads few some c.loop.invariant.handling in
+    let off : c.in_ok-handle_held.field-0 ≡ false = search rules in
+    rw off at (c.in_ok-handle_held.ensures.handles _ _ _ going)
 
 pub loop-preserved : goal.loop-preserved
 loop-preserved g c =
-    let on : c.in_ok-read_once.field-0 ≡ true = search rules in
+    let h = g.H.FrameHandler.handling c.args.handler.now in
+    let rest = g.In.Input.remaining c.fill.new.reader in
+    let few : length c.fill.new.self.bytes ≤ GREATEST_READ = omega (arith, c.fill.ensures.most, c.fill.ensures.room, c.loop.invariant.most_room) in
+    let some : 0 < c.in-Ok.count = omega (arith, c.if-count-eq0.false) in
+    let going = fed_piece h _ c.loop.state (g.In.Input.remaining c.loop.reader) rest (g.Out.Output.contents c.loop.writer) c.loop.read.bytes c.fill.new.self.bytes c.in-Ok.count c.loop.counter c.stream_grows.ensures.piece c.in-Ok.ensures.reads few some c.loop.invariant.handling in
+    let on : c.in_ok-handle_held.field-0 ≡ true = search rules in
     record {
-      handling = rw on at (c.in_ok-read_once.ensures.handles _ _ c.loop.invariant.handling);
-      begins = c.in_ok-read_once.ensures.begins on;
+      handling = rw on at (c.in_ok-handle_held.ensures.handles _ _ _ going);
+      begins = c.in_ok-handle_held.ensures.begins on;
       least = search rules;
       most_room = search rules;
       calls = search rules;
@@ -76,13 +130,14 @@ pub returns-clause-counts : goal.returns-clause-counts
 returns-clause-counts g c = record {
   read = search rules;
   write = search rules;
+  memory = search rules;
   most = search rules;
   bound = search rules;
   gave = λ _. gave _ _ _ _ _ _ _ MOST_READS c.loop.invariant.handling (omega arith);
 }
 
-pub returns-in_err-read_once-clause-counts : goal.returns-in_err-read_once-clause-counts
-returns-in_err-read_once-clause-counts g c = grind (arith, common_steps)
+pub returns-in_err-handle_held-clause-counts : goal.returns-in_err-handle_held-clause-counts
+returns-in_err-handle_held-clause-counts g c = grind (arith, common_steps)
 
 pub returns-then-not-branch-clause-counts : goal.returns-then-not-branch-clause-counts
 returns-then-not-branch-clause-counts g c = grind (arith, common_steps)

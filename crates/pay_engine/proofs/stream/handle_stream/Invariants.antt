@@ -4,6 +4,7 @@ use Rattle.pay_frame.specs.declared.limits.TheConstants.{CUTTER_ROOM}
 use Rattle.pay_engine.specs.declared.limits.TheConstants.{GREATEST_READ}
 use Rattle.pay_frame.specs.Reading.{IsProperBeginning}
 use Rattle.pay_engine.specs.Handling.{InProgress}
+use Rattle.pay_engine.proofs.Handlings.{stage_at}
 use Rattle.pay_engine.proofs.stream.handle_stream.Given as goal
 
 -- what was read and handled so far, in just so many calls, of which none failed
@@ -12,12 +13,10 @@ invariant-loop g l =
     let remaining = g.In.Input.remaining in
     let contents = g.Out.Output.contents in
     record {
-      handling : InProgress (g.H.FrameHandler.handling l.handler)
-          (record { first = l.first; state = l.fn.state; input = remaining l.fn.reader; before = contents l.fn.writer })
-          l.state (remaining l.reader) (contents l.writer) l.work.read.bytes l.counter;
-      begins : IsProperBeginning l.work.read.bytes;
-      least : CUTTER_ROOM ≤ l.work.read.room;
-      most_room : l.work.read.room ≤ GREATEST_READ;
+      handling : InProgress (g.H.FrameHandler.handling l.handler) (record { first = l.first; state = l.fn.state; input = remaining l.fn.reader; before = contents l.fn.writer }) (stage_at l.state (remaining l.reader) (contents l.writer)) l.read.bytes l.counter;
+      begins : IsProperBeginning l.read.bytes;
+      least : CUTTER_ROOM ≤ l.read.room;
+      most_room : l.read.room ≤ GREATEST_READ;
       calls : RoseBy l.counter (g.In.Input.call_count l.fn.reader) (g.In.Input.call_count l.reader);
       most : g.In.Input.call_count l.reader ≤ g.In.Input.call_count l.fn.reader + l.counter;
       reads : g.In.Input.failure_count l.reader ≡ g.In.Input.failure_count l.fn.reader;

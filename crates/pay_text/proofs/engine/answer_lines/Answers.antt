@@ -1,7 +1,8 @@
 use Rattle.std.proofs.Common.{◌≡◌, ◌+◌, ◌∷◌, ◌++◌, ℕ, List, [], Option, Some, Ok, Err, true, false, rules, subst, sym, ap, ◌∙◌, drop, get_or}
 use Rattle.pay_text.specs.Cutting.{Begun, line_with_byte, lines_after}
-use Rattle.pay_text.specs.Outbox.{PutWent, GoesPut}
-use Rattle.pay_text.proofs.Waiting.{put_further}
+use Rattle.pay_text.specs.Outbox.{PutsUntil, PutsSome}
+use Rattle.pay_text.proofs.Waiting.{put_further, waiting}
+use Rattle.pay_text.proofs.Answering.{answering}
 use Rattle.pay_text.proofs.Following.{at_feed, at_other, other_byte}
 use Rattle.pay_text.proofs.engine.answer_lines.Goals as goal
 use Rattle.pay_text.proofs.engine.answer_lines.Goals.{then-byte-ne10, else-byte-ne10+in_ok-answer_line+else-not-branch}
@@ -15,7 +16,7 @@ returns-in_err-answer_line-clause-goes g c = λ more.
     let left : List (Option (List ℕ)) = lines_after bound (Some []) (drop (i + 1) piece ++ more) in
     let same : c.from_residual.result ≡ Err c.in_err-answer_line.field-0.0 = search rules in
     let next = at_feed bound begun piece more i c.loop-byte-test.true c.if-byte-ne10.false in
-    let went = subst (λ (ls : List (Option (List ℕ))). PutWent g.A.Answerer.says (lines_after bound c.args.cutter.now.line (piece ++ more)) ls c.args.answerer.now c.loop-byte.answerer (g.W.Output.contents c.args.writer.now) (g.W.Output.contents c.loop-byte.writer) c.args.outbox.now c.loop-byte.outbox) next (c.loop-byte.invariant.went more) in
+    let went = subst (λ (ls : List (Option (List ℕ))). PutsUntil g.A.Answerer.says (lines_after bound c.args.cutter.now.line (piece ++ more)) ls (waiting c.args.answerer.now (g.W.Output.contents c.args.writer.now) c.args.outbox.now) (waiting c.loop-byte.answerer (g.W.Output.contents c.loop-byte.writer) c.loop-byte.outbox)) next (c.loop-byte.invariant.went more) in
     rw same (put_further g.A.Answerer.says g.A.Answerer.gives_up _ (begun ∷ left) left _ _ _ _ _ _ _ _ _ (Err c.in_err-answer_line.field-0.0) went (c.in_err-answer_line.ensures.goes left))
 
 pub returns-then-not-branch-clause-goes : goal.returns-then-not-branch-clause-goes
@@ -27,8 +28,8 @@ returns-then-not-branch-clause-goes g c = λ more.
     let left : List (Option (List ℕ)) = lines_after bound (Some []) (drop (i + 1) piece ++ more) in
     let off : c.in_ok-answer_line.field-0 ≡ false = search rules in
     let next = at_feed bound begun piece more i c.loop-byte-test.true c.if-byte-ne10.false in
-    let went = subst (λ (ls : List (Option (List ℕ))). PutWent g.A.Answerer.says (lines_after bound c.args.cutter.now.line (piece ++ more)) ls c.args.answerer.now c.loop-byte.answerer (g.W.Output.contents c.args.writer.now) (g.W.Output.contents c.loop-byte.writer) c.args.outbox.now c.loop-byte.outbox) next (c.loop-byte.invariant.went more) in
-    let goes : GoesPut g.A.Answerer.says g.A.Answerer.gives_up (begun ∷ left) left c.loop-byte.answerer c.answer_line.new.answerer (g.W.Output.contents c.loop-byte.writer) (g.W.Output.contents c.answer_line.new.writer) c.loop-byte.outbox c.answer_line.new.outbox (Ok false) = rw off at c.in_ok-answer_line.ensures.goes left in
+    let went = subst (λ (ls : List (Option (List ℕ))). PutsUntil g.A.Answerer.says (lines_after bound c.args.cutter.now.line (piece ++ more)) ls (waiting c.args.answerer.now (g.W.Output.contents c.args.writer.now) c.args.outbox.now) (waiting c.loop-byte.answerer (g.W.Output.contents c.loop-byte.writer) c.loop-byte.outbox)) next (c.loop-byte.invariant.went more) in
+    let goes : PutsSome (answering g.A.Answerer.says g.A.Answerer.gives_up) (begun ∷ left) left (waiting c.loop-byte.answerer (g.W.Output.contents c.loop-byte.writer) c.loop-byte.outbox) (waiting c.answer_line.new.answerer (g.W.Output.contents c.answer_line.new.writer) c.answer_line.new.outbox) (Ok false) = rw off at c.in_ok-answer_line.ensures.goes left in
     put_further g.A.Answerer.says g.A.Answerer.gives_up _ (begun ∷ left) left _ _ _ _ _ _ _ _ _ (Ok false) went goes
 
 pub loop-byte-preserved : goal.loop-byte-preserved
@@ -44,7 +45,7 @@ loop-byte-preserved g c = elim c.if-byte-ne10.branch [
         went = λ more.
             let next : lines_after bound begun (drop i piece ++ more) ≡ lines_after bound c.if-byte-ne10.cutter.line (drop (i + 1) piece ++ more) =
             at_other bound begun piece more i c.loop-byte-test.true (other_byte b w.if-byte-ne10.true) ∙ ap (λ l. lines_after bound l (drop (i + 1) piece ++ more)) (sym line) in
-            rw (w.answerer-is, w.writer-is, w.outbox-is) (subst (λ (ls : List (Option (List ℕ))). PutWent g.A.Answerer.says (lines_after bound c.args.cutter.now.line (piece ++ more)) ls c.args.answerer.now c.loop-byte.answerer (g.W.Output.contents c.args.writer.now) (g.W.Output.contents c.loop-byte.writer) c.args.outbox.now c.loop-byte.outbox) next (c.loop-byte.invariant.went more));
+            rw (w.answerer-is, w.writer-is, w.outbox-is) (subst (λ (ls : List (Option (List ℕ))). PutsUntil g.A.Answerer.says (lines_after bound c.args.cutter.now.line (piece ++ more)) ls (waiting c.args.answerer.now (g.W.Output.contents c.args.writer.now) c.args.outbox.now) (waiting c.loop-byte.answerer (g.W.Output.contents c.loop-byte.writer) c.loop-byte.outbox)) next (c.loop-byte.invariant.went more));
         bound = ap (λ (s : Begun). s.bound) (w.cutter-is ∙ w.push.ensures) ∙ c.loop-byte.invariant.bound;
         written = ap g.W.Output.failure_count w.writer-is ∙ c.loop-byte.invariant.written;
       }
@@ -59,8 +60,8 @@ loop-byte-preserved g c = elim c.if-byte-ne10.branch [
         went = λ more.
             let left : List (Option (List ℕ)) = lines_after bound (Some []) (drop (i + 1) piece ++ more) in
             let next = at_feed bound begun piece more i c.loop-byte-test.true w.if-byte-ne10.false in
-            let went = subst (λ (ls : List (Option (List ℕ))). PutWent g.A.Answerer.says (lines_after bound c.args.cutter.now.line (piece ++ more)) ls c.args.answerer.now c.loop-byte.answerer (g.W.Output.contents c.args.writer.now) (g.W.Output.contents c.loop-byte.writer) c.args.outbox.now c.loop-byte.outbox) next (c.loop-byte.invariant.went more) in
-            let goes : PutWent g.A.Answerer.says (begun ∷ left) left c.loop-byte.answerer w.answer_line.new.answerer (g.W.Output.contents c.loop-byte.writer) (g.W.Output.contents w.answer_line.new.writer) c.loop-byte.outbox w.answer_line.new.outbox = rw on at w.in_ok-answer_line.ensures.goes left in
+            let went = subst (λ (ls : List (Option (List ℕ))). PutsUntil g.A.Answerer.says (lines_after bound c.args.cutter.now.line (piece ++ more)) ls (waiting c.args.answerer.now (g.W.Output.contents c.args.writer.now) c.args.outbox.now) (waiting c.loop-byte.answerer (g.W.Output.contents c.loop-byte.writer) c.loop-byte.outbox)) next (c.loop-byte.invariant.went more) in
+            let goes : PutsUntil g.A.Answerer.says (begun ∷ left) left (waiting c.loop-byte.answerer (g.W.Output.contents c.loop-byte.writer) c.loop-byte.outbox) (waiting w.answer_line.new.answerer (g.W.Output.contents w.answer_line.new.writer) w.answer_line.new.outbox) = rw on at w.in_ok-answer_line.ensures.goes left in
             rw (w.answerer-is, w.writer-is, w.outbox-is, line) (put_further g.A.Answerer.says g.A.Answerer.gives_up _ (begun ∷ left) left _ _ _ _ _ _ _ _ _ (Ok true) went goes);
         bound = ap (λ (s : Begun). s.bound) (w.cutter-is ∙ w.in_ok-answer_line.ensures.cutter) ∙ c.loop-byte.invariant.bound;
         written = ap g.W.Output.failure_count w.writer-is ∙ w.in_ok-answer_line.ensures.all_written ∙ c.loop-byte.invariant.written;

@@ -4,6 +4,7 @@ use Rattle.pay_io.specs.declared.stream_fault.StreamFault.{StreamFault}
 use Rattle.pay_io.specs.declared.stream_fault.StreamFault.TheVariants.{Memory}
 use Rattle.pay_text.specs.Cutting.{Begun}
 use Rattle.pay_text.specs.Engine.{IsGoing, WritesByEnd}
+use Rattle.pay_text.proofs.Answering.{intake, answering, said_by}
 use Rattle.pay_text.proofs.Rounds.{going_at_start, broken}
 use Rattle.pay_text.proofs.engine.run_lines.Goals as goal
 
@@ -34,9 +35,9 @@ returns-in_err-at_end-clause-text g c =
     let contents = g.W.Output.contents in
     let e : StreamFault = c.in_err-at_end.field-0.0 in
     let same : c.from_residual-in_err-at_end.result ≡ Err e = search rules in
-    let going = subst (λ (n : ℕ). IsGoing says n c.loop.cutter.line c.args.answerer.now c.loop.answerer (remaining c.args.reader.now) (remaining c.loop.reader) (contents c.args.writer.now) (contents c.loop.writer) c.loop.counter) (sym c.loop.invariant.bound) c.loop.invariant.going in
-    rw same (subst (λ (n : ℕ). WritesByEnd says gives_up n c.args.answerer.now c.read_once.new.answerer (remaining c.args.reader.now) (remaining c.read_once.new.reader) (contents c.args.writer.now) (contents c.read_once.new.writer) (Err e)) c.loop.invariant.bound
-    (c.in_err-at_end.ensures.reads c.args.answerer.now (remaining c.args.reader.now) (contents c.args.writer.now) c.loop.counter going))
+    let going = subst (λ (n : ℕ). IsGoing says n c.loop.cutter.line (intake (remaining c.args.reader.now) (remaining c.loop.reader) c.loop.counter) (said_by c.args.answerer.now (contents c.args.writer.now)) (said_by c.loop.answerer (contents c.loop.writer))) (sym c.loop.invariant.bound) c.loop.invariant.going in
+    rw same (subst (λ (n : ℕ). WritesByEnd (answering says gives_up) n (said_by c.args.answerer.now (contents c.args.writer.now)) (said_by c.read_once.new.answerer (contents c.read_once.new.writer)) (remaining c.args.reader.now) (remaining c.read_once.new.reader) (Err e)) c.loop.invariant.bound
+    (c.in_err-at_end.ensures.reads (said_by c.args.answerer.now (contents c.args.writer.now)) (remaining c.args.reader.now) c.loop.counter going))
 
 pub returns-in-Some-clause-text : goal.returns-in-Some-clause-text
 returns-in-Some-clause-text g c =
@@ -44,11 +45,11 @@ returns-in-Some-clause-text g c =
     let gives_up = g.A.Answerer.gives_up in
     let remaining = g.R.Input.remaining in
     let contents = g.W.Output.contents in
-    let going = subst (λ (n : ℕ). IsGoing says n c.loop.cutter.line c.args.answerer.now c.loop.answerer (remaining c.args.reader.now) (remaining c.loop.reader) (contents c.args.writer.now) (contents c.loop.writer) c.loop.counter) (sym c.loop.invariant.bound) c.loop.invariant.going in
-    let told : WritesByEnd says gives_up c.loop.cutter.bound c.args.answerer.now c.read_once.new.answerer (remaining c.args.reader.now) (remaining c.read_once.new.reader) (contents c.args.writer.now) (contents c.read_once.new.writer) (Ok c.in-Some.at_end) =
-    rw c.in-Some.is at c.in_ok-at_end.ensures.reads c.args.answerer.now (remaining c.args.reader.now) (contents c.args.writer.now) c.loop.counter going
+    let going = subst (λ (n : ℕ). IsGoing says n c.loop.cutter.line (intake (remaining c.args.reader.now) (remaining c.loop.reader) c.loop.counter) (said_by c.args.answerer.now (contents c.args.writer.now)) (said_by c.loop.answerer (contents c.loop.writer))) (sym c.loop.invariant.bound) c.loop.invariant.going in
+    let told : WritesByEnd (answering says gives_up) c.loop.cutter.bound (said_by c.args.answerer.now (contents c.args.writer.now)) (said_by c.read_once.new.answerer (contents c.read_once.new.writer)) (remaining c.args.reader.now) (remaining c.read_once.new.reader) (Ok c.in-Some.at_end) =
+    rw c.in-Some.is at c.in_ok-at_end.ensures.reads (said_by c.args.answerer.now (contents c.args.writer.now)) (remaining c.args.reader.now) c.loop.counter going
     in
-    subst (λ (n : ℕ). WritesByEnd says gives_up n c.args.answerer.now c.read_once.new.answerer (remaining c.args.reader.now) (remaining c.read_once.new.reader) (contents c.args.writer.now) (contents c.read_once.new.writer) (Ok c.in-Some.at_end)) c.loop.invariant.bound told
+    subst (λ (n : ℕ). WritesByEnd (answering says gives_up) n (said_by c.args.answerer.now (contents c.args.writer.now)) (said_by c.read_once.new.answerer (contents c.read_once.new.writer)) (remaining c.args.reader.now) (remaining c.read_once.new.reader) (Ok c.in-Some.at_end)) c.loop.invariant.bound told
 
 pub returns-clause-text : goal.returns-clause-text
 returns-clause-text g c = broken g.A.Answerer.says g.A.Answerer.gives_up c.args.bound c.loop.cutter.line c.args.answerer.now c.loop.answerer _ _ _ _ c.loop.counter c.loop.invariant.going

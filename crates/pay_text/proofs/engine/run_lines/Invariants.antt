@@ -1,6 +1,7 @@
 use Rattle.std.proofs.Common.{◌≡◌, [], ◌+◌, ◌≤◌}
 use Rattle.pay_io.specs.Device.{RoseBy}
 use Rattle.pay_text.specs.Engine.{IsGoing}
+use Rattle.pay_text.proofs.Answering.{intake, said_by}
 use Rattle.pay_text.proofs.engine.run_lines.Given as goal
 
 -- what was read and answered so far, in just so many calls, of which none failed
@@ -9,7 +10,7 @@ invariant-loop g l =
     let remaining = g.R.Input.remaining in
     let contents = g.W.Output.contents in
     record {
-      going : IsGoing g.A.Answerer.says l.bound l.cutter.line l.fn.answerer l.answerer (remaining l.fn.reader) (remaining l.reader) (contents l.fn.writer) (contents l.writer) l.counter;
+      going : IsGoing g.A.Answerer.says l.bound l.cutter.line (intake (remaining l.fn.reader) (remaining l.reader) l.counter) (said_by l.fn.answerer (contents l.fn.writer)) (said_by l.answerer (contents l.writer));
       bound : l.cutter.bound ≡ l.bound;
       empty : l.outbox ≡ [];
       calls : RoseBy l.counter (g.R.Input.call_count l.fn.reader) (g.R.Input.call_count l.reader);

@@ -2,8 +2,9 @@ use Rattle.std.proofs.Common.{◌≡◌, ◌++◌, List, ℕ, ap, subst, ◌∙�
 use Rattle.std.specs.Prelude.{OnOk}
 use Rattle.pay_io.specs.Device.{next_count}
 use Rattle.pay_text.specs.Cutting.{lines_after}
-use Rattle.pay_text.specs.Outbox.{GoesPut}
-use Rattle.pay_text.proofs.Waiting.{goes_written}
+use Rattle.pay_text.specs.Outbox.{PutsSome}
+use Rattle.pay_text.proofs.Waiting.{goes_written, waiting}
+use Rattle.pay_text.proofs.Answering.{answering}
 use Rattle.pay_text.proofs.engine.take_piece.Goals as goal
 
 pub returns-clause-goes : goal.returns-clause-goes
@@ -12,12 +13,13 @@ returns-clause-goes g c = λ more.
     let gives_up = g.A.Answerer.gives_up in
     let contents = g.W.Output.contents in
     let made = c.answer_lines-answered in
-    let goes = subst (λ (waited : List ℕ). GoesPut says gives_up (lines_after c.args.cutter.now.bound c.args.cutter.now.line (c.args.piece.now ++ more)) (lines_after c.args.cutter.now.bound c.answer_lines-answered.new.cutter.line more) c.args.answerer.now made.new.answerer (contents c.args.writer.now) (contents made.new.writer) waited made.new.outbox made.result) c.requires (made.ensures.goes more) in
+    let goes = subst (λ (waited : List ℕ). PutsSome (answering says gives_up) (lines_after c.args.cutter.now.bound c.args.cutter.now.line (c.args.piece.now ++ more)) (lines_after c.args.cutter.now.bound c.answer_lines-answered.new.cutter.line more) (waiting c.args.answerer.now (contents c.args.writer.now) waited) (waiting made.new.answerer (contents made.new.writer) made.new.outbox) made.result) c.requires (made.ensures.goes more) in
     goes_written says gives_up (lines_after c.args.cutter.now.bound c.args.cutter.now.line (c.args.piece.now ++ more)) (lines_after c.args.cutter.now.bound c.answer_lines-answered.new.cutter.line more) c.args.answerer.now made.new.answerer _ _ _ made.new.outbox made.result c.finish_writing.result goes c.finish_writing.ensures.written
 
 pub returns-clause-write : goal.returns-clause-write
 returns-clause-write g c = λ failed.
     elim (c.finish_writing.ensures.write failed) [
       | inl (before, silent) ↦ silent ∙ c.answer_lines-answered.ensures.write before
-      | inr (on, ok, rose) ↦ rose ∙ ap next_count (subst (λ r. OnOk r (g.W.Output.failure_count c.answer_lines-answered.new.writer ≡ g.W.Output.failure_count c.args.writer.now)) ok c.answer_lines-answered.ensures.all_written)
+      | inr (inl (memory, rose)) ↦ rose ∙ ap next_count (c.answer_lines-answered.ensures.memory memory)
+      | inr (inr (on, ok, rose)) ↦ rose ∙ ap next_count (subst (λ r. OnOk r (g.W.Output.failure_count c.answer_lines-answered.new.writer ≡ g.W.Output.failure_count c.args.writer.now)) ok c.answer_lines-answered.ensures.all_written)
     ]
