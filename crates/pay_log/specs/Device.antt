@@ -8,6 +8,13 @@ pub record Torn (n : ℕ) (old new : List ℕ) : Type 0 where
   pub is : new ≡ old ++ tail
   pub no_longer : length tail ≤ n
 
+-- What is told of a device's file: whether it is known, what a read returns, and what a crash at
+-- this moment may leave.
+pub record Storage (D : Type 0) : Type 1 where
+  pub is_known : D → Type 0
+  pub seen : D → List ℕ
+  pub may_leave : D → List ℕ → Type 0
+
 -- each new outcome of a crash is an old outcome after a step
 abbrev pub Follows : (List ℕ → List ℕ → Type 0) → (List ℕ → Type 0) → (List ℕ → Type 0) → Type 0
 Follows step old new = (c : List ℕ) → new c → (d : List ℕ) × old d × step d c

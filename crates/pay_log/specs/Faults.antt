@@ -12,6 +12,8 @@ use Rattle.pay_log.specs.declared.mismatch.Mismatch.TheVariants.{Keys}
 use Rattle.pay_log.specs.declared.sink.Refused.{Refused}
 use Rattle.pay_log.specs.declared.sink.Refused.TheVariants as sink
 
+-- change: a fault of a log, as `Held`: status in `payd/src/stop.rt`, advice in
+--   `payd/src/advice.rt`; model `tests/models/logs.py`
 abbrev pub log_fault_number : LogFault → ℕ
 log_fault_number Memory = 0
 log_fault_number Disk = 1

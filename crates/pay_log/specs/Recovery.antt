@@ -5,8 +5,10 @@ use Rattle.pay_log.specs.declared.header.Header.{Header}
 use Rattle.pay_log.specs.declared.key.Format.{Format}
 use Rattle.pay_log.specs.declared.limits.TheConstants.{HEADER_LEN}
 use Rattle.pay_log.specs.declared.log.Log.{Log}
+use Rattle.pay_log.specs.declared.log.Recovered.{Recovered}
 use Rattle.pay_log.specs.Chunks.{BeginsWith, IsShort, IsEnd, chunk_of, chunks_of, next_place}
 use Rattle.pay_log.specs.Damage.{HasChunkIn, IsDamaged}
+use Rattle.pay_log.specs.Device.{Storage}
 use Rattle.pay_log.specs.Headers.{header_bytes}
 use Rattle.pay_log.specs.Keys.{LogKeyFields}
 use Rattle.pay_log.specs.Logs.{IsLog, IsSynced, end_place, log_bytes}
@@ -90,13 +92,15 @@ pub record IsCopied {D : Type 0} (is_known : D → Type 0) (seen : D → List �
 
 -- A file was the log of payloads that were taken, in whatever format, with so many bytes of chunks,
 -- and the new log is synced with them.
-pub record IsRecovered {D S : Type 0} (is_known : D → Type 0) (seen : D → List ℕ)
-    (may_leave : D → List ℕ → Type 0) (takes : S → S → List ℕ → Type 0) (written : Format)
-    (header : Header) (file : List ℕ) (old new : S) (len : ℕ) (log : Log D) : Type 0 where
+pub record IsRecovered {D S : Type 0} (storage : Storage D) (takes : S → S → List ℕ → Type 0)
+    (written : Format) (header : Header) (file : List ℕ) (sink : S) (r : Recovered D S)
+    : Type 0 where
   pub format : Format
   pub ps : List (List ℕ)
-  pub was : IsLog (key_of_format log.key.bytes format) (header_bytes format header) file ps
-  pub size : HEADER_LEN + len
-      ≡ length (log_bytes (key_of_format log.key.bytes format) (header_bytes format header) ps)
-  pub taken : TakesAll takes old new ps
-  pub settled : IsSynced is_known seen may_leave log (header_bytes written header) ps
+  pub was : IsLog (key_of_format r.log.key.bytes format) (header_bytes format header) file ps
+  pub size : HEADER_LEN + r.len
+      ≡ length (log_bytes (key_of_format r.log.key.bytes format) (header_bytes format header) ps)
+  pub taken : TakesAll takes sink r.sink ps
+  pub settled :
+      IsSynced storage.is_known storage.seen storage.may_leave r.log
+      (header_bytes written header) ps

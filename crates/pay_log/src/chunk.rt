@@ -11,6 +11,14 @@ use crate::limits::{MOST_PAYLOAD, SUM_LEN};
 use pay_hmac::{HmacSha256, Tagger};
 use std::alloc::{AllocError, Global};
 
+// A checksum covers its chunk's place, not the checksum before it. A chunk that was moved, doubled
+// or left out fits nowhere, and each can be judged alone; in a chain one turned bit takes the
+// chunks after it away without a word.
+//
+// A chunk begins with a mark that is made of the log's key, and with its place. Recovery looks for
+// chunks at each byte behind the end. With marks that anybody can make, a value full of them has it
+// hash the rest at each: 16 MiB would take hours. With the place beside it a chunk is known
+// wherever it stands, so one that is missing before it is found out.
 /// The chunk of a payload at a place.
 #[tactic(auto, unfolding(crate::specs::Chunks::chunk_of))]
 pub(crate) fn encode(

@@ -6,6 +6,8 @@ ghost use Rattle.pay_log.specs.Damage.{HasChunkIn, IsChunkAt};
 use crate::chunk::front;
 use crate::key::LogKey;
 
+// Any chunk behind the end is damage. Anything else passes for a torn end, which is told of and
+// kept.
 /// Looks for a chunk at each of these bytes, of which the first stands at this place: most aren't
 /// its mark.
 pub(crate) fn has_chunk_in(key: &LogKey, place: usize, bytes: &[u8]) -> bool

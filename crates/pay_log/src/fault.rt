@@ -12,29 +12,38 @@ use thiserror::Error;
 /// Why a log isn't opened, read or appended to, in the order in which it is met.
 #[derive(Clone, Copy, Debug, PartialEq, Eq, Error)]
 pub enum LogFault {
-    /// An allocation failed. Nothing has changed.
+    /// There is no memory to read the log, and nothing has changed: free some, and start again.
     Memory,
-    /// A read, a write or a sync failed, or the disk is full.
+    /// A read, a write or a sync failed, or the disk is full: make room, or mend the disk or the
+    /// folder's rights, and start again.
     Disk,
-    /// Another node has the log.
+    /// Another node has the log, by whatever name: end that node, or leave it alone.
     Held,
-    /// The file is no log of this member.
+    /// The file is no log (`NoLog`), or of another `Version`, `Genesis` or `Member`, or under other
+    /// `Keys`: name the right folder and files.
     Foreign(Mismatch),
-    /// The chunk of this number doesn't fit, and a later one does.
+    /// The chunk of the number that follows, from 0, is missing or doesn't fit, and a later one
+    /// stands there: never start the member again, for what it said is lost, unless you have a copy
+    /// of the folder from this very moment.
     Damaged(u64),
-    /// The record of this number isn't what the member has there.
+    /// The record of the number that follows, from 0, isn't what this program's member has there:
+    /// another version of the program wrote it, so start that one.
     Illegal(u64),
-    /// The log ended cleanly, and is no longer as it was then.
+    /// The log ended cleanly, and isn't as it was then, or it was put back where it was moved out:
+    /// put that very log back, never an older one, and leave it alone.
     Changed,
-    /// The log is older than what the group has settled for the member.
+    /// The group has settled for the member what this log doesn't know (`node` alone): never start
+    /// it again in this group. Its balance goes on in the next.
     Forgotten,
-    /// There is no log.
+    /// There is no log: mount the disk, or name the right folder, which may be on the machine to
+    /// which the member moved. `--new` is for a new member only.
     Missing,
-    /// There is a log where a new one is to be made.
+    /// There is or was a log where `--new` is to make one: leave out `--new`.
     Exists,
 }
 
 impl LogFault {
+    // promise: order of refusals (number, name)
     const fn entry(self) -> (u8, &'static str)
         ensures number { result.0 ≡ log_fault_number self }
         ensures name { result.1.now ≡ log_fault_name self }

@@ -8,6 +8,9 @@ use std::fs::File;
 use std::io::{ErrorKind, Read, Seek, SeekFrom};
 use std::os::unix::fs::FileExt;
 
+// The lock is `flock` on the log itself: it ends with its process, and neither a second name of the
+// log nor the removal of a file beside it lets in two nodes. A new log is locked and synced before
+// it gets its name, and the folder and the one above before anything is appended.
 /// An open file, of which so many bytes are the log's. No clause can say what a file has.
 #[derive(Drop)]
 pub struct LogFile {

@@ -23,6 +23,13 @@ use crate::reading::read_log;
 use crate::sink::{Refused, Sink};
 use std::alloc::Global;
 
+// One sync a chunk, and a checksum under a secret key. A byte written once the rest is on the disk
+// would take two syncs. That a checksum fits by chance is a case of the clauses (`IsStray`,
+// `IsByChance`).
+//
+// A log refuses by itself after a failed write or sync, and each start writes it anew: the kernel
+// may show pages that it never wrote, so neither a second sync nor a read proves anything. A log
+// that is too long counts as a full disk.
 /// A log that is open, with the place after its last chunk.
 #[derive(Drop)]
 pub struct Log<D> {
@@ -86,6 +93,7 @@ impl<D: Device> Log<D> {
     /// Appends a payload. At `Ok` it is acknowledged: from then on each crash leaves a file that
     /// has it. Where memory is refused nothing has changed. After a failed write or sync each
     /// further call fails, and asks the disk for nothing.
+    // promise: crashes (acknowledged, any_moment, stopped); reading a log (no_damage)
     pub fn append(&mut self, alloc: Global, payload: &[u8]) -> Result<(), LogFault>
         requires { IsShort payload.now }
         ensures acknowledged { OnOk result ((header : List ℕ) (ps : List (List ℕ))
@@ -162,6 +170,7 @@ pub struct Recovered<D, S> {
 
 /// Reads a log that a crash may have left, hands on its payloads, and writes them into an empty
 /// file, without what is no chunk. The old file stays as it is.
+// promise: reading a log (recovered, undamaged, foreign, damaged, illegal, fault, unchanged)
 pub fn recover<D: Device + Drop, S: Sink + Drop>(
     alloc: Global,
     old: &mut D,
@@ -172,8 +181,9 @@ pub fn recover<D: Device + Drop, S: Sink + Drop>(
 ) -> Result<Recovered<D, S>, LogFault>
     ensures fed { IfOk result (λ r. (ps : List (List ℕ)) × TakesAll S.takes sink r.sink ps) }
     ensures recovered { IfOk result (λ r. D.is_known old.old → D.is_known new → D.seen new ≡ [] →
-        IsRecovered D.is_known D.seen D.may_leave S.takes Format.Second header.now
-        (D.seen old.old) sink r.sink r.len r.log) }
+        IsRecovered
+        (record { is_known = D.is_known; seen = D.seen; may_leave = D.may_leave })
+        S.takes Format.Second header.now (D.seen old.old) sink r) }
     ensures undamaged { IfOk result (λ _. D.is_known old.old → (count : ℕ)
         → IsDamagedLog key.now header.now (D.seen old.old) count → ⊥) }
     ensures key { IfOk result (λ r. r.log.key ≡ key_of_format key.now Format.Second) }

@@ -31,6 +31,7 @@ pub(crate) struct Extent {
 }
 
 /// Reads a log, hands on its payloads, and says how many bytes of chunks it has.
+// promise: reading a log (read, foreign, damaged, illegal, fault, unchanged)
 pub fn read_log<D: Device, S: Sink>(
     alloc: Global,
     device: &mut D,

@@ -5,16 +5,14 @@ ghost use Rattle.std.specs.Prelude.{◌≡◌, [], IfOk};
 ghost use Rattle.pay_link.specs.Keys.{IsKeysOf};
 
 use crate::logs::FailingDisk;
-use pay_book::{PlainBook, Settle};
 use pay_desk::Teller;
-use pay_echo::{Instance, MaskInstance};
+use pay_durable::{Keeper, Kept, Restarted, restart};
 use pay_frame::Bytes;
 use pay_hmac::HmacSha256;
-use pay_kept::{Keeper, Kept, Restarted, restart};
 use pay_link::{Genesis, Keys, test_keys};
 use pay_log::{Device, DeviceFault, DiskFailed, LogFault};
 use pay_member::{Event, Member};
-use pay_node::{Beginning, Node, Seat};
+use pay_node::{Beginning, Node, OwnMember, Seat};
 use pay_peers::NodeTeller;
 use pay_record::log_header;
 use std::alloc::{AllocError, Global};
@@ -40,11 +38,7 @@ const CALLS: usize = 8;
 /// How often a disk looks whether others have asked, a millisecond apart.
 const TURNS: u32 = 20_000;
 
-type OwnMember = Member<MaskInstance, PlainBook>;
-
-type Tried<S> = Node<MaskInstance, PlainBook, S>;
-
-type Started<'a, R> = Restarted<MaskInstance, PlainBook, Shared<'a, R>>;
+type Started<'a, R> = Restarted<Shared<'a, R>>;
 
 /// A disk that outlives its log. A sync waits until no asks are missing.
 #[derive(Drop)]
@@ -155,7 +149,7 @@ fn start<'a, R: Wait + Clock>(
 }
 
 /// A node of a member, with three seats.
-fn node_of<S: Beginning>(alloc: Global, member: OwnMember) -> Result<(Tried<S>, Vec<Seat>), Fail>
+fn node_of<S: Beginning>(alloc: Global, member: OwnMember) -> Result<(Node<S>, Vec<Seat>), Fail>
     requires { member ≡ S.beginning }
 {
     match Node::new(alloc, member, 3) {
@@ -264,7 +258,7 @@ fn payments_on<R: Wait + Clock>(
             _ => return Ok(None),
         }
     }
-    let is_right = asks == ids.len() && asks <= IDS.len() && ids.as_slice() == &IDS[..asks];
+    let is_right = asks == ids.len() && IDS.starts_with(ids.as_slice());
     Ok(is_right.then_some(asks))
 }
 
@@ -404,11 +398,7 @@ impl Keeper for Refusing {
 
     ghost has = { λ _ _. Unit {0} };
 
-    fn keep<R: Wait, I: Instance + Drop, B: Settle + Drop, S: Beginning>(
-        &self,
-        _rt: &R,
-        _node: &Node<I, B, S>,
-    ) -> bool {
+    fn keep<R: Wait, S: Beginning>(&self, _rt: &R, _node: &Node<S>) -> bool {
         true
     }
 

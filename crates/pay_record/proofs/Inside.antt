@@ -10,7 +10,7 @@ use Rattle.pay_member.specs.declared.event.Event.{Event}
 use Rattle.pay_member.specs.declared.event.Event.TheVariants.{Ask, Taken, Query}
 use Rattle.pay_member.specs.declared.reply.Reply.{Reply}
 use Rattle.pay_member.specs.declared.reply.Reply.TheVariants.{Asked, Took, Told}
-use Rattle.pay_resume.specs.Resuming.{LoggedFields}
+use Rattle.pay_record.specs.Resuming.{LoggedFields}
 use Rattle.pay_record.specs.Records.{kind_code, record_fields, known_bits, record_of}
 use Rattle.pay_record.specs.Loggable.{FitsEvent, FitsReply, FrameStandsIn, StandsIn}
 use Rattle.pay_record.proofs.Fronts.{two_same, bits_small}

@@ -6,3 +6,4 @@ pub mod Opened
 pub mod OneRecord
 pub mod Sizes
 pub mod Legal
+pub mod TakenOn

@@ -13,7 +13,7 @@ use Rattle.pay_member.specs.declared.reply.Reply.{Reply}
 use Rattle.pay_member.specs.declared.reply.Reply.TheVariants as reply
 use Rattle.pay_member.specs.declared.told.Told.{Told}
 use Rattle.pay_member.specs.declared.took.Took.{Took}
-use Rattle.pay_resume.specs.Resuming.{LoggedFields}
+use Rattle.pay_record.specs.Resuming.{LoggedFields}
 use Rattle.pay_record.specs.Records.{kind_code, record_fields, record_of}
 use Rattle.pay_record.specs.Loggable.{FitsEvent, FitsReply, IsLoggable, StandsIn}
 use Rattle.pay_record.proofs.Fronts.{bits_same, eight_same, four_same, two_same}

@@ -6,7 +6,7 @@ use Rattle.pay_member.specs.declared.event.Event.{Event}
 use Rattle.pay_member.specs.declared.event.Event.TheVariants.{Ask, Taken, Query}
 use Rattle.pay_member.specs.declared.reply.Reply.{Reply}
 use Rattle.pay_member.specs.declared.reply.Reply.TheVariants.{Asked, Took, Told}
-use Rattle.pay_resume.specs.Resuming.{LoggedFields}
+use Rattle.pay_record.specs.Resuming.{LoggedFields}
 use Rattle.pay_record.specs.Loggable.{FitsRecord, IsWithinLimits}
 use Rattle.pay_record.specs.Records.{record_fields, record_of, reply_bytes}
 

@@ -11,10 +11,10 @@ use Rattle.pay_member.specs.declared.event.Event.TheVariants.{Ask, Taken, Query}
 use Rattle.pay_member.specs.declared.reply.Reply.TheVariants as reply
 use Rattle.pay_member.specs.declared.told.Told.{Told}
 use Rattle.pay_member.specs.declared.took.Took.{Took}
-use Rattle.pay_resume.specs.Resuming.{LoggedFields}
+use Rattle.pay_record.specs.Resuming.{LoggedFields}
 use Rattle.pay_record.specs.Records.{known_bits, record_of}
-use Rattle.pay_resume.specs.declared.records.RecordFault.{RecordFault}
-use Rattle.pay_resume.specs.declared.records.RecordFault.TheVariants.{Memory, NoRecord}
+use Rattle.pay_record.specs.declared.records.RecordFault.{RecordFault}
+use Rattle.pay_record.specs.declared.records.RecordFault.TheVariants.{Memory, NoRecord}
 use Rattle.pay_record.specs.Loggable.{FrameStandsIn, IsFrameRead, IsReadAs, StandsIn, IsLoggable}
 use Rattle.std.specs.Prelude.{IfOk}
 

@@ -5,7 +5,7 @@ use Rattle.pay_frame.specs.declared.kind.Kind.TheVariants.{Send}
 use Rattle.pay_link.specs.Keys.{no_key}
 use Rattle.pay_member.specs.declared.event.Event.TheVariants.{Ask, Taken, Query}
 use Rattle.pay_member.specs.declared.reply.Reply.TheVariants as reply
-use Rattle.pay_resume.specs.Resuming.{LoggedFields}
+use Rattle.pay_record.specs.Resuming.{LoggedFields}
 
 -- the seat 258 asked for the value `pay` under the id 7, and it got the number 3
 abbrev pub ask_example : LoggedFields

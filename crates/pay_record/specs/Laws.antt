@@ -5,9 +5,9 @@ use Rattle.pay_link.specs.Genesis.{GenesisFields, IsGenesis}
 use Rattle.pay_link.specs.Keys.{KeyFields}
 use Rattle.pay_member.specs.declared.entry.HistoryEntry.{HistoryEntry}
 use Rattle.pay_member.specs.Legal.{Legal}
-use Rattle.pay_resume.specs.Resuming.{LoggedFields}
-use Rattle.pay_resume.specs.declared.records.RecordFault.{RecordFault}
-use Rattle.pay_resume.specs.declared.records.RecordFault.TheVariants.{Memory}
+use Rattle.pay_record.specs.Resuming.{LoggedFields}
+use Rattle.pay_record.specs.declared.records.RecordFault.{RecordFault}
+use Rattle.pay_record.specs.declared.records.RecordFault.TheVariants.{Memory}
 use Rattle.pay_record.specs.Loggable.{FitsRecord, IsLoggable, IsTyped, IsReadAs, StandsIn}
 use Rattle.pay_record.specs.Records.{record_of}
 

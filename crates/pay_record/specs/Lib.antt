@@ -1,3 +1,4 @@
+pub mod Resuming
 pub mod Records
 pub mod Loggable
 pub mod Identity

@@ -9,9 +9,9 @@ use Rattle.pay_member.specs.declared.event.Event.{Event}
 use Rattle.pay_member.specs.declared.event.Event.TheVariants.{Ask, Taken, Query}
 use Rattle.pay_member.specs.declared.reply.Reply.{Reply}
 use Rattle.pay_member.specs.declared.reply.Reply.TheVariants.{Asked, Took, Told}
-use Rattle.pay_resume.specs.Resuming.{LoggedFields}
-use Rattle.pay_resume.specs.declared.records.RecordFault.{RecordFault}
-use Rattle.pay_resume.specs.declared.records.RecordFault.TheVariants.{Memory, NoRecord}
+use Rattle.pay_record.specs.Resuming.{LoggedFields, RecordForm}
+use Rattle.pay_record.specs.declared.records.RecordFault.{RecordFault}
+use Rattle.pay_record.specs.declared.records.RecordFault.TheVariants.{Memory, NoRecord}
 use Rattle.pay_record.specs.Records.{record_of}
 
 -- its value has a length that a record has room for
@@ -49,6 +49,10 @@ pub record IsLoggable (k : KeyFields) (l : LoggedFields) : Type 0 where
   pub stamp : l.entry.stamp < 2 ^ 16
   pub event : FitsEvent k l.entry.event
   pub reply : FitsReply l.entry.event l.id l.entry.reply
+
+-- how the entries of that member stand in its log
+abbrev pub entry_form : KeyFields → RecordForm
+entry_form k = record { record_of = record_of; is_loggable = IsLoggable k }
 
 -- its numbers are as the types of an entry have them, and an id is with an ask alone
 abbrev pub IsNumbered : Reply → Type 0

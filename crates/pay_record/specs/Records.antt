@@ -7,7 +7,7 @@ use Rattle.pay_member.specs.declared.event.Event.TheVariants.{Ask, Taken, Query}
 use Rattle.pay_member.specs.declared.reply.Reply.{Reply}
 use Rattle.pay_member.specs.declared.reply.Reply.TheVariants.{Asked, Took, Told}
 use Rattle.pay_member.specs.declared.took.Took as took
-use Rattle.pay_resume.specs.Resuming.{LoggedFields}
+use Rattle.pay_record.specs.Resuming.{LoggedFields}
 
 abbrev pub kind_code : Event → ℕ
 kind_code (Ask v) = 1

@@ -5,8 +5,8 @@ use Rattle.pay_link.specs.Keys.{KeyFields}
 use Rattle.pay_log.specs.Keys.{LogKeyFields}
 use Rattle.pay_log.specs.Logs.{IsLog, IsStray, IsWithOrWithout}
 use Rattle.pay_member.specs.Member.{MemberFields}
-use Rattle.pay_resume.specs.Resuming.{IsOfRecords, LoggedFields, entries_of_logged, ids_of}
-use Rattle.pay_record.specs.Loggable.{IsLoggable}
+use Rattle.pay_record.specs.Resuming.{IsOfRecords, LoggedFields, entries_of_logged, ids_of}
+use Rattle.pay_record.specs.Loggable.{IsLoggable, entry_form}
 use Rattle.pay_record.specs.Records.{record_of}
 
 -- A log had acknowledged payloads with the records of some entries, and was appending one with
@@ -31,6 +31,6 @@ WrittenIsResumed =
     (k : KeyFields) (key : LogKeyFields) (header file : List ℕ) (kept further : List LoggedFields)
     (was : WasWriting k key header file kept further)
     (m : MemberFields) (ids : List ℕ) (qs : List (List ℕ))
-    → IsLog key header file qs → IsOfRecords record_of (IsLoggable k) m ids qs
+    → IsLog key header file qs → IsOfRecords (entry_form k) m ids qs
     → HasLogged kept m ids ⊎ HasLogged (kept ++ further) m ids
     ⊎ IsStray key header was.ps (flat_map record_of further) file

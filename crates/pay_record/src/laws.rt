@@ -12,6 +12,7 @@ use pay_frame::one_front;
 use pay_log::laws::one_reading;
 
 /// One record at most stands at the front of bytes.
+// promise: records
 pub fn one_record()
     ensures { OneRecord }
 {
@@ -19,6 +20,7 @@ pub fn one_record()
 }
 
 /// What was written is read again, whatever stands after it.
+// promise: records
 pub fn written_is_read()
     ensures { WrittenIsRead }
 {
@@ -26,6 +28,7 @@ pub fn written_is_read()
 }
 
 /// A row of records is that of one list of entries at most.
+// promise: records
 pub fn one_list()
     ensures { OneList }
 {
@@ -34,6 +37,7 @@ pub fn one_list()
 
 /// A member that starts again from what a crash left has all entries that were acknowledged, and
 /// then all of those under way or none of them; or a checksum fits by chance.
+// promise: starting again
 pub fn written_is_resumed()
     ensures { WrittenIsResumed }
 {
@@ -43,6 +47,7 @@ pub fn written_is_resumed()
 
 /// Each entry of a history that a member can have tells all of itself to that member: what is
 /// written of it is read again.
+// promise: records
 pub fn legal_entries_are_loggable()
     ensures { LegalIsLoggable }
 {}

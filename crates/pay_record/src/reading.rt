@@ -10,17 +10,17 @@ ghost use Rattle.pay_frame.specs.Reading.{HasFrame};
 ghost use Rattle.pay_link.specs.Checked.{CheckedFields, IsChecked, IsFor};
 ghost use Rattle.pay_link.specs.Keys.{KeyFields};
 ghost use Rattle.pay_log.specs.Chunks.{BeginsWith};
-ghost use Rattle.pay_record.specs.Loggable.{IsFrameRead, IsLoggable, IsReadAs};
+ghost use Rattle.pay_record.specs.Loggable.{IsFrameRead, IsLoggable, IsReadAs, entry_form};
 ghost use Rattle.pay_record.specs.Records.{known_bits, record_of};
-ghost use Rattle.pay_resume.specs.Resuming.{LoggedFields};
+ghost use Rattle.pay_record.specs.Resuming.{LoggedFields};
 
 use crate::limits::{ASK, FRAME, QUERY};
 use crate::numbers::{eight, four, one, two};
+use crate::records::{RecordFault, Records};
 use pay_frame::{Bytes, FrameRef, GREATEST_VALUE, Kind, one_front, one_reading, read};
 use pay_hmac::Tagger;
 use pay_link::{Checked, Keys, laws, open};
 use pay_member::{Event, HistoryEntry, Reply, Told, Took};
-use pay_resume::{RecordFault, Records};
 use std::alloc::Global;
 
 /// How many bytes of an ask's record stand before its value.
@@ -49,9 +49,7 @@ impl<'a, T: Tagger> EntryRecords<'a, T> {
 }
 
 impl<T: Tagger> Records for EntryRecords<'_, T> {
-    ghost record_of = { λ _. record_of };
-
-    ghost is_loggable = { λ e. IsLoggable e.keys.now };
+    ghost form = { λ e. entry_form e.keys.now };
 
     fn read(&self, alloc: Global, bytes: &[u8]) -> Result<(HistoryEntry, u64, usize), RecordFault>
         ensures room { IfOk result (λ r. (0 < r.2) × (r.2 ≤ length bytes.now)) }

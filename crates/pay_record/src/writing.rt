@@ -16,6 +16,7 @@ use pay_member::{Event, HistoryEntry, Reply, Told, Took};
 use std::alloc::{AllocError, Global};
 
 /// Appends the record of an entry. The id is of an ask alone: 0 where nobody named one.
+// promise: records
 pub fn push_record(
     alloc: Global,
     out: &mut Vec<u8>,

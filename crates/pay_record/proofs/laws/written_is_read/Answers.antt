@@ -1,9 +1,9 @@
 use Rattle.std.proofs.Common.{◌≡◌, ◌⊎◌, inl, inr, ℕ, List, ◌++◌, Result, Ok, Err, length, refl, ap, ◌∙◌}
 use Rattle.pay_link.specs.Keys.{KeyFields}
 use Rattle.pay_member.specs.declared.entry.HistoryEntry.{HistoryEntry}
-use Rattle.pay_resume.specs.Resuming.{LoggedFields}
-use Rattle.pay_resume.specs.declared.records.RecordFault.{RecordFault}
-use Rattle.pay_resume.specs.declared.records.RecordFault.TheVariants.{Memory, NoRecord}
+use Rattle.pay_record.specs.Resuming.{LoggedFields}
+use Rattle.pay_record.specs.declared.records.RecordFault.{RecordFault}
+use Rattle.pay_record.specs.declared.records.RecordFault.TheVariants.{Memory, NoRecord}
 use Rattle.pay_record.specs.Laws.{OneRecord}
 use Rattle.pay_record.specs.Loggable.{IsLoggable, IsReadAs}
 use Rattle.pay_record.specs.Records.{record_of}

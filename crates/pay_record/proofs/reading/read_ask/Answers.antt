@@ -1,6 +1,6 @@
 use Rattle.std.proofs.Common.{◌≡◌, ℕ, List, ◌∷◌, ◌++◌, length, drop, Err, sym, ap, ◌∙◌, subst, arith}
 use Rattle.std.specs.Int.{w16, w32, w64, to_be_bytes}
-use Rattle.pay_resume.specs.Resuming.{LoggedFields}
+use Rattle.pay_record.specs.Resuming.{LoggedFields}
 use Rattle.pay_record.specs.Loggable.{StandsIn}
 use Rattle.pay_record.proofs.Inside.{no_value, short_ask}
 use Rattle.pay_record.proofs.Stands.{ask_entry, ask_stands, if_none, length-ask}

@@ -1,6 +1,6 @@
 use Rattle.std.proofs.Common.{◌≡◌, ℕ, List, ◌∷◌, ◌++◌, length, sym, ap, ◌∙◌, subst, arith}
 use Rattle.std.specs.Int.{w16, w32, to_be_bytes}
-use Rattle.pay_resume.specs.Resuming.{LoggedFields}
+use Rattle.pay_record.specs.Resuming.{LoggedFields}
 use Rattle.pay_record.specs.Loggable.{StandsIn}
 use Rattle.pay_record.proofs.Inside.{no_bits, no_frame_behind, short_frame}
 use Rattle.pay_record.proofs.Stands.{frame_entry, frame_stands, if_none, length-frame, no_frame_read}

@@ -1,5 +1,5 @@
 use Rattle.std.proofs.Common.{◌≡◌, ℕ, List, length, ap, ◌∙◌, arith, length-append}
-use Rattle.pay_resume.specs.Resuming.{LoggedFields}
+use Rattle.pay_record.specs.Resuming.{LoggedFields}
 use Rattle.pay_record.specs.Records.{record_of}
 use Rattle.pay_record.proofs.Sizes.{record_small}
 use Rattle.pay_record.proofs.writing.push_record.Goals as goal

@@ -1,6 +1,6 @@
-ghost use Rattle.std.specs.Prelude.{◌≡◌, ◌++◌, ◌≤◌, ◌<◌, ℕ, List, IfOk, length, drop};
+ghost use Rattle.std.specs.Prelude.{◌≡◌, ◌++◌, ◌≤◌, ◌<◌, IfOk, length, drop};
 ghost use Rattle.pay_log.specs.Chunks.{BeginsWith};
-ghost use Rattle.pay_resume.specs.Resuming.{LoggedFields};
+ghost use Rattle.pay_record.specs.Resuming.{LoggedFields, RecordForm};
 
 use pay_member::HistoryEntry;
 use std::alloc::{AllocError, AllocFailed, Global};
@@ -18,7 +18,7 @@ pub enum RecordFault {
 }
 
 impl From<AllocError> for RecordFault {
-    ghost use Rattle.pay_resume.specs.declared.records.RecordFault.TheVariants.{Memory};
+    ghost use Rattle.pay_record.specs.declared.records.RecordFault.TheVariants.{Memory};
 
     ghost from_gives = { λ _ e. e ≡ Memory };
 
@@ -28,7 +28,7 @@ impl From<AllocError> for RecordFault {
 }
 
 impl<T: Drop> From<AllocFailed<T>> for RecordFault {
-    ghost use Rattle.pay_resume.specs.declared.records.RecordFault.TheVariants.{Memory};
+    ghost use Rattle.pay_record.specs.declared.records.RecordFault.TheVariants.{Memory};
 
     ghost from_gives = { λ _ e. e ≡ Memory };
 
@@ -39,20 +39,20 @@ impl<T: Drop> From<AllocFailed<T>> for RecordFault {
 
 /// How entries of a history stand in a log.
 pub trait Records {
-    // The bytes of an entry's record.
-    ghost record_of: { Self → LoggedFields → List ℕ };
-
-    // Entries that a record tells all of.
-    ghost is_loggable: { Self → LoggedFields → Type 0 };
+    // The bytes of an entry's record, and the entries that a record tells all of.
+    ghost form: { Self → RecordForm };
 
     /// The entry whose record stands at the front of some bytes, the id that stands with an ask,
     /// and how many bytes the record has.
+    // promise: records (record)
     fn read(&self, alloc: Global, bytes: &[u8]) -> Result<(HistoryEntry, u64, usize), RecordFault>
         ensures room { IfOk result (λ r. (0 < r.2) × (r.2 ≤ length bytes.now)) }
         ensures record { IfOk result (λ r. bytes.now
-            ≡ record_of self.now (record { entry = r.0; id = r.1 }) ++ drop r.2 bytes.now) }
+            ≡ (form self.now).record_of (record { entry = r.0; id = r.1 })
+            ++ drop r.2 bytes.now) }
         ensures loggable { IfOk result (λ r.
-            is_loggable self.now (record { entry = r.0; id = r.1 })) }
+            (form self.now).is_loggable (record { entry = r.0; id = r.1 })) }
         ensures none { result ≡ Err RecordFault.NoRecord → (l : LoggedFields)
-            → is_loggable self.now l → BeginsWith bytes.now (record_of self.now l) → ⊥ };
+            → (form self.now).is_loggable l
+            → BeginsWith bytes.now ((form self.now).record_of l) → ⊥ };
 }

@@ -14,6 +14,7 @@ use Rattle.pay_log.specs.declared.key.Format.TheVariants.{Second}
 use Rattle.pay_log.specs.declared.limits.TheConstants.{HEADER_LEN}
 use Rattle.pay_log.specs.declared.log.Log.{Log}
 use Rattle.pay_log.specs.Chunks.{BeginsWith, chunks_of}
+use Rattle.pay_log.specs.Device.{Storage}
 use Rattle.pay_log.specs.Headers.{header_bytes}
 use Rattle.pay_log.specs.Logs.{IsLog, IsSynced, log_bytes}
 use Rattle.pay_log.specs.Recovery.{key_of_format}
@@ -22,6 +23,11 @@ use Rattle.pay_log.specs.Recovery.{key_of_format}
 pub record LoggedFields : Type 0 where
   pub entry : HistoryEntry
   pub id : ℕ
+
+-- How entries stand in a log: the bytes of an entry's record, and whether these tell all of it.
+pub record RecordForm : Type 1 where
+  pub record_of : LoggedFields → List ℕ
+  pub is_loggable : LoggedFields → Type 0
 
 abbrev pub id_by : Event → ℕ → Option ℕ
 id_by (Ask v) id = Some id
@@ -38,74 +44,77 @@ entries_of_logged logged = map (λ l. l.entry) logged
 
 -- The member's history has grown by the entries whose records these bytes are, and the ids by those
 -- of the asks.
-pub record HasResumed (record_of : LoggedFields → List ℕ) (IsLoggable : LoggedFields → Type 0)
-    (old new : MemberFields) (old_ids new_ids : List ℕ) (bytes : List ℕ) : Type 0 where
+pub record HasResumed (form : RecordForm) (old new : MemberFields)
+    (old_ids new_ids bytes : List ℕ) : Type 0 where
   pub more : List LoggedFields
-  pub loggable : All IsLoggable more
+  pub loggable : All form.is_loggable more
   pub grown : new ≡ record old { history = old.history ++ entries_of_logged more }
   pub ids : new_ids ≡ old_ids ++ ids_of more
-  pub records : flat_map record_of more ≡ bytes
+  pub records : flat_map form.record_of more ≡ bytes
 
 -- So far: it has taken what these bytes begin with, and the rest is left.
-pub record IsTaking (record_of : LoggedFields → List ℕ) (IsLoggable : LoggedFields → Type 0)
-    (old new : MemberFields) (old_ids new_ids bytes rest : List ℕ) : Type 0 where
+pub record IsTaking (form : RecordForm) (old new : MemberFields)
+    (old_ids new_ids bytes rest : List ℕ) : Type 0 where
   pub done : List ℕ
-  pub taken : HasResumed record_of IsLoggable old new old_ids new_ids done
+  pub taken : HasResumed form old new old_ids new_ids done
   pub is : bytes ≡ done ++ rest
 
 -- No record stands at the front of these bytes, or that of an entry that the member doesn't owe.
-abbrev pub IsNoneOwed :
-    (LoggedFields → List ℕ) → (LoggedFields → Type 0) → MemberFields → List ℕ → Type 0
-IsNoneOwed record_of IsLoggable m bytes =
-    ((l : LoggedFields) → IsLoggable l → BeginsWith bytes (record_of l) → ⊥)
-    ⊎ ((l : LoggedFields) × IsLoggable l × BeginsWith bytes (record_of l)
+abbrev pub IsNoneOwed : RecordForm → MemberFields → List ℕ → Type 0
+IsNoneOwed form m bytes =
+    ((l : LoggedFields) → form.is_loggable l → BeginsWith bytes (form.record_of l) → ⊥)
+    ⊎ ((l : LoggedFields) × form.is_loggable l × BeginsWith bytes (form.record_of l)
     × (IsOwed m.genesis m.keys (events m.history) l.entry → ⊥))
 
 -- A record isn't what the member has there: so many entries were taken before it.
-pub record IsRefusedAt (record_of : LoggedFields → List ℕ) (IsLoggable : LoggedFields → Type 0)
-    (old : MemberFields) (bytes : List ℕ) (number : ℕ) : Type 0 where
+pub record IsRefusedAt (form : RecordForm) (old : MemberFields) (bytes : List ℕ) (number : ℕ)
+    : Type 0 where
   pub before : List LoggedFields
-  pub loggable : All IsLoggable before
+  pub loggable : All form.is_loggable before
   pub rest : List ℕ
-  pub is : bytes ≡ flat_map record_of before ++ rest
+  pub is : bytes ≡ flat_map form.record_of before ++ rest
   pub counted : length old.history + length before ≡ number
-  pub wrong : IsNoneOwed record_of IsLoggable
-      (record old { history = old.history ++ entries_of_logged before }) rest
+  pub wrong :
+      IsNoneOwed form (record old { history = old.history ++ entries_of_logged before }) rest
 
 -- A member and the ids of its asks are those of the records in these payloads, each of an entry
 -- that a record tells all of.
-pub record IsOfRecords (record_of : LoggedFields → List ℕ) (IsLoggable : LoggedFields → Type 0)
-    (m : MemberFields) (ids : List ℕ) (ps : List (List ℕ)) : Type 0 where
+pub record IsOfRecords (form : RecordForm) (m : MemberFields) (ids : List ℕ)
+    (ps : List (List ℕ)) : Type 0 where
   pub logged : List LoggedFields
-  pub loggable : All IsLoggable logged
+  pub loggable : All form.is_loggable logged
   pub history : m.history ≡ entries_of_logged logged
   pub ids_are : ids ≡ ids_of logged
-  pub records : flat_map record_of logged ≡ flat_map (λ p. p) ps
+  pub records : flat_map form.record_of logged ≡ flat_map (λ p. p) ps
+
+-- a member with the ids of its asks, and how many bytes of chunks its log has
+pub record ResumedFields : Type 0 where
+  pub member : MemberFields
+  pub ids : List ℕ
+  pub len : ℕ
 
 -- A file was the log of a member's records, with so many bytes of chunks.
-pub record IsLogOf (record_of : LoggedFields → List ℕ) (IsLoggable : LoggedFields → Type 0)
-    (key : List ℕ) (header : Header) (file : List ℕ) (m : MemberFields) (ids : List ℕ) (len : ℕ)
-    (ps : List (List ℕ)) : Type 0 where
+pub record IsLogOf (form : RecordForm) (key : List ℕ) (header : Header) (file : List ℕ)
+    (r : ResumedFields) (ps : List (List ℕ)) : Type 0 where
   pub format : Format
   pub was : IsLog (key_of_format key format) (header_bytes format header) file ps
-  pub size : HEADER_LEN + len
+  pub size : HEADER_LEN + r.len
       ≡ length (log_bytes (key_of_format key format) (header_bytes format header) ps)
-  pub records : IsOfRecords record_of IsLoggable m ids ps
+  pub records : IsOfRecords form r.member r.ids ps
 
 -- And the new log is synced with them.
-pub record IsResumed {D : Type 0} (is_known : D → Type 0) (seen : D → List ℕ)
-    (may_leave : D → List ℕ → Type 0) (record_of : LoggedFields → List ℕ)
-    (IsLoggable : LoggedFields → Type 0) (header : Header) (file : List ℕ) (m : MemberFields)
-    (ids : List ℕ) (len : ℕ) (log : Log D) : Type 0 where
+pub record IsResumed {D : Type 0} (storage : Storage D) (form : RecordForm) (header : Header)
+    (file : List ℕ) (r : ResumedFields) (log : Log D) : Type 0 where
   pub ps : List (List ℕ)
-  pub was : IsLogOf record_of IsLoggable log.key.bytes header file m ids len ps
-  pub settled : IsSynced is_known seen may_leave log (header_bytes Second header) ps
+  pub was : IsLogOf form log.key.bytes header file r ps
+  pub settled :
+      IsSynced storage.is_known storage.seen storage.may_leave log
+      (header_bytes Second header) ps
 
 -- In a log, after payloads that a member took, one stands whose record of this number isn't what
 -- the member has there.
-pub record IsIllegalLog (record_of : LoggedFields → List ℕ) (IsLoggable : LoggedFields → Type 0)
-    (key : List ℕ) (header : Header) (file : List ℕ) (old : MemberFields) (number : ℕ)
-    : Type 0 where
+pub record IsIllegalLog (form : RecordForm) (key : List ℕ) (header : Header) (file : List ℕ)
+    (old : MemberFields) (number : ℕ) : Type 0 where
   pub format : Format
   pub before : List (List ℕ)
   pub payload : List ℕ
@@ -114,5 +123,5 @@ pub record IsIllegalLog (record_of : LoggedFields → List ℕ) (IsLoggable : Lo
       (chunks_of (key_of_format key format) 0 (before ++ payload ∷ []))
   pub at : MemberFields
   pub ids : List ℕ
-  pub taken : HasResumed record_of IsLoggable old at [] ids (flat_map (λ p. p) before)
-  pub refused : IsRefusedAt record_of IsLoggable at payload number
+  pub taken : HasResumed form old at [] ids (flat_map (λ p. p) before)
+  pub refused : IsRefusedAt form at payload number

@@ -7,8 +7,8 @@ ghost use Rattle.pay_log.specs.Device.{IsUnchanged};
 ghost use Rattle.pay_log.specs.Faults.{IsReadFault};
 ghost use Rattle.pay_log.specs.Headers.{IsForeignHeader};
 ghost use Rattle.pay_log.specs.Recovery.{IsDamagedLog, key_of_format};
-ghost use Rattle.pay_resume.specs.Resuming.{HasResumed, IsIllegalLog, IsLogOf, IsOfRecords};
-ghost use Rattle.pay_resume.specs.Resuming.{IsRefusedAt, IsResumed};
+ghost use Rattle.pay_record.specs.Resuming.{HasResumed, IsIllegalLog, IsLogOf, IsOfRecords};
+ghost use Rattle.pay_record.specs.Resuming.{IsRefusedAt, IsResumed};
 
 use crate::records::Records;
 use crate::taking::take_payload;
@@ -28,11 +28,11 @@ struct Resuming<'a, I: Instance + Drop, B: Settle + Drop, R> {
 
 impl<I: Instance + Drop, B: Settle + Drop, R: Records> Sink for Resuming<'_, I, B, R> {
     ghost takes = { λ old new payload. (new.records ≡ old.records)
-        × HasResumed (R.record_of old.records.now) (R.is_loggable old.records.now)
-        old.member new.member old.ids.items new.ids.items payload };
+        × HasResumed (R.form old.records.now) old.member new.member old.ids.items new.ids.items
+        payload };
 
-    ghost refuses = { λ old payload number. IsRefusedAt (R.record_of old.records.now)
-        (R.is_loggable old.records.now) old.member payload number };
+    ghost refuses = { λ old payload number.
+        IsRefusedAt (R.form old.records.now) old.member payload number };
 
     fn take(&mut self, alloc: Global, payload: &[u8]) -> Result<(), Refused> {
         take_payload(
@@ -68,13 +68,13 @@ pub fn resume<D: Device + Drop, I: Instance + Drop, B: Settle + Drop, R: Records
     ensures genesis { IfOk result (λ r. r.0.member.genesis ≡ member.genesis) }
     ensures keys { IfOk result (λ r. r.0.member.keys ≡ member.keys) }
     ensures records { IfOk result (λ r. (ps : List (List ℕ))
-        × IsOfRecords (R.record_of records.now) (R.is_loggable records.now)
-        r.0.member r.0.ids.items ps) }
+        × IsOfRecords (R.form records.now) r.0.member r.0.ids.items ps) }
     ensures log { IfOk result (λ r. r.1.key ≡ key_of_format key.now Format.Second) }
     ensures resumed { IfOk result (λ r. D.is_known old.old → D.is_known new → D.seen new ≡ [] →
-        IsResumed D.is_known D.seen D.may_leave (R.record_of records.now)
-        (R.is_loggable records.now) header.now (D.seen old.old) r.0.member r.0.ids.items r.0.len
-        r.1) }
+        IsResumed
+        (record { is_known = D.is_known; seen = D.seen; may_leave = D.may_leave })
+        (R.form records.now) header.now (D.seen old.old)
+        (record { member = r.0.member; ids = r.0.ids.items; len = r.0.len }) r.1) }
     ensures undamaged { IfOk result (λ _. D.is_known old.old → (count : ℕ)
         → IsDamagedLog key.now header.now (D.seen old.old) count → ⊥) }
     ensures fault { IfErr result IsReadFault }
@@ -84,7 +84,7 @@ pub fn resume<D: Device + Drop, I: Instance + Drop, B: Settle + Drop, R: Records
     ensures damaged { (count : ℕ) → result ≡ Err (LogFault.Damaged count)
         → D.is_known old.old → IsDamagedLog key.now header.now (D.seen old.old) count }
     ensures illegal { (number : ℕ) → result ≡ Err (LogFault.Illegal number)
-        → D.is_known old.old → IsIllegalLog (R.record_of records.now) (R.is_loggable records.now)
+        → D.is_known old.old → IsIllegalLog (R.form records.now)
         key.now header.now (D.seen old.old) member number }
     ensures unchanged { D.is_known old.old →
         IsUnchanged D.is_known D.seen D.may_leave D.moment D.left_since old.old old.new }
@@ -113,8 +113,8 @@ pub fn view<D: Device, I: Instance + Drop, B: Settle + Drop, R: Records>(
     ensures genesis { IfOk result (λ r. r.member.genesis ≡ member.genesis) }
     ensures keys { IfOk result (λ r. r.member.keys ≡ member.keys) }
     ensures viewed { IfOk result (λ r. D.is_known device.old → (ps : List (List ℕ))
-        × IsLogOf (R.record_of records.now) (R.is_loggable records.now) key.now header.now
-        (D.seen device.old) r.member r.ids.items r.len ps) }
+        × IsLogOf (R.form records.now) key.now header.now (D.seen device.old)
+        (record { member = r.member; ids = r.ids.items; len = r.len }) ps) }
     ensures fault { IfErr result IsReadFault }
     ensures foreign { (part : Mismatch) → result ≡ Err (LogFault.Foreign part)
         → D.is_known device.old
@@ -122,8 +122,8 @@ pub fn view<D: Device, I: Instance + Drop, B: Settle + Drop, R: Records>(
     ensures damaged { (count : ℕ) → result ≡ Err (LogFault.Damaged count)
         → D.is_known device.old → IsDamagedLog key.now header.now (D.seen device.old) count }
     ensures illegal { (number : ℕ) → result ≡ Err (LogFault.Illegal number)
-        → D.is_known device.old → IsIllegalLog (R.record_of records.now)
-        (R.is_loggable records.now) key.now header.now (D.seen device.old) member number }
+        → D.is_known device.old → IsIllegalLog (R.form records.now)
+        key.now header.now (D.seen device.old) member number }
     ensures unchanged { D.is_known device.old →
         IsUnchanged D.is_known D.seen D.may_leave D.moment D.left_since device.old device.new }
 {

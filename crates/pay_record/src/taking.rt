@@ -6,7 +6,7 @@ ghost use Rattle.std.specs.Option.{option_to_list};
 ghost use Rattle.pay_member.specs.Events.{events};
 ghost use Rattle.pay_member.specs.Legal.{IsOwed};
 ghost use Rattle.pay_member.specs.Member.{with_entry};
-ghost use Rattle.pay_resume.specs.Resuming.{HasResumed, IsRefusedAt, id_by};
+ghost use Rattle.pay_record.specs.Resuming.{HasResumed, IsRefusedAt, id_by};
 
 use crate::records::{RecordFault, Records};
 use pay_book::Settle;
@@ -24,11 +24,10 @@ pub(crate) fn take_payload<I: Instance + Drop, B: Settle + Drop, R: Records>(
     ids: &mut Vec<u64>,
     payload: &[u8],
 ) -> Result<(), Refused>
-    ensures taken { OnOk result (HasResumed (R.record_of records.now) (R.is_loggable records.now)
-        member.old member.new ids.old.items ids.new.items payload.now) }
+    ensures taken { OnOk result (HasResumed (R.form records.now) member.old member.new
+        ids.old.items ids.new.items payload.now) }
     ensures refused { (number : ℕ) → result ≡ Err (Refused.Record number) →
-        IsRefusedAt (R.record_of records.now) (R.is_loggable records.now) member.old payload.now
-        number }
+        IsRefusedAt (R.form records.now) member.old payload.now number }
 {
     let mut rest = payload;
     while !rest.is_empty() {
