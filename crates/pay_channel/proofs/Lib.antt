@@ -20,3 +20,4 @@ pub mod Asking
 pub mod ChannelLists
 mod Came
 mod Unlisted
+pub mod LieLemmas

@@ -13,6 +13,8 @@ ask_of (Ask v) = Some v
 ask_of (From p body) = None
 
 -- The values that the member broadcast, in order. A value's number is its place, counted from 0.
+-- page: `asked_values`, `taken_bodies`, `next`: the values that the member was asked for, by their
+--   numbers; the bodies taken from one other member, in order, and how many: the book's links
 unfoldable pub asked_values : List Event → List (List ℕ)
 asked_values history = filter_map ask_of history
 

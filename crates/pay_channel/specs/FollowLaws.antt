@@ -1,9 +1,11 @@
 -- What holds of a channel that follows a history, as statements. Each is proved as a public law.
-use Rattle.std.specs.Prelude.{◌≡◌, ℕ, ◌≤◌, List, [], ◌∷◌, ◌++◌, length}
-use Rattle.pay_channel.specs.History.{Event, seqs, delivered_at, list_of}
+use Rattle.std.specs.Prelude.{◌≡◌, ◌↔◌, ℕ, ◌≤◌, true, List, [], ◌∷◌, ◌++◌, length}
+use Rattle.pay_frame.specs.Frame.{BodyFields}
+use Rattle.pay_channel.specs.History.{Event, From, IsEvent, seqs, delivered_at, list_of}
 use Rattle.pay_channel.specs.State.{State, IsStateBy, delivered_value_at, channel_lists}
 use Rattle.pay_channel.specs.Applied.{Takes, IsApplied, IsAsBefore}
 use Rattle.pay_channel.specs.Answer.{IsChannelAnswer}
+use Rattle.pay_channel.specs.Lies.{IsLie, is_lie_to}
 use Rattle.pay_channel.specs.declared.applied.Applied.{Applied}
 
 -- a channel that takes an event follows the longer history
@@ -34,6 +36,13 @@ AnswersFollow =
     (old new : State) (history : List Event) (e : Event) (applied : Applied)
     → IsStateBy old history → Takes old new e → IsApplied old new e applied
     → IsChannelAnswer old.group history e applied
+
+-- and what it says of a body of another member
+abbrev pub LiesFollow : Type 0
+LiesFollow =
+    (c : State) (history : List Event) (p : ℕ) (body : BodyFields)
+    → IsStateBy c history → IsEvent c.group (From p body)
+    → (is_lie_to c p body ≡ true) ↔ IsLie history p body
 
 -- nothing tells two channels apart that follow one history
 abbrev pub FollowersAreAlike : Type 0

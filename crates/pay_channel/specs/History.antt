@@ -14,6 +14,8 @@ use Rattle.pay_echo.specs.Broadcast as one
 use Rattle.pay_echo.specs.Broadcast.{Group, Vote, echoed, readied, delivered}
 
 -- The member broadcasts a value of its own, or takes a body from another member.
+-- page: `Event`, `IsEvent`: the book's inputs: a value of one's own, or another member's body;
+--   within a frame's limits, about a member, no WANT
 pub data Event : Type 0 where
   Ask : List ℕ → Event
   From : ℕ → BodyFields → Event
@@ -76,6 +78,9 @@ votes_from own a s k (e ∷ history) =
     votes_in own a s k e ++ votes_from own a s (if is_ask e then k + 1 else k) history
 
 -- All that a history says about the broadcast s of account a: the votes of one instance.
+-- page: `votes`: a history's votes in one broadcast; a SEND counts only if its owner sent it, as
+--   the book's instance hears no other's
+-- term: seq: the number of a value among all of its owner
 unfoldable pub votes : ℕ → ℕ → ℕ → List Event → List Vote
 votes own a s history = votes_from own a s 0 history
 
@@ -94,6 +99,8 @@ send_of own k (From p body) = []
 
 -- What is sent to all by an event that follows a history: SEND if it is an ask, then ECHO and READY
 -- if they became known by it.
+-- page: `says`, `out`: what an event sends to all, in the order of the book's rules: SEND, ECHO,
+--   READY, each where it is due; the outbound list
 unfoldable pub says : Group → List Event → Event → List BodyFields
 says g history e =
     let a = owner_of g.own e in
@@ -126,8 +133,11 @@ known_from value_at s (suc n) =
 unfoldable pub listed_values : Group → (ℕ → ℕ → Option (List ℕ)) → ℕ → List (List ℕ)
 listed_values g value_at a = if nat_lt a g.members then known_from (value_at a) 0 seqs else []
 
+-- page: `delivered_at`, `list_of`: the value delivered at an owner and number; an owner's values up
+--   to the first number that has none (not the book's)
 unfoldable pub delivered_at : Group → List Event → ℕ → ℕ → Option (List ℕ)
 delivered_at g history a s = delivered g (votes g.own a s history)
 
+-- term: list: an account's values, as far as one member has delivered them without a gap
 unfoldable pub list_of : Group → List Event → ℕ → List (List ℕ)
 list_of g history a = listed_values g (delivered_at g history) a

@@ -7,6 +7,7 @@ pub mod State
 pub mod Applied
 pub mod Answer
 pub mod Hearing
+pub mod Lies
 pub mod VoteLaws
 pub mod TakenLaws
 pub mod SentLaws

@@ -11,6 +11,7 @@ ghost use Rattle.pay_channel.specs.State.{State, IsStateBy, meaning_at, delivere
 ghost use Rattle.pay_channel.specs.State.{channel_lists};
 ghost use Rattle.pay_channel.specs.Applied.{TakesVote, IsToldOf, Takes, IsApplied, IsAsBefore};
 ghost use Rattle.pay_channel.specs.Applied.{event_of_ref};
+ghost use Rattle.pay_channel.specs.Lies.{is_lie_to};
 
 use crate::applied::Applied;
 use crate::event::EventRef;
@@ -49,6 +50,7 @@ impl<I: Instance + Drop> Model for Channel<I> {
 
 impl<I: Instance + Drop> Channel<I> {
     /// A channel that took no event.
+    // promise: channel's history
     pub fn new(alloc: Global, members: u16, faults: u16, own: u16) -> Result<Channel<I>, AllocError>
         requires few { members ≤ MOST_MEMBERS }
         requires own { own < members }
@@ -77,6 +79,8 @@ impl<I: Instance + Drop> Channel<I> {
     /// A value of one's own has at most a frame's bytes, and fewer than 65,536 came before it. A
     /// body comes from another member, about a member, and is no WANT. Fails only where memory is
     /// refused; the channel is then as it was, since all room is made before the first change.
+    // promise: nothing changes (err); one event (takes, applied, grows)
+    // promise: channel's history (follows)
     pub fn apply(&mut self, alloc: Global, event: EventRef) -> Result<Applied, AllocError>
         requires event { IsEvent self.old.group (event_of_ref event) }
         requires number { is_ask (event_of_ref event) ≡ true → self.old.asks < seqs }
@@ -169,6 +173,22 @@ impl<I: Instance + Drop> Channel<I> {
         })
     }
 
+    /// Whether a body of another member is a lie: one that no correct member sends, behind what
+    /// came from that one by now.
+    // promise: lies
+    pub fn is_lie(&self, process: u16, body: &Body) -> bool
+        requires { IsEvent self.now.group (From process body.now) }
+        ensures { result ≡ is_lie_to self.now process body.now }
+    {
+        match vote_in(process, body) {
+            Some(vote) => {
+                self.instances
+                    .has_voted(self.group, body.owner(), body.seq(), vote)
+            }
+            None => true,
+        }
+    }
+
     /// How many values of its own the member broadcast: the number that its next one gets.
     pub fn asks(&self) -> u32
         ensures { result ≡ self.now.asks }
@@ -177,6 +197,7 @@ impl<I: Instance + Drop> Channel<I> {
     }
 
     /// How many bodies were sent to all.
+    // promise: channel's history
     pub fn sent_len(&self) -> usize
         ensures { result ≡ length self.now.sent }
     {
@@ -184,6 +205,7 @@ impl<I: Instance + Drop> Channel<I> {
     }
 
     /// The body at a place of the sent list.
+    // promise: channel's history
     pub fn sent(&self, place: usize) -> Option<&Body>
         ensures { option_copied result ≡ slice_get self.now.sent place }
     {
@@ -199,6 +221,7 @@ impl<I: Instance + Drop> Channel<I> {
 
     /// The value delivered in a broadcast, whether those before it were delivered or not.
     #[tactic(auto, unfolding(crate::specs::State::delivered_value_at, crate::specs::State::meaning_at))]
+    // promise: channel's history
     pub fn delivered(&self, owner: u16, seq: u32) -> Option<&[u8]>
         ensures { option_copied result ≡ delivered_value_at self.now owner seq }
     {
@@ -214,6 +237,7 @@ impl<I: Instance + Drop> Channel<I> {
     }
 
     /// The number of values in an owner's list.
+    // promise: channel's history
     pub fn in_order(&self, owner: u16) -> u32
         ensures { result ≡ length (channel_lists self.now owner) }
     {

@@ -1,16 +1,17 @@
 ghost use Rattle.std.specs.Prelude.{◌≡◌, ◌≢◌, ◌≤◌, ◌<◌, ◌-◌, ℕ, false, List, length, [], None};
-ghost use Rattle.std.specs.Prelude.{IfOk, OnOk, OnErr};
+ghost use Rattle.std.specs.Prelude.{is_some, IfOk, OnOk, OnErr};
 ghost use Rattle.std.specs.Bool.{then_some};
 ghost use Rattle.std.specs.Option.{option_copied};
 ghost use Rattle.pay_echo.specs.Broadcast.{Group, Vote, IsForeign, value_of};
 ghost use Rattle.pay_echo.specs.Meaning.{meaning_of, Sees};
+ghost use Rattle.pay_echo.specs.Step.{vote_before};
 ghost use Rattle.pay_echo.specs.Votes.{vote_of_ref};
 ghost use Rattle.pay_channel.specs.History.{seqs, known_from, body_of};
 ghost use Rattle.pay_channel.specs.State.{meaning_in};
 ghost use Rattle.pay_channel.specs.Hearing.{HearsVote, IsOutgoing};
 
 use crate::outgoing::Outgoing;
-use pay_echo::laws::nothing_known_at_first;
+use pay_echo::laws::{nothing_known_at_first, votes_came};
 use pay_echo::{Group, Instance, VoteRef};
 use pay_frame::{Body, Bytes, GREATEST_VALUE, Kind, MOST_MEMBERS, SEQS, SharedBody};
 use std::alloc::{AllocError, Global};
@@ -67,6 +68,22 @@ impl<I: Instance + Drop> Instances<I> {
         match self.by_broadcast.get(&key) {
             Some(instance) => instance.echoed(),
             None => None,
+        }
+    }
+
+    /// Whether a vote of this kind came before in a broadcast from the same process.
+    pub fn has_voted(&self, group: Group, owner: u16, seq: u32, vote: VoteRef) -> bool
+        requires foreign { IsForeign group (vote_of_ref vote) }
+        requires reached { (votes : List Vote)
+            × (meaning_in group self.now owner seq ≡ meaning_of group votes) }
+        ensures { result ≡ is_some
+            (vote_before (meaning_in group self.now owner seq) (vote_of_ref vote.entry)) }
+    {
+        votes_came();
+        let key = (owner, seq);
+        match self.by_broadcast.get(&key) {
+            Some(instance) => instance.has_voted(vote),
+            None => false,
         }
     }
 

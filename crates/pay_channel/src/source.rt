@@ -10,10 +10,12 @@ pub trait Source {
     ghost lists: { Self → ℕ → List (List ℕ) };
 
     /// The number of values in the list of `owner`.
+    // promise: one event
     fn length(&self, owner: u16) -> u32
         ensures { result ≡ length (lists self.now owner) };
 
     /// The value at place `k` of the list of `owner`, counted from 0.
+    // promise: one event
     fn at(&self, owner: u16, k: u32) -> &[u8]
         requires { k < length (lists self.now owner) }
         ensures { slice_get (lists self.now owner) k ≡ Some result.now };

@@ -11,6 +11,7 @@ pub mod Clauses
 pub mod Sets
 pub mod VoteLaws
 pub mod WhyLaws
+pub mod Voted
 pub mod MaskBits
 pub mod MaskVotes
 pub mod Candidates

@@ -11,11 +11,14 @@ use Rattle.pay_echo.specs.declared.group.Group.{Group as DeclaredGroup}
 
 -- N processes numbered from 0, of which f may be faulty, and the number of the one whose state this
 -- is
+-- page: `Group`, `Vote`: N, f and one's own number; the three messages. In the book: the
+--   processes, of which f may be faulty; the messages
 abbrev pub Group : Type 0
 Group = DeclaredGroup
 
 -- A message of the instance as it is taken: the sender's value (its SEND, or what oneself
 -- broadcasts), or another process's ECHO or READY with its value.
+-- term: vote: a SEND, ECHO or READY as one member takes it
 pub data Vote : Type 0 where
   Send : List ℕ → Vote
   Echo : ℕ → List ℕ → Vote
@@ -59,6 +62,8 @@ beginnings [] = [] ∷ []
 beginnings (x ∷ xs) = [] ∷ map (λ b. x ∷ b) (beginnings xs)
 
 -- At the shortest prefix at which the test holds of some value voted for: that value.
+-- page: `first_known`: the value at the shortest prefix of the votes at which a test holds. In
+--   the book: "upon exists m such that" fires when it first holds
 unfoldable pub first_known : (List Vote → List ℕ → Bool) → List Vote → Option (List ℕ)
 first_known test votes = find_map (λ b. find (test b) (map value_of b)) (beginnings votes)
 
@@ -72,9 +77,13 @@ is_for v None = false
 is_for v (Some w) = bytes_eq w v
 
 -- ECHOs: oneself echoes the first SEND; of another process the first ECHO that came counts
+-- page: `echoed`: the value of the first SEND; in one's own broadcast, the value broadcast. In
+--   the book: `sentecho`
 unfoldable pub echoed : List Vote → Option (List ℕ)
 echoed votes = find_map value_if_send votes
 
+-- page: `echo_of`, `echo_set`: a process's first ECHO; those whose ECHO is a value. In the book:
+--   `echos[p]`, written only while it is empty; `#({p : echos[p] = m})`
 unfoldable pub echo_of : Group → List Vote → ℕ → Option (List ℕ)
 echo_of g votes p = if p == g.own then echoed votes else find_map (echoed_by p) votes
 
@@ -83,6 +92,9 @@ unfoldable pub echo_set : Group → List Vote → List ℕ → ℕ → Bool
 echo_set g votes v p = is_for v (echo_of g votes p)
 
 -- another process's READY: the first that came
+-- page: `other_ready_of`, `ready_of`, `ready_set`: another process's first READY; any process's,
+--   one's own being what was readied; those READY for a value. In the book: `readys[p]`,
+--   which has one's own only once `sentready` is set and the rule spent, so that both agree
 unfoldable pub other_ready_of : Group → List Vote → ℕ → Option (List ℕ)
 other_ready_of g votes p = if p == g.own then None else find_map (readied_by p) votes
 
@@ -92,6 +104,10 @@ other_ready_set g votes v p = is_for v (other_ready_of g votes p)
 
 -- One may send READY v on more than (N + f) / 2 ECHOs of v, or (amplification) on more than f
 -- READYs of v.
+-- term: quorum: more than (N + f) / 2 members
+-- page: `may_ready`, `readied`: a quorum of ECHOs, or more than f others READY; the value for
+--   which that held first. In the book: the two rules that set `sentready`: a quorum, and
+--   amplification
 unfoldable pub may_ready : Group → List Vote → List ℕ → Bool
 may_ready g votes v =
     nat_lt (g.members + g.faults) (2 * size g.members (echo_set g votes v))
@@ -110,9 +126,12 @@ unfoldable pub ready_set : Group → List Vote → List ℕ → ℕ → Bool
 ready_set g votes v p = is_for v (ready_of g votes p)
 
 -- One may deliver v on more than 2f READYs of v.
+-- page: `may_deliver`, `delivered`: more than 2f in that set; the first value for which that
+--   held. In the book: delivery, once
 unfoldable pub may_deliver : Group → List Vote → List ℕ → Bool
 may_deliver g votes v = nat_lt (2 * g.faults) (size g.members (ready_set g votes v))
 
 -- the value delivered: once, the first that one may deliver
+-- term: delivered: of a value: more than 2f members are READY for it
 unfoldable pub delivered : Group → List Vote → Option (List ℕ)
 delivered g votes = first_known (may_deliver g) votes

@@ -1,13 +1,14 @@
 -- What holds of the answers of `Broadcast`, as statements. Each is proved as a public law.
 use Rattle.std.specs.Prelude.{◌≡◌, ◌≢◌, ℕ, ◌+◌, ◌*◌, ◌<◌, ◌≤◌, ◌⊎◌, ◌↔◌, Bool, true, if◌then◌else◌}
-use Rattle.std.specs.Prelude.{List, [], ◌∷◌, ◌++◌, Option, Some, None, Contains}
+use Rattle.std.specs.Prelude.{List, [], ◌∷◌, ◌++◌, Option, Some, None, is_some, Contains}
 use Rattle.std.specs.Option.{option_or}
-use Rattle.pay_echo.specs.Broadcast.{Group, Vote, Send, Echo, Ready, value_of, value_if_send, size}
-use Rattle.pay_echo.specs.Broadcast.{echoed}
+use Rattle.pay_echo.specs.Broadcast.{Group, Vote, Send, Echo, Ready, IsForeign, value_of}
+use Rattle.pay_echo.specs.Broadcast.{value_if_send, size, echoed}
 use Rattle.pay_echo.specs.Broadcast.{echo_of, echo_set, other_ready_of, other_ready_set, may_ready}
 use Rattle.pay_echo.specs.Broadcast.{readied, ready_of, ready_set, may_deliver, delivered}
 use Rattle.pay_echo.specs.Meaning.{Meaning, meaning_of, Sees}
 use Rattle.pay_echo.specs.Moves.{IsMoves, Foresees}
+use Rattle.pay_echo.specs.Step.{vote_before}
 use Rattle.pay_echo.specs.declared.moves.Moves.{Moves}
 
 -- ---- before any vote
@@ -169,6 +170,19 @@ abbrev pub ReadyCounts : Type 0
 ReadyCounts =
     (g : Group) (votes : List Vote) (p : ℕ) (v : List ℕ) → p ≢ g.own → Contains votes (Ready p v)
     → ready_of g votes p ≢ None
+
+-- the same vote, for another value
+abbrev pub with_value : List ℕ → Vote → Vote
+with_value v (Send w) = Send v
+with_value v (Echo p w) = Echo p v
+with_value v (Ready p w) = Ready p v
+
+-- a vote stands in another's place exactly where one of its kind came from its process
+abbrev pub VotedIsTaken : Type 0
+VotedIsTaken =
+    (g : Group) (votes : List Vote) (x : Vote) → IsForeign g x
+    → (is_some (vote_before (meaning_of g votes) x) ≡ true)
+    ↔ ((v : List ℕ) × Contains votes (with_value v x))
 
 -- ---- why one is READY, and why one delivers
 

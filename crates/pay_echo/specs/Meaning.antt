@@ -4,6 +4,7 @@ use Rattle.std.specs.Prelude.{is_some}
 use Rattle.std.specs.List.{range_with_len}
 use Rattle.pay_echo.specs.Broadcast.{Group, Vote, echoed, echo_of, readied, ready_of, delivered}
 
+-- page: `Meaning`: all of this for one list of votes. In the book: the local variables
 pub record Meaning : Type 0 where
   pub group : Group
   pub echoed : Option (List ℕ)

@@ -9,8 +9,9 @@ ghost use Rattle.pay_echo.specs.Laws.{OtherReadyStays, EchoSetGrows, ReadySetGro
 ghost use Rattle.pay_echo.specs.Laws.{OtherReadySetGrows, SecondSend, SecondEcho, SecondReady};
 ghost use Rattle.pay_echo.specs.Laws.{InEchoSet, InReadySet, InOtherReadySet, OwnEcho, OwnReady};
 ghost use Rattle.pay_echo.specs.Laws.{SendCame, EchoCame, ReadyCame, SendIsEchoed, EchoCounts};
-ghost use Rattle.pay_echo.specs.Laws.{ReadyCounts, WhyReady, WhyDelivered, QuorumMakesReady};
-ghost use Rattle.pay_echo.specs.Laws.{AmplificationMakesReady, ReadysDeliver, OneValueByQuorum};
+ghost use Rattle.pay_echo.specs.Laws.{ReadyCounts, VotedIsTaken, WhyReady, WhyDelivered};
+ghost use Rattle.pay_echo.specs.Laws.{QuorumMakesReady, AmplificationMakesReady, ReadysDeliver};
+ghost use Rattle.pay_echo.specs.Laws.{OneValueByQuorum};
 ghost use Rattle.pay_echo.specs.Quorums.{SizeIsAtMost, SizeOfListed, SizeOfOthers, PartIsSmaller};
 ghost use Rattle.pay_echo.specs.Quorums.{QuorumsShare, LargerHasAnother, RestIsQuorum};
 ghost use Rattle.pay_echo.specs.Quorums.{QuorumIsMore, MoreRemain};
@@ -32,11 +33,13 @@ pub fn one_vote_more()
 {}
 
 /// What was foreseen of a vote is what became known by it.
+// promise: votes
 pub fn foreseen_became()
     ensures { ForeseenBecame }
 {}
 
 /// What was echoed, readied or delivered stays so, with its value, whatever comes.
+// promise: votes
 pub fn known_stays()
     ensures echoed { EchoedStays }
     ensures readied { ReadiedStays }
@@ -44,6 +47,7 @@ pub fn known_stays()
 {}
 
 /// No process's ECHO or READY changes once it is there, and so the sets of processes only grow.
+// promise: votes
 pub fn nobody_leaves()
     ensures echo { EchoStays }
     ensures ready { ReadyStays }
@@ -54,6 +58,7 @@ pub fn nobody_leaves()
 {}
 
 /// A second SEND, and a second ECHO or READY of one process, changes nothing.
+// promise: votes
 pub fn second_vote_changes_nothing()
     ensures send { SecondSend }
     ensures echo { SecondEcho }
@@ -79,10 +84,12 @@ pub fn votes_came()
     ensures echoed { SendIsEchoed }
     ensures echo_counts { EchoCounts }
     ensures ready_counts { ReadyCounts }
+    ensures voted { VotedIsTaken }
 {}
 
 /// One is READY for a value only with a quorum of ECHOs or more than f READYs of others for it, and
 /// delivers only with more than 2f READYs for it; where one may, one is READY and delivers.
+// promise: votes
 pub fn why_known()
     ensures ready { WhyReady }
     ensures delivered { WhyDelivered }
@@ -92,6 +99,7 @@ pub fn why_known()
 {}
 
 /// No two values have a quorum of the ECHOs that one process took.
+// promise: votes
 pub fn one_value_by_quorum()
     ensures { OneValueByQuorum }
 {}

@@ -57,15 +57,19 @@ impl Instance for MaskInstance {
         })
     }
 
+    fn has_voted(&self, vote: VoteRef) -> bool {
+        self.is_repeated(vote)
+    }
+
     fn moves(&self, vote: VoteRef) -> Moves {
-        if self.has_voted(vote) {
+        if self.is_repeated(vote) {
             return Moves::NONE;
         }
         self.moves_by(vote)
     }
 
     fn take(&mut self, alloc: Global, vote: VoteRef, moves: Moves) -> Result<(), AllocError> {
-        if self.has_voted(vote) {
+        if self.is_repeated(vote) {
             return Ok(());
         }
         let ready = moves.ready && !self.has_readied();
@@ -89,7 +93,7 @@ impl Instance for MaskInstance {
 
 impl MaskInstance {
     // Whether a vote of that process and kind came before.
-    fn has_voted(&self, vote: VoteRef) -> bool
+    fn is_repeated(&self, vote: VoteRef) -> bool
         requires { IsForeign self.now.group (vote_of_ref vote) }
         ensures voted { result ≡ is_some (vote_before self.now (vote_of_ref vote.entry)) }
         ensures placed { IsPlaced self.now }

@@ -7,9 +7,9 @@ use Rattle.pay_echo.proofs.MaskLemmas.{Foresees-own}
 use Rattle.pay_echo.proofs.mask.MaskInstanceInstance.take.Goals.{then-moves, else-moves}
 use Rattle.pay_echo.proofs.mask.MaskInstanceInstance.take.Goals as goal
 
-pub returns-then-has_voted-clause-seen : goal.returns-then-has_voted-clause-seen
-returns-then-has_voted-clause-seen c =
-    Sees-again c.args.self.now (vote_of_ref c.args.vote) c.has_voted.ensures.placed c.requires.foreign (sym c.has_voted.ensures.voted ∙ c.if-has_voted.true)
+pub returns-then-is_repeated-clause-seen : goal.returns-then-is_repeated-clause-seen
+returns-then-is_repeated-clause-seen c =
+    Sees-again c.args.self.now (vote_of_ref c.args.vote) c.is_repeated.ensures.placed c.requires.foreign (sym c.is_repeated.ensures.voted ∙ c.if-is_repeated.true)
 
 pub returns-clause-seen : goal.returns-clause-seen
 returns-clause-seen c =
@@ -20,6 +20,6 @@ returns-clause-seen c =
     ] in
     let moves : Moves = record { echo = c.args.moves.echo; ready = c.if-moves.ready; deliver = c.args.moves.deliver } in
     on_ok_weaker c.write.result
-    (Sees-told c.args.self.now (vote_of_ref c.args.vote) c.has_voted.ensures.placed c.requires.foreign (sym c.has_voted.ensures.voted ∙ c.if-has_voted.false) moves
+    (Sees-told c.args.self.now (vote_of_ref c.args.vote) c.is_repeated.ensures.placed c.requires.foreign (sym c.is_repeated.ensures.voted ∙ c.if-is_repeated.false) moves
     (Foresees-own c.args.self.now (vote_of_ref c.args.vote) c.args.moves c.if-moves.ready c.requires.told ready) c.write.new.self)
     c.write.ensures.after

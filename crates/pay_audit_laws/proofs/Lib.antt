@@ -1,3 +1,0 @@
-mod Exports
-mod Worlds
-mod Books

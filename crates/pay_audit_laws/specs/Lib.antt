@@ -1,4 +1,0 @@
-pub mod Moments
-pub mod Restarts
-pub mod Worlds
-pub mod Books
