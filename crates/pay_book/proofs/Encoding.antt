@@ -1,9 +1,9 @@
 -- What a value of several payments says.
-use Rattle.std.proofs.Common.{◌≡◌, ℕ, suc, ◌+◌, ◌*◌, ◌<◌, ◌≤◌, ◌^◌, List, [], ◌∷◌, ◌++◌, length, map, take, drop, refl, ap, ◌∙◌, sym, arith, true}
-use Rattle.std.specs.Prelude.{◌-◌, slice_index, slice_range, All}
+use Rattle.std.proofs.Common.{◌≡◌, ℕ, suc, ◌+◌, ◌*◌, ◌<◌, ◌≤◌, List, [], ◌∷◌, length, map, take, drop, refl, ap, ◌∙◌, sym, arith, true}
+use Rattle.std.specs.Prelude.{◌-◌, slice_index, All}
 use Rattle.std.proofs.lemmas.Bool.{and_from, cond-true, eq-eqb, lt-ltb, le-leb}
 use Rattle.std.specs.List.{flat_map, range_with_len}
-use Rattle.std.specs.Int.{from_be_bytes, to_be_bytes, w16, w64}
+use Rattle.std.specs.Int.{from_be_bytes, w16, w64}
 use Rattle.std.proofs.Math.Seq.{take-append_seam, drop-append_seam}
 use Rattle.std.proofs.lemmas.List.{length-append, drop-drop}
 use Rattle.std.proofs.lemmas.List.Elements.{All-head, All-tail}
@@ -11,7 +11,7 @@ use Rattle.std.proofs.lemmas.Nat.{from_be_bytes-to_be_bytes_2, from_be_bytes-to_
 use Rattle.pay_book.specs.declared.payment.Entry.{Entry}
 use Rattle.pay_book.specs.declared.payment.Payment.{Payment}
 use Rattle.pay_book.specs.declared.payment.TheConstants.{PAIR_LENGTH, MOST_PAYMENTS}
-use Rattle.pay_book.specs.Payment.{payment, pair_at, pair_bytes, pair_entry, entry_of, payment_value, payments_value, is_several, entries_in}
+use Rattle.pay_book.specs.Payment.{pair_at, pair_bytes, pair_entry, entry_of, payment_value, payments_value, is_several, entries_in}
 use Rattle.pay_book.specs.Laws.{FitsBytes, entry_for}
 
 pub length-pairs : (ps : List Payment) → length (flat_map pair_bytes ps) ≡ PAIR_LENGTH * length ps

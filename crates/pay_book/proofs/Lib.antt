@@ -18,3 +18,5 @@ pub mod Whole
 pub mod OneMore
 pub mod Encoding
 pub mod Numbers
+mod NoteTexts
+mod Notes

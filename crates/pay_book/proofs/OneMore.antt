@@ -1,5 +1,5 @@
 -- What one step of a book changes.
-use Rattle.std.proofs.Common.{◌≡◌, ◌≢◌, ℕ, ◌+◌, ◌<◌, ℤ, pos, ◌-ℤ◌, List, length, take, sum, sum_by, slice_index, ap, ◌∙◌, sym, subst, arith}
+use Rattle.std.proofs.Common.{◌≡◌, ◌≢◌, ℕ, ◌+◌, ℤ, pos, ◌-ℤ◌, List, length, take, sum, sum_by, slice_index, ap, ◌∙◌, sym, subst, arith}
 use Rattle.std.specs.Prelude.{slice_get, slice_set}
 use Rattle.std.proofs.lemmas.List.Sums.{sum_by-set}
 use Rattle.pay_book.specs.declared.payment.Entry.{Entry}

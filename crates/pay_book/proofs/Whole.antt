@@ -1,5 +1,5 @@
 -- The values that are settled wholly.
-use Rattle.std.proofs.Common.{◌≡◌, ℕ, zero, ◌+◌, ◌<◌, ◌≤◌, List, ◌++◌, length, take, drop, slice_index, get_or, ap, ◌∙◌, sym, subst, arith, inl, inr}
+use Rattle.std.proofs.Common.{◌≡◌, ℕ, ◌<◌, ◌≤◌, List, ◌++◌, length, take, drop, slice_index, ap, ◌∙◌, sym, subst, arith, inl, inr}
 use Rattle.std.specs.List.{flat_map}
 use Rattle.std.proofs.lemmas.Bool.{cases_lt}
 use Rattle.std.proofs.lemmas.List.{take_all, take-append-le, take-append-drop, get_or_past}
@@ -8,7 +8,7 @@ use Rattle.pay_channel.specs.Prefix.{IsPrefix}
 use Rattle.pay_book.specs.declared.payment.Entry.{Entry}
 use Rattle.pay_book.specs.Payment.{count_in, entries_in, entries_of}
 use Rattle.pay_book.specs.Places.{Place, place_in, place_of}
-use Rattle.pay_book.specs.Front.{AllGrow, largest_front}
+use Rattle.pay_book.specs.Front.{AllGrow}
 use Rattle.pay_book.specs.Settled.{settled_front, settled_book, settled_entries, settled_place, settled_values}
 use Rattle.pay_book.proofs.Computing.{largest_front_is_largest}
 use Rattle.pay_book.proofs.Places.{place_zero, place_in-append, place_value-mono, place_adds_up}

@@ -31,6 +31,8 @@ paid_out logs front account = sum_by amount_of (take (front account) (logs accou
 
 -- An account's balance: what it opened with and what came in, less what went out. Nothing here
 -- keeps it from being negative.
+-- page: `balance_at`: at a front, the opening balance and what came in, less what went out; a
+--   signed number, so that "never negative" says something
 abbrev pub balance_at : List ℕ → (ℕ → List Entry) → (ℕ → ℕ) → ℕ → ℤ
 balance_at opening logs front account =
     pos (slice_index opening account + paid_in (length opening) logs front account)

@@ -52,6 +52,10 @@ abbrev pub IsStuck : (ℕ → List (List ℕ)) → Standing → Type 0
 IsStuck lists book = (a : ℕ) → MaySettle lists book a → ⊥
 
 -- The book stands at a front that steps reach, with the balances and places there.
+-- page: `IsBook`, `IsSettled`, `CanSettle`: a book is at a reached front, with the balances there;
+--   that front is the largest; only one owner may have a step, and there are fewer than 2^32
+--   entries
+-- term: book: what has settled: a front, with the balances and places there
 pub record IsBook (lists : ℕ → List (List ℕ)) (book : Standing) : Type 0 where
   pub reached : Reach book.opening (entries_for book lists) (slice_index book.front)
   pub one_for_each : length book.front ≡ length book.opening
@@ -59,6 +63,7 @@ pub record IsBook (lists : ℕ → List (List ℕ)) (book : Standing) : Type 0 w
   pub placed : ArePlaces (length book.opening) lists (slice_index book.front) book.places
 
 -- It stands at the largest front.
+-- term: settled: of an entry: it is before the front, and its amount has moved
 pub record IsSettled (lists : ℕ → List (List ℕ)) (book : Standing) : Type 0 where
   pub is : IsBook lists book
   pub largest : book.front ≡ largest_front book.opening (entries_for book lists)

@@ -15,6 +15,9 @@ Covers balance (Some Void) = Unit {0}
 Covers balance (Some (Pay payee amount)) = pos amount ≤ℤ balance
 
 -- The account's next entry may settle.
+-- page: `MayStep`, `Reach`: an account's next entry may settle; the fronts that such steps lead to
+--   from the one where nothing is settled
+-- term: front: how many entries of each account are settled
 abbrev pub MayStep : List ℕ → (ℕ → List Entry) → (ℕ → ℕ) → ℕ → Type 0
 MayStep opening logs front a =
     (a < length opening) × Covers (balance_at opening logs front a) (slice_get (logs a) (front a))
@@ -31,6 +34,8 @@ pub data Reach (opening : List ℕ) (logs : ℕ → List Entry) : (ℕ → ℕ) 
       → IsOneFurther front a next → Reach opening logs next
 
 -- The reached front that no reached front exceeds anywhere.
+-- page: `IsLargest`, `largest_front`: the reached front that no reached front exceeds anywhere; a
+--   plain computation of it ([law](HEADLINE.md#the-argument) `largest_is_computed`)
 pub record IsLargest (opening : List ℕ) (logs : ℕ → List Entry) (front : ℕ → ℕ) : Type 0 where
   pub reached : Reach opening logs front
   pub greatest : (other : ℕ → ℕ) → Reach opening logs other → (a : ℕ) → other a ≤ front a

@@ -10,6 +10,8 @@ use Rattle.pay_book.specs.declared.payment.Entry.{Entry}
 use Rattle.pay_book.specs.declared.line.Line.{Line}
 use Rattle.pay_book.specs.declared.payment.Payment.{Payment}
 use Rattle.pay_book.specs.declared.payment.TheConstants.{MOST_PAYMENTS}
+use Rattle.pay_book.specs.declared.payment.Entry.TheVariants.{Void}
+use Rattle.pay_book.specs.Notes.{IsNote, note_of, note_value}
 use Rattle.pay_book.specs.Payment.{most_entries, payment, entry_of, payment_value, payments_value}
 use Rattle.pay_book.specs.Payment.{is_several, count_in, entries_in, entries_of}
 use Rattle.pay_book.specs.Places.{place_in, place_of}
@@ -130,6 +132,15 @@ GroupListsAreCountable =
 abbrev pub ValuesHaveFewEntries : Type 0
 ValuesHaveFewEntries =
     (accounts owner : ℕ) (value : List ℕ) → length (entries_in accounts owner value) ≤ most_entries
+
+abbrev pub NotesAreRead : Type 0
+NotesAreRead = (value text : List ℕ) → (note_of value ≡ Some text) ↔ IsNote value text
+
+-- A note is one void entry, whoever says it and however many accounts there are.
+abbrev pub NotesAreVoid : Type 0
+NotesAreVoid =
+    (accounts owner : ℕ) (text : List ℕ)
+    → entries_in accounts owner (note_value text) ≡ Void ∷ []
 
 abbrev pub SameListsStaySettled : Type 0
 SameListsStaySettled =

@@ -7,5 +7,6 @@ pub mod Settled
 pub mod Laws
 pub mod Rows
 pub mod Statement
+pub mod Notes
 pub mod Excerpt
 pub mod StepLaws

@@ -67,6 +67,9 @@ count_in value = if is_several value then slice_index value 1 else 1
 
 -- A value's entries, in its order: one for each pair of several payments; else the value is one
 -- entry.
+-- page: `entries_in`, `payment_value`, `payments_value`: a value's entries; the value of one
+--   payment, and of several
+-- term: value: the bytes that a member broadcasts: 1 to 32 payments
 unfoldable pub entries_in : ℕ → ℕ → List ℕ → List Entry
 entries_in accounts owner value =
     if is_several value

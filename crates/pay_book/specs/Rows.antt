@@ -1,7 +1,10 @@
 -- Worked examples of four accounts, computed from the definitions.
 use Rattle.std.specs.Prelude.{◌≡◌, ℕ, pos, List, [], ◌∷◌, ◌++◌, length, map, take, slice_index}
-use Rattle.std.specs.Prelude.{slice_index_or}
+use Rattle.std.specs.Prelude.{slice_index_or, None}
 use Rattle.std.specs.List.{flat_map, range_with_len}
+use Rattle.pay_book.specs.declared.excerpts.ShownEntry.{ShownEntry}
+use Rattle.pay_book.specs.declared.payment.Entry.{Entry}
+use Rattle.pay_book.specs.Notes.{note_value}
 use Rattle.pay_book.specs.Payment.{entries_of}
 use Rattle.pay_book.specs.Balance.{balance_at}
 use Rattle.pay_book.specs.Front.{largest_front}
@@ -115,4 +118,21 @@ three_of_five =
       front = four_numbers 3 1 0 0;
       balances = four_numbers 10 40 50 50;
       places = places_of 4 five_listed (slice_index (four_numbers 3 1 0 0));
+    }
+
+-- an entry of a value that is no note
+abbrev pub unsaid : ℕ → Entry → ShownEntry
+unsaid seq entry = record { seq = seq; entry = entry; note = None }
+
+-- Account 0 lists a payment and what may be a note of this text, and both are settled.
+abbrev pub paid_and_said : List ℕ → ℕ → List (List ℕ)
+paid_and_said text = four_lists (thirty_to_1 ∷ note_value text ∷ []) [] [] []
+
+abbrev pub both_settled : List ℕ → Standing
+both_settled text =
+    record {
+      opening = four_numbers 100 0 0 50;
+      front = four_numbers 2 0 0 0;
+      balances = four_numbers 70 30 0 50;
+      places = places_of 4 (paid_and_said text) (slice_index (four_numbers 2 0 0 0));
     }

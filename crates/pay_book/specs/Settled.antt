@@ -31,6 +31,9 @@ settled_book opening lists =
     }
 
 -- An account's settled entries: those of its list before that front.
+-- page: `settled_entries`, `settled_values`, `statement_of`: an account's entries before the
+--   largest front; the values wholly before it; its settled entries in order, then the settled
+--   payments to it, by owner
 abbrev pub settled_entries : List ℕ → (ℕ → List (List ℕ)) → ℕ → List Entry
 settled_entries opening lists account =
     take (slice_index (settled_front opening lists) account)

@@ -16,6 +16,7 @@ use pay_link::Genesis;
 use std::alloc::{AllocError, Global};
 use std::marker::Model;
 
+// term: account: what one member owns: a list of values, a balance and a front
 /// The opening balances of all accounts, and what settling made of them.
 #[derive(Debug, Drop)]
 pub struct Accounts {

@@ -11,6 +11,7 @@ use crate::payment::{
 /// How many entries a value has: as many as it says, where it is one of several payments, and else
 /// one.
 #[tactic(auto, unfolding(crate::specs::Payment::count_in))]
+// promise: payments
 pub fn entries_in(value: &[u8]) -> u8
     ensures { result ≡ count_in value.now }
 {
@@ -18,6 +19,7 @@ pub fn entries_in(value: &[u8]) -> u8
 }
 
 /// The entry at a place of a value in the list of this owner, among this many accounts.
+// promise: payments
 pub fn entry_at(value: &[u8], place: u8, owner: u16, accounts: u16) -> Entry
     requires { place < count_in value.now }
     ensures { slice_get (entries_in accounts owner value.now) place ≡ Some result }
@@ -31,6 +33,7 @@ pub fn entry_at(value: &[u8], place: u8, owner: u16, accounts: u16) -> Entry
 }
 
 /// The first entry that a value means in the list of this owner, among this many accounts.
+// promise: payments
 pub fn decode_payment(value: &[u8], owner: u16, accounts: u16) -> Entry
     ensures { slice_get (entries_in accounts owner value.now) 0 ≡ Some result }
 {

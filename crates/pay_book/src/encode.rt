@@ -12,6 +12,7 @@ use std::alloc::{AllocError, Global};
 
 /// The value that pays an account an amount.
 #[tactic(auto, unfolding(crate::specs::Payment::payment_value))]
+// promise: payments
 pub fn payment_value(payee: u16, amount: u64) -> [u8; PAYMENT_LENGTH]
     ensures { result ≡ payment_value payee amount }
 {
@@ -22,6 +23,7 @@ pub fn payment_value(payee: u16, amount: u64) -> [u8; PAYMENT_LENGTH]
 
 /// The value of several payments, in their order. It takes all its memory at once.
 #[tactic(auto, unfolding(crate::specs::Payment::payments_value))]
+// promise: payments
 pub fn payments_value(alloc: Global, payments: &[Payment]) -> Result<Bytes, AllocError>
     requires { length payments.now ≤ MOST_PAYMENTS }
     ensures value { IfOk result (λ value. value ≡ payments_value payments.now) }
@@ -48,6 +50,7 @@ fn pair_bytes(payment: Payment) -> [u8; PAIR_LENGTH]
 }
 
 /// What was written means the payments that it was written for, each in its place.
+// promise: payments
 pub fn what_was_encoded()
     ensures one { OneIsEncoded }
     ensures several { SeveralAreEncoded }

@@ -1,30 +1,60 @@
 //! Entries of an account one after the other: those that settled from a number on, and those that
 //! wait.
 
-ghost use Rattle.std.specs.Prelude.{◌≡◌, ◌+◌, ◌<◌, ◌≤◌, ◌^◌, drop, take, length, IfOk};
+ghost use Rattle.std.specs.Prelude.{◌≡◌, ◌+◌, ◌<◌, ◌≤◌, ◌^◌, drop, take, length, map, IfOk};
 ghost use Rattle.pay_book.specs.Book.{IsBook};
-ghost use Rattle.pay_book.specs.Excerpt.{settled_excerpt, waiting_excerpt};
+ghost use Rattle.pay_book.specs.Excerpt.{settled_excerpt, shown_among, waiting_excerpt};
+ghost use Rattle.pay_book.specs.Notes.{note_of};
 ghost use Rattle.pay_book.specs.Payment.{count_in, entries_of};
 ghost use Rattle.pay_book.specs.Places.{place_in};
 ghost use Rattle.pay_book.specs.Statement.{numbered_entries_of};
 
 use crate::decode::{entries_in, entry_at};
+use crate::note::note_in;
 use crate::payment::Entry;
 use crate::place::place_after;
 use crate::settle::Settle;
 use pay_channel::Source;
+use pay_frame::Bytes;
 use std::alloc::{AllocError, Global};
 use std::marker::Model;
 
 /// How many entries an excerpt shows at most.
 pub const MOST_SHOWN: u32 = 1_000;
 
-/// Entries of an account one after the other, each with the number of its value, and the account's
-/// balance.
+/// An entry as an excerpt shows it.
+#[derive(Drop)]
+pub struct ShownEntry {
+    /// The number of its value among all of the account.
+    pub seq: u32,
+    /// What it pays, if it pays.
+    pub entry: Entry,
+    /// The text of its value, if that is a note.
+    pub note: Option<Bytes>,
+}
+
+impl ShownEntry {
+    // An equal entry, unless memory is refused.
+    fn copy(&self, alloc: Global) -> Result<ShownEntry, AllocError>
+        ensures { IfOk result (λ copy. copy ≡ self.now) }
+    {
+        let note = match &self.note {
+            Some(text) => Some(text.copy(alloc)?),
+            None => None,
+        };
+        Ok(ShownEntry {
+            seq: self.seq,
+            entry: self.entry,
+            note,
+        })
+    }
+}
+
+/// Entries of an account one after the other, and the account's balance.
 #[derive(Drop)]
 pub struct Excerpt {
     first: u64,
-    entries: Vec<(u32, Entry)>,
+    entries: Vec<ShownEntry>,
     balance: u64,
 }
 
@@ -51,8 +81,8 @@ impl Excerpt {
         self.first
     }
 
-    /// The entries, each with the number of its value.
-    pub fn entries(&self) -> &[(u32, Entry)]
+    /// The entries.
+    pub fn entries(&self) -> &[ShownEntry]
         ensures value { result.now ≡ self.now.entries }
         ensures numbered { self.now.first + length self.now.entries < 2 ^ 64 }
     {
@@ -70,17 +100,27 @@ impl Excerpt {
     pub fn copy(&self, alloc: Global) -> Result<Excerpt, AllocError>
         ensures { IfOk result (λ copy. copy ≡ self.now) }
     {
-        let entries = Vec::from_slice(alloc, self.entries.as_slice())?;
         Ok(Excerpt {
             first: self.first,
-            entries,
+            entries: copy_entries(alloc, self.entries.as_slice())?,
             balance: self.balance,
         })
     }
 }
 
+fn copy_entries(alloc: Global, entries: &[ShownEntry]) -> Result<Vec<ShownEntry>, AllocError>
+    ensures { IfOk result (λ copy. copy.items ≡ entries.now) }
+{
+    let mut copy = Vec::new(alloc);
+    for entry in entries {
+        copy.push(entry.copy(alloc)?)?;
+    }
+    Ok(copy)
+}
+
 /// What settled of an account from a number on. It takes time for what is shown and for what
 /// settled after that, and none where nothing did.
+// promise: statements
 pub fn settled_excerpt<S: Source, B: Settle>(
     alloc: Global,
     source: &S,
@@ -108,6 +148,7 @@ pub fn settled_excerpt<S: Source, B: Settle>(
 }
 
 /// What is listed of an account and isn't settled.
+// promise: statements
 pub fn waiting_excerpt<S: Source, B: Settle>(
     alloc: Global,
     source: &S,
@@ -140,10 +181,10 @@ fn entries_from<S: Source>(
     number: u32,
     place: (u32, u8),
     most: u32,
-) -> Result<Vec<(u32, Entry)>, AllocError>
+) -> Result<Vec<ShownEntry>, AllocError>
     requires place { place ≡ place_in count_in (S.lists source.now owner) number }
-    ensures { IfOk result (λ entries. entries.items
-        ≡ take most (drop number (numbered_entries_of accounts (S.lists source.now) owner))) }
+    ensures { IfOk result (λ entries. entries.items ≡ map (shown_among (S.lists source.now owner))
+        (take most (drop number (numbered_entries_of accounts (S.lists source.now) owner)))) }
 {
     let mut entries = Vec::new(alloc);
     let mut place = place;
@@ -152,10 +193,28 @@ fn entries_from<S: Source>(
             return Ok(entries);
         }
         let value = source.at(owner, place.0);
-        entries.push((place.0, entry_at(value, place.1, owner, accounts)))?;
+        let entry = entry_at(value, place.1, owner, accounts);
+        entries.push(shown_entry(alloc, place.0, entry, value)?)?;
         place = place_after(value, place);
     }
     Ok(entries)
+}
+
+// An entry of a value with this number.
+fn shown_entry(
+    alloc: Global,
+    seq: u32,
+    entry: Entry,
+    value: &[u8],
+) -> Result<ShownEntry, AllocError>
+    ensures { IfOk result (λ shown.
+        shown ≡ record { seq = seq; entry = entry; note = note_of value.now }) }
+{
+    let note = match note_in(value) {
+        Some(text) => Some(Bytes::from_slice(alloc, text.as_bytes())?),
+        None => None,
+    };
+    Ok(ShownEntry { seq, entry, note })
 }
 
 /// Where an earlier number falls in an owner's list, found from the place of a later one.

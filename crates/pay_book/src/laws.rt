@@ -8,7 +8,8 @@ ghost use Rattle.pay_book.specs.Laws.{ReachedStaysReached, LargestGrows, EqualLi
 ghost use Rattle.pay_book.specs.Laws.{EqualListsEqualBalances, EqualListsEqualBooks};
 ghost use Rattle.pay_book.specs.Laws.{FreshBookIsSettled, GrownListCanSettle, SameListsStaySettled};
 ghost use Rattle.pay_book.specs.Laws.{FewEntriesAreCountable, ShortListsAreCountable};
-ghost use Rattle.pay_book.specs.Laws.{GroupListsAreCountable, ValuesHaveFewEntries};
+ghost use Rattle.pay_book.specs.Laws.{GroupListsAreCountable, NotesAreRead, NotesAreVoid};
+ghost use Rattle.pay_book.specs.Laws.{ValuesHaveFewEntries};
 ghost use Rattle.pay_book.specs.Laws.{SettledBookExists, SettledBookIsOne, SettledIsLargest};
 ghost use Rattle.pay_book.specs.Laws.{BookKeepsTotal, NobodyOwesOnceSettled, AllGrowWithOneList};
 ghost use Rattle.pay_book.specs.Laws.{BookStays, SettledCountGrows, SettledEntriesGrow};
@@ -85,16 +86,19 @@ pub fn equal_lists_equal_books()
 {}
 
 /// A new book is settled as long as nothing is listed.
+// promise: settling
 pub fn fresh_book_is_settled()
     ensures { FreshBookIsSettled }
 {}
 
 /// A settled book can settle again after one owner's list grew at its end.
+// promise: settling
 pub fn grown_list_can_settle()
     ensures { GrownListCanSettle }
 {}
 
 /// A settled book is settled as long as the lists of its accounts stay as they are.
+// promise: settling
 pub fn same_lists_stay_settled()
     ensures { SameListsStaySettled }
 {}
@@ -112,6 +116,7 @@ pub fn short_lists_are_countable()
 
 /// Every group's lists are countable: at most `MOST_MEMBERS` accounts have at most `SEQS` values
 /// each.
+// promise: settling
 pub fn group_lists_are_countable()
     ensures { GroupListsAreCountable }
 {}
@@ -121,12 +126,26 @@ pub fn values_have_few_entries()
     ensures { ValuesHaveFewEntries }
 {}
 
+/// A note is one void entry in every list and group, so fronts and balances step over it.
+// promise: notes
+pub fn notes_move_nothing()
+    ensures { NotesAreVoid }
+{}
+
+/// What is read of a value is the text whose note it is; of any other value nothing is.
+// promise: notes
+pub fn notes_are_read()
+    ensures { NotesAreRead }
+{}
+
 /// Over any lists there is a book that has settled all it can, and `settled_book` computes it.
+// promise: one book
 pub fn settled_book_exists()
     ensures { SettledBookExists }
 {}
 
 /// There is no other: every book that has settled all it can is the computed one.
+// promise: one book
 pub fn settled_book_is_one()
     ensures { SettledBookIsOne }
 {}
@@ -180,6 +199,7 @@ pub fn settled_entries_were_asked()
 {}
 
 /// A value has as many entries as `count_in` says, whoever owns it.
+// promise: payments
 pub fn values_count_their_entries()
     ensures { ValuesCountTheirEntries }
 {}
@@ -191,6 +211,7 @@ pub fn single_entries()
 {}
 
 /// An account's place tells which of its values are settled wholly, and how far the next one is.
+// promise: statements
 pub fn wholly_settled()
     ensures { WhollySettled }
 {}

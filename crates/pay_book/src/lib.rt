@@ -17,6 +17,7 @@ mod encode;
 mod excerpts;
 mod line;
 mod naming;
+mod note;
 mod payment;
 mod place;
 mod plain;
@@ -27,9 +28,10 @@ mod whole_statement;
 pub use accounts::Accounts;
 pub use decode::{decode_payment, entries_in, entry_at};
 pub use encode::{payment_value, payments_value, what_was_encoded};
-pub use excerpts::{Excerpt, MOST_SHOWN, settled_excerpt, waiting_excerpt};
+pub use excerpts::{Excerpt, MOST_SHOWN, ShownEntry, settled_excerpt, waiting_excerpt};
 pub use line::Line;
 pub use naming::payments_named;
+pub use note::{MOST_NOTE, NOTE_VERSION, note_in, note_text, note_value};
 pub use payment::{
     Entry, MOST_PAYMENTS, PAIR_LENGTH, PAYMENT_LENGTH, PAYMENT_VERSION, Payment, SEVERAL_VERSION,
 };

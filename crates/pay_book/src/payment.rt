@@ -23,6 +23,8 @@ pub struct Payment {
     pub amount: u64,
 }
 
+// term: void: of an entry: it moves nothing ([which](DEFINITIONS.md#the-book))
+// term: entry: one payment of a value, void or not. A history's entry is an event with its reply
 /// What a broadcast value asks of the book, once or several times.
 #[derive(Clone, Copy, Debug, PartialEq, Eq)]
 pub enum Entry {

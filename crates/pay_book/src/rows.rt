@@ -1,7 +1,8 @@
 //! Worked examples, computed from the definitions. Each function does nothing: what it ensures is
 //! the example.
 
-ghost use Rattle.std.specs.Prelude.{◌≡◌, ◌-◌, ◌^◌, [], ◌∷◌, map, replicate, slice_index};
+ghost use Rattle.std.specs.Prelude.{◌≡◌, ◌-◌, ◌^◌, ℕ, List, [], ◌∷◌, Some, false, map, replicate};
+ghost use Rattle.std.specs.Prelude.{slice_index, true};
 ghost use Rattle.pay_book.specs.declared.payment.Entry.{Entry};
 ghost use Rattle.pay_book.specs.declared.line.Line.{Line};
 ghost use Rattle.pay_book.specs.Payment.{entry_of, entries_in, payment_value, payments_value};
@@ -15,8 +16,10 @@ ghost use Rattle.pay_book.specs.Rows.{four_payments, five_to_1_one_to_3, no_paym
 ghost use Rattle.pay_book.specs.Rows.{four_payments_and_more, four_payments_and_less};
 ghost use Rattle.pay_book.specs.Rows.{times_one_to_1, thirty_to_0, four_numbers, four_lists};
 ghost use Rattle.pay_book.specs.Rows.{EndsAt};
-ghost use Rattle.pay_book.specs.Rows.{three_of_five, five_listed};
+ghost use Rattle.pay_book.specs.Rows.{three_of_five, five_listed, both_settled, paid_and_said};
+ghost use Rattle.pay_book.specs.Rows.{unsaid};
 ghost use Rattle.pay_book.specs.Excerpt.{settled_from, waiting_of};
+ghost use Rattle.pay_book.specs.Notes.{is_note_text, note_value};
 
 /// Values of owner 3 as entries: payments, and what is void for its bytes, its payee or its amount.
 pub fn values_decode()
@@ -136,12 +139,27 @@ pub fn statement_of_several()
 /// four payments in one value three are settled, and a fifth comes in another value.
 pub fn excerpts_of_several()
     ensures all { settled_from three_of_five five_listed 0 0
-        ≡ (0, Entry.Pay 1 30) ∷ (0, Entry.Pay 2 50) ∷ (0, Entry.Pay 1 40) ∷ [] }
-    ensures later { settled_from three_of_five five_listed 0 2 ≡ (0, Entry.Pay 1 40) ∷ [] }
+        ≡ unsaid 0 (Entry.Pay 1 30) ∷ unsaid 0 (Entry.Pay 2 50)
+        ∷ unsaid 0 (Entry.Pay 1 40) ∷ [] }
+    ensures later { settled_from three_of_five five_listed 0 2
+        ≡ unsaid 0 (Entry.Pay 1 40) ∷ [] }
     ensures nothing_new { settled_from three_of_five five_listed 0 3 ≡ [] }
     ensures to_come { settled_from three_of_five five_listed 0 4 ≡ [] }
-    ensures of_payee { settled_from three_of_five five_listed 1 0 ≡ (0, Entry.Pay 0 30) ∷ [] }
+    ensures of_payee { settled_from three_of_five five_listed 1 0
+        ≡ unsaid 0 (Entry.Pay 0 30) ∷ [] }
     ensures waiting { waiting_of three_of_five five_listed 0
-        ≡ (0, Entry.Pay 2 20) ∷ (1, Entry.Pay 1 30) ∷ [] }
+        ≡ unsaid 0 (Entry.Pay 2 20) ∷ unsaid 1 (Entry.Pay 1 30) ∷ [] }
     ensures none_waits { waiting_of three_of_five five_listed 1 ≡ [] }
+{}
+
+/// The text of a note is shown with its entry, which is void; of what no note may say nothing is.
+pub fn excerpt_of_a_note()
+    ensures value { note_value (72 ∷ 105 ∷ []) ≡ 3 ∷ 72 ∷ 105 ∷ [] }
+    ensures said { (text : List ℕ) → is_note_text text ≡ true
+        → settled_from (both_settled text) (paid_and_said text) 0 0
+        ≡ unsaid 0 (Entry.Pay 1 30)
+        ∷ record { seq = 1; entry = Entry.Void; note = Some text } ∷ [] }
+    ensures unsaid { (text : List ℕ) → is_note_text text ≡ false
+        → settled_from (both_settled text) (paid_and_said text) 0 0
+        ≡ unsaid 0 (Entry.Pay 1 30) ∷ unsaid 1 Entry.Void ∷ [] }
 {}

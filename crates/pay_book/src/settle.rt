@@ -20,6 +20,7 @@ pub trait Settle {
     ghost shows: { Self → Standing };
 
     /// A book of the genesis's opening balances in which nothing is settled.
+    // promise: settling
     fn new(alloc: Global, genesis: &Genesis) -> Result<Self, AllocError>
         ensures { IfOk result (λ book. shows book ≡ fresh genesis.now.opening) };
 
@@ -27,6 +28,7 @@ pub trait Settle {
     /// that was.
     ///
     /// Money that reaches an account may let that account's next entries settle, and so on.
+    // promise: settling
     fn settle<S: Source>(&mut self, source: &S, owner: u16) -> u32
         requires { CanSettle (S.lists source.now) (shows self.old) owner }
         ensures opening { (shows self.new).opening ≡ (shows self.old).opening }
@@ -34,16 +36,19 @@ pub trait Settle {
         ensures count { sum (shows self.old).front + result ≡ sum (shows self.new).front };
 
     /// How many entries of an account are settled.
+    // promise: statements
     fn front(&self, account: u16) -> u32
         requires { account < length (shows self.now).opening }
         ensures { result ≡ slice_index (shows self.now).front account };
 
     /// The balance of an account.
+    // promise: statements
     fn balance(&self, account: u16) -> u64
         requires { account < length (shows self.now).opening }
         ensures { result ≡ slice_index (shows self.now).balances account };
 
     /// How many values of an account are settled wholly, and how many entries of its next one.
+    // promise: statements
     fn place(&self, account: u16) -> (u32, u8)
         requires { account < length (shows self.now).opening }
         ensures { result ≡ place_of (shows self.now).places account };

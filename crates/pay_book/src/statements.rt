@@ -17,6 +17,7 @@ use pay_channel::Source;
 use std::alloc::{AllocError, Global};
 
 /// What settled on an account: its own entries, then the payments to it, by owner.
+// promise: statements
 pub fn statement<S: Source, B: Settle>(
     alloc: Global,
     source: &S,

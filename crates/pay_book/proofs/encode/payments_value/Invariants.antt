@@ -1,4 +1,4 @@
-use Rattle.std.proofs.Common.{◌≡◌, ◌∷◌, ◌++◌, length, take}
+use Rattle.std.proofs.Common.{◌≡◌, ◌∷◌, length, take}
 use Rattle.std.specs.List.{flat_map}
 use Rattle.pay_book.specs.declared.payment.TheConstants.{SEVERAL_VERSION}
 use Rattle.pay_book.specs.Payment.{pair_bytes}

@@ -1,4 +1,4 @@
-use Rattle.std.proofs.Common.{◌≡◌, ◌+◌, ◌-◌, ◌<◌, ◌≤◌, ℕ, suc, ap, ◌∙◌, sym, arith}
+use Rattle.std.proofs.Common.{◌≡◌, ◌+◌, ◌-◌, ℕ, suc, ap, ◌∙◌, sym, arith}
 use Rattle.pay_book.specs.Payment.{count_in}
 use Rattle.pay_book.specs.Places.{Place}
 use Rattle.pay_book.proofs.Entries.{count_in-some, count_in-few}

@@ -1,7 +1,7 @@
-use Rattle.std.proofs.Common.{◌≡◌, ◌-◌, ◌<◌, ℕ, List, length, drop, take, min, slice_index, ap, ◌∙◌, sym, arith}
+use Rattle.std.proofs.Common.{◌≡◌, ◌-◌, ◌<◌, ℕ, List, length, map, drop, take, min, slice_index, ap, ◌∙◌, arith}
 use Rattle.pay_book.specs.declared.payment.Entry.{Entry}
 use Rattle.pay_book.specs.declared.excerpts.TheConstants.{MOST_SHOWN}
-use Rattle.pay_book.specs.Excerpt.{ExcerptFields, settled_from}
+use Rattle.pay_book.specs.Excerpt.{settled_from, shown_among}
 use Rattle.pay_book.specs.Places.{Place}
 use Rattle.pay_book.specs.Statement.{numbered_entries_of}
 use Rattle.pay_book.proofs.Pieces.{piece_to}
@@ -28,6 +28,7 @@ returns g c =
     let shown : c.min-shown.result ≡ min (front - c.min-first.result) MOST_SHOWN = omega (arith, c.min-shown.ensures, c.front-front.ensures) in
     let entries : c.in_ok-entries.entries.items ≡ settled_from book lists c.args.account c.args.from =
     c.in_ok-entries.ensures
-    ∙ ap (λ n. take c.min-shown.result (drop c.min-first.result (all n))) c.requires.accounts
-    ∙ piece_to (all (length book.opening)) c.args.from front MOST_SHOWN c.min-first.result c.min-shown.result first shown in
+    ∙ ap (λ n. map (shown_among (lists c.args.account)) (take c.min-shown.result (drop c.min-first.result (all n)))) c.requires.accounts
+    ∙ ap (map (shown_among (lists c.args.account)))
+    (piece_to (all (length book.opening)) c.args.from front MOST_SHOWN c.min-first.result c.min-shown.result first shown) in
     λ i. record { first = c.args.from; entries = entries i; balance = c.balance.ensures i }

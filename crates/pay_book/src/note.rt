@@ -1,0 +1,74 @@
+//! Values that say something in their owner's name, and pay nothing.
+
+ghost use Rattle.std.specs.Prelude.{◌≡◌, ◌&&◌, ℕ, List, IfOk, MatchOption, chars, false};
+ghost use Rattle.std.specs.Prelude.{length, nat_le, nat_lt, true, None, Some};
+ghost use Rattle.std.specs.List.{list_any};
+ghost use Rattle.std.specs.Char.{is_control};
+ghost use Rattle.pay_book.specs.Notes.{is_note_text, note_of, note_value};
+
+use pay_frame::Bytes;
+use std::alloc::{AllocError, Global};
+use std::str;
+
+/// The version of a value of a note, which is its first byte.
+pub const NOTE_VERSION: u8 = 3;
+
+/// How many bytes the text of a note has at most.
+pub const MOST_NOTE: usize = 1_000;
+
+/// The value that says this text.
+#[tactic(auto, unfolding(crate::specs::Notes::note_value))]
+// promise: notes
+pub fn note_value(alloc: Global, text: &[u8]) -> Result<Bytes, AllocError>
+    ensures { IfOk result (λ value. value ≡ note_value text.now) }
+{
+    let mut value = Vec::new(alloc);
+    value.push(NOTE_VERSION)?;
+    value.extend_from_slice(text)?;
+    Ok(Bytes::new(value))
+}
+
+/// The text of a note, where the value is one.
+#[tactic(auto, unfolding(crate::specs::Notes::note_of))]
+// promise: notes
+pub fn note_in(value: &[u8]) -> Option<&str>
+    ensures { MatchOption result
+        (note_of value.now ≡ None) (λ text. note_of value.now ≡ Some text.now) }
+{
+    let (version, text) = value.split_first()?;
+    if *version == NOTE_VERSION {
+        note_text(text)
+    } else {
+        None
+    }
+}
+
+/// The text that these bytes are, where a note may say it.
+#[tactic(auto, using(crate::proofs::NoteTexts::of_text, crate::proofs::NoteTexts::of_no_text))]
+// promise: notes
+pub fn note_text(bytes: &[u8]) -> Option<&str>
+    ensures { MatchOption result
+        (is_note_text bytes.now ≡ false)
+        (λ text. (text.now ≡ bytes.now) × (is_note_text bytes.now ≡ true)) }
+{
+    let Ok(text) = str::from_utf8(bytes) else {
+        return None;
+    };
+    if !has_length(bytes) || has_control(text) {
+        return None;
+    }
+    Some(text)
+}
+
+// Whether there are bytes, and no more than a note has.
+fn has_length(bytes: &[u8]) -> bool
+    ensures { result ≡ (nat_lt 0 (length bytes.now) && nat_le (length bytes.now) MOST_NOTE) }
+{
+    !bytes.is_empty() && bytes.len() <= MOST_NOTE
+}
+
+fn has_control(text: &str) -> bool
+    ensures { result ≡ list_any is_control (chars text.now) }
+{
+    text.chars().any(|char| char.is_control())
+}
