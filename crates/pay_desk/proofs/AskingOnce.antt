@@ -4,25 +4,33 @@ use Rattle.std.specs.Prelude.{Option, Result}
 use Rattle.std.proofs.lemmas.List.{map-append}
 use Rattle.pay_text.specs.Answers as text
 use Rattle.pay_desk.specs.declared.command.Command.{Command}
-use Rattle.pay_desk.specs.declared.command.Command.TheVariants.{Pay, Balance, State, Statement, Entries, Waiting, Front}
+use Rattle.pay_desk.specs.declared.command.Command.TheVariants.{Pay, Note, Balance, State, Statement, Entries, Waiting, Front}
 use Rattle.pay_desk.specs.declared.command.Order.{Order}
 use Rattle.pay_desk.specs.declared.desk.Desk.{Desk}
 use Rattle.pay_desk.specs.declared.fault.DeskFault.{DeskFault}
 use Rattle.pay_desk.specs.declared.kept.Kept.{Kept}
 use Rattle.pay_desk.specs.declared.teller_fault.TellerFault.{TellerFault}
-use Rattle.pay_desk.specs.declared.teller_fault.TellerFault.TheVariants.{Memory, NoAccount, Spent, TooEarly, Forgotten}
-use Rattle.pay_desk.specs.Answers.{AnswersCommand, AnswersPay, Calls, GaveUp, Pays, Unless, account_fault, pay_fault}
+use Rattle.pay_desk.specs.declared.teller_fault.TellerFault.TheVariants.{Memory, Spent, TooEarly, Forgotten}
+use Rattle.pay_desk.specs.declared.teller_fault.ReadFault.{ReadFault}
+use Rattle.pay_desk.specs.declared.teller_fault.ReadFault.TheVariants as read
+use Rattle.pay_member.specs.declared.query_fault.QueryFault.{QueryFault}
+use Rattle.pay_member.specs.declared.query_fault.QueryFault.TheVariants as query
+use Rattle.pay_member.specs.declared.reading.Reading.{Reading}
+use Rattle.pay_member.specs.declared.reading.Reading.TheVariants as reading
+use Rattle.pay_member.specs.declared.told.Told.{Told}
+use Rattle.pay_desk.specs.Answers.{AnswersCommand, AnswersPay, AnswersNote, Broadcasts, GaveUp, TellsAnswer, TellsBalance, Unless, account_fault, pay_fault}
 use Rattle.pay_desk.specs.Calls as call
-use Rattle.pay_desk.specs.Calls.{Call, TellerReply, values_asked_by, reads_at_length}
+use Rattle.pay_desk.specs.Calls.{Asks, Exchange, Queries, AsksQuestion, values_asked_by, reads_at_length}
 use Rattle.pay_desk.specs.Desk.{DeskSays, command_at}
 use Rattle.pay_desk.specs.Kept.{kept_after, kept_under}
 use Rattle.pay_desk.specs.Laws.{AreUnderFreeIds, AsksOnce, KeepsAll}
+use Rattle.pay_book.specs.Notes.{note_value}
 use Rattle.pay_desk.specs.Payments.{pairs_of, value_of_payments}
 
 abbrev asked_of : Kept → List ℕ
 asked_of k = k.value
 
-module _ {T : Type 0} (says : T → Call → TellerReply → T → Type 0) (asked : T → List (List ℕ)) (only_asks : (old new : T) (called : Call) (reply : TellerReply) → says old called reply new → asked new ≡ asked old ++ values_asked_by called reply) where
+module _ {T : Type 0} (says : T → Exchange → T → Type 0) (asked : T → List (List ℕ)) (only_asks : (old new : T) (said : Exchange) → says old said new → asked new ≡ asked old ++ values_asked_by said) where
   -- nothing is broadcast, and nothing kept
   nothing : (old new : Desk T) → new.kept ≡ old.kept → asked new.teller ≡ asked old.teller ++ [] → AsksOnce asked old new
   nothing old new kept same = record { more = []; kept = kept ∙ sym (append-nil old.kept); broadcast = same; free = tt }
@@ -35,80 +43,84 @@ module _ {T : Type 0} (says : T → Call → TellerReply → T → Type 0) (aske
   by_unless (Some fault) old new words P otherwise refused = unchanged old new refused.same
   by_unless None old new words P otherwise p = otherwise p
 
-  -- a call that broadcasts nothing
-  by_call : {X : Type 0} (called : Call) (reply : X → TellerReply) (words : X → List ℕ) (old new : Desk T) (t : List ℕ) → ((r : TellerReply) → values_asked_by called r ≡ []) → Calls says called reply words old t new → AsksOnce asked old new
-  by_call {X} called reply words old new t silent calls =
-      nothing old new (ap (λ (d : Desk T). d.kept) calls.same) (by_outcome calls.outcome calls.replied) where
-        said : (r : TellerReply) → says old.teller called r new.teller → asked new.teller ≡ asked old.teller ++ []
-        said r s = only_asks old.teller new.teller called r s ∙ ap (λ vs. asked old.teller ++ vs) (silent r)
+  -- what broadcasts nothing
+  silently : (old new : T) (said : Exchange) → values_asked_by said ≡ [] → says old said new → asked new ≡ asked old ++ []
+  silently old new said silent is = only_asks old new said is ∙ ap (λ vs. asked old ++ vs) silent
 
-        by_outcome : (r : Result X TellerFault) → call.Replies says old.teller called reply r new.teller → asked new.teller ≡ asked old.teller ++ []
-        by_outcome (Ok x) s = said (reply x) s
-        by_outcome (Err Memory) same = ap asked same ∙ sym (append-nil (asked old.teller))
-        by_outcome (Err NoAccount) s = said (call.Refused NoAccount) s
-        by_outcome (Err Spent) s = said (call.Refused Spent) s
-        by_outcome (Err TooEarly) s = said (call.Refused TooEarly) s
-        by_outcome (Err Forgotten) s = said (call.Refused Forgotten) s
+  at_rest : (old new : T) → new ≡ old → asked new ≡ asked old ++ []
+  at_rest old new same = ap asked same ∙ sym (append-nil (asked old))
 
-  by_paid : (id : ℕ) (value : List ℕ) (old new : Desk T) (outcome : Result ℕ TellerFault) → kept_under id old.kept ≡ None
-      → call.Replies says old.teller (call.Ask id value) call.Asked outcome new.teller
+  by_query : (account : ℕ) (old new : Desk T) (t : List ℕ) → TellsBalance says account old t new → AsksOnce asked old new
+  by_query account old new t tells =
+      nothing old new (ap (λ (d : Desk T). d.kept) tells.same) (by_outcome tells.outcome tells.replied) where
+        by_outcome : (r : Result Told QueryFault) → Queries says old.teller account r new.teller → asked new.teller ≡ asked old.teller ++ []
+        by_outcome (Ok told) said = silently old.teller new.teller (call.Query account (Ok told)) refl said
+        by_outcome (Err query.Memory) same = at_rest old.teller new.teller same
+        by_outcome (Err query.NoAccount) said = silently old.teller new.teller (call.Query account (Err query.NoAccount)) refl said
+
+  by_reading : {A : Type 0} (asks : A → Reading) (words : A → List ℕ) (old new : Desk T) (t : List ℕ) → TellsAnswer says asks words old t new → AsksOnce asked old new
+  by_reading {A} asks words old new t tells =
+      nothing old new (ap (λ (d : Desk T). d.kept) tells.same) (by_outcome tells.outcome tells.replied) where
+        by_outcome : (r : Result A ReadFault) → AsksQuestion says old.teller asks r new.teller → asked new.teller ≡ asked old.teller ++ []
+        by_outcome (Ok answer) said = silently old.teller new.teller (call.Read (asks answer)) refl said
+        by_outcome (Err read.Memory) same = at_rest old.teller new.teller same
+        by_outcome (Err read.Forgotten) (answer, said) = silently old.teller new.teller (call.Withhold (asks answer)) refl said
+
+  by_value : (id : ℕ) (value : List ℕ) (old new : Desk T) (outcome : Result ℕ TellerFault) → kept_under id old.kept ≡ None
+      → Asks says old.teller id value outcome new.teller
       → new.kept ≡ kept_after old.kept id value outcome → AsksOnce asked old new
-  by_paid id value old new (Ok seq) free said kept = record {
+  by_value id value old new (Ok seq) free said kept = record {
     more = record { id = id; value = value; seq = seq } ∷ [];
     kept = kept;
-    broadcast = only_asks old.teller new.teller (call.Ask id value) (call.Asked seq) said;
+    broadcast = only_asks old.teller new.teller (call.Ask id value (Ok seq)) said;
     free = (free, tt);
   }
-  by_paid id value old new (Err Memory) free same kept =
-      nothing old new kept (ap asked same ∙ sym (append-nil (asked old.teller)))
-  by_paid id value old new (Err NoAccount) free said kept =
-      nothing old new kept (only_asks old.teller new.teller (call.Ask id value) (call.Refused NoAccount) said)
-  by_paid id value old new (Err Spent) free said kept =
-      nothing old new kept (only_asks old.teller new.teller (call.Ask id value) (call.Refused Spent) said)
-  by_paid id value old new (Err TooEarly) free said kept =
-      nothing old new kept (only_asks old.teller new.teller (call.Ask id value) (call.Refused TooEarly) said)
-  by_paid id value old new (Err Forgotten) free said kept =
-      nothing old new kept (only_asks old.teller new.teller (call.Ask id value) (call.Refused Forgotten) said)
+  by_value id value old new (Err Memory) free same kept = nothing old new kept (at_rest old.teller new.teller same)
+  by_value id value old new (Err Spent) free said kept = nothing old new kept (silently old.teller new.teller (call.Ask id value (Err Spent)) refl said)
+  by_value id value old new (Err TooEarly) free said kept = nothing old new kept (silently old.teller new.teller (call.Ask id value (Err TooEarly)) refl said)
+  by_value id value old new (Err Forgotten) free said kept = nothing old new kept (silently old.teller new.teller (call.Ask id value (Err Forgotten)) refl said)
 
   by_found : (order : Order) (old new : Desk T) (t : List ℕ) (found : Option Kept) → kept_under order.id old.kept ≡ found
       → AnswersPay says found order old t new → AsksOnce asked old new
   by_found order old new t (Some k) known answer = unchanged old new answer.same
   by_found order old new t None free answer =
       let value = value_of_payments order.payments in
-      by_unless (pay_fault old.accounts old.own (pairs_of order.payments)) old new t (Pays says order.id value old t new)
-      (λ pays. by_paid order.id value old new pays.outcome free pays.replied pays.kept) answer
+      by_unless (pay_fault old.accounts old.own (pairs_of order.payments)) old new t (Broadcasts says order.id value old t new)
+      (λ pays. by_value order.id value old new pays.outcome free pays.replied pays.kept) answer
+
+  by_note : (id : ℕ) (note : List ℕ) (old new : Desk T) (t : List ℕ) (found : Option Kept) → kept_under id old.kept ≡ found
+      → AnswersNote says found id note old t new → AsksOnce asked old new
+  by_note id note old new t (Some k) known answer = unchanged old new answer.same
+  by_note id note old new t None free says_it = by_value id (note_value note) old new says_it.outcome free says_it.replied says_it.kept
 
   by_answer : (command : Option Command) (old new : Desk T) (t : List ℕ) → AnswersCommand says command old t new → AsksOnce asked old new
   by_answer None old new t refused = unchanged old new refused.same
   by_answer (Some (Pay order)) old new t answer = by_found order old new t (kept_under order.id old.kept) refl answer
+  by_answer (Some (Note id note)) old new t answer = by_note id note old new t (kept_under id old.kept) refl answer
   by_answer (Some (Balance account)) old new t answer =
-      by_unless (account_fault old.accounts account) old new t _ (by_call (call.Query account) _ _ old new t (λ r. refl)) answer
+      by_unless (account_fault old.accounts account) old new t _ (by_query account old new t) answer
   by_answer (Some (State owner seq)) old new t answer =
-      by_unless (account_fault old.accounts owner) old new t _ (by_call (call.State owner seq) _ _ old new t (λ r. refl)) answer
+      by_unless (account_fault old.accounts owner) old new t _ (by_reading (reading.State owner seq) _ old new t) answer
   by_answer (Some (Statement account)) old new t answer =
-      by_unless (account_fault old.accounts account) old new t _ (by_call (call.Statement account) _ _ old new t (λ r. refl)) answer
+      by_unless (account_fault old.accounts account) old new t _ (by_reading (reading.Statement account) _ old new t) answer
   by_answer (Some (Entries account from)) old new t answer =
-      by_unless (account_fault old.accounts account) old new t _ (by_call (call.Entries account from) _ _ old new t (λ r. refl)) answer
+      by_unless (account_fault old.accounts account) old new t _ (by_reading (reading.Entries account from) _ old new t) answer
   by_answer (Some (Waiting account)) old new t answer =
-      by_unless (account_fault old.accounts account) old new t _ (by_call (call.Waiting account) _ _ old new t (λ r. refl)) answer
-  by_answer (Some Front) old new t answer = by_call call.Fronts _ _ old new t (λ r. refl) answer
+      by_unless (account_fault old.accounts account) old new t _ (by_reading (reading.Waiting account) _ old new t) answer
+  by_answer (Some Front) old new t answer = by_reading reading.Fronts _ old new t answer
 
-  silent : (called : Call) (r : TellerReply) → reads_at_length called ≡ true → values_asked_by called r ≡ []
-  silent (call.Ask id value) r reads = absurd (let bad : false ≡ true = reads in cc)
-  silent (call.Query account) r reads = refl
-  silent (call.State owner seq) r reads = refl
-  silent (call.Statement account) r reads = refl
-  silent (call.Entries account from) r reads = refl
-  silent (call.Waiting account) r reads = refl
-  silent call.Fronts r reads = refl
+  silent : (said : Exchange) → reads_at_length said ≡ true → values_asked_by said ≡ []
+  silent (call.Ask id value answer) reads = absurd (let bad : false ≡ true = reads in cc)
+  silent (call.Query account answer) reads = refl
+  silent (call.Read reading) reads = refl
+  silent (call.Withhold reading) reads = refl
 
   by_giving_up : (old new : Desk T) → GaveUp says old new → AsksOnce asked old new
   by_giving_up old new gave_up =
       nothing old new (ap (λ (d : Desk T). d.kept) gave_up.same)
       (elim gave_up.teller [
-        | inl same ↦ ap asked same ∙ sym (append-nil (asked old.teller))
-        | inr (called, reply, reads, said) ↦
-            only_asks old.teller new.teller called reply said ∙ ap (λ vs. asked old.teller ++ vs) (silent called reply reads)
+        | inl same ↦ at_rest old.teller new.teller same
+        | inr (said, reads, is) ↦ silently old.teller new.teller said (silent said reads) is
       ])
 
   pub line_asks_once : (old new : Desk T) (line : Option (List ℕ)) (t : List ℕ) (on : Bool) → DeskSays says old line t on new → AsksOnce asked old new

@@ -1,77 +1,72 @@
--- What a desk asks of its teller, and what that replies.
+-- What a desk asks of its teller, with what that replies.
 use Rattle.std.specs.Prelude.{◌≡◌, ℕ, Bool, true, false, List, [], ◌∷◌, Result, Ok, Err}
-use Rattle.pay_book.specs.Excerpt.{ExcerptFields}
-use Rattle.pay_book.specs.Statement.{StatementFields}
-use Rattle.pay_member.specs.declared.standing.PaymentState.{PaymentState}
+use Rattle.pay_member.specs.declared.query_fault.QueryFault.{QueryFault}
+use Rattle.pay_member.specs.declared.query_fault.QueryFault.TheVariants as query
+use Rattle.pay_member.specs.declared.reading.Reading.{Reading}
+use Rattle.pay_member.specs.declared.reading.Reading.TheVariants as reading
 use Rattle.pay_member.specs.declared.told.Told.{Told}
 use Rattle.pay_desk.specs.declared.teller_fault.TellerFault.{TellerFault}
-use Rattle.pay_desk.specs.declared.teller_fault.TellerFault.TheVariants.{Memory, NoAccount, Spent}
-use Rattle.pay_desk.specs.declared.teller_fault.TellerFault.TheVariants.{TooEarly, Forgotten}
+use Rattle.pay_desk.specs.declared.teller_fault.TellerFault.TheVariants.{Memory, Spent, TooEarly}
+use Rattle.pay_desk.specs.declared.teller_fault.TellerFault.TheVariants.{Forgotten}
+use Rattle.pay_desk.specs.declared.teller_fault.ReadFault.{ReadFault}
+use Rattle.pay_desk.specs.declared.teller_fault.ReadFault.TheVariants as read
 
-pub data Call : Type 0 where
-  -- to broadcast a value of the account's own, which was asked for under an id
-  Ask : ℕ → List ℕ → Call
+-- change: what a desk asks its teller for: by a member `specs/OneMember.antt`; by a node
+--   `pay_peers/specs/Telling.antt`
+pub data Exchange : Type 0 where
+  -- under an id, a value to broadcast: the number that it got, or why it got none
+  Ask : ℕ → List ℕ → Result ℕ TellerFault → Exchange
   -- for the state of an account, which the member notes
-  Query : ℕ → Call
-  -- for what became of the payment under a number of an account
-  State : ℕ → ℕ → Call
-  -- for the lines of an account's statement, and its balance
-  Statement : ℕ → Call
-  -- for what settled of an account from a number on
-  Entries : ℕ → ℕ → Call
-  -- for what is known of an account and isn't settled
-  Waiting : ℕ → Call
-  -- for how many entries of each account are settled
-  Fronts : Call
+  Query : ℕ → Result Told QueryFault → Exchange
+  -- for what is read of the member
+  Read : Reading → Exchange
+  -- for what was read and isn't told, since the member has forgotten
+  Withhold : Reading → Exchange
 
-pub data TellerReply : Type 0 where
-  Asked : ℕ → TellerReply
-  Queried : Told → TellerReply
-  Stood : PaymentState → TellerReply
-  Stated : StatementFields → TellerReply
-  Listed : ExcerptFields → TellerReply
-  Settled : List ℕ → TellerReply
-  Refused : TellerFault → TellerReply
+-- A call came to its end: it has a reply, or memory was refused and nothing changed. `says` is what
+-- becomes of a teller: who it was, what was said, and who it is then.
+abbrev pub Asks :
+    {T : Type 0} → (T → Exchange → T → Type 0) → T → ℕ → List ℕ → Result ℕ TellerFault → T → Type 0
+Asks says old id value (Ok seq) new = says old (Ask id value (Ok seq)) new
+Asks says old id value (Err Memory) new = new ≡ old
+Asks says old id value (Err Spent) new = says old (Ask id value (Err Spent)) new
+Asks says old id value (Err TooEarly) new = says old (Ask id value (Err TooEarly)) new
+Asks says old id value (Err Forgotten) new = says old (Ask id value (Err Forgotten)) new
 
--- A call came to its end: it replied, or memory was refused and nothing changed. `says` is what
--- becomes of a teller: who it was, what it was asked, what it replied, and who it is then.
-abbrev pub Replies :
-    {T X : Type 0} → (T → Call → TellerReply → T → Type 0) → T → Call → (X → TellerReply)
-    → Result X TellerFault → T → Type 0
-Replies says old call reply (Ok x) new = says old call (reply x) new
-Replies says old call reply (Err Memory) new = new ≡ old
-Replies says old call reply (Err NoAccount) new = says old call (Refused NoAccount) new
-Replies says old call reply (Err Spent) new = says old call (Refused Spent) new
-Replies says old call reply (Err TooEarly) new = says old call (Refused TooEarly) new
-Replies says old call reply (Err Forgotten) new = says old call (Refused Forgotten) new
+abbrev pub Queries :
+    {T : Type 0} → (T → Exchange → T → Type 0) → T → ℕ → Result Told QueryFault → T → Type 0
+Queries says old account (Ok told) new = says old (Query account (Ok told)) new
+Queries says old account (Err query.Memory) new = new ≡ old
+Queries says old account (Err query.NoAccount) new =
+    says old (Query account (Err query.NoAccount)) new
 
--- the same outcome, with what was told seen as this
-abbrev pub seen_as : {X Y : Type 0} → Result X TellerFault → (X → Y) → Result Y TellerFault
-seen_as (Ok x) see = Ok (see x)
-seen_as (Err fault) see = Err fault
+abbrev pub AsksQuestion :
+    {T A : Type 0} → (T → Exchange → T → Type 0) → T → (A → Reading) → Result A ReadFault → T
+    → Type 0
+AsksQuestion says old asks (Ok answer) new = says old (Read (asks answer)) new
+AsksQuestion says old asks (Err read.Memory) new = new ≡ old
+AsksQuestion {T} {A} says old asks (Err read.Forgotten) new =
+    (answer : A) × says old (Withhold (asks answer)) new
 
--- what was broadcast by a call with this reply
-abbrev pub values_asked_by : Call → TellerReply → List (List ℕ)
-values_asked_by (Ask id value) (Asked seq) = value ∷ []
-values_asked_by (Ask id value) (Queried told) = []
-values_asked_by (Ask id value) (Stood state) = []
-values_asked_by (Ask id value) (Stated statement) = []
-values_asked_by (Ask id value) (Listed excerpt) = []
-values_asked_by (Ask id value) (Settled fronts) = []
-values_asked_by (Ask id value) (Refused fault) = []
-values_asked_by (Query account) reply = []
-values_asked_by (State owner seq) reply = []
-values_asked_by (Statement account) reply = []
-values_asked_by (Entries account from) reply = []
-values_asked_by (Waiting account) reply = []
-values_asked_by Fronts reply = []
+-- the values that were broadcast by it
+abbrev pub values_asked_by : Exchange → List (List ℕ)
+values_asked_by (Ask id value (Ok seq)) = value ∷ []
+values_asked_by (Ask id value (Err fault)) = []
+values_asked_by (Query account answer) = []
+values_asked_by (Read reading) = []
+values_asked_by (Withhold reading) = []
 
--- such a call reads what may be long, so that memory for the answer may be refused after it
-abbrev pub reads_at_length : Call → Bool
-reads_at_length (Ask id value) = false
-reads_at_length (Query account) = false
-reads_at_length (State owner seq) = false
-reads_at_length (Statement account) = true
-reads_at_length (Entries account from) = true
-reads_at_length (Waiting account) = true
-reads_at_length Fronts = false
+-- what may be long, so that memory for its words may be refused
+abbrev pub is_long : Reading → Bool
+is_long (reading.Sent from max bodies) = true
+is_long (reading.State owner seq state) = false
+is_long (reading.Statement account statement) = true
+is_long (reading.Entries account from excerpt) = true
+is_long (reading.Waiting account excerpt) = true
+is_long (reading.Fronts counts) = false
+
+abbrev pub reads_at_length : Exchange → Bool
+reads_at_length (Ask id value answer) = false
+reads_at_length (Query account answer) = false
+reads_at_length (Read reading) = is_long reading
+reads_at_length (Withhold reading) = false

@@ -1,19 +1,23 @@
 -- What the lines of a desk ask for, word by word.
-use Rattle.std.specs.Prelude.{⊤, ℕ, nat_le, nat_lt, List, length, drop, codes, if◌then◌else◌}
-use Rattle.std.specs.Prelude.{Option, Some, None, option_and_then, option_map}
+use Rattle.std.specs.Prelude.{⊤, ℕ, ◌≤◌, nat_le, nat_lt, List, [], ◌∷◌, length, drop, codes, Option}
+use Rattle.std.specs.Prelude.{Some, None, option_and_then, option_map, if◌then◌else◌}
 use Rattle.std.specs.Str.{bytes_eq}
 use Rattle.pay_frame.specs.declared.limits.TheConstants.{SEQS}
-use Rattle.pay_text.specs.Words.{words_of, first_word, is_none}
+use Rattle.pay_text.specs.Words.{words_of, joined_words, first_word, is_none}
 use Rattle.pay_text.specs.Numbers.{first_number}
 use Rattle.pay_text.specs.Pairs.{pairs_within}
 use Rattle.pay_book.specs.declared.payment.TheConstants.{MOST_PAYMENTS}
 use Rattle.pay_desk.specs.declared.command.Command.{Command}
-use Rattle.pay_desk.specs.declared.command.Command.TheVariants.{Pay, Balance, State, Statement}
-use Rattle.pay_desk.specs.declared.command.Command.TheVariants.{Entries, Waiting, Front}
+use Rattle.pay_desk.specs.declared.command.Command.TheVariants.{Pay, Note, Balance, State}
+use Rattle.pay_desk.specs.declared.command.Command.TheVariants.{Statement, Entries, Waiting, Front}
 use Rattle.pay_desk.specs.declared.command.TheConstants.{MOST_LINE}
 use Rattle.pay_desk.specs.declared.payments.Payments.TheVariants.{One, Several}
+use Rattle.pay_book.specs.declared.note.TheConstants.{MOST_NOTE}
+use Rattle.pay_book.specs.Notes.{is_note_text}
 use Rattle.pay_desk.specs.Payments.{HasFew}
 
+-- change: a command of a desk: `specs/Answers.antt`, `specs/Words.antt`; model
+--   `tests/models/desks.py`
 -- the numbers that payments of an account have
 abbrev pub if_seq : ℕ → Option ℕ
 if_seq n = if nat_lt n SEQS then Some n else None
@@ -24,6 +28,15 @@ first_seq words = option_and_then if_seq (first_number words)
 -- what is asked for, where no word is left
 abbrev pub if_last : {X : Type 0} → List (List ℕ) → X → Option X
 if_last words x = if is_none words then Some x else None
+
+-- the words that are left with the blanks between them, if there is one
+abbrev pub rest_of_line : List (List ℕ) → Option (List ℕ)
+rest_of_line [] = None
+rest_of_line (word ∷ words) = Some (joined_words word words)
+
+-- that this text is said, if a note may say it
+abbrev pub note_under : ℕ → List ℕ → Option Command
+note_under id text = if is_note_text text then Some (Note id text) else None
 
 -- ---- commands, by the words after their names
 
@@ -41,6 +54,12 @@ unfoldable pub pays_in : List (List ℕ) → Option Command
 pays_in words =
     option_and_then (λ id. option_map (λ pairs. Pay (record { id = id; payments = Several pairs }))
     (pairs_within MOST_PAYMENTS (drop 1 words)))
+    (first_number words)
+
+-- `ID TEXT`, which may have blanks
+unfoldable pub note_command : List (List ℕ) → Option Command
+note_command words =
+    option_and_then (λ id. option_and_then (note_under id) (rest_of_line (drop 1 words)))
     (first_number words)
 
 -- `OWNER SEQ`
@@ -79,6 +98,7 @@ abbrev pub command_named : List (List ℕ) → List ℕ → Option Command
 command_named words name =
     if bytes_eq name (codes "PAY") then pay_in words
     else if bytes_eq name (codes "PAYS") then pays_in words
+    else if bytes_eq name (codes "NOTE") then note_command words
     else if bytes_eq name (codes "BALANCE") then balance_in words
     else if bytes_eq name (codes "STATE") then state_in words
     else if bytes_eq name (codes "STATEMENT") then statement_command_in words
@@ -95,9 +115,10 @@ command_by words = option_and_then (command_named (drop 1 words)) (first_word wo
 unfoldable pub command_in : List ℕ → Option Command
 command_in line = if nat_le (length line) MOST_LINE then command_by (words_of line) else None
 
--- What is asked to be paid is no more than a value holds.
+-- What is asked to be paid or said is no more than a value holds.
 abbrev pub AsksFew : Command → Type 0
 AsksFew (Pay order) = HasFew order.payments
+AsksFew (Note id text) = length text ≤ MOST_NOTE
 AsksFew (Balance account) = ⊤
 AsksFew (State owner seq) = ⊤
 AsksFew (Statement account) = ⊤

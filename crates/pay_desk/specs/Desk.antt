@@ -4,13 +4,13 @@ use Rattle.std.specs.Prelude.{◌⊎◌}
 use Rattle.std.specs.Io.KnownBytes.{IsAtEnd}
 use Rattle.pay_io.specs.declared.stream_fault.StreamFault.{StreamFault}
 use Rattle.pay_text.specs.Lines.{lines_within}
-use Rattle.pay_text.specs.Engine.{AnswersAll, AnswersFirst}
+use Rattle.pay_text.specs.Engine.{Answering, AnswersAll, AnswersFirst, Dialogue}
 use Rattle.pay_desk.specs.declared.command.Command.{Command}
 use Rattle.pay_desk.specs.declared.command.TheConstants.{MOST_LINE}
 use Rattle.pay_desk.specs.declared.desk.Desk.{Desk}
 use Rattle.pay_desk.specs.declared.fault.DeskFault.TheVariants.{Memory}
 use Rattle.pay_desk.specs.Answers.{AnswersCommand, GaveUp}
-use Rattle.pay_desk.specs.Calls.{Call, TellerReply}
+use Rattle.pay_desk.specs.Calls.{Exchange}
 use Rattle.pay_desk.specs.Commands.{command_in}
 use Rattle.pay_desk.specs.Words.{refused_words}
 
@@ -20,28 +20,31 @@ command_at None = None
 command_at (Some line) = command_in line
 
 -- memory was refused, and the answer says so
-pub record TellsMemory {T : Type 0} (says : T → Call → TellerReply → T → Type 0) (old : Desk T)
+pub record TellsMemory {T : Type 0} (says : T → Exchange → T → Type 0) (old : Desk T)
     (text : List ℕ) (new : Desk T) : Type 0 where
   pub words : text ≡ refused_words Memory
   pub gave_up : GaveUp says old new
 
 -- what becomes of a desk by one line: its answer, or that memory was refused; a line may always
 -- follow
-pub record DeskSays {T : Type 0} (says : T → Call → TellerReply → T → Type 0) (old : Desk T)
+pub record DeskSays {T : Type 0} (says : T → Exchange → T → Type 0) (old : Desk T)
     (line : Option (List ℕ)) (text : List ℕ) (goes_on : Bool) (new : Desk T) : Type 0 where
   pub on : goes_on ≡ true
   pub answer : AnswersCommand says (command_at line) old text new ⊎ TellsMemory says old text new
 
+-- so a desk answers lines; it never gives up, since it answers that memory was refused
+abbrev pub desk_answering : {T : Type 0} → (T → Exchange → T → Type 0) → Answering (Desk T)
+desk_answering says = record { says = DeskSays says; gives_up = λ mid last. last ≡ mid }
+
 -- What is written, by how the engine ended: the answers to all lines of the input, at its end; else
 -- a prefix of them, and the desk is what the answered lines made of it.
 abbrev pub WritesAnswers :
-    {T : Type 0} → (T → Call → TellerReply → T → Type 0) → Desk T → Desk T → Option (List ℕ)
-    → Option (List ℕ) → Option (List ℕ) → Option (List ℕ) → Result Unit StreamFault → Type 0
-WritesAnswers says old new input left before after (Ok done) =
+    {T : Type 0} → (T → Exchange → T → Type 0) → Dialogue (Desk T) → Dialogue (Desk T)
+    → Option (List ℕ) → Option (List ℕ) → Result Unit StreamFault → Type 0
+WritesAnswers says old new input left (Ok done) =
     IfSome input
-    (λ bytes. AnswersAll (DeskSays says) old (lines_within MOST_LINE bytes) before after true new
+    (λ bytes. AnswersAll (DeskSays says) (lines_within MOST_LINE bytes) old new true
     × IsAtEnd left)
-WritesAnswers says old new input left before after (Err fault) =
+WritesAnswers says old new input left (Err fault) =
     IfSome input
-    (λ bytes. AnswersFirst (DeskSays says) (λ mid last. last ≡ mid) old
-    (lines_within MOST_LINE bytes) before after new)
+    (λ bytes. AnswersFirst (desk_answering says) (lines_within MOST_LINE bytes) old new)

@@ -7,6 +7,8 @@ use Rattle.pay_desk.specs.declared.fault.DeskFault.TheVariants.{TooEarly, Forgot
 use Rattle.pay_desk.specs.declared.teller_fault.TellerFault.{TellerFault}
 use Rattle.pay_desk.specs.declared.teller_fault.TellerFault.TheVariants as teller
 
+-- change: a refusal of a desk, as `IdUsed`: its place in the order in `specs/Laws.antt`; model
+--   `tests/models/desks.py`
 abbrev pub desk_fault_number : DeskFault → ℕ
 desk_fault_number Memory = 0
 desk_fault_number BadLine = 1
@@ -33,7 +35,6 @@ desk_fault_words fault = decimal (desk_fault_number fault) ++ codes " " ++ desk_
 -- what a desk answers where its teller refuses
 abbrev pub desk_fault_of : TellerFault → DeskFault
 desk_fault_of teller.Memory = Memory
-desk_fault_of teller.NoAccount = NoAccount
 desk_fault_of teller.Spent = Spent
 desk_fault_of teller.TooEarly = TooEarly
 desk_fault_of teller.Forgotten = Forgotten

@@ -1,14 +1,15 @@
--- When a desk refuses, and what holds of it over all lines, as statements. Each is proved as a
+-- When a desk refuses, and what holds of a desk over all lines, as statements. Each is proved as a
 -- public law.
 use Rattle.std.specs.Prelude.{◌≡◌, ◌↔◌, ◌⊎◌, ℕ, ◌<◌, ◌≤◌, ◌^◌, Bool, true, All, Any, List, [], ◌∷◌}
 use Rattle.std.specs.Prelude.{◌++◌, map, None, Option, Some, ⊤}
 use Rattle.pay_text.specs.Answers.{Answers}
+use Rattle.pay_book.specs.Notes.{note_value}
 use Rattle.pay_desk.specs.declared.desk.Desk.{Desk}
 use Rattle.pay_desk.specs.declared.fault.DeskFault.TheVariants.{NoAccount, ZeroOrSelf}
 use Rattle.pay_desk.specs.declared.kept.Kept.{Kept}
 use Rattle.pay_desk.specs.declared.payments.Payments.{Payments}
 use Rattle.pay_desk.specs.Answers.{account_fault, pay_fault}
-use Rattle.pay_desk.specs.Calls.{Call, TellerReply}
+use Rattle.pay_desk.specs.Calls.{Exchange}
 use Rattle.pay_desk.specs.Desk.{DeskSays}
 use Rattle.pay_desk.specs.Kept.{kept_under, is_value}
 use Rattle.pay_desk.specs.Payments.{pairs_of, value_of_payments, if_named}
@@ -48,6 +49,18 @@ KeptAnswersItsOwn =
     → is_value (if_named again (value_of_payments again)) (value_of_payments asked) ≡ true
     → again ≡ asked
 
+-- So has one that is kept for a note. No payment has a note's value.
+pub record KeptAnswersItsNote : Type 0 where
+  pub note :
+      (said again : List ℕ) → is_value (Some (note_value again)) (note_value said) ≡ true
+      → again ≡ said
+  pub paid :
+      (said : List ℕ) (again : Payments)
+      → is_value (if_named again (value_of_payments again)) (note_value said) ≡ true → ⊥
+  pub said :
+      (asked : Payments) (again : List ℕ)
+      → is_value (Some (note_value again)) (value_of_payments asked) ≡ true → ⊥
+
 -- ---- all lines
 
 -- these values are kept after the others, each under an id that was free until then
@@ -65,13 +78,13 @@ pub record AsksOnce {T : Type 0} (asked : T → List (List ℕ)) (old new : Desk
   pub free : AreUnderFreeIds old.kept more
 
 abbrev pub LineAsksOnce :
-    {T : Type 0} → (T → Call → TellerReply → T → Type 0) → (T → List (List ℕ)) → Type 0
+    {T : Type 0} → (T → Exchange → T → Type 0) → (T → List (List ℕ)) → Type 0
 LineAsksOnce {T} says asked =
     (old new : Desk T) (line : Option (List ℕ)) (text : List ℕ) (on : Bool)
     → DeskSays says old line text on new → AsksOnce asked old new
 
 abbrev pub LinesAskOnce :
-    {T : Type 0} → (T → Call → TellerReply → T → Type 0) → (T → List (List ℕ)) → Type 0
+    {T : Type 0} → (T → Exchange → T → Type 0) → (T → List (List ℕ)) → Type 0
 LinesAskOnce {T} says asked =
     (old new : Desk T) (lines : List (Option (List ℕ))) (text : List ℕ) (on : Bool)
     → Answers (DeskSays says) old lines text on new → AsksOnce asked old new
@@ -86,7 +99,7 @@ pub record KeepsAll {T : Type 0} (asked : T → List (List ℕ)) (before : List 
   pub free : AreUnderFreeIds [] desk.kept
 
 abbrev pub LinesKeepAll :
-    {T : Type 0} → (T → Call → TellerReply → T → Type 0) → (T → List (List ℕ)) → Type 0
+    {T : Type 0} → (T → Exchange → T → Type 0) → (T → List (List ℕ)) → Type 0
 LinesKeepAll {T} says asked =
     (before : List (List ℕ)) (old new : Desk T) (lines : List (Option (List ℕ))) (text : List ℕ)
     (on : Bool)

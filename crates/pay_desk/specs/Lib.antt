@@ -9,3 +9,4 @@ pub mod Desk
 pub mod OneMember
 pub mod MemberAsks
 pub mod Laws
+pub mod Rows

@@ -1,87 +1,57 @@
 -- A member as a desk's teller.
-use Rattle.std.specs.Prelude.{◌≡◌, ℕ, nat_le, nat_lt, List, Option, Some, None, slice_index}
+use Rattle.std.specs.Prelude.{◌≡◌, ℕ, nat_le, List, Option, Some, None, Result, Ok, Err}
 use Rattle.std.specs.Prelude.{if◌then◌else◌}
 use Rattle.std.specs.List.{filter_map}
 use Rattle.pay_frame.specs.declared.limits.TheConstants.{SEQS}
-use Rattle.pay_channel.specs.History.{asks, list_of}
-use Rattle.pay_book.specs.Book.{Standing}
-use Rattle.pay_book.specs.Statement.{statement_of}
+use Rattle.pay_channel.specs.History.{asks}
 use Rattle.pay_member.specs.declared.entry.HistoryEntry.{HistoryEntry}
 use Rattle.pay_member.specs.declared.event.Event.{Event}
 use Rattle.pay_member.specs.declared.event.Event.TheVariants as event
+use Rattle.pay_member.specs.declared.query_fault.QueryFault.{QueryFault}
+use Rattle.pay_member.specs.declared.query_fault.QueryFault.TheVariants.{NoAccount}
 use Rattle.pay_member.specs.declared.reply.Reply.TheVariants as reply
-use Rattle.pay_member.specs.Book.{book_after}
+use Rattle.pay_member.specs.declared.told.Told.{Told}
 use Rattle.pay_member.specs.Events.{events}
-use Rattle.pay_member.specs.Group.{group_in}
 use Rattle.pay_member.specs.Member.{MemberFields, with_entry}
-use Rattle.pay_member.specs.Reading.{state_of, entries_shown, waiting_shown}
+use Rattle.pay_member.specs.Questions.{Shows, if_account}
 use Rattle.pay_member.specs.Reply.{told_of}
-use Rattle.pay_desk.specs.declared.teller_fault.TellerFault.TheVariants.{NoAccount, Spent}
-use Rattle.pay_desk.specs.Calls.{Call, Ask, Query, State, Statement, Entries, Waiting, Fronts}
-use Rattle.pay_desk.specs.Calls.{TellerReply, Asked, Queried, Stood, Stated, Listed, Settled}
-use Rattle.pay_desk.specs.Calls.{Refused}
+use Rattle.pay_desk.specs.declared.teller_fault.TellerFault.{TellerFault}
+use Rattle.pay_desk.specs.declared.teller_fault.TellerFault.TheVariants.{Spent}
+use Rattle.pay_desk.specs.Calls.{Exchange, Ask, Query, Read, Withhold}
 
--- the book of what a member took
-abbrev pub book_of_member : MemberFields → Standing
-book_of_member m = book_after m.genesis m.keys.own (events m.history)
+-- the number of the next value, unless all are used
+unfoldable pub number_of_next : MemberFields → Result ℕ TellerFault
+number_of_next m =
+    if nat_le SEQS (asks (events m.history)) then Err Spent else Ok (asks (events m.history))
 
--- a reply about an account that is there
-abbrev pub if_account : MemberFields → ℕ → TellerReply → TellerReply
-if_account m account reply = if nat_lt account m.genesis.members then reply else Refused NoAccount
+-- the state of an account that is there
+unfoldable pub state_told : MemberFields → ℕ → Result Told QueryFault
+state_told m account =
+    or_no_account (if_account m account (told_of m.genesis m.keys.own (events m.history) account))
+  where
+    or_no_account : Option Told → Result Told QueryFault
+    or_no_account (Some told) = Ok told
+    or_no_account None = Err NoAccount
 
--- what a member replies to a call, by its history
-unfoldable pub reply_by : MemberFields → Call → TellerReply
-reply_by m (Ask id value) =
-    if nat_le SEQS (asks (events m.history)) then Refused Spent else Asked (asks (events m.history))
-reply_by m (Query account) =
-    if_account m account (Queried (told_of m.genesis m.keys.own (events m.history) account))
-reply_by m (State owner seq) =
-    if_account m owner (Stood (state_of m.genesis m.keys.own (events m.history) owner seq))
-reply_by m (Statement account) =
-    if_account m account
-    (Stated (record {
-      lines = statement_of m.genesis.members
-          (list_of (group_in m.genesis m.keys.own) (events m.history))
-          (slice_index (book_of_member m).front) account;
-      balance = slice_index (book_of_member m).balances account;
-    }))
-reply_by m (Entries account from) =
-    if_account m account
-    (Listed (entries_shown m.genesis m.keys.own (events m.history) account from))
-reply_by m (Waiting account) =
-    if_account m account (Listed (waiting_shown m.genesis m.keys.own (events m.history) account))
-reply_by m Fronts = Settled (book_of_member m).front
+-- the member with an entry of what it replied, unless it refused
+abbrev pub after_asking : ℕ → MemberFields → List ℕ → Result ℕ TellerFault → MemberFields
+after_asking stamp m value (Ok seq) =
+    with_entry m (record { stamp = stamp; event = event.Ask value; reply = reply.Asked seq })
+after_asking stamp m value (Err fault) = m
 
--- the member after a call: an ask and a query that aren't refused are entries of its history
-unfoldable pub member_after_call : ℕ → MemberFields → Call → MemberFields
-member_after_call stamp m (Ask id value) =
-    if nat_le SEQS (asks (events m.history)) then m
-    else with_entry m
-    (record {
-      stamp = stamp;
-      event = event.Ask value;
-      reply = reply.Asked
-          (asks (events m.history));
-    })
-member_after_call stamp m (Query account) =
-    if nat_lt account m.genesis.members
-    then with_entry m (record {
-      stamp = stamp;
-      event = event.Query account;
-      reply = reply.Told (told_of m.genesis m.keys.own (events m.history) account);
-    })
-    else m
-member_after_call stamp m (State owner seq) = m
-member_after_call stamp m (Statement account) = m
-member_after_call stamp m (Entries account from) = m
-member_after_call stamp m (Waiting account) = m
-member_after_call stamp m Fronts = m
+abbrev pub after_query : ℕ → MemberFields → ℕ → Result Told QueryFault → MemberFields
+after_query stamp m account (Ok told) =
+    with_entry m (record { stamp = stamp; event = event.Query account; reply = reply.Told told })
+after_query stamp m account (Err fault) = m
 
--- what becomes of a member by a call
-pub record MemberSays (stamp : ℕ) (old : MemberFields) (called : Call) (replied : TellerReply)
-    (new : MemberFields) : Type 0 where
-  pub reply : replied ≡ reply_by old called
-  pub after : new ≡ member_after_call stamp old called
+-- what becomes of a member by what a desk asks of it
+abbrev pub MemberSays : ℕ → MemberFields → Exchange → MemberFields → Type 0
+MemberSays stamp old (Ask id value answer) new =
+    (answer ≡ number_of_next old) × (new ≡ after_asking stamp old value answer)
+MemberSays stamp old (Query account answer) new =
+    (answer ≡ state_told old account) × (new ≡ after_query stamp old account answer)
+MemberSays stamp old (Read reading) new = Shows old reading × (new ≡ old)
+MemberSays stamp old (Withhold reading) new = ⊥
 
 abbrev pub value_asked : Event → Option (List ℕ)
 value_asked (event.Ask value) = Some value

@@ -1,6 +1,8 @@
 -- The answers of a desk, each line with its line feed.
 use Rattle.std.specs.Prelude.{ℕ, ◌+◌, ◌-◌, List, [], ◌∷◌, ◌++◌, length, decimal, codes}
+use Rattle.std.specs.Prelude.{Option, Some, None}
 use Rattle.std.specs.List.{flat_map}
+use Rattle.pay_book.specs.declared.excerpts.ShownEntry.{ShownEntry}
 use Rattle.pay_book.specs.declared.line.Line.{Line}
 use Rattle.pay_book.specs.declared.line.Line.TheVariants.{Out, Void, In}
 use Rattle.pay_book.specs.declared.payment.Entry.{Entry}
@@ -63,20 +65,26 @@ end_words account balance =
 unfoldable pub statement_words : ℕ → List Line → ℕ → List ℕ
 statement_words account lines balance = flat_map line_words lines ++ end_words account balance
 
--- ` to PAYEE AMOUNT` or ` void`
-unfoldable pub payment_words : Entry → List ℕ
-payment_words (entry.Pay payee amount) =
-    codes " to " ++ decimal payee ++ codes " " ++ decimal amount
-payment_words entry.Void = codes " void"
+-- ` void`, or ` note TEXT` of a note
+unfoldable pub void_words : Option (List ℕ) → List ℕ
+void_words None = codes " void"
+void_words (Some text) = codes " note " ++ text
 
--- `WORD A E seq S to PAYEE AMOUNT` or `WORD A E seq S void`: entry E of account A
-unfoldable pub entry_words : List ℕ → ℕ → ℕ → ℕ × Entry → List ℕ
+-- ` to PAYEE AMOUNT`, or what is said of an entry that pays nothing
+unfoldable pub payment_words : Entry → Option (List ℕ) → List ℕ
+payment_words (entry.Pay payee amount) _ =
+    codes " to " ++ decimal payee ++ codes " " ++ decimal amount
+payment_words entry.Void text = void_words text
+
+-- `WORD A E seq S to PAYEE AMOUNT`, `WORD A E seq S void` or `WORD A E seq S note TEXT`: entry E of
+-- account A
+unfoldable pub entry_words : List ℕ → ℕ → ℕ → ShownEntry → List ℕ
 entry_words word account number e =
     word ++ codes " " ++ decimal account ++ codes " " ++ decimal number ++ codes " seq "
-    ++ decimal e.0 ++ payment_words e.1 ++ end_of_line
+    ++ decimal e.seq ++ payment_words e.entry e.note ++ end_of_line
 
 -- entries one after the other, the first of this number
-unfoldable pub entries_words : List ℕ → ℕ → ℕ → List (ℕ × Entry) → List ℕ
+unfoldable pub entries_words : List ℕ → ℕ → ℕ → List ShownEntry → List ℕ
 entries_words word account number [] = []
 entries_words word account number (e ∷ entries) =
     entry_words word account number e ++ entries_words word account (number + 1) entries
@@ -93,9 +101,9 @@ settled_words account excerpt =
     ++ next_entry_words account (excerpt.first + length excerpt.entries)
 
 -- what a balance is short of for the first of these entries
-unfoldable pub short_by : ℕ → List (ℕ × Entry) → ℕ
+unfoldable pub short_by : ℕ → List ShownEntry → ℕ
 short_by balance [] = 0
-short_by balance (e ∷ entries) = amount_of e.1 - balance
+short_by balance (e ∷ entries) = amount_of e.entry - balance
 
 -- `end A short B`
 unfoldable pub short_words : ℕ → ℕ → List ℕ

@@ -1,4 +1,5 @@
 use crate::payments::Payments;
+use pay_frame::Bytes;
 
 /// A line of more bytes, its line feed not counted, is no command.
 pub const MOST_LINE: usize = 1_024;
@@ -14,6 +15,8 @@ pub struct Order {
 #[derive(Debug, Drop)]
 pub enum Command {
     Pay(Order),
+    /// That this is said in the own name, once under this id.
+    Note { id: u64, text: Bytes },
     /// An account's balance.
     Balance(u64),
     /// What became of the value under a number of an account.

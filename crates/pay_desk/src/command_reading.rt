@@ -1,20 +1,22 @@
 //! How the lines of a desk are read.
 
-ghost use Rattle.std.specs.Prelude.{◌≡◌, drop, IfOk, IfSome};
+ghost use Rattle.std.specs.Prelude.{◌≡◌, ◌≤◌, drop, length, IfOk, IfSome, Some};
 ghost use Rattle.std.specs.Str.{bytes_eq};
 ghost use Rattle.pay_desk.specs.Commands.{AsksFew, balance_in, command_by, command_in, first_seq};
-ghost use Rattle.pay_desk.specs.Commands.{entries_command, if_last, pay_in, pays_in, state_in};
+ghost use Rattle.pay_desk.specs.Commands.{entries_command, if_last, note_command, note_under};
+ghost use Rattle.pay_desk.specs.Commands.{pay_in, pays_in, rest_of_line, state_in};
 ghost use Rattle.pay_desk.specs.Commands.{statement_command_in, waiting_command};
 
 use crate::command::{Command, MOST_LINE, Order};
 use crate::payments::Payments;
-use pay_book::MOST_PAYMENTS;
-use pay_frame::SEQS;
+use pay_book::{MOST_PAYMENTS, note_text};
+use pay_frame::{Bytes, SEQS};
 use pay_text::{Words, read_pairs};
 use std::alloc::{AllocError, Global};
 
 /// What a line asks for, or `None` where it is no command.
 #[tactic(auto, unfolding(crate::specs::Commands::command_in))]
+// promise: desk lines
 pub fn read_command(alloc: Global, line: &[u8]) -> Result<Option<Command>, AllocError>
     ensures command { IfOk result (λ command. command ≡ command_in line.now) }
     ensures few { IfOk result (λ command. IfSome command AsksFew) }
@@ -38,6 +40,8 @@ fn read_words(alloc: Global, words: Words) -> Result<Option<Command>, AllocError
         Ok(read_pay(&mut words))
     } else if is_word(name, "PAYS") {
         read_pays(alloc, &mut words)
+    } else if is_word(name, "NOTE") {
+        read_note(alloc, &mut words)
     } else if is_word(name, "BALANCE") {
         Ok(read_balance(&mut words))
     } else if is_word(name, "STATE") {
@@ -80,6 +84,33 @@ fn read_pays(alloc: Global, words: &mut Words) -> Result<Option<Command>, AllocE
     };
     let payments = Payments::Several(pairs);
     Ok(Some(Command::Pay(Order { id, payments })))
+}
+
+#[tactic(auto, unfolding(crate::specs::Commands::note_command))]
+fn read_note(alloc: Global, words: &mut Words) -> Result<Option<Command>, AllocError>
+    ensures command { IfOk result (λ command. command ≡ note_command words.old) }
+    ensures few { IfOk result (λ command. IfSome command AsksFew) }
+{
+    let Some(id) = words.next_number() else {
+        return Ok(None);
+    };
+    let Some(text) = rest_of_line(alloc, words)? else {
+        return Ok(None);
+    };
+    Ok(note_under(id, text))
+}
+
+// That this text is said, if a note may say it.
+#[tactic(auto, using(crate::proofs::Texts::few))]
+fn note_under(id: u64, text: Bytes) -> Option<Command>
+    ensures command { result ≡ note_under id text }
+    ensures few { IfSome result AsksFew }
+{
+    if note_text(text.as_slice()).is_some() {
+        Some(Command::Note { id, text })
+    } else {
+        None
+    }
 }
 
 #[tactic(auto, unfolding(crate::specs::Commands::balance_in))]
@@ -140,6 +171,21 @@ fn next_seq(words: &mut Words) -> Option<u32>
     } else {
         None
     }
+}
+
+// Takes all words that are left, with the blanks between them.
+fn rest_of_line(alloc: Global, words: &mut Words) -> Result<Option<Bytes>, AllocError>
+    ensures { IfOk result (λ rest. rest ≡ rest_of_line words.old) }
+{
+    let Some(first) = words.next_word() else {
+        return Ok(None);
+    };
+    let mut rest = Vec::from_slice(alloc, first)?;
+    while let Some(word) = words.next_word() {
+        rest.push(b' ')?;
+        rest.extend_from_slice(word)?;
+    }
+    Ok(Some(Bytes::new(rest)))
 }
 
 fn is_word(word: &[u8], name: &str) -> bool

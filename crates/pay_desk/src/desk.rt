@@ -2,34 +2,31 @@ ghost use Rattle.std.specs.Prelude.{◌≡◌, ◌≤◌, [], length, IfOk, IfSo
 ghost use Rattle.std.specs.Prelude.{OnErr, None, Some, MatchResult};
 ghost use Rattle.std.specs.List.{list_all, list_any};
 ghost use Rattle.std.specs.Result.{result_err};
-ghost use Rattle.pay_desk.specs.Answers.{AnswersCommand, AnswersBalance, AnswersEntries};
-ghost use Rattle.pay_desk.specs.Answers.{AnswersFront};
-ghost use Rattle.pay_desk.specs.Answers.{AnswersPay, AnswersState, AnswersStatement};
-ghost use Rattle.pay_desk.specs.Answers.{AnswersWaiting};
-ghost use Rattle.pay_desk.specs.Answers.{Calls, GaveUp, Pays, account_fault};
-ghost use Rattle.pay_desk.specs.Answers.{is_account, is_void, pay_fault, stated_words};
+ghost use Rattle.pay_desk.specs.Answers.{AnswersCommand, AnswersNote, AnswersPay, Broadcasts};
+ghost use Rattle.pay_desk.specs.Answers.{GaveUp, TellsAnswer, TellsBalance, account_fault};
+ghost use Rattle.pay_desk.specs.Answers.{is_account, is_void, pay_fault};
 ghost use Rattle.pay_desk.specs.Payments.{HasFew, if_named, pairs_of, value_of_payments};
-ghost use Rattle.pay_desk.specs.Calls as call;
 ghost use Rattle.pay_desk.specs.Commands.{command_in};
 ghost use Rattle.pay_desk.specs.Kept.{kept_under};
-ghost use Rattle.pay_desk.specs.Words.{balance_words, settled_words, state_words, waiting_words};
 
 use crate::command::{Command, Order};
 use crate::command_reading::read_command;
-use crate::excerpt_words::{push_settled, push_waiting};
 use crate::fault::DeskFault;
 use crate::kept::KeptValues;
 use crate::payments::Payments;
 use crate::putting::{
-    front_room, kept_text, put_asked, put_balance, put_front, put_refused, put_state, refused_text,
-    room,
+    MOST_ANSWER, kept_text, put_asked, put_balance, put_refused, refused_text, room_for,
 };
 use crate::teller::Teller;
-use crate::teller_fault::TellerFault;
-use crate::words::push_statement;
+use crate::teller_fault::{ReadFault, TellerFault};
+use crate::wording::Wording;
+use pay_book::{MOST_NOTE, note_value};
 use pay_frame::{Bytes, GREATEST_VALUE};
+use pay_member::QueryFault;
+use pay_member::question::{AllFronts, EntriesOf, StateOf, StatementOf, WaitingOf};
 use std::alloc::{AllocError, Global};
 
+// term: desk: what answers the lines of an account's owner
 /// A desk: a teller, how many accounts there are and which one is the own, and all values that
 /// were asked for.
 #[derive(Drop)]
@@ -42,6 +39,7 @@ pub struct Desk<T> {
 
 impl<T: Teller> Desk<T> {
     /// A desk that has asked for nothing, over a teller of account `own` among `accounts`.
+    // promise: desk lines
     pub fn new(alloc: Global, teller: T, accounts: u16, own: u16) -> Desk<T>
         ensures { result ≡ record { teller = teller; accounts = accounts; own = own; kept = [] } }
     {
@@ -77,6 +75,7 @@ impl<T: Teller> Desk<T> {
     /// Answers a line: the text has a line feed at the end of each of its lines.
     ///
     /// Where memory is refused the desk is unchanged, and the line may be given again.
+    // promise: nothing changes (err); desk lines (text); ids (text)
     pub fn line(&mut self, alloc: Global, line: &[u8]) -> Result<Vec<u8>, AllocError>
         ensures text { IfOk result (λ text.
             AnswersCommand T.says (command_in line.now) self.old text.items self.new) }
@@ -87,12 +86,28 @@ impl<T: Teller> Desk<T> {
         };
         match command {
             Command::Pay(order) => self.pay(alloc, order),
-            Command::Balance(account) => self.balance(alloc, account),
-            Command::State { owner, seq } => self.state(alloc, owner, seq),
-            Command::Statement(account) => self.statement(alloc, account),
-            Command::Entries { account, from } => self.entries(alloc, account, from),
-            Command::Waiting(account) => self.waiting(alloc, account),
-            Command::Front => self.front(alloc),
+            Command::Note { id, text } => self.note(alloc, id, &text),
+            Command::Balance(account) => match self.account(account) {
+                Ok(account) => self.query(alloc, account),
+                Err(fault) => refused_text(alloc, fault),
+            },
+            Command::State { owner, seq } => match self.account(owner) {
+                Ok(owner) => self.read(alloc, StateOf { owner, seq }),
+                Err(fault) => refused_text(alloc, fault),
+            },
+            Command::Statement(account) => match self.account(account) {
+                Ok(account) => self.read(alloc, StatementOf(account)),
+                Err(fault) => refused_text(alloc, fault),
+            },
+            Command::Entries { account, from } => match self.account(account) {
+                Ok(account) => self.read(alloc, EntriesOf { account, from }),
+                Err(fault) => refused_text(alloc, fault),
+            },
+            Command::Waiting(account) => match self.account(account) {
+                Ok(account) => self.read(alloc, WaitingOf(account)),
+                Err(fault) => refused_text(alloc, fault),
+            },
+            Command::Front => self.read(alloc, AllFronts),
         }
     }
 
@@ -131,6 +146,21 @@ impl<T: Teller> Desk<T> {
         }
     }
 
+    // A note names nobody: only what is kept under its id is looked at.
+    fn note(&mut self, alloc: Global, id: u64, text: &Bytes) -> Result<Vec<u8>, AllocError>
+        requires { length text.now ≤ MOST_NOTE }
+        ensures text { IfOk result (λ answer.
+            AnswersNote T.says (kept_under id self.old.kept) id text.now
+            self.old answer.items self.new) }
+        ensures err { OnErr result (self.new ≡ self.old) }
+    {
+        let value = note_value(alloc, text.as_slice())?;
+        match self.kept.find(alloc, id) {
+            Some(kept) => kept_text(alloc, kept, id, &Some(value)),
+            None => self.ask(alloc, id, value),
+        }
+    }
+
     // The account of this number, if there is one.
     fn account(&self, number: u64) -> Result<u16, DeskFault>
         ensures { MatchResult result
@@ -148,10 +178,10 @@ impl<T: Teller> Desk<T> {
         requires fresh { kept_under id self.old.kept ≡ None }
         requires short { length value ≤ GREATEST_VALUE }
         ensures text { IfOk result (λ text.
-            Pays T.says id value self.old text.items self.new) }
+            Broadcasts T.says id value self.old text.items self.new) }
         ensures err { OnErr result (self.new ≡ self.old) }
     {
-        let mut text = room(alloc)?;
+        let mut text = room_for(alloc, MOST_ANSWER)?;
         match self.kept.ask(alloc, &mut self.teller, id, value) {
             Ok(seq) => put_asked(&mut text, id, seq),
             Err(TellerFault::Memory) => return Err(AllocError),
@@ -160,146 +190,32 @@ impl<T: Teller> Desk<T> {
         Ok(text)
     }
 
-    fn balance(&mut self, alloc: Global, account: u64) -> Result<Vec<u8>, AllocError>
-        ensures text { IfOk result (λ text.
-            AnswersBalance T.says account self.old text.items self.new) }
-        ensures err { OnErr result (self.new ≡ self.old) }
-    {
-        match self.account(account) {
-            Ok(account) => self.query(alloc, account),
-            Err(fault) => refused_text(alloc, fault),
-        }
-    }
-
     fn query(&mut self, alloc: Global, account: u16) -> Result<Vec<u8>, AllocError>
-        ensures text { IfOk result (λ text. Calls T.says (call.Query account) call.Queried
-            (λ told. balance_words account told.balance) self.old text.items self.new) }
+        ensures text { IfOk result (λ text.
+            TellsBalance T.says account self.old text.items self.new) }
         ensures err { OnErr result (self.new ≡ self.old) }
     {
-        let mut text = room(alloc)?;
+        let mut text = room_for(alloc, MOST_ANSWER)?;
         match self.teller.query(alloc, account) {
             Ok(told) => put_balance(&mut text, account, told.balance),
-            Err(TellerFault::Memory) => return Err(AllocError),
-            Err(fault) => put_refused(&mut text, DeskFault::from(fault)),
+            Err(QueryFault::Memory) => return Err(AllocError),
+            Err(QueryFault::NoAccount) => put_refused(&mut text, DeskFault::NoAccount),
         }
         Ok(text)
     }
 
-    fn state(&mut self, alloc: Global, owner: u64, seq: u32) -> Result<Vec<u8>, AllocError>
+    // What the teller answers to a question, in words.
+    fn read<Q: Wording>(&mut self, alloc: Global, question: Q) -> Result<Vec<u8>, AllocError>
         ensures text { IfOk result (λ text.
-            AnswersState T.says owner seq self.old text.items self.new) }
-        ensures err { OnErr result (self.new ≡ self.old) }
-    {
-        match self.account(owner) {
-            Ok(owner) => self.state_of(alloc, owner, seq),
-            Err(fault) => refused_text(alloc, fault),
-        }
-    }
-
-    fn state_of(&mut self, alloc: Global, owner: u16, seq: u32) -> Result<Vec<u8>, AllocError>
-        ensures text { IfOk result (λ text. Calls T.says (call.State owner seq) call.Stood
-            (state_words owner seq) self.old text.items self.new) }
-        ensures err { OnErr result (self.new ≡ self.old) }
-    {
-        let mut text = room(alloc)?;
-        match self.teller.state(alloc, owner, seq) {
-            Ok(state) => put_state(&mut text, owner, seq, state),
-            Err(TellerFault::Memory) => return Err(AllocError),
-            Err(fault) => put_refused(&mut text, DeskFault::from(fault)),
-        }
-        Ok(text)
-    }
-
-    fn statement(&mut self, alloc: Global, account: u64) -> Result<Vec<u8>, AllocError>
-        ensures text { IfOk result (λ text.
-            AnswersStatement T.says account self.old text.items self.new) }
+            TellsAnswer T.says (Q.reading question) (Q.words question)
+            self.old text.items self.new) }
         ensures err { OnErr result (GaveUp T.says self.old self.new) }
     {
-        match self.account(account) {
-            Ok(account) => self.statement_of(alloc, account),
-            Err(fault) => refused_text(alloc, fault),
-        }
-    }
-
-    fn statement_of(&mut self, alloc: Global, account: u16) -> Result<Vec<u8>, AllocError>
-        ensures text { IfOk result (λ text.
-            Calls T.says (call.Statement account) call.Stated
-            (stated_words account) self.old text.items self.new) }
-        ensures err { OnErr result (GaveUp T.says self.old self.new) }
-    {
-        let mut text = room(alloc)?;
-        match self.teller.statement(alloc, account) {
-            Ok(statement) => {
-                push_statement(&mut text, account, statement.lines(), statement.balance())?
-            }
-            Err(TellerFault::Memory) => return Err(AllocError),
-            Err(fault) => put_refused(&mut text, DeskFault::from(fault)),
-        }
-        Ok(text)
-    }
-
-    fn entries(&mut self, alloc: Global, account: u64, from: u64) -> Result<Vec<u8>, AllocError>
-        ensures text { IfOk result (λ text.
-            AnswersEntries T.says account from self.old text.items self.new) }
-        ensures err { OnErr result (GaveUp T.says self.old self.new) }
-    {
-        match self.account(account) {
-            Ok(account) => self.entries_of(alloc, account, from),
-            Err(fault) => refused_text(alloc, fault),
-        }
-    }
-
-    fn entries_of(&mut self, alloc: Global, account: u16, from: u64) -> Result<Vec<u8>, AllocError>
-        ensures text { IfOk result (λ text.
-            Calls T.says (call.Entries account from) call.Listed
-            (settled_words account) self.old text.items self.new) }
-        ensures err { OnErr result (GaveUp T.says self.old self.new) }
-    {
-        let mut text = room(alloc)?;
-        match self.teller.entries(alloc, account, from) {
-            Ok(excerpt) => push_settled(&mut text, account, &excerpt)?,
-            Err(TellerFault::Memory) => return Err(AllocError),
-            Err(fault) => put_refused(&mut text, DeskFault::from(fault)),
-        }
-        Ok(text)
-    }
-
-    fn waiting(&mut self, alloc: Global, account: u64) -> Result<Vec<u8>, AllocError>
-        ensures text { IfOk result (λ text.
-            AnswersWaiting T.says account self.old text.items self.new) }
-        ensures err { OnErr result (GaveUp T.says self.old self.new) }
-    {
-        match self.account(account) {
-            Ok(account) => self.waiting_of(alloc, account),
-            Err(fault) => refused_text(alloc, fault),
-        }
-    }
-
-    fn waiting_of(&mut self, alloc: Global, account: u16) -> Result<Vec<u8>, AllocError>
-        ensures text { IfOk result (λ text.
-            Calls T.says (call.Waiting account) call.Listed
-            (waiting_words account) self.old text.items self.new) }
-        ensures err { OnErr result (GaveUp T.says self.old self.new) }
-    {
-        let mut text = room(alloc)?;
-        match self.teller.waiting(alloc, account) {
-            Ok(excerpt) => push_waiting(&mut text, account, &excerpt)?,
-            Err(TellerFault::Memory) => return Err(AllocError),
-            Err(fault) => put_refused(&mut text, DeskFault::from(fault)),
-        }
-        Ok(text)
-    }
-
-    fn front(&mut self, alloc: Global) -> Result<Vec<u8>, AllocError>
-        ensures text { IfOk result (λ text.
-            AnswersFront T.says self.old text.items self.new) }
-        ensures err { OnErr result (self.new ≡ self.old) }
-    {
-        let mut text = front_room(alloc)?;
-        match self.teller.fronts(alloc) {
-            Ok(fronts) => put_front(&mut text, fronts.as_slice()),
-            Err(TellerFault::Memory) => return Err(AllocError),
-            Err(fault) => put_refused(&mut text, DeskFault::from(fault)),
+        let mut text = Q::room(alloc)?;
+        match self.teller.read(alloc, question) {
+            Ok(answer) => question.put(&mut text, &answer)?,
+            Err(ReadFault::Memory) => return Err(AllocError),
+            Err(ReadFault::Forgotten) => put_refused(&mut text, DeskFault::Forgotten),
         }
         Ok(text)
     }

@@ -1,5 +1,5 @@
 ghost use Rattle.std.specs.Prelude.{◌≡◌, MatchResult, OnOk};
-ghost use Rattle.pay_io.specs.Counts.{KeepsCounts, itself};
+ghost use Rattle.pay_io.specs.Counts.{KeepsCounts, counts_of, no_other_faults};
 ghost use Rattle.pay_text.specs.Answers.{text_bytes};
 ghost use Rattle.pay_desk.specs.Desk.{DeskSays, WritesAnswers};
 ghost use Rattle.pay_desk.specs.Words.{refused_words};
@@ -62,16 +62,21 @@ fn memory_text() -> Text
 ///
 /// After a fault what was written is a prefix of the answers, and the desk is what the answered
 /// lines made of it.
+// promise: early ends (counts, none_failed, all_written); desk lines (text)
 pub fn run_desk<T: Teller, R: Input, W: Output>(
     alloc: Global,
     desk: &mut Desk<T>,
     reader: &mut R,
     writer: &mut W,
 ) -> Result<(), StreamFault>
-    ensures text { WritesAnswers T.says desk.old desk.new (R.remaining reader.old)
-        (R.remaining reader.new) (W.contents writer.old) (W.contents writer.new) result }
-    ensures counts { KeepsCounts itself R.call_count R.failure_count R.remaining
-        W.failure_count reader.old reader.new writer.old writer.new result }
+    ensures text { WritesAnswers T.says
+        (record { answerer = desk.old; written = W.contents writer.old })
+        (record { answerer = desk.new; written = W.contents writer.new })
+        (R.remaining reader.old) (R.remaining reader.new) result }
+    ensures counts { let counted =
+        counts_of R.call_count R.failure_count R.remaining W.failure_count in
+        KeepsCounts no_other_faults
+        (counted reader.old writer.old) (counted reader.new writer.new) result }
     ensures none_failed { OnOk result (R.failure_count reader.new ≡ R.failure_count reader.old) }
     ensures all_written { OnOk result (W.failure_count writer.new ≡ W.failure_count writer.old) }
 {

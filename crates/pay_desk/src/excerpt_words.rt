@@ -2,9 +2,11 @@
 
 ghost use Rattle.std.specs.Prelude.{◌≡◌, ◌+◌, ◌++◌, ◌<◌, ◌^◌, length, OnOk};
 ghost use Rattle.pay_desk.specs.Words.{entries_words, entry_words, next_entry_words, payment_words};
-ghost use Rattle.pay_desk.specs.Words.{settled_words, short_by, short_words, waiting_words};
+ghost use Rattle.pay_desk.specs.Words.{settled_words, short_by, short_words, void_words};
+ghost use Rattle.pay_desk.specs.Words.{waiting_words};
 
-use pay_book::{Entry, Excerpt};
+use pay_book::{Entry, Excerpt, ShownEntry};
+use pay_frame::Bytes;
 use pay_text::{push_number, push_word};
 use std::alloc::AllocError;
 
@@ -43,16 +45,14 @@ fn push_entries(
     word: &str,
     account: u16,
     first: u64,
-    entries: &[(u32, Entry)],
+    entries: &[ShownEntry],
 ) -> Result<(), AllocError>
     requires { first + length entries.now < 2 ^ 64 }
     ensures { OnOk result (out.new.items
         ≡ out.old.items ++ entries_words word.now account first entries.now) }
 {
-    let mut number = first;
-    for entry in entries {
-        push_entry(out, word, account, number, *entry)?;
-        number += 1;
+    for k in 0..entries.len() {
+        push_entry(out, word, account, first + k as u64, &entries[k])?;
     }
     Ok(())
 }
@@ -63,10 +63,10 @@ fn push_entry(
     word: &str,
     account: u16,
     number: u64,
-    entry: (u32, Entry),
+    entry: &ShownEntry,
 ) -> Result<(), AllocError>
     ensures { OnOk result (out.new.items
-        ≡ out.old.items ++ entry_words word.now account number entry) }
+        ≡ out.old.items ++ entry_words word.now account number entry.now) }
 {
     push_word(out, word)?;
     push_word(out, " ")?;
@@ -74,14 +74,14 @@ fn push_entry(
     push_word(out, " ")?;
     push_number(out, number)?;
     push_word(out, " seq ")?;
-    push_number(out, u64::from(entry.0))?;
-    push_payment(out, entry.1)?;
+    push_number(out, u64::from(entry.seq))?;
+    push_payment(out, entry.entry, &entry.note)?;
     push_word(out, "\n")
 }
 
 #[tactic(auto, unfolding(crate::specs::Words::payment_words))]
-fn push_payment(out: &mut Vec<u8>, entry: Entry) -> Result<(), AllocError>
-    ensures { OnOk result (out.new.items ≡ out.old.items ++ payment_words entry) }
+fn push_payment(out: &mut Vec<u8>, entry: Entry, note: &Option<Bytes>) -> Result<(), AllocError>
+    ensures { OnOk result (out.new.items ≡ out.old.items ++ payment_words entry note.now) }
 {
     match entry {
         Entry::Pay { payee, amount } => {
@@ -90,7 +90,20 @@ fn push_payment(out: &mut Vec<u8>, entry: Entry) -> Result<(), AllocError>
             push_word(out, " ")?;
             push_number(out, amount)
         }
-        Entry::Void => push_word(out, " void"),
+        Entry::Void => push_void(out, note),
+    }
+}
+
+#[tactic(auto, unfolding(crate::specs::Words::void_words))]
+fn push_void(out: &mut Vec<u8>, note: &Option<Bytes>) -> Result<(), AllocError>
+    ensures { OnOk result (out.new.items ≡ out.old.items ++ void_words note.now) }
+{
+    match note {
+        Some(text) => {
+            push_word(out, " note ")?;
+            out.extend_from_slice(text.as_slice())
+        }
+        None => push_word(out, " void"),
     }
 }
 
@@ -118,11 +131,14 @@ fn push_short(out: &mut Vec<u8>, account: u16, short: u64) -> Result<(), AllocEr
 
 // What a balance is short of for the first of these entries.
 #[tactic(auto, unfolding(crate::specs::Words::short_by))]
-fn short_by(balance: u64, entries: &[(u32, Entry)]) -> u64
+fn short_by(balance: u64, entries: &[ShownEntry]) -> u64
     ensures { result ≡ short_by balance entries.now }
 {
-    match entries.first() {
-        Some((_, Entry::Pay { amount, .. })) => amount.saturating_sub(balance),
-        Some((_, Entry::Void)) | None => 0,
+    let Some(entry) = entries.first() else {
+        return 0;
+    };
+    match entry.entry {
+        Entry::Pay { amount, .. } => amount.saturating_sub(balance),
+        Entry::Void => 0,
     }
 }

@@ -8,26 +8,29 @@ use thiserror::Error;
 /// Why a desk refuses a line.
 #[derive(Clone, Copy, Debug, PartialEq, Eq, Error)]
 pub enum DeskFault {
-    /// Memory was refused. The same line may be given again.
+    /// There is no memory: give the line again.
     Memory,
-    /// The line is no command.
+    /// The line is no command, or too long.
     BadLine,
-    /// There is no such account.
+    /// There is no such account. `PAYS` looks at all payees before any amount.
     NoAccount,
-    /// Nothing is paid, or it is paid to the own account.
+    /// It pays nothing, or the own account.
     ZeroOrSelf,
-    /// Another payment was asked for under this id.
+    /// The id is kept with another value, of payments or a note. One payment has another by `PAYS`
+    /// than by `PAY`.
     IdUsed,
-    /// All numbers of the own account are used.
+    /// All 65,536 numbers of the own account are used.
     Spent,
-    /// Too few peers have shown yet that they know no more of the own account. The same line may be
-    /// given again.
+    /// Behind a start from a log too few peers have shown yet that they know no more of the own
+    /// account: give the line again (`node` alone).
     TooEarly,
-    /// The group knows more of the own account than is remembered here.
+    /// The group knows more of the own account than this node: no payment is made, and no `STATE`,
+    /// `ENTRIES` or `WAITING` of the own account told (`node` alone).
     Forgotten,
 }
 
 impl DeskFault {
+    // promise: order of refusals (number, name)
     const fn entry(self) -> (u8, &'static str)
         ensures number { result.0 ≡ desk_fault_number self }
         ensures name { result.1.now ≡ desk_fault_name self }
@@ -77,7 +80,6 @@ impl From<TellerFault> for DeskFault {
     fn from(fault: TellerFault) -> DeskFault {
         match fault {
             TellerFault::Memory => DeskFault::Memory,
-            TellerFault::NoAccount => DeskFault::NoAccount,
             TellerFault::Spent => DeskFault::Spent,
             TellerFault::TooEarly => DeskFault::TooEarly,
             TellerFault::Forgotten => DeskFault::Forgotten,

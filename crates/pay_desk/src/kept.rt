@@ -1,7 +1,6 @@
 ghost use Rattle.std.specs.Prelude.{◌≡◌, ◌≤◌, [], ◌∷◌, ◌++◌, None, OnErr, OnOk, length};
 ghost use Rattle.std.specs.Option.{option_copied};
-ghost use Rattle.pay_desk.specs.Calls as call;
-ghost use Rattle.pay_desk.specs.Calls.{Replies};
+ghost use Rattle.pay_desk.specs.Calls.{Asks};
 ghost use Rattle.pay_desk.specs.Kept.{kept_after, kept_under};
 
 use crate::by_id::ById;
@@ -54,6 +53,7 @@ impl KeptValues {
     }
 
     /// What is kept under an id.
+    // promise: asked once
     pub fn find(&self, alloc: Global, id: u64) -> Option<&Kept>
         ensures { option_copied result ≡ kept_under id self.now }
     {
@@ -74,6 +74,7 @@ impl KeptValues {
 
     /// Has a teller broadcast a value, and keeps that it was asked for. Memory is refused before
     /// the teller is asked, or by it. A refused value isn't kept.
+    // promise: asked once; ids (replied)
     pub fn ask<T: Teller>(
         &mut self,
         alloc: Global,
@@ -83,8 +84,7 @@ impl KeptValues {
     ) -> Result<u32, TellerFault>
         requires fresh { kept_under id self.old ≡ None }
         requires short { length value ≤ GREATEST_VALUE }
-        ensures replied { Replies T.says teller.old (call.Ask id value) call.Asked result
-            teller.new }
+        ensures replied { Asks T.says teller.old id value result teller.new }
         ensures kept { self.new ≡ kept_after self.old id value result }
     {
         self.values.reserve(1)?;

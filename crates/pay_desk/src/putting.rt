@@ -23,22 +23,14 @@ pub(crate) const MOST_ANSWER: usize = 64;
 const MOST_NUMBER: usize = 21;
 
 /// How many bytes an answer to `FRONT` has at most.
-const MOST_FRONT: usize = 64 + MOST_MEMBERS as usize * MOST_NUMBER;
+pub(crate) const MOST_FRONT: usize = 64 + MOST_MEMBERS as usize * MOST_NUMBER;
 
-/// Room for an answer of one line.
-pub(crate) fn room(alloc: Global) -> Result<Vec<u8>, AllocError>
+/// Room for an answer of so many bytes.
+pub(crate) fn room_for(alloc: Global, bytes: usize) -> Result<Vec<u8>, AllocError>
     ensures empty { IfOk result (λ out. out.items ≡ []) }
-    ensures room { IfOk result (λ out. vec_len out + MOST_ANSWER ≤ vec_capacity out) }
+    ensures room { IfOk result (λ out. vec_len out + bytes ≤ vec_capacity out) }
 {
-    Vec::with_capacity(alloc, MOST_ANSWER)
-}
-
-/// Room for an answer to `FRONT`.
-pub(crate) fn front_room(alloc: Global) -> Result<Vec<u8>, AllocError>
-    ensures empty { IfOk result (λ out. out.items ≡ []) }
-    ensures room { IfOk result (λ out. vec_len out + MOST_FRONT ≤ vec_capacity out) }
-{
-    Vec::with_capacity(alloc, MOST_FRONT)
+    Vec::with_capacity(alloc, bytes)
 }
 
 #[tactic(auto, unfolding(crate::specs::Words::refused_words))]
@@ -156,7 +148,7 @@ fn put_numbers(out: &mut Vec<u8>, numbers: &[u32])
 pub(crate) fn refused_text(alloc: Global, fault: DeskFault) -> Result<Vec<u8>, AllocError>
     ensures { IfOk result (λ text. text.items ≡ refused_words fault) }
 {
-    let mut text = room(alloc)?;
+    let mut text = room_for(alloc, MOST_ANSWER)?;
     put_refused(&mut text, fault);
     Ok(text)
 }
@@ -171,7 +163,7 @@ pub(crate) fn kept_text(
 ) -> Result<Vec<u8>, AllocError>
     ensures { IfOk result (λ text. text.items ≡ kept_words kept.now id value.now) }
 {
-    let mut text = room(alloc)?;
+    let mut text = room_for(alloc, MOST_ANSWER)?;
     if is_kept(kept, value) {
         put_asked(&mut text, id, kept.seq);
     } else {

@@ -11,6 +11,7 @@ use std::alloc::AllocError;
 
 /// Appends the lines of an account's statement, and its balance.
 #[tactic(auto, unfolding(crate::specs::Words::statement_words))]
+// promise: statements of exports
 pub fn push_statement(
     out: &mut Vec<u8>,
     account: u16,
