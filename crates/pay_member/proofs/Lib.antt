@@ -4,6 +4,7 @@ pub mod Histories
 pub mod Ledgers
 pub mod KnownLists
 pub mod Members
+pub mod LiesFound
 pub mod Openings
 pub mod Rememberings
 pub mod Servings

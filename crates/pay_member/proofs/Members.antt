@@ -32,6 +32,8 @@ use Rattle.pay_link.specs.Checked.{CheckedFields, IsFor}
 use Rattle.pay_member.specs.Refusal.{refusal}
 use Rattle.pay_member.specs.Legal.{IsOwed, Legal}
 use Rattle.pay_member.specs.Ledger.{LedgerFields, Tracks, Grows}
+use Rattle.pay_member.specs.declared.lie.Lie.{Lie}
+use Rattle.pay_member.specs.Lies.{AreFound}
 use Rattle.pay_member.specs.Member.{MemberFields, IsMember, with_entry}
 use Rattle.pay_member.specs.Group.{group_in}
 use Rattle.pay_member.specs.Book.{book_after}
@@ -93,18 +95,18 @@ cons_tail x y xs ys same = cc
 nil_cons : {X : Type 0} (x : X) (xs : List X) → [] ≡ x ∷ xs → ⊥
 nil_cons x xs same = cc
 
-nil_middle : {X : Type 0} (before : List X) (x : X) (after : List X) → [] ≡ before ++ x ∷ after → ⊥
+pub nil_middle : {X : Type 0} (before : List X) (x : X) (after : List X) → [] ≡ before ++ x ∷ after → ⊥
 nil_middle [] x after is = nil_cons x after is
 nil_middle (b ∷ bs) x after is = nil_cons b (bs ++ x ∷ after) is
 
-abbrev IsLastOrBefore : {X : Type 0} → List X → List X → X → X → Type 0
+abbrev pub IsLastOrBefore : {X : Type 0} → List X → List X → X → X → Type 0
 IsLastOrBefore {X} xs before e x = ((before ≡ xs) × (x ≡ e)) ⊎ ((rest : List X) × (xs ≡ before ++ x ∷ rest))
 
 longer : {X : Type 0} (b y : X) (bs ys : List X) (e x : X) → y ≡ b → IsLastOrBefore ys bs e x → IsLastOrBefore (y ∷ ys) (b ∷ bs) e x
 longer b y bs ys e x head (inl (same, last)) = inl (cc, last)
 longer b y bs ys e x head (inr (rest, same)) = inr (rest, cc)
 
-split_push : {X : Type 0} (xs before : List X) (e x : X) (after : List X) → xs ++ e ∷ [] ≡ before ++ x ∷ after → IsLastOrBefore xs before e x
+pub split_push : {X : Type 0} (xs before : List X) (e x : X) (after : List X) → xs ++ e ∷ [] ≡ before ++ x ∷ after → IsLastOrBefore xs before e x
 split_push [] [] e x after is = inl (refl, sym (cons_head e x [] after is))
 split_push [] (b ∷ bs) e x after is = absurd (nil_middle bs x after (cons_tail e b [] (bs ++ x ∷ after) is))
 split_push (y ∷ ys) [] e x after is = inr (ys, ap (λ z. z ∷ ys) (cons_head y x (ys ++ e ∷ []) after is))
@@ -123,12 +125,13 @@ legal_none g k = record { each = λ before y after is. absurd (nil_middle before
 -- ---- the member with one entry more
 
 pub member_more :
-    ChannelFollows → ListsFollow → ListsGrow → AskedGrows → OwnEchoIsAsk → (m : MemberFields) (old new : LedgerFields) (fronts later : List ℕ) (x : HistoryEntry) (e : channel.Event) (took : Took)
-    → IsMember m old fronts → Grows old new e took → channel_event x.event ≡ Some e → IsOwed m.genesis m.keys (events m.history) x
+    ChannelFollows → ListsFollow → ListsGrow → AskedGrows → OwnEchoIsAsk → (m : MemberFields) (old new : LedgerFields) (fronts later : List ℕ) (lies noted : List (Option Lie)) (x : HistoryEntry) (e : channel.Event) (took : Took)
+    → IsMember m old fronts lies → Grows old new e took → channel_event x.event ≡ Some e → IsOwed m.genesis m.keys (events m.history) x
     → length later ≡ m.genesis.members
     → ((p : ℕ) → p < m.genesis.members → slice_index later p ≡ next p (events m.history ++ e ∷ []))
-    → IsMember (with_entry m x) new later
-member_more more follow longer asked echo m old new fronts later x e took is grows event owed places turns =
+    → AreFound m.genesis.members (events m.history ++ e ∷ []) noted
+    → IsMember (with_entry m x) new later noted
+member_more more follow longer asked echo m old new fronts later lies noted x e took is grows event owed places turns found =
     let now = events-push m.history x e event in
     let legal = legal_more m.genesis m.keys m.history x is.legal owed in
     let g : Group = group_in m.genesis m.keys.own in
@@ -148,13 +151,14 @@ member_more more follow longer asked echo m old new fronts later x e took is gro
       tells = subst (λ h. TellsForgetting g h new.has_forgotten) (sym now) (subst (λ (y : Group). TellsForgetting y (events m.history ++ e ∷ []) new.has_forgotten) group tells);
       one_for_each = places;
       turns = λ p member. turns p member ∙ ap (next p) (sym now);
+      lies_found = subst (λ h. AreFound m.genesis.members h noted) (sym now) found;
     }
 
 pub member_queried :
-    (m : MemberFields) (ledger : LedgerFields) (fronts : List ℕ) (x : HistoryEntry)
-    → IsMember m ledger fronts → channel_event x.event ≡ None → IsOwed m.genesis m.keys (events m.history) x
-    → IsMember (with_entry m x) ledger fronts
-member_queried m ledger fronts x is event owed =
+    (m : MemberFields) (ledger : LedgerFields) (fronts : List ℕ) (lies : List (Option Lie)) (x : HistoryEntry)
+    → IsMember m ledger fronts lies → channel_event x.event ≡ None → IsOwed m.genesis m.keys (events m.history) x
+    → IsMember (with_entry m x) ledger fronts lies
+member_queried m ledger fronts lies x is event owed =
     let now = events-unchanged m.history x event in
     record {
       genesis = is.genesis;
@@ -164,21 +168,22 @@ member_queried m ledger fronts x is event owed =
       tells = subst (λ h. TellsForgetting (group_in m.genesis m.keys.own) h ledger.has_forgotten) (sym now) is.tells;
       one_for_each = is.one_for_each;
       turns = λ p member. is.turns p member ∙ ap (next p) (sym now);
+      lies_found = subst (λ h. AreFound m.genesis.members h lies) (sym now) is.lies_found;
     }
 
 -- ---- the next numbers
 
 -- an ask leaves them
 pub turns_asked :
-    NextByOneMore → (m : MemberFields) (ledger : LedgerFields) (fronts : List ℕ) (v : List ℕ) → IsMember m ledger fronts
+    NextByOneMore → (m : MemberFields) (ledger : LedgerFields) (fronts : List ℕ) (lies : List (Option Lie)) (v : List ℕ) → IsMember m ledger fronts lies
     → (p : ℕ) → p < m.genesis.members → slice_index fronts p ≡ next p (events m.history ++ channel.Ask v ∷ [])
-turns_asked more m ledger fronts v is p member = is.turns p member ∙ sym (more p (events m.history) (channel.Ask v))
+turns_asked more m ledger fronts lies v is p member = is.turns p member ∙ sym (more p (events m.history) (channel.Ask v))
 
 -- a frame moves its sender's
 pub turns_taken :
-    NextByOneMore → (m : MemberFields) (ledger : LedgerFields) (fronts : List ℕ) (from : ℕ) (body : BodyFields) → IsMember m ledger fronts → from < m.genesis.members
+    NextByOneMore → (m : MemberFields) (ledger : LedgerFields) (fronts : List ℕ) (lies : List (Option Lie)) (from : ℕ) (body : BodyFields) → IsMember m ledger fronts lies → from < m.genesis.members
     → (p : ℕ) → p < m.genesis.members → slice_index (set fronts from (slice_index fronts from + 1)) p ≡ next p (events m.history ++ channel.From from body ∷ [])
-turns_taken more m ledger fronts from body is sender p member = go (cases_eq p from) where
+turns_taken more m ledger fronts lies from body is sender p member = go (cases_eq p from) where
   go : ((p ≡ from) ⊎ (p ≢ from)) → slice_index (set fronts from (slice_index fronts from + 1)) p ≡ next p (events m.history ++ channel.From from body ∷ [])
   go (inl same) =
       let here : slice_index (set fronts from (slice_index fronts from + 1)) from ≡ slice_index fronts from + 1 = get_or-set_same fronts from (slice_index fronts from + 1) 0 (let l = is.one_for_each in omega arith) in
@@ -192,9 +197,9 @@ turns_taken more m ledger fronts from body is sender p member = go (cases_eq p f
 
 -- they are counts of entries
 pub turns_counted :
-    NextIsCount → (m : MemberFields) (ledger : LedgerFields) (fronts : List ℕ) → IsMember m ledger fronts
+    NextIsCount → (m : MemberFields) (ledger : LedgerFields) (fronts : List ℕ) (lies : List (Option Lie)) → IsMember m ledger fronts lies
     → (p : ℕ) → p < m.genesis.members → slice_index fronts p ≤ length m.history
-turns_counted count m ledger fronts is p member =
+turns_counted count m ledger fronts lies is p member =
     let few = length-events m.history in
     let counted = is.turns p member ∙ count p (events m.history) in
     let below = count_by-le-length (is_from p) (events m.history) in
@@ -216,11 +221,11 @@ frame_taken g k before c front is now above below = search rules
 -- ---- a member that took nothing
 
 pub member_fresh :
-    NothingTakenAtFirst → EmptyAtFirst → (g : GenesisFields) (k : KeyFields) (own : ℕ) (ledger : LedgerFields) (fronts : List ℕ)
-    → IsGenesis g → IsKeysOf g k → own ≡ k.own → Tracks g own [] ledger → ledger.has_forgotten ≡ false → fronts ≡ replicate g.members 0
-    → IsMember (record { genesis = g; keys = k; history = [] }) ledger fronts
+    NothingTakenAtFirst → EmptyAtFirst → (g : GenesisFields) (k : KeyFields) (own : ℕ) (ledger : LedgerFields) (fronts : List ℕ) (lies : List (Option Lie))
+    → IsGenesis g → IsKeysOf g k → own ≡ k.own → Tracks g own [] ledger → ledger.has_forgotten ≡ false → fronts ≡ replicate g.members 0 → AreFound g.members [] lies
+    → IsMember (record { genesis = g; keys = k; history = [] }) ledger fronts lies
 unfolding events
-member_fresh nothing empty g k own ledger fronts limits of_genesis mine tracks fresh zeros =
+member_fresh nothing empty g k own ledger fronts lies limits of_genesis mine tracks fresh zeros found =
     record {
       genesis = limits;
       keys = of_genesis;
@@ -229,6 +234,7 @@ member_fresh nothing empty g k own ledger fronts limits of_genesis mine tracks f
       tells = record { remembers = λ _. remembers_none empty (group_in g k.own); forgot = λ yes. absurd (true≢false (sym yes ∙ fresh)) };
       one_for_each = ap length zeros ∙ length-replicate g.members 0;
       turns = λ p member. ap (λ (f : List ℕ). slice_index f p) zeros ∙ get_or-replicate g.members p 0 0 member ∙ sym (ap length (nothing p));
+      lies_found = found;
     }
 
 -- ---- what a query is told, and the state of a payment

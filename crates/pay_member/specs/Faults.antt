@@ -10,6 +10,9 @@ use Rattle.pay_member.specs.declared.fault.MemberFault.{MemberFault}
 use Rattle.pay_member.specs.declared.fault.MemberFault.TheVariants.{Memory, Spent, TooLong, Repeat}
 use Rattle.pay_member.specs.declared.fault.MemberFault.TheVariants.{Gap, WrongKey, NoAccount}
 
+-- change: a refusal of a member, as `Spent`: `specs/Refusal.antt`; how a desk tells it:
+--   `pay_desk/src/one_member.rt`, `pay_peers/src/teller.rt`; model
+--   `tests/models/model.py`
 abbrev pub member_fault_entry : MemberFault → ℕ × List ℕ
 member_fault_entry Memory = (0, codes "Memory")
 member_fault_entry Spent = (1, codes "Spent")

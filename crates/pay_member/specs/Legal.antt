@@ -28,6 +28,10 @@ pub record IsOwed (g : GenesisFields) (k : KeyFields) (before : List channel.Eve
   pub reply : e.reply ≡ reply_to g k.own before e.event
 
 -- each entry is one that may stand after those before it
+-- page: `Legal`: nothing refuses an entry's event after the entries before it, its reply is the one
+--   owed, and its frame is rightly tagged and no WANT
+-- term: legal: of a history: each entry is the one owed after those before it
+-- term: history: all entries of a member, in order
 pub record Legal (g : GenesisFields) (k : KeyFields) (history : List HistoryEntry) : Type 0 where
   pub each :
       (before : List HistoryEntry) (e : HistoryEntry) (after : List HistoryEntry)

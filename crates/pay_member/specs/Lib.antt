@@ -8,9 +8,11 @@ pub mod Faults
 pub mod Legal
 pub mod Remembering
 pub mod Ledger
+pub mod Lies
 pub mod Member
 pub mod Answer
 pub mod Reading
+pub mod Questions
 pub mod Bringing
 pub mod OpeningLaws
 pub mod EventLaws

@@ -1,5 +1,5 @@
 -- What a member shows: a function of its genesis, its keys and its history.
-use Rattle.std.specs.Prelude.{◌≡◌, ℕ, ◌<◌, List, [], ◌∷◌, ◌++◌, length, slice_index}
+use Rattle.std.specs.Prelude.{◌≡◌, ℕ, ◌<◌, List, [], ◌∷◌, ◌++◌, length, slice_index, Option}
 use Rattle.pay_channel.specs.Taken.{next}
 use Rattle.pay_link.specs.Genesis.{GenesisFields, IsGenesis}
 use Rattle.pay_link.specs.Keys.{KeyFields, IsKeysOf}
@@ -7,6 +7,8 @@ use Rattle.pay_member.specs.declared.entry.HistoryEntry.{HistoryEntry}
 use Rattle.pay_member.specs.Events.{events}
 use Rattle.pay_member.specs.Ledger.{LedgerFields, Tracks}
 use Rattle.pay_member.specs.Legal.{Legal}
+use Rattle.pay_member.specs.declared.lie.Lie.{Lie}
+use Rattle.pay_member.specs.Lies.{AreFound}
 use Rattle.pay_member.specs.Group.{group_in}
 use Rattle.pay_member.specs.Remembering.{TellsForgetting}
 
@@ -21,7 +23,8 @@ with_entry m e = record m { history = m.history ++ e ∷ [] }
 
 -- What is true of every member: its history is one that it can have, and what it keeps beside it
 -- follows from it.
-pub record IsMember (m : MemberFields) (ledger : LedgerFields) (fronts : List ℕ) : Type 0 where
+pub record IsMember (m : MemberFields) (ledger : LedgerFields) (fronts : List ℕ)
+    (lies : List (Option Lie)) : Type 0 where
   pub genesis : IsGenesis m.genesis
   pub keys : IsKeysOf m.genesis m.keys
   pub legal : Legal m.genesis m.keys m.history
@@ -30,3 +33,4 @@ pub record IsMember (m : MemberFields) (ledger : LedgerFields) (fronts : List �
       TellsForgetting (group_in m.genesis m.keys.own) (events m.history) ledger.has_forgotten
   pub one_for_each : length fronts ≡ m.genesis.members
   pub turns : (p : ℕ) → p < m.genesis.members → slice_index fronts p ≡ next p (events m.history)
+  pub lies_found : AreFound m.genesis.members (events m.history) lies

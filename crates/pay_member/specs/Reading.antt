@@ -14,6 +14,7 @@ use Rattle.pay_member.specs.Group.{group_in}
 use Rattle.pay_member.specs.Book.{book_after}
 
 -- how far the value under a number of an account has come: it is settled where all its entries are
+-- page: `state_of`: how far a value has come ([the words](COMMANDS.md#desk))
 unfoldable pub state_of : GenesisFields → ℕ → List Event → ℕ → ℕ → PaymentState
 state_of g own events owner seq =
     if nat_lt seq (place_of (book_after g own events).places owner).0 then Settled
@@ -27,6 +28,8 @@ fetched_bodies g own events number count = take count (drop number (out (group_i
 
 -- An account's values as far as a member knows them: those of its list and, of its own account,
 -- what it was asked to broadcast and hasn't listed yet.
+-- page: `values_known`: an account's list, and after it what the member was itself asked to
+--   broadcast and hasn't listed
 unfoldable pub values_known : GenesisFields → ℕ → List Event → ℕ → List (List ℕ)
 values_known g own events account =
     list_of (group_in g own) events account

@@ -28,6 +28,9 @@ turn_refusal next number =
     else if nat_lt next number then Some (Gap next)
     else None
 
+-- page: `refusal`: the first cause to refuse an event: a value too long, then no number left; a
+--   frame for another member or under another key, then not the next number; an account that
+--   isn't there
 abbrev pub refusal : GenesisFields → KeyFields → List channel.Event → Event → Option MemberFault
 refusal g k before (Ask v) =
     if nat_lt GREATEST_VALUE (length v) then Some TooLong

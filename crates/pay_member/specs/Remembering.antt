@@ -7,6 +7,9 @@ use Rattle.pay_channel.specs.Prefix.{IsPrefix}
 
 -- At every moment, all that was in the list of its own account it had been asked for, in that
 -- order.
+-- page: `Remembers`, `HasForgotten`: at every moment of a history, the own account's list was a
+--   prefix of the values asked for until then; or once it had a value under a number under
+--   which that one hadn't been asked for
 pub record Remembers (g : Group) (history : List Event) : Type 0 where
   pub each :
       (before : List Event) → IsPrefix before history

@@ -43,6 +43,8 @@ told_of g own events a =
       listed = length (list_of (group_in g own) events a);
     }
 
+-- page: `reply_to`: the reply that is owed: the count of values asked before; what became known by
+--   the frame, and how many entries settled; an account's balance, front and length of list
 abbrev pub reply_to : GenesisFields → ℕ → List channel.Event → Event → Reply
 reply_to g own before (Ask v) = reply.Asked (asks before)
 reply_to g own before (Taken c) =

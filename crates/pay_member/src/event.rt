@@ -6,6 +6,7 @@ use pay_frame::Bytes;
 use pay_link::Checked;
 use std::alloc::{AllocError, Global};
 
+// term: event: what a member takes: a value of its own, a frame, or a query
 /// What a member takes.
 #[derive(Drop)]
 pub enum Event {

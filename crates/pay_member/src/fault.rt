@@ -25,6 +25,7 @@ pub enum MemberFault {
 }
 
 impl MemberFault {
+    // promise: order of refusals (number, name)
     const fn entry(self) -> (u8, &'static str)
         ensures number { result.0 ≡ member_fault_number self }
         ensures name { result.1.now ≡ member_fault_name self }

@@ -38,6 +38,7 @@ pub fn events_in_order()
 /// A history that a member can have stays one with an owed entry more, and so does each prefix
 /// of one. What it holds may come to the channel of the member's group, and what is delivered are
 /// values that a frame has room for.
+// promise: histories grow
 pub fn legal_histories()
     ensures none { NoneIsLegal }
     ensures more { LegalByOneMore }
@@ -49,6 +50,7 @@ pub fn legal_histories()
 }
 
 /// Each refusal comes exactly where its own cause holds and no earlier one.
+// promise: member's refusals
 pub fn refusal_causes()
     ensures too_long { TooLongCause }
     ensures spent { SpentCause }
@@ -61,6 +63,7 @@ pub fn refusal_causes()
 /// As a history grows, so do its events, the sent list, each account's list and its settled
 /// entries, all at their ends alone, and no front moves back: nothing that settled at a member is
 /// ever taken back.
+// promise: histories grow
 pub fn histories_grow()
     ensures events { EventsGrow }
     ensures sent { SentGrows }
@@ -76,6 +79,7 @@ pub fn histories_grow()
 
 /// The book of any events has settled all that their lists allow. Its balances sum to what all
 /// accounts opened with, nobody owes, and equal lists have equal books.
+// promise: member's book
 pub fn book_of_events()
     ensures settled { BookIsSettled }
     ensures total { TotalIsKept }
@@ -91,6 +95,7 @@ pub fn book_of_events()
 /// What opens of bytes is the one frame that they are, where it opens with the member's keys and is
 /// no WANT. It is an event exactly where its number is the next one, and that event may come to the
 /// channel of the member's group.
+// promise: brought bytes
 pub fn what_is_brought()
     ensures opened { OpenedIn }
     ensures event { EventIn }

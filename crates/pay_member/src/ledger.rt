@@ -1,16 +1,20 @@
 ghost use Rattle.std.specs.Prelude.{true, false, ◌≡◌, ◌<◌, ◌≤◌, ◌↔◌, [], drop, take, length};
 ghost use Rattle.std.specs.Prelude.{slice_get, slice_index, IfOk, OnErr, IsTrue};
+ghost use Rattle.std.specs.Bool.{then_some};
 ghost use Rattle.std.specs.Option.{option_copied};
-ghost use Rattle.pay_channel.specs.History.{IsEvent, is_ask, owner_of, seqs};
+ghost use Rattle.pay_channel.specs.History.{From, IsEvent, is_ask, owner_of, seqs};
 ghost use Rattle.pay_channel.specs.State.{channel_lists, meaning_at};
 ghost use Rattle.pay_book.specs.Excerpt.{settled_excerpt, waiting_excerpt};
 ghost use Rattle.pay_book.specs.Front.{AllGrow};
 ghost use Rattle.pay_book.specs.Places.{place_of};
 ghost use Rattle.pay_book.specs.Statement.{statement_of};
 ghost use Rattle.pay_channel.specs.Applied.{event_of_ref};
+ghost use Rattle.pay_channel.specs.Lies.{is_lie_to};
 ghost use Rattle.pay_frame.specs.declared.limits.TheConstants.{MOST_MEMBERS};
 ghost use Rattle.pay_member.specs.Ledger.{Tracks, IsSameLedger, Grows, IsListedAsEchoed, IsNoticed};
+ghost use Rattle.pay_member.specs.Lies.{lie_of};
 
+use crate::lie::Lie;
 use crate::took::Took;
 use pay_book::laws::{
     book_stays, fresh_book_is_settled, group_lists_are_countable, grown_list_can_settle,
@@ -114,6 +118,15 @@ impl<I: Instance + Drop, B: Settle + Drop> Ledger<I, B> {
         ensures { result ≡ self.now.has_forgotten }
     {
         self.has_forgotten
+    }
+
+    /// The lie that a body of another member is, if it is one.
+    pub fn lie(&self, process: u16, body: &Body) -> Option<Lie>
+        requires { IsEvent self.now.channel.group (From process body.now) }
+        ensures { result
+            ≡ then_some (is_lie_to self.now.channel process body.now) (lie_of body.now) }
+    {
+        self.channel.is_lie(process, body).then_some(Lie::of(body))
     }
 
     /// The body at a place of all that the member sent to all.

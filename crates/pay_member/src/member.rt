@@ -22,6 +22,7 @@ ghost use Rattle.pay_member.specs.Reading.{entries_shown, fetched_bodies, state_
 ghost use Rattle.pay_member.specs.Reading.{waiting_shown};
 ghost use Rattle.pay_member.specs.Legal.{Legal};
 ghost use Rattle.pay_member.specs.Remembering.{Remembers, HasForgotten};
+ghost use Rattle.pay_member.specs.Lies.{IsFound};
 ghost use Rattle.pay_member.specs.Member.{with_entry};
 ghost use Rattle.pay_member.specs.Bringing.{IsOutcome, answer_to, event_in, event_of_frame};
 ghost use Rattle.pay_member.specs.Bringing.{incoming_at};
@@ -38,6 +39,7 @@ use crate::fault::MemberFault;
 use crate::incoming::Incoming;
 use crate::known::KnownValues;
 use crate::ledger::Ledger;
+use crate::lie::{Lie, note_lie};
 use crate::outcome::Outcome;
 use crate::query_fault::QueryFault;
 use crate::received::Received;
@@ -74,6 +76,8 @@ pub struct Member<I: Instance + Drop, B: Settle + Drop> {
     genesis: Genesis,
     keys: Keys,
     fronts: Fronts,
+    // of each member the lie that it told last, if it told one
+    lies: Vec<Option<Lie>>,
     pub(crate) ledger: Ledger<I, B>,
     history: Vec<HistoryEntry>,
 }
@@ -87,7 +91,7 @@ impl<I: Instance + Drop, B: Settle + Drop> Model for Member<I, B> {
 
     ghost invariant = { λ m. IsMember
         (record { genesis = m.genesis; keys = m.keys; history = m.history.items })
-        m.ledger m.fronts };
+        m.ledger m.fronts m.lies.items };
 }
 
 impl<I: Instance + Drop, B: Settle + Drop> Member<I, B> {
@@ -99,11 +103,13 @@ impl<I: Instance + Drop, B: Settle + Drop> Member<I, B> {
     {
         nothing_at_first();
         let fronts = Fronts::new(alloc, genesis.members())?;
+        let lies = vec![in alloc; None; usize::from(genesis.members())]?;
         let ledger = Ledger::new(alloc, &genesis, keys.own())?;
         Ok(Member {
             genesis,
             keys,
             fronts,
+            lies,
             ledger,
             history: Vec::new(alloc),
         })
@@ -113,6 +119,8 @@ impl<I: Instance + Drop, B: Settle + Drop> Member<I, B> {
     ///
     /// Refuses a value of more than 1,024 bytes (`TooLong`) and one after 65,536 others (`Spent`).
     /// A refused value is dropped, and the member is unchanged.
+    // promise: nothing changes (err); member's refusals (refused, err)
+    // promise: member's replies (asked, entry)
     pub fn ask(&mut self, alloc: Global, stamp: u16, value: Bytes) -> Result<u32, AskFault>
         ensures refused { MatchOption
             (refusal self.old.genesis self.old.keys (events self.old.history) (Event.Ask value))
@@ -154,6 +162,8 @@ impl<I: Instance + Drop, B: Settle + Drop> Member<I, B> {
     /// Refuses one that isn't for this member or was opened under another key (`WrongKey`), and
     /// then one whose number isn't the next from its sender (`Repeat`, `Gap`). A refused frame is
     /// dropped, and the member is unchanged.
+    // promise: nothing changes (err); member's refusals (refused, err)
+    // promise: member's replies (took, entry)
     pub fn take(&mut self, alloc: Global, stamp: u16, checked: Checked) -> Result<Took, TakeFault>
         ensures refused { MatchOption
             (refusal self.old.genesis self.old.keys (events self.old.history) (Event.Taken checked))
@@ -186,6 +196,7 @@ impl<I: Instance + Drop, B: Settle + Drop> Member<I, B> {
         self.history.reserve(1)?;
         taken_is_kept(&checked);
         let body = checked.body();
+        let lie = self.ledger.lie(from, body);
         let took = self.ledger.apply(
             alloc,
             EventRef::From(from, body),
@@ -202,6 +213,7 @@ impl<I: Instance + Drop, B: Settle + Drop> Member<I, B> {
         let entries = self.history.len();
         prove!(entries > 0);
         self.fronts.advance(from);
+        note_lie(&mut self.lies, from, lie);
         Ok(took)
     }
 
@@ -210,6 +222,7 @@ impl<I: Instance + Drop, B: Settle + Drop> Member<I, B> {
     /// Where a frame opened that is no WANT, the answer has the WANT to its sender for what is next
     /// after the call. Memory can be refused only to a frame that is the next one, and leaves the
     /// member unchanged.
+    // promise: nothing changes (err); brought bytes
     pub fn bring<T: Tagger>(
         &mut self,
         alloc: Global,
@@ -241,6 +254,7 @@ impl<I: Instance + Drop, B: Settle + Drop> Member<I, B> {
     }
 
     /// The same without the WANT, which spares its tag.
+    // promise: brought bytes
     pub fn bring_unanswered<T: Tagger>(
         &mut self,
         alloc: Global,
@@ -267,6 +281,7 @@ impl<I: Instance + Drop, B: Settle + Drop> Member<I, B> {
 
     /// The same of a frame by itself that is for this member, without its bytes: they would open to
     /// it, so no tag is computed.
+    // promise: brought bytes
     pub fn bring_owned(
         &mut self,
         alloc: Global,
@@ -394,6 +409,8 @@ impl<I: Instance + Drop, B: Settle + Drop> Member<I, B> {
 
     /// Tells the state of an account, and notes that it was asked for. Refuses an account that
     /// isn't there.
+    // promise: nothing changes (err); member's refusals (refused, err)
+    // promise: member's replies (told, entry)
     pub fn query(&mut self, _alloc: Global, stamp: u16, account: u16) -> Result<Told, QueryFault>
         ensures refused { MatchOption
             (refusal self.old.genesis self.old.keys (events self.old.history) (Event.Query account))
@@ -426,6 +443,7 @@ impl<I: Instance + Drop, B: Settle + Drop> Member<I, B> {
 
     /// Hands an event in: asks, takes or queries. A refused event is dropped, and the member is
     /// unchanged.
+    // promise: order of refusals; member's replies
     pub fn hand_in(&mut self, alloc: Global, stamp: u16, event: Event) -> Result<Reply, MemberFault>
         ensures refused { MatchOption
             (refusal self.old.genesis self.old.keys (events self.old.history) event)
@@ -444,6 +462,7 @@ impl<I: Instance + Drop, B: Settle + Drop> Member<I, B> {
     }
 
     /// What the ledger began with.
+    // promise: readings
     pub fn genesis(&self) -> &Genesis
         ensures value { result.now ≡ self.now.genesis }
         ensures limits { IsGenesis self.now.genesis }
@@ -452,6 +471,7 @@ impl<I: Instance + Drop, B: Settle + Drop> Member<I, B> {
     }
 
     /// The member's own number, and the keys that it shares with its peers.
+    // promise: readings
     pub fn keys(&self) -> &Keys
         ensures value { result.now ≡ self.now.keys }
         ensures limits { IsKeysOf self.now.genesis self.now.keys }
@@ -475,6 +495,7 @@ impl<I: Instance + Drop, B: Settle + Drop> Member<I, B> {
     }
 
     /// All that the member took and replied, oldest first.
+    // promise: legal history (legal); readings (value)
     pub fn history(&self) -> &[HistoryEntry]
         ensures value { result.now ≡ self.now.history }
         ensures legal { Legal self.now.genesis self.now.keys self.now.history }
@@ -483,6 +504,7 @@ impl<I: Instance + Drop, B: Settle + Drop> Member<I, B> {
     }
 
     /// The body at a place of all that the member sent to all.
+    // promise: readings
     pub fn sent(&self, place: u64) -> Option<&Body>
         ensures { option_copied result
             ≡ slice_get (out (group_in self.now.genesis self.now.keys.own)
@@ -501,6 +523,7 @@ impl<I: Instance + Drop, B: Settle + Drop> Member<I, B> {
     }
 
     /// How many bodies the member sent to all.
+    // promise: readings
     pub fn sent_len(&self) -> u64
         ensures { result ≡ length (out (group_in self.now.genesis self.now.keys.own)
             (events self.now.history)) }
@@ -510,6 +533,7 @@ impl<I: Instance + Drop, B: Settle + Drop> Member<I, B> {
 
     /// Copies of the bodies that the member sent to all, from a place on: at most `max`, and at
     /// most 16.
+    // promise: readings
     pub fn fetch(&self, alloc: Global, from: usize, max: usize) -> Result<Vec<Body>, AllocError>
         ensures { IfOk result (λ bodies. bodies.items
             ≡ fetched_bodies self.now.genesis self.now.keys.own (events self.now.history)
@@ -520,6 +544,7 @@ impl<I: Instance + Drop, B: Settle + Drop> Member<I, B> {
 
     /// Whether the member has forgotten what it sent: its own list had a value under a number under
     /// which it hadn't been asked for that one. Each value is looked at once, as it is listed.
+    // promise: readings (evidence, remembers); forgetting
     pub fn has_forgotten(&self) -> bool
         ensures evidence { IsTrue result
             ↔ HasForgotten (group_in self.now.genesis self.now.keys.own)
@@ -530,7 +555,17 @@ impl<I: Instance + Drop, B: Settle + Drop> Member<I, B> {
         self.ledger.has_forgotten()
     }
 
+    /// The lie that a member told last to this one, if it told any: what no correct member says.
+    // promise: lies
+    pub fn lie(&self, peer: u16) -> Option<Lie>
+        requires { peer < self.now.genesis.members }
+        ensures { IsFound (events self.now.history) peer result }
+    {
+        self.lies[usize::from(peer)]
+    }
+
     /// The number that the next frame from a member has.
+    // promise: readings
     pub fn next(&self, peer: u16) -> u64
         requires { peer < self.now.genesis.members }
         ensures { result ≡ next peer (events self.now.history) }
@@ -539,6 +574,7 @@ impl<I: Instance + Drop, B: Settle + Drop> Member<I, B> {
     }
 
     /// How many of an account's entries are settled.
+    // promise: readings
     pub fn front(&self, account: u16) -> u32
         requires { account < self.now.genesis.members }
         ensures { result
@@ -551,6 +587,7 @@ impl<I: Instance + Drop, B: Settle + Drop> Member<I, B> {
     }
 
     /// How many entries are settled of each account.
+    // promise: readings
     pub fn fronts(&self, alloc: Global) -> Result<Vec<u32>, AllocError>
         ensures value { IfOk result (λ fronts. fronts.items
             ≡ (book_after self.now.genesis self.now.keys.own (events self.now.history)).front) }
@@ -562,6 +599,7 @@ impl<I: Instance + Drop, B: Settle + Drop> Member<I, B> {
     }
 
     /// An account's balance, in the unit of the genesis's opening balances.
+    // promise: readings
     pub fn balance(&self, account: u16) -> u64
         requires { account < self.now.genesis.members }
         ensures { result
@@ -574,6 +612,7 @@ impl<I: Instance + Drop, B: Settle + Drop> Member<I, B> {
     }
 
     /// How far the value under a number of an account has come.
+    // promise: readings
     pub fn state(&self, owner: u16, seq: u32) -> PaymentState
         requires { owner < self.now.genesis.members }
         ensures { result
@@ -593,6 +632,7 @@ impl<I: Instance + Drop, B: Settle + Drop> Member<I, B> {
     }
 
     /// The lines of an account's statement.
+    // promise: readings
     pub fn statement(&self, alloc: Global, account: u16) -> Result<Vec<Line>, AllocError>
         requires { account < self.now.genesis.members }
         ensures { IfOk result (λ lines. lines.items
@@ -608,6 +648,7 @@ impl<I: Instance + Drop, B: Settle + Drop> Member<I, B> {
     }
 
     /// What settled of an account from a number on: at most 1,000 entries.
+    // promise: readings
     pub fn entries(&self, alloc: Global, account: u16, from: u64) -> Result<Excerpt, AllocError>
         requires { account < self.now.genesis.members }
         ensures { IfOk result (λ excerpt. excerpt ≡ entries_shown self.now.genesis
@@ -620,6 +661,7 @@ impl<I: Instance + Drop, B: Settle + Drop> Member<I, B> {
     }
 
     /// What is known of an account and isn't settled: the first 1,000 entries.
+    // promise: readings
     pub fn waiting(&self, alloc: Global, account: u16) -> Result<Excerpt, AllocError>
         requires { account < self.now.genesis.members }
         ensures { IfOk result (λ excerpt. excerpt ≡ waiting_shown self.now.genesis

@@ -1,7 +1,7 @@
 //! How a member is fed from a peer's stream.
 
 ghost use Rattle.std.specs.Prelude.{◌≡◌, OnOk};
-ghost use Rattle.pay_io.specs.Counts.{KeepsCounts};
+ghost use Rattle.pay_io.specs.Counts.{KeepsCounts, counts_of};
 ghost use Rattle.pay_engine.specs.EngineFault.{engine_of};
 ghost use Rattle.pay_link.specs.Keys.{IsPeer};
 ghost use Rattle.pay_engine.specs.Exact.{TakesFrames, Writes, exactly};
@@ -31,10 +31,6 @@ impl<I: Instance + Drop, B: Settle + Drop, T: Tagger> FrameHandler<Member<I, B>>
     ghost has_room = { λ _ _ _. Unit {0} };
 
     ghost keeps_room = { λ _ _ _ _ _ _ _ _. tt };
-
-    fn at_once(&self, _held: &[u8]) -> usize {
-        usize::MAX
-    }
 
     fn handle(
         &self,
@@ -67,6 +63,7 @@ impl<I: Instance + Drop, B: Settle + Drop, T: Tagger> FrameHandler<Member<I, B>>
 ///
 /// A fault in the frames ends it, and is answered. After another fault what was written is a prefix
 /// of the text, and the member took a prefix of the frames.
+// promise: early ends (counts, none_failed, all_written); peer's stream (text, took)
 pub fn serve<I, B, T, R, W>(
     alloc: Global,
     member: &mut Member<I, B>,
@@ -85,12 +82,19 @@ where
     requires { IsPeer member.old.keys peer }
     ensures text { Writes (serving stamp)
         (serve_start member.old peer (R.remaining reader.old) (W.contents writer.old))
-        member.new (R.remaining reader.new) (W.contents writer.new) result }
+        (record {
+          state = member.new;
+          left = R.remaining reader.new;
+          after = W.contents writer.new;
+        })
+        result }
     ensures took { TakesFrames (serving stamp)
         (serve_start member.old peer (R.remaining reader.old) (W.contents writer.old))
         member.new }
-    ensures counts { KeepsCounts engine_of R.call_count R.failure_count R.remaining
-        W.failure_count reader.old reader.new writer.old writer.new result }
+    ensures counts { let counted =
+        counts_of R.call_count R.failure_count R.remaining W.failure_count in
+        KeepsCounts engine_of
+        (counted reader.old writer.old) (counted reader.new writer.new) result }
     ensures none_failed { OnOk result (R.failure_count reader.new ≡ R.failure_count reader.old) }
     ensures all_written { OnOk result (W.failure_count writer.new ≡ W.failure_count writer.old) }
 {

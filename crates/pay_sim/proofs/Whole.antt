@@ -6,7 +6,7 @@ use Rattle.std.proofs.KnownBytes.{Appends-trans}
 use Rattle.pay_io.specs.declared.stream_fault.StreamFault.{StreamFault}
 use Rattle.pay_io.specs.Device.{WroteBeginning}
 use Rattle.pay_text.specs.Answers.{Answers, Either}
-use Rattle.pay_text.specs.Engine.{AnswersAll, AnswersFirst, WritesByEnd}
+use Rattle.pay_text.specs.Engine.{Answering, AnswersAll, AnswersFirst, Dialogue, WritesByEnd}
 use Rattle.pay_text.specs.Lines.{line_feed, lines_of, lines_within, within}
 use Rattle.pay_text.specs.Words.{onto_first}
 use Rattle.pay_sim.specs.declared.group.ScriptGroup.{ScriptGroup}
@@ -119,18 +119,24 @@ some_read p q b bytes text on going answers =
     let same = lines_is on q followed.0 followed.2 in
     omega arith
 
+abbrev answering : {A : Type 0} → (A → Option (List ℕ) → List ℕ → Bool → A → Type 0) → (A → A → Type 0) → Answering A
+answering says gives_up = record { says = says; gives_up = gives_up }
+
+abbrev said_by : {A : Type 0} → A → Option (List ℕ) → Dialogue A
+said_by a written = record { answerer = a; written = written }
+
 module _ (p q : PlayFields) (input left before after : Option (List ℕ)) (fresh : p ≡ record { lines = 0; game = None; stop = None }) where
   none_at_first : p.lines ≡ 0
   none_at_first = ap (λ (x : PlayFields). x.lines) fresh
 
   -- some line was read
-  pub ends : (on : Bool) → WritesByEnd IsPlayAnswer MayBeAny LONGEST_LINE p q input left before after (Ok on) → q.lines ≢ 0 → WritesRun input left before after (Ok (end_of q.stop))
+  pub ends : (on : Bool) → WritesByEnd (answering IsPlayAnswer MayBeAny) LONGEST_LINE (said_by p before) (said_by q after) input left (Ok on) → q.lines ≢ 0 → WritesRun input left before after (Ok (end_of q.stop))
   ends on (all, at) some = go input all where
     finish : (on : Bool) → Either on (IsAtEnd left) Unit → (n : Moment) (lines : List (Option (List ℕ))) (text : List ℕ) → Answers PlaysLine start lines text on n → q.stop ≡ n.stopped → end_of q.stop ≡ end.Done → IsAtEnd left
     finish true at n lines text answers stop done = at
     finish false at n lines text answers stop done = absurd (stopped_is_not_done start n lines text false refl answers (sym (ap end_of stop) ∙ done))
 
-    go : (o : Option (List ℕ)) → IfSome o (λ bytes. AnswersAll IsPlayAnswer p (lines_within LONGEST_LINE bytes) before after on q)
+    go : (o : Option (List ℕ)) → IfSome o (λ bytes. AnswersAll IsPlayAnswer (lines_within LONGEST_LINE bytes) (said_by p before) (said_by q after) on)
         → IfSome o (λ script. (text : List ℕ) × IsRun script text (end_of q.stop) × Appends before after text × (end_of q.stop ≡ end.Done → IsAtEnd left))
     go None a = tt
     go (Some []) a = absurd (some (nothing_read p q a.text on none_at_first a.answers).1)
@@ -143,9 +149,9 @@ module _ (p q : PlayFields) (input left before after : Option (List ℕ)) (fresh
   bad_is_not_done : end.BadLine ≡ end.Done → ⊥
   bad_is_not_done same = cc
 
-  pub ends_empty : (on : Bool) (last : Option (List ℕ)) → WritesByEnd IsPlayAnswer MayBeAny LONGEST_LINE p q input left before after (Ok on) → q.lines ≡ 0 → Appends after last no_line → WritesRun input left before last (Ok end.BadLine)
+  pub ends_empty : (on : Bool) (last : Option (List ℕ)) → WritesByEnd (answering IsPlayAnswer MayBeAny) LONGEST_LINE (said_by p before) (said_by q after) input left (Ok on) → q.lines ≡ 0 → Appends after last no_line → WritesRun input left before last (Ok end.BadLine)
   ends_empty on last (all, at) none written = go input all where
-    go : (o : Option (List ℕ)) → IfSome o (λ bytes. AnswersAll IsPlayAnswer p (lines_within LONGEST_LINE bytes) before after on q)
+    go : (o : Option (List ℕ)) → IfSome o (λ bytes. AnswersAll IsPlayAnswer (lines_within LONGEST_LINE bytes) (said_by p before) (said_by q after) on)
         → IfSome o (λ script. (text : List ℕ) × IsRun script text end.BadLine × Appends before last text × (end.BadLine ≡ end.Done → IsAtEnd left))
     go None a = tt
     go (Some []) a =
@@ -153,9 +159,9 @@ module _ (p q : PlayFields) (input left before after : Option (List ℕ)) (fresh
         (no_line, (refl, refl), subst (λ (t : List ℕ). Appends before last (t ++ no_line)) nothing (Appends-trans before after last a.text no_line a.written written), λ done. absurd (bad_is_not_done done))
     go (Some (b ∷ bytes)) a = absurd (let many = some_read p q b bytes a.text on (starts p fresh) a.answers in omega arith)
 
-  pub breaks_empty : (on : Bool) (last : Option (List ℕ)) (fault : StreamFault) → WritesByEnd IsPlayAnswer MayBeAny LONGEST_LINE p q input left before after (Ok on) → q.lines ≡ 0 → WroteBeginning after last no_line → WritesRun input left before last (Err fault)
+  pub breaks_empty : (on : Bool) (last : Option (List ℕ)) (fault : StreamFault) → WritesByEnd (answering IsPlayAnswer MayBeAny) LONGEST_LINE (said_by p before) (said_by q after) input left (Ok on) → q.lines ≡ 0 → WroteBeginning after last no_line → WritesRun input left before last (Err fault)
   breaks_empty on last fault (all, at) none wrote = go input all where
-    go : (o : Option (List ℕ)) → IfSome o (λ bytes. AnswersAll IsPlayAnswer p (lines_within LONGEST_LINE bytes) before after on q) → IfSome o (λ script. IsRunBegun script before last)
+    go : (o : Option (List ℕ)) → IfSome o (λ bytes. AnswersAll IsPlayAnswer (lines_within LONGEST_LINE bytes) (said_by p before) (said_by q after) on) → IfSome o (λ script. IsRunBegun script before last)
     go None a = tt
     go (Some []) a =
         let nothing = (nothing_read p q a.text on none_at_first a.answers).0 in
@@ -181,9 +187,9 @@ module _ (p q : PlayFields) (input left before after : Option (List ℕ)) (fresh
     take_none zero = refl
     take_none (suc k) = refl
 
-  pub breaks : (fault : StreamFault) → WritesByEnd IsPlayAnswer MayBeAny LONGEST_LINE p q input left before after (Err fault) → WritesRun input left before after (Err fault)
+  pub breaks : (fault : StreamFault) → WritesByEnd (answering IsPlayAnswer MayBeAny) LONGEST_LINE (said_by p before) (said_by q after) input left (Err fault) → WritesRun input left before after (Err fault)
   breaks fault all = go input all where
-    go : (o : Option (List ℕ)) → IfSome o (λ bytes. AnswersFirst IsPlayAnswer MayBeAny p (lines_within LONGEST_LINE bytes) before after q) → IfSome o (λ script. IsRunBegun script before after)
+    go : (o : Option (List ℕ)) → IfSome o (λ bytes. AnswersFirst (answering IsPlayAnswer MayBeAny) (lines_within LONGEST_LINE bytes) (said_by p before) (said_by q after)) → IfSome o (λ script. IsRunBegun script before after)
     go None a = tt
     go (Some []) a =
         let none = nil_of_nil a.first a.others (sym none_of_none ∙ a.parts) in

@@ -21,6 +21,7 @@ use Rattle.pay_sim.specs.declared.command.TheConstants.{MEMBERS, ACCOUNTS}
 
 -- ---- single words
 
+-- change: a command of a script: `specs/Script.antt`; model `tests/models/model.py`
 -- a number below a bound
 abbrev pub if_below : ℕ → ℕ → Option ℕ
 if_below bound n = if nat_lt n bound then Some n else None

@@ -99,6 +99,7 @@ IsReplyTo c es e reply =
 
 -- An event is made and has its reply; or the run stops before it, where as many as there may be
 -- were made, or where it is forged.
+-- page: `Makes`: what comes of a script's event after those before it
 abbrev pub Makes : ScriptGroup → List WorldEvent → WorldEvent → Result WorldReply RunStop → Type 0
 Makes c es e (Ok reply) =
     (length es < MOST_EVENTS) × (is_forged_by c es e ≡ false) × IsReplyTo c es e reply

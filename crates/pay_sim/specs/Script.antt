@@ -9,7 +9,7 @@ use Rattle.pay_io.specs.Device.{WroteBeginning}
 use Rattle.pay_frame.specs.Frame.{BodyFields}
 use Rattle.pay_member.specs.Book.{book_after}
 use Rattle.pay_text.specs.Answers.{Answers}
-use Rattle.pay_text.specs.Engine.{AnswersFirst}
+use Rattle.pay_text.specs.Engine.{Answering, AnswersFirst}
 use Rattle.pay_text.specs.Lines.{line_feed, lines_within}
 use Rattle.pay_world.specs.declared.event.WorldEvent.{WorldEvent}
 use Rattle.pay_world.specs.declared.event.WorldEvent.TheVariants as event
@@ -177,13 +177,17 @@ IsRun (b ∷ script) text ended =
     × Answers PlaysLine start (lines_within LONGEST_LINE (b ∷ script)) text on last
     × (ended ≡ end_of last.stopped)
 
+-- so a script's lines are answered, and it is as it was where memory is refused
+abbrev pub script_answering : Answering Moment
+script_answering = record { says = PlaysLine; gives_up = λ mid last. last ≡ mid }
+
 -- It was broken off: what was written is a prefix of the text that a script's first lines print.
 abbrev pub IsRunBegun : List ℕ → Option (List ℕ) → Option (List ℕ) → Type 0
 IsRunBegun [] before after = WroteBeginning before after no_line
 IsRunBegun (b ∷ script) before after =
     (n : Moment)
-    × AnswersFirst PlaysLine (λ mid last. last ≡ mid) start
-    (lines_within LONGEST_LINE (b ∷ script)) before after n
+    × AnswersFirst script_answering (lines_within LONGEST_LINE (b ∷ script))
+    (record { answerer = start; written = before }) (record { answerer = n; written = after })
 
 -- What the engine writes, where its input is known. It ends as done only at the input's end.
 abbrev pub WritesRun : Option (List ℕ) → Option (List ℕ) → Option (List ℕ) → Option (List ℕ)

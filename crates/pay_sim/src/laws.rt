@@ -12,6 +12,7 @@ use pay_world::laws::forged_is_told;
 use pay_world::liar_causes;
 
 /// A script prints at most one text, and ends in one way.
+// promise: scripts
 pub fn one_run()
     ensures { OneRun }
 {
@@ -19,6 +20,7 @@ pub fn one_run()
 }
 
 /// Each script has a text and an ending, whatever its bytes are.
+// promise: scripts
 pub fn each_runs()
     ensures { EachRuns }
 {
@@ -36,6 +38,7 @@ pub fn each_runs()
 }
 
 /// The group that a script's first line says is within the limits of a group.
+// promise: scripts
 pub fn first_line_is_group()
     ensures { FirstLineIsGroup }
 {
@@ -46,6 +49,7 @@ pub fn first_line_is_group()
 /// Each frame that `all` brings is taken by its receiver, so that the count that it prints is one
 /// of frames taken; and no frame that it brings is forged, so that only the limit of events stops
 /// it.
+// promise: scripts
 pub fn all_is_taken()
     ensures { AllIsTaken }
 {

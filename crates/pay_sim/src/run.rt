@@ -1,6 +1,6 @@
 ghost use Rattle.std.specs.Prelude.{◌≡◌, None, IfErr, OnErr, OnOk};
 ghost use Rattle.std.specs.Io.KnownBytes.{Appends};
-ghost use Rattle.pay_io.specs.Counts.{KeepsCounts, itself};
+ghost use Rattle.pay_io.specs.Counts.{KeepsCounts, counts_of, no_other_faults};
 ghost use Rattle.pay_io.specs.Device.{WroteBeginning, next_count};
 ghost use Rattle.pay_sim.specs.Script.{WritesRun, end_of, no_line};
 
@@ -22,6 +22,7 @@ pub const LONGEST_LINE: usize = 4096;
 /// The last line tells of a forged frame, of a line that is none, and of an event more than there
 /// may be, and so does the answer. After a fault of a device what was written is a prefix of the
 /// text.
+// promise: early ends (counts, none_failed, all_written); scripts (text)
 pub fn run_sim<I, B, R, W>(
     alloc: Global,
     reader: &mut R,
@@ -34,8 +35,10 @@ where
     W: Output,
     ensures text { WritesRun (R.remaining reader.old) (R.remaining reader.new)
         (W.contents writer.old) (W.contents writer.new) result }
-    ensures counts { KeepsCounts itself R.call_count R.failure_count R.remaining
-        W.failure_count reader.old reader.new writer.old writer.new result }
+    ensures counts { let counted =
+        counts_of R.call_count R.failure_count R.remaining W.failure_count in
+        KeepsCounts no_other_faults
+        (counted reader.old writer.old) (counted reader.new writer.new) result }
     ensures none_failed { OnOk result (R.failure_count reader.new ≡ R.failure_count reader.old) }
     ensures all_written { OnOk result (W.failure_count writer.new ≡ W.failure_count writer.old) }
 {
@@ -58,8 +61,10 @@ where
     requires { play.old ≡ record { lines = 0; game = None; stop = None } }
     ensures text { WritesRun (R.remaining reader.old) (R.remaining reader.new)
         (W.contents writer.old) (W.contents writer.new) result }
-    ensures counts { KeepsCounts itself R.call_count R.failure_count R.remaining
-        W.failure_count reader.old reader.new writer.old writer.new result }
+    ensures counts { let counted =
+        counts_of R.call_count R.failure_count R.remaining W.failure_count in
+        KeepsCounts no_other_faults
+        (counted reader.old writer.old) (counted reader.new writer.new) result }
     ensures none_failed { OnOk result (R.failure_count reader.new ≡ R.failure_count reader.old) }
     ensures all_written { OnOk result (W.failure_count writer.new ≡ W.failure_count writer.old) }
 {

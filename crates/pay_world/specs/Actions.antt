@@ -16,6 +16,7 @@ use Rattle.pay_world.specs.Setting.{Setting}
 -- A member is asked to broadcast a value, or a frame is brought to it that opens there: from
 -- whom, under which number, and its body. Bytes that don't open are no action, and neither is a
 -- WANT.
+-- term: action: an ask, or a frame that opens, at one member of a group
 pub data Action : Type 0 where
   Asks : ℕ → List ℕ → Action
   Brings : ℕ → ℕ → ℕ → BodyFields → Action
@@ -46,6 +47,8 @@ may_come w k from body =
 
 -- Whether a member with this history takes it: a value within the limits, a frame whose number is
 -- the next from its sender.
+-- page: `counts`, `history_by`: whether a member takes an action; each member's history by a list
+--   of actions
 abbrev pub counts : Setting → List Event → Action → Bool
 counts w history (Asks k v) = nat_le (length v) GREATEST_VALUE && nat_lt (asks history) SEQS
 counts w history (Brings k from number body) = may_come w k from body && number == next from history

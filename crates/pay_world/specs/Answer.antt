@@ -42,6 +42,8 @@ action_with k (Ask i v) = Some (Asks i v)
 action_with k (Bring i bytes) = option_map (brought_to i) (opened_in k bytes)
 
 -- what it is where these are the correct members' keys
+-- page: `action_of`: an ask is an action; brought bytes are one exactly where a frame of kinds 1 to
+--   3 opens
 abbrev pub action_of : (ℕ → Option KeyFields) → WorldEvent → Option Action
 action_of keys e = option_and_then (λ k. action_with k e) (keys (receiver e))
 

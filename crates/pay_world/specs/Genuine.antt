@@ -10,6 +10,7 @@ use Rattle.pay_world.specs.Actions.{Action, Asks, Brings, history_by}
 -- Between correct members, a frame's number is a place in all that its sender sent, and its body is
 -- the one there: with these histories of all members. A faulty member's frames are its own affair,
 -- whatever it says.
+-- term: forged: of a frame: in the name of a correct member that didn't send it
 abbrev pub IsGenuineIn : Setting → (ℕ → List Event) → Action → Type 0
 IsGenuineIn w histories (Asks k v) = Unit {0}
 IsGenuineIn w histories (Brings k from number body) =
@@ -21,6 +22,7 @@ abbrev pub IsGenuine : Setting → List Action → Action → Type 0
 IsGenuine w before d = IsGenuineIn w (history_by w before) d
 
 -- each action is, after those before it
+-- page: `AreGenuine`: each action of a list is genuine after those before it
 pub record AreGenuine (w : Setting) (actions : List Action) : Type 0 where
   pub each :
       (before : List Action) (d : Action) (after : List Action) → actions ≡ before ++ d ∷ after

@@ -20,6 +20,7 @@ setting_by g faulty = record { members = g.members; faults = g.faults; faulty = 
 abbrev pub group_at : Setting → ℕ → Group
 group_at w i = record { members = w.members; faults = w.faults; own = i }
 
+-- term: correct: of a member: it follows the rules and keeps its state; else it is a liar
 pub record IsCorrect (w : Setting) (i : ℕ) : Type 0 where
   pub member : i < w.members
   pub honest : w.faulty i ≡ false

@@ -16,6 +16,7 @@ use pay_member::laws::book_of_events;
 ///
 /// Then all of them delivered the same and have equal books, and nothing that one of them was asked
 /// to broadcast is missing.
+// promise: convergence of a world (exact, delivered, asked, books)
 pub fn all_taken<I: Instance + Drop, B: Settle + Drop>(world: &World<I, B>) -> bool
     ensures exact { (result ≡ true) ↔ AllTaken (setting_in world.now) (history_in world.now) }
     ensures delivered { result ≡ true → DeliveredAlike world.now }

@@ -28,6 +28,7 @@ use pay_member::laws::what_is_brought;
 
 /// Of four members one lies, frames come twice and too early, and all premises are met: the
 /// correct members deliver the same.
+// promise: premises
 pub fn one_liar_of_four()
     ensures few { HasFewFaulty setting_of_four }
     ensures genuine { AreGenuine setting_of_four with_a_liar }
@@ -41,6 +42,7 @@ pub fn one_liar_of_four()
 
 /// A member that forgot what it sent, and is asked for another value under that number, took all
 /// that the correct members sent, who took all of each other: it has the evidence.
+// promise: premises
 pub fn forgetting_member_of_four()
     ensures few { HasFewFaulty setting_of_four }
     ensures genuine { AreGenuine setting_of_four by_a_forgetting_member }
@@ -57,6 +59,7 @@ pub fn forgetting_member_of_four()
 }
 
 /// With two liars where one may lie, two correct members deliver different values.
+// promise: premises
 pub fn two_liars_of_four()
     ensures liars { size 4 two_liars.faulty ≡ 2 }
     ensures genuine { AreGenuine two_liars by_two_liars }
@@ -67,6 +70,7 @@ pub fn two_liars_of_four()
 }
 
 /// So they do with one liar, where a single frame is forged.
+// promise: premises
 pub fn one_forged_frame()
     ensures few { HasFewFaulty setting_of_four }
     ensures forged { is_forged setting_of_four [] (of_3 Ready 0 2 0 A) ≡ true }
@@ -76,6 +80,7 @@ pub fn one_forged_frame()
 
 /// With three members of which one may lie, N = 3f. What one correct member delivers the other
 /// doesn't, though each took all that the other sent.
+// promise: premises
 pub fn one_liar_of_three()
     ensures few { size 3 three.faulty ≤ three.faults }
     ensures genuine { AreGenuine three of_three }
@@ -88,6 +93,7 @@ pub fn one_liar_of_three()
 
 /// An ask and a frame of a stored history are actions, a query is none, and the history is the one
 /// by them. It isn't where the frame came out of turn, as in no history that a member can have.
+// promise: premises
 pub fn stored_history_of_four()
     ensures actions { actions_in 1 (stored_at_1 0) ≡ Asks 1 B ∷ of_0 Send 1 0 0 A ∷ [] }
     ensures same { events (stored_at_1 0)
@@ -99,6 +105,7 @@ pub fn stored_history_of_four()
 /// Of events in bytes, where all have their test keys, a member takes its own ask and the frame
 /// that opens and is in turn, but neither another's ask nor that frame again. As events, the stored
 /// history is the ask and the bytes of its frame.
+// promise: premises
 pub fn events_of_four_in_bytes()
     ensures taken { history_of (group_test_keys 4) liar_of_four in_bytes 1
         ≡ Ask B ∷ From 0 (body_of Send 0 0 A) ∷ [] }

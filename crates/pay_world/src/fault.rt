@@ -16,6 +16,7 @@ pub enum WorldFault {
 }
 
 impl WorldFault {
+    // promise: order of refusals (number, name)
     const fn entry(self) -> (u8, &'static str)
         ensures number { result.0 ≡ world_fault_number self }
         ensures name { result.1.now ≡ world_fault_name self }

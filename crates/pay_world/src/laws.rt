@@ -100,6 +100,7 @@ pub fn genuine_actions()
 
 /// The tests say which members are correct, which action is genuine after those before it, and
 /// whether all are.
+// promise: world's step
 pub fn forged_is_told()
     ensures correct { CorrectIsTold }
     ensures forged { ForgedIsTold }
@@ -108,6 +109,7 @@ pub fn forged_is_told()
 
 /// Authenticity and the rule of READY hold between correct members at first, after one event
 /// more or one genuine action more, and so after any genuine actions.
+// promise: whole lists
 pub fn correct_members_stand()
     ensures first { StandsAtFirst }
     ensures one_more { StandsByOneMore }
@@ -119,6 +121,7 @@ pub fn correct_members_stand()
 
 /// Two correct members, each at any moment, deliver no two values under one number of one
 /// account. So of their lists of an account one is a prefix of the other.
+// promise: whole lists
 pub fn correct_members_agree()
     ensures values { Agreement }
     ensures lists { StandingListsCompare }
@@ -128,6 +131,7 @@ pub fn correct_members_agree()
 
 /// What a correct member delivers of a correct owner, this owner was asked to broadcast, under
 /// that number.
+// promise: whole lists
 pub fn nothing_is_invented()
     ensures value { Integrity }
     ensures list { ListIsAsked }
@@ -144,6 +148,7 @@ pub fn nothing_is_taken_back()
 
 /// Where each correct member took all that the other correct ones sent, all of them delivered the
 /// same, and all that correct owners were asked for.
+// promise: convergence
 pub fn all_converge()
     ensures deliveries { Convergence }
     ensures lists { ListsConverge }
@@ -156,6 +161,7 @@ pub fn all_converge()
 /// There, whoever took all that the correct members sent delivered what any of them delivered, also
 /// if it is faulty. So a member that has forgotten what it sent finds the evidence: what another
 /// lists of its account, its own list has too, though it wasn't asked for that.
+// promise: forgetting
 pub fn forgetting_is_noticed()
     ensures listener { ListenerDelivers }
     ensures listed { ListedIsNoticed }
@@ -170,6 +176,7 @@ pub fn forgetting_is_noticed()
 /// stays settled, and of a correct owner it is what the owner was asked for. Each book is the
 /// largest front of its member's lists, where nobody owes and no money was made or lost, and
 /// equal lists give equal books.
+// promise: agreement
 pub fn headline()
     ensures { HeadlineHolds }
 {
@@ -178,6 +185,7 @@ pub fn headline()
 }
 
 /// Where each correct member took all that the other correct ones sent, all their books are equal.
+// promise: convergence
 pub fn books_converge()
     ensures { BooksConverge }
 {
@@ -188,6 +196,7 @@ pub fn books_converge()
 /// The same of whole lists: no two correct members' lists of an account fork, nothing in them is
 /// invented or taken back, and where all was taken they are equal, and have all that correct
 /// owners were asked for.
+// promise: whole lists (no_fork, asked, stays); convergence (equal, complete)
 pub fn lists_by_actions()
     ensures no_fork { NoListForks }
     ensures asked { ListWasAsked }
@@ -201,6 +210,7 @@ pub fn lists_by_actions()
 /// The same of values that are settled wholly, void ones too, whose entries are the first of the
 /// settled entries: of what two correct members settled of an account one is a prefix of the other,
 /// no value is taken back, and a correct owner was asked for them, in that order.
+// promise: whole lists
 pub fn settled_values_by_actions()
     ensures entries { SettledValuesMakeBeginning }
     ensures agree { NoSettledValueForks }

@@ -19,6 +19,7 @@ pub enum LiarFault {
 }
 
 impl LiarFault {
+    // promise: order of refusals (number, name)
     const fn entry(self) -> (u8, &'static str)
         ensures number { result.0 ≡ liar_fault_number self }
         ensures name { result.1.now ≡ liar_fault_name self }

@@ -20,6 +20,7 @@ use std::alloc::Global;
 ///
 /// Refuses a list with a forged frame (`Forged`), and names the first. Memory aside it refuses no
 /// other. Of the events of a world that it returns the headline holds.
+// promise: from bytes
 pub fn run_world<I: Instance + Drop, B: Settle + Drop, T: Tagger>(
     alloc: Global,
     tagger: &T,

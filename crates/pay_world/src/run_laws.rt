@@ -11,6 +11,7 @@ use pay_member::laws::{events_in_order, legal_histories, what_is_brought, what_o
 
 /// A new world is that of a group after no events, and a world that answered one event more is that
 /// after the events before and this one.
+// promise: world's step
 pub fn world_by_events()
     ensures first { NoEventsMakeFresh }
     ensures one_more { WorldByOneMore }
@@ -22,6 +23,7 @@ pub fn world_by_events()
 
 /// Whatever happens to a group, in bytes, what a correct member takes of it is a history that a
 /// member can have. And each that it can have is the one by its own asks and its frames' bytes.
+// promise: world's step
 pub fn legal_history_by_events()
     ensures legal { HistoryIsLegal }
     ensures own { LegalHistoryByEvents }
@@ -35,6 +37,7 @@ pub fn legal_history_by_events()
 
 /// An event that a world answers isn't forged, and one that it says to be forged is, under the
 /// count of those that it answered before.
+// promise: world's step
 pub fn what_is_forged()
     ensures answered { AnsweredIsUnforged }
     ensures said { SaidIsForged }

@@ -39,6 +39,8 @@ use pay_member::{AskFault, Member, Outcome};
 use std::alloc::{AllocError, Global};
 use std::marker::Model;
 
+// `run_world` and `World::apply` are passed a tagger: a world keeps none.
+// term: world: a group whose members are all in one process
 /// The members of a group in one process: the correct ones, each at its place, and nothing in the
 /// liars' places. What liars send is brought to the others as bytes.
 ///
@@ -75,6 +77,7 @@ impl<I: Instance + Drop, B: Settle + Drop> Model for World<I, B> {
 
 impl<I: Instance + Drop, B: Settle + Drop> World<I, B> {
     /// A world to which nothing happened. There are keys for each member, at its place.
+    // promise: world's step
     pub fn new(
         alloc: Global,
         genesis: &Genesis,
@@ -104,6 +107,7 @@ impl<I: Instance + Drop, B: Settle + Drop> World<I, B> {
     /// Refuses a frame in the name of a correct member that didn't send it (`Forged`), with the
     /// count of the events answered before, which stays at the greatest number that it can hold. A
     /// refused event changes nothing. Memory can be refused only to an event that its member takes.
+    // promise: order of refusals; nothing changes (err); world's step
     pub fn apply<T: Tagger>(
         &mut self,
         alloc: Global,
@@ -239,6 +243,7 @@ impl<I: Instance + Drop, B: Settle + Drop> World<I, B> {
 
     /// Whether `pass` may be asked for this: the one member sent something at that place of its
     /// list, the other is there to take it, and they have one key for each other.
+    // promise: passing on
     pub fn may_pass(&self, from: u16, to: u16, number: u64) -> bool
         ensures { IsTrue result ↔ MayPass self.now from to number }
     {
@@ -253,6 +258,7 @@ impl<I: Instance + Drop, B: Settle + Drop> World<I, B> {
     /// the other would, but they aren't encoded, and its tag is computed once.
     ///
     /// A frame that was sent is never refused, and memory only where the other takes it.
+    // promise: passing on
     pub fn pass<T: Tagger>(
         &mut self,
         alloc: Global,
@@ -368,6 +374,7 @@ impl<I: Instance + Drop, B: Settle + Drop> World<I, B> {
     }
 
     /// The member of a number, unless it is no member or lies.
+    // promise: world's step
     pub fn member(&self, member: u16) -> Option<&Member<I, B>>
         ensures value { option_copied result ≡ member_in self.now member }
         ensures limits { IsWorld self.now }

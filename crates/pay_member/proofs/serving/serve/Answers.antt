@@ -13,8 +13,8 @@ returns-clause-text g c =
     let m = c.args.member.now in
     let from : List ℕ → Start MemberFields = λ xs. record { first = xs; state = m; input = g.R.Input.remaining c.args.reader.now; before = g.W.Output.contents c.args.writer.now } in
     let first : c.want-first.result ≡ first_want m c.args.peer = c.want-first.ensures.bytes ∙ (λ i. frame_bytes (want_frame (c.keys.ensures.value i) c.args.peer (c.next.ensures i))) in
-    let text = c.exact_text.ensures.text (serving c.args.stamp) _ _ _ _ _ c.handle_stream.ensures.handled in
-    subst (λ (xs : List ℕ). Writes (serving c.args.stamp) (from xs) c.handle_stream.new.state (g.R.Input.remaining c.handle_stream.new.reader) (g.W.Output.contents c.handle_stream.new.writer) c.handle_stream.result) first text
+    let text = c.exact_text.ensures.text (serving c.args.stamp) _ _ _ c.handle_stream.ensures.handled in
+    subst (λ (xs : List ℕ). Writes (serving c.args.stamp) (from xs) (record { state = c.handle_stream.new.state; left = g.R.Input.remaining c.handle_stream.new.reader; after = g.W.Output.contents c.handle_stream.new.writer }) c.handle_stream.result) first text
 
 pub returns-clause-took : goal.returns-clause-took
 unfolding first_want
@@ -22,5 +22,5 @@ returns-clause-took g c =
     let m = c.args.member.now in
     let from : List ℕ → Start MemberFields = λ xs. record { first = xs; state = m; input = g.R.Input.remaining c.args.reader.now; before = g.W.Output.contents c.args.writer.now } in
     let first : c.want-first.result ≡ first_want m c.args.peer = c.want-first.ensures.bytes ∙ (λ i. frame_bytes (want_frame (c.keys.ensures.value i) c.args.peer (c.next.ensures i))) in
-    let took = c.exact_text.ensures.took (serving c.args.stamp) _ _ _ _ _ c.handle_stream.ensures.handled in
+    let took = c.exact_text.ensures.took (serving c.args.stamp) _ _ _ c.handle_stream.ensures.handled in
     subst (λ (xs : List ℕ). TakesFrames (serving c.args.stamp) (from xs) c.handle_stream.new.state) first took

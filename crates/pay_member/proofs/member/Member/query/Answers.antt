@@ -16,10 +16,10 @@ invariant_of-self-2 g c =
     let x : HistoryEntry = record { stamp = c.args.stamp; event = Query c.args.account; reply = reply.Told (record { balance = c.balance.result; front = c.front.result; listed = c.list_len.result }) } in
     let m : MemberFields = record { genesis = c.self.inside.genesis; keys = c.self.inside.keys; history = h } in
     let items : c.push_reserved.new.self.items ≡ h ++ x ∷ [] = c.push_reserved.ensures.items ∙ ap (λ l. l ++ x ∷ []) c.in_ok-reserve.ensures.items in
-    let At : List HistoryEntry → Type 0 = λ l. IsMember (record { genesis = c.self.inside.genesis; keys = c.self.inside.keys; history = l }) c.self.inside.ledger c.self.inside.fronts in
+    let At : List HistoryEntry → Type 0 = λ l. IsMember (record { genesis = c.self.inside.genesis; keys = c.self.inside.keys; history = l }) c.self.inside.ledger c.self.inside.fronts c.self.inside.lies.items in
     let member : c.args.account < c.self.inside.genesis.members = omega arith in
     subst At (sym items)
-    (member_queried m c.self.inside.ledger c.self.inside.fronts x c.self.invariant refl
+    (member_queried m c.self.inside.ledger c.self.inside.fronts c.self.inside.lies.items x c.self.invariant refl
     (record {
       kept = tt;
       taken = query_taken m.genesis m.keys (events h) c.args.account member;

@@ -1,0 +1,378 @@
+//! What can be read of a member without an entry in its history.
+
+ghost use Rattle.std.specs.Prelude.{◌≡◌, ◌↔◌, IfOk, IsTrue, Option, [], ◌∷◌};
+ghost use Rattle.pay_member.specs.Member.{MemberFields};
+ghost use Rattle.pay_member.specs.Questions.{Shows, account_told};
+ghost use Rattle.pay_member.specs.declared.reading.Reading.{Reading};
+ghost use Rattle.pay_member.specs.declared.reading.Reading.TheVariants.{Sent};
+ghost use Rattle.pay_member.specs.declared.reading.Reading.TheVariants as reading;
+
+use crate::member::Member;
+use crate::reading::{Bodies, Reading, SettledCounts};
+use crate::same::{are_same_bodies, is_alone, is_same_excerpt, is_same_statement};
+use crate::standing::PaymentState;
+use pay_book::{Excerpt, Settle, Statement};
+use pay_echo::Instance;
+use pay_frame::Body;
+use std::alloc::{AllocError, Global};
+
+/// A question to a member, which has an answer of a type of its own.
+pub trait Question: Copy {
+    type Answer: Drop;
+
+    // The question with an answer.
+    ghost reading: { Self → Self.Answer → Reading };
+
+    /// Asks a member, which is unchanged.
+    // promise: readings
+    fn ask<I: Instance + Drop, B: Settle + Drop>(
+        self,
+        alloc: Global,
+        member: &Member<I, B>,
+    ) -> Result<Self::Answer, AllocError>
+        ensures { IfOk result (λ answer. Shows member.now (reading self answer)) };
+
+    /// The question with a copy of an answer.
+    fn to_reading(self, alloc: Global, answer: &Self::Answer) -> Result<Reading, AllocError>
+        ensures { IfOk result (λ copy. copy ≡ reading self answer.now) };
+
+    /// Whether a reading is of this question with this answer.
+    fn is_reading(self, answer: &Self::Answer, other: &Reading) -> bool
+        ensures { IsTrue result ↔ (other.now ≡ reading self answer.now) };
+
+    /// Whether it is the question for the body at a number, which is the answer alone.
+    fn is_of_body(self, answer: &Self::Answer, number: usize, body: &Body) -> bool
+        ensures { IsTrue result
+            ↔ (reading self answer.now ≡ Sent number 1 (body.now ∷ [])) };
+
+    /// The account whose payments an answer tells one by one, if it does.
+    fn account_told(self) -> Option<u16>
+        ensures { (answer : Self.Answer) → account_told (reading self answer) ≡ result };
+
+    // A member has one answer.
+    ghost one_answer: { (question : Self) (m : MemberFields) (one other : Self.Answer)
+        → Shows m (reading question one) → Shows m (reading question other) → one ≡ other };
+}
+
+/// The bodies that the member sent to all, from a place on: at most `max`, and at most 16.
+#[derive(Clone, Copy, Debug, PartialEq, Eq)]
+pub struct SentFrom {
+    pub from: usize,
+    pub max: usize,
+}
+
+impl Question for SentFrom {
+    ghost use Rattle.std.proofs.Common.{sym, ◌∙◌};
+
+    type Answer = Bodies;
+
+    ghost reading = { λ q bodies. reading.Sent q.from q.max bodies };
+
+    fn ask<I: Instance + Drop, B: Settle + Drop>(
+        self,
+        alloc: Global,
+        member: &Member<I, B>,
+    ) -> Result<Bodies, AllocError> {
+        Ok(Bodies::new(member.fetch(alloc, self.from, self.max)?))
+    }
+
+    fn to_reading(self, alloc: Global, bodies: &Bodies) -> Result<Reading, AllocError> {
+        let SentFrom { from, max } = self;
+        let bodies = bodies.copy(alloc)?;
+        Ok(Reading::Sent { from, max, bodies })
+    }
+
+    fn is_reading(self, answer: &Bodies, other: &Reading) -> bool {
+        match other {
+            Reading::Sent { from, max, bodies } => {
+                *from == self.from
+                    && *max == self.max
+                    && are_same_bodies(bodies.as_slice(), answer.as_slice())
+            }
+            _ => false,
+        }
+    }
+
+    fn is_of_body(self, answer: &Bodies, number: usize, body: &Body) -> bool {
+        self.from == number && self.max == 1 && is_alone(answer.as_slice(), body)
+    }
+
+    fn account_told(self) -> Option<u16> {
+        None
+    }
+
+    ghost one_answer = { λ q m one other is also. is ∙ sym also };
+}
+
+/// How far the payment under a number of an account has come.
+#[derive(Clone, Copy, Debug, PartialEq, Eq)]
+pub struct StateOf {
+    pub owner: u16,
+    pub seq: u32,
+}
+
+impl Question for StateOf {
+    ghost use Rattle.std.proofs.Common.{sym, ◌∙◌};
+
+    type Answer = Option<PaymentState>;
+
+    ghost reading = { λ q state. reading.State q.owner q.seq state };
+
+    fn ask<I: Instance + Drop, B: Settle + Drop>(
+        self,
+        _alloc: Global,
+        member: &Member<I, B>,
+    ) -> Result<Option<PaymentState>, AllocError> {
+        if self.owner >= member.genesis().members() {
+            return Ok(None);
+        }
+        Ok(Some(member.state(self.owner, self.seq)))
+    }
+
+    fn to_reading(
+        self,
+        _alloc: Global,
+        state: &Option<PaymentState>,
+    ) -> Result<Reading, AllocError> {
+        let StateOf { owner, seq } = self;
+        let state = *state;
+        Ok(Reading::State { owner, seq, state })
+    }
+
+    fn is_reading(self, answer: &Option<PaymentState>, other: &Reading) -> bool {
+        match other {
+            Reading::State { owner, seq, state } => {
+                *owner == self.owner && *seq == self.seq && state == answer
+            }
+            _ => false,
+        }
+    }
+
+    fn is_of_body(self, _answer: &Option<PaymentState>, _number: usize, _body: &Body) -> bool {
+        false
+    }
+
+    fn account_told(self) -> Option<u16> {
+        Some(self.owner)
+    }
+
+    ghost one_answer = { λ q m one other is also. is ∙ sym also };
+}
+
+/// The lines of an account's statement, and its balance.
+#[derive(Clone, Copy, Debug, PartialEq, Eq)]
+pub struct StatementOf(pub u16);
+
+impl Question for StatementOf {
+    ghost use Rattle.std.proofs.Common.{sym, ◌∙◌};
+
+    type Answer = Option<Statement>;
+
+    ghost reading = { λ q statement. reading.Statement q.0 statement };
+
+    fn ask<I: Instance + Drop, B: Settle + Drop>(
+        self,
+        alloc: Global,
+        member: &Member<I, B>,
+    ) -> Result<Option<Statement>, AllocError> {
+        if self.0 >= member.genesis().members() {
+            return Ok(None);
+        }
+        let lines = member.statement(alloc, self.0)?;
+        Ok(Some(Statement::new(lines, member.balance(self.0))))
+    }
+
+    fn to_reading(
+        self,
+        alloc: Global,
+        statement: &Option<Statement>,
+    ) -> Result<Reading, AllocError> {
+        let statement = match statement {
+            Some(statement) => Some(statement.copy(alloc)?),
+            None => None,
+        };
+        Ok(Reading::Statement {
+            account: self.0,
+            statement,
+        })
+    }
+
+    fn is_reading(self, answer: &Option<Statement>, other: &Reading) -> bool {
+        match other {
+            Reading::Statement { account, statement } => {
+                *account == self.0 && is_same_statement(statement, answer)
+            }
+            _ => false,
+        }
+    }
+
+    fn is_of_body(self, _answer: &Option<Statement>, _number: usize, _body: &Body) -> bool {
+        false
+    }
+
+    fn account_told(self) -> Option<u16> {
+        None
+    }
+
+    ghost one_answer = { λ q m one other is also. is ∙ sym also };
+}
+
+/// What settled of an account from a number on: at most 1,000 entries.
+#[derive(Clone, Copy, Debug, PartialEq, Eq)]
+pub struct EntriesOf {
+    pub account: u16,
+    pub from: u64,
+}
+
+impl Question for EntriesOf {
+    ghost use Rattle.std.proofs.Common.{sym, ◌∙◌};
+
+    type Answer = Option<Excerpt>;
+
+    ghost reading = { λ q excerpt. reading.Entries q.account q.from excerpt };
+
+    fn ask<I: Instance + Drop, B: Settle + Drop>(
+        self,
+        alloc: Global,
+        member: &Member<I, B>,
+    ) -> Result<Option<Excerpt>, AllocError> {
+        if self.account >= member.genesis().members() {
+            return Ok(None);
+        }
+        Ok(Some(member.entries(alloc, self.account, self.from)?))
+    }
+
+    fn to_reading(self, alloc: Global, excerpt: &Option<Excerpt>) -> Result<Reading, AllocError> {
+        let EntriesOf { account, from } = self;
+        let excerpt = copy_of(alloc, excerpt)?;
+        Ok(Reading::Entries {
+            account,
+            from,
+            excerpt,
+        })
+    }
+
+    fn is_reading(self, answer: &Option<Excerpt>, other: &Reading) -> bool {
+        match other {
+            Reading::Entries {
+                account,
+                from,
+                excerpt,
+            } => {
+                *account == self.account && *from == self.from && is_same_excerpt(excerpt, answer)
+            }
+            _ => false,
+        }
+    }
+
+    fn is_of_body(self, _answer: &Option<Excerpt>, _number: usize, _body: &Body) -> bool {
+        false
+    }
+
+    fn account_told(self) -> Option<u16> {
+        Some(self.account)
+    }
+
+    ghost one_answer = { λ q m one other is also. is ∙ sym also };
+}
+
+/// What is known of an account and isn't settled: the first 1,000 entries.
+#[derive(Clone, Copy, Debug, PartialEq, Eq)]
+pub struct WaitingOf(pub u16);
+
+impl Question for WaitingOf {
+    ghost use Rattle.std.proofs.Common.{sym, ◌∙◌};
+
+    type Answer = Option<Excerpt>;
+
+    ghost reading = { λ q excerpt. reading.Waiting q.0 excerpt };
+
+    fn ask<I: Instance + Drop, B: Settle + Drop>(
+        self,
+        alloc: Global,
+        member: &Member<I, B>,
+    ) -> Result<Option<Excerpt>, AllocError> {
+        if self.0 >= member.genesis().members() {
+            return Ok(None);
+        }
+        Ok(Some(member.waiting(alloc, self.0)?))
+    }
+
+    fn to_reading(self, alloc: Global, excerpt: &Option<Excerpt>) -> Result<Reading, AllocError> {
+        let excerpt = copy_of(alloc, excerpt)?;
+        Ok(Reading::Waiting {
+            account: self.0,
+            excerpt,
+        })
+    }
+
+    fn is_reading(self, answer: &Option<Excerpt>, other: &Reading) -> bool {
+        match other {
+            Reading::Waiting { account, excerpt } => {
+                *account == self.0 && is_same_excerpt(excerpt, answer)
+            }
+            _ => false,
+        }
+    }
+
+    fn is_of_body(self, _answer: &Option<Excerpt>, _number: usize, _body: &Body) -> bool {
+        false
+    }
+
+    fn account_told(self) -> Option<u16> {
+        Some(self.0)
+    }
+
+    ghost one_answer = { λ q m one other is also. is ∙ sym also };
+}
+
+/// How many entries are settled of each account.
+#[derive(Clone, Copy, Debug, PartialEq, Eq)]
+pub struct AllFronts;
+
+impl Question for AllFronts {
+    ghost use Rattle.std.proofs.Common.{sym, ◌∙◌};
+
+    type Answer = SettledCounts;
+
+    ghost reading = { λ q counts. reading.Fronts counts };
+
+    fn ask<I: Instance + Drop, B: Settle + Drop>(
+        self,
+        alloc: Global,
+        member: &Member<I, B>,
+    ) -> Result<SettledCounts, AllocError> {
+        Ok(SettledCounts::new(member.fronts(alloc)?))
+    }
+
+    fn to_reading(self, alloc: Global, counts: &SettledCounts) -> Result<Reading, AllocError> {
+        Ok(Reading::Fronts(counts.copy(alloc)?))
+    }
+
+    fn is_reading(self, answer: &SettledCounts, other: &Reading) -> bool {
+        match other {
+            Reading::Fronts(counts) => counts.as_slice() == answer.as_slice(),
+            _ => false,
+        }
+    }
+
+    fn is_of_body(self, _answer: &SettledCounts, _number: usize, _body: &Body) -> bool {
+        false
+    }
+
+    fn account_told(self) -> Option<u16> {
+        None
+    }
+
+    ghost one_answer = { λ q m one other is also. is ∙ sym also };
+}
+
+// A copy of entries, if there are any.
+fn copy_of(alloc: Global, excerpt: &Option<Excerpt>) -> Result<Option<Excerpt>, AllocError>
+    ensures { IfOk result (λ copy. copy ≡ excerpt.now) }
+{
+    match excerpt {
+        Some(excerpt) => Ok(Some(excerpt.copy(alloc)?)),
+        None => Ok(None),
+    }
+}
