@@ -1,5 +1,5 @@
 -- A reading's receipt that is among the latest, or left as one more.
-use Rattle.std.proofs.Common.{Bool, false, cond, if◌then◌else◌, ◌≡◌, ◌⊎◌, ◌+◌, ◌-◌, ◌<◌, ◌≤◌, inl, inr, ⊎_elim, ℕ, List, [], ◌∷◌, ◌++◌, Some, length, take, drop, get_or, slice_get, refl, sym, ap, ◌∙◌, subst, arith, take-append-drop, get_or-drop, drop-drop}
+use Rattle.std.proofs.Common.{Bool, false, cond, if◌then◌else◌, ◌≡◌, ◌⊎◌, ◌+◌, ◌-◌, ◌<◌, ◌≤◌, inl, inr, ⊎_elim, ℕ, List, [], ◌∷◌, ◌++◌, Some, length, drop, get_or, slice_get, refl, sym, ap, ◌∙◌, subst, arith, get_or-drop, drop-drop}
 use Rattle.std.specs.List.{All, AllPairs}
 use Rattle.std.proofs.lemmas.List.{length-drop, length_push}
 use Rattle.std.proofs.lemmas.List.Elements.{All-push}
@@ -7,7 +7,6 @@ use Rattle.std.proofs.lemmas.List.Quantifiers.{all_pairs_push}
 use Rattle.std.proofs.lemmas.List.Sums.{sum_by_push}
 use Rattle.std.proofs.lemmas.Bool.{cases_lt}
 use Rattle.std.proofs.lemmas.Option.{slice_get_within, slice_get-get_or, get_or_from_slice_get}
-use Rattle.pay_member.specs.Member.{MemberFields}
 use Rattle.pay_node.specs.Receipts.{IsConsistent, ReceiptFields, entries_after, has_entry}
 use Rattle.pay_node.specs.declared.seat.TheConstants.{LATEST}
 use Rattle.pay_node.specs.Seats.{IsOfNow, KeepsReceipt, KeptCountsAsLeft, SeatFields, entries_told, latest, with_receipts}

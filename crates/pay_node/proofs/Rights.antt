@@ -1,5 +1,5 @@
 -- What a history is consistent with it still does with one entry more, and the call that made it is consistent too.
-use Rattle.std.proofs.Common.{◌≡◌, ◌≢◌, ℕ, ◌+◌, ◌<◌, ◌≤◌, Bool, false, cond, eqb, Some, Result, Ok, Err, IfOk, OnErr, List, [], ◌∷◌, ◌++◌, length, drop, get_or, slice_get, refl, sym, ap, ◌∙◌, subst, arith, append-nil}
+use Rattle.std.proofs.Common.{◌≡◌, ◌≢◌, ℕ, ◌+◌, ◌<◌, ◌≤◌, Bool, false, cond, eqb, Some, Result, Ok, Err, IfOk, OnErr, List, [], ◌∷◌, ◌++◌, length, drop, get_or, slice_get, refl, sym, ap, ◌∙◌, subst, arith, append-nil, append_assoc}
 use Rattle.std.specs.List.{All}
 use Rattle.std.proofs.lemmas.List.{take_all, take-append-le, drop-append-le, get_or_append_left, get_or_at, length_push, length-append}
 use Rattle.std.proofs.lemmas.List.Elements.{All-push, All-weaker}
@@ -16,13 +16,14 @@ use Rattle.pay_member.specs.declared.fault.MemberFault.TheVariants.{Memory, Spen
 use Rattle.pay_member.specs.Events.{events}
 use Rattle.pay_member.specs.Member.{MemberFields, with_entry}
 use Rattle.pay_member.specs.Refusal.{refusal}
-use Rattle.pay_node.specs.declared.question.Question.{Question}
-use Rattle.pay_node.specs.declared.shown.Shown.{Shown}
+use Rattle.pay_member.specs.declared.reading.Reading.{Reading}
+use Rattle.pay_member.specs.Questions.{Shows}
+use Rattle.pay_node.specs.Nodes.{WentOn}
 use Rattle.pay_node.specs.declared.call.Call.{Call}
 use Rattle.pay_node.specs.declared.call.Call.TheVariants.{Handed, Read}
 use Rattle.pay_node.specs.Receipts.{ReceiptFields}
-use Rattle.pay_node.specs.Receipts.{shown_of, IsConsistent, has_entry, entries_after, receipts_of, reading_receipt}
-use Rattle.pay_node.specs.Seats.{SeatFields, with_receipts, entries_told, entries_under, since, Right, StaysRight}
+use Rattle.pay_node.specs.Receipts.{IsConsistent, has_entry, entries_after, receipts_of, reading_receipt}
+use Rattle.pay_node.specs.Seats.{HandingInStaysRight, behind, SeatFields, with_receipts, entries_told, entries_under, since, Right, StaysRight}
 
 -- ---- longer histories
 
@@ -45,10 +46,10 @@ consistent_more m e stamp seen (Handed event (Err fault)) is =
       omega (arith, is.0),
       subst (λ h. refusal m.genesis m.keys (events h) event ≡ Some fault) (sym (take-append-le seen m.history (e ∷ []) is.0)) is.1,
     )
-consistent_more m e stamp seen (Read question shown) is =
+consistent_more m e stamp seen (Read reading) is =
     let n = length_push m.history e in (
       omega (arith, is.0),
-      subst (λ h. shown ≡ shown_of (record m { history = h }) question) (sym (take-append-le seen m.history (e ∷ []) is.0)) is.1,
+      subst (λ h. Shows (record m { history = h }) reading) (sym (take-append-le seen m.history (e ∷ []) is.0)) is.1,
     )
 
 -- what a receipt saw and made is in the history that is consistent with it
@@ -57,7 +58,7 @@ consistent_bound m stamp r is = go r.call refl is where
   go : (call : Call) → r.call ≡ call → IsConsistent m stamp r.seen call → entries_after r ≤ length m.history
   go (Handed event (Ok reply)) at is = rw at (let within = slice_get_within m.history r.seen _ is in omega arith)
   go (Handed event (Err fault)) at is = rw at is.0
-  go (Read question shown) at is = rw at is.0
+  go (Read reading) at is = rw at is.0
 
 -- ---- one receipt more
 
@@ -134,7 +135,7 @@ refused_stays m now seat event fault refused same base within right =
     (right_told m base seat (Handed event (Err fault)) within refl
     (omega arith, subst (λ h. refusal m.genesis m.keys (events h) event ≡ Some fault) (sym (take_all (length m.history) m.history (omega arith))) refused) right)
 
-pub own_stays :
+own_stays :
     (m now : MemberFields) (seat after : SeatFields) (event : Event) (answer : Result Reply MemberFault) → IsAnswer m event answer
     → IfOk answer (λ reply. now ≡ with_entry m (record { stamp = seat.stamp; event = event; reply = reply })) → OnErr answer (now ≡ m)
     → after ≡ with_receipts seat (receipts_of (length m.history) event answer)
@@ -156,7 +157,7 @@ own_stays m now seat after event (Err (Gap next)) is entry same at =
 own_stays m now seat after event (Err WrongKey) is entry same at = subst (StaysRight m seat now) (sym at) (refused_stays m now seat event WrongKey (is (λ other. cc)) same)
 own_stays m now seat after event (Err NoAccount) is entry same at = subst (StaysRight m seat now) (sym at) (refused_stays m now seat event NoAccount (is (λ other. cc)) same)
 
-pub others_stay :
+others_stay :
     (m now : MemberFields) (stamp : ℕ) (event : Event) (answer : Result Reply MemberFault)
     → IfOk answer (λ reply. now ≡ with_entry m (record { stamp = stamp; event = event; reply = reply })) → OnErr answer (now ≡ m)
     → (seat : SeatFields) → seat.stamp ≢ stamp → StaysRight m seat now seat
@@ -165,10 +166,33 @@ others_stay m now stamp event (Ok reply) entry same seat other base within right
 others_stay m now stamp event (Err fault) entry same seat other base within right = subst (λ x. Right x base seat) (sym same) right
 
 pub reading_stays :
-    (m : MemberFields) (seat after : SeatFields) (question : Question) (shown : Shown) → shown ≡ shown_of m question
-    → after ≡ with_receipts seat (reading_receipt (length m.history) question shown)
+    (m : MemberFields) (seat after : SeatFields) (reading : Reading) → Shows m reading
+    → after ≡ with_receipts seat (reading_receipt (length m.history) reading)
     → StaysRight m seat m after
-reading_stays m seat after question shown is at base within right =
+reading_stays m seat after reading is at base within right =
     subst (Right m base) (sym at)
-    (right_told m base seat (Read question shown) within refl
-    (omega arith, subst (λ h. shown ≡ shown_of (record m { history = h }) question) (sym (take_all (length m.history) m.history (omega arith))) is) right)
+    (right_told m base seat (Read reading) within refl
+    (omega arith, subst (λ h. Shows (record m { history = h }) reading) (sym (take_all (length m.history) m.history (omega arith))) is) right)
+
+pub handed_in_stays : HandingInStaysRight
+handed_in_stays m now seat after event answer handed = (
+  own_stays m now seat after event answer handed.is (entered answer handed.member) (refused answer handed.member) handed.receipt,
+  others_stay m now seat.stamp event answer (entered answer handed.member) (refused answer handed.member),
+) where
+  entered : (a : Result Reply MemberFault) → now ≡ behind m seat.stamp event a → IfOk a (λ reply. now ≡ with_entry m (record { stamp = seat.stamp; event = event; reply = reply }))
+  entered (Ok reply) is = is
+  entered (Err fault) is = tt
+
+  refused : (a : Result Reply MemberFault) → now ≡ behind m seat.stamp event a → OnErr a (now ≡ m)
+  refused (Ok reply) is = tt
+  refused (Err fault) is = is
+
+-- a member that went on still does behind one event more
+pub went_on_by : {X E : Type 0} (was m now : MemberFields) (entry : X → HistoryEntry) (answer : Result X E) → WentOn was m
+    → IfOk answer (λ x. now ≡ with_entry m (entry x)) → OnErr answer (now ≡ m) → WentOn was now
+went_on_by was m now entry (Ok x) on is same = subst (λ (n : MemberFields). WentOn was n) (sym is) (record {
+  genesis = on.genesis;
+  keys = on.keys;
+  begun = record { rest = on.begun.rest ++ entry x ∷ []; is = ap (λ (h : List HistoryEntry). h ++ entry x ∷ []) on.begun.is ∙ append_assoc was.history on.begun.rest (entry x ∷ []) };
+})
+went_on_by was m now entry (Err e) on is same = subst (λ (n : MemberFields). WentOn was n) (sym same) on

@@ -21,7 +21,8 @@ use Rattle.pay_member.specs.Events.{events}
 use Rattle.pay_member.specs.Group.{group_in}
 use Rattle.pay_member.specs.Member.{MemberFields}
 use Rattle.pay_member.specs.Reply.{took_by}
-use Rattle.pay_node.specs.Sending.{HasSent, behind, sent_by}
+use Rattle.pay_node.specs.Seats.{behind}
+use Rattle.pay_node.specs.Sending.{HasSent, sent_by}
 
 abbrev counted : Bool → ℕ
 counted true = 1

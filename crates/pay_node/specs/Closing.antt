@@ -51,6 +51,10 @@ IsVerdictBy holds m base count seats None =
 IsVerdictBy holds m base count seats (Some stamp) = IsLeastBy holds m base count seats stamp
 
 -- each seat's is one seat's, which is right
+-- page: `AllReconciled`: a stamp below the number of seats is just one seat's, which is right; any
+--   other is no seat's and no entry's
+-- term: reconciled: of a stamp: it is one seat's, with which the history is consistent, or
+--   nobody's
 abbrev pub AllReconciled : MemberFields → ℕ → ℕ → List SeatFields → Type 0
 AllReconciled m base count seats =
     (stamp : ℕ) → IsReconciledBy (λ s. HasConsistentSeat m base s seats) m base count seats stamp

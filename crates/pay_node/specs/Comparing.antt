@@ -19,6 +19,14 @@ use Rattle.pay_node.specs.Nodes.{IsOwn, NodeFields}
 use Rattle.pay_node.specs.Receipts.{receipts_of}
 use Rattle.pay_node.specs.Seats.{SeatFields, with_receipts}
 
+-- node: Forgetting: A member has forgotten what it sent, as by an older copy of its folder, if
+--   its list has a value that it wasn't asked for, or if more than f peers know more than it
+--   had sent when its node started from its log. The node then says `payd: log 7 Forgotten`
+--   and what to do, and ends with status 4: at the next line, or with `--stay` at once
+--   behind the end of its lines. After a start from a log it makes no payment before more
+--   than (N + f) / 2 members, itself among them, have shown that they know no more: each
+--   peer's first WANT says how far it has got. `payd send` gives a payment again while it
+--   comes too early, for ten seconds or as `--timeout` says.
 -- In a group of so many members, of whom so many may lie, a member began with so many sent bodies.
 -- Of each member there is the number of its first WANT since then, if it sent one: it had taken all
 -- before that.
@@ -47,6 +55,9 @@ count_within c = count_by (is_within c.sent) c.firsts + 1
 
 -- More than f peers know more: it has forgotten. More than (N + f) / 2 members know no more: it may
 -- be asked.
+-- page: `standing_of`: whether a member that goes on from its log may be asked for values, by its
+--   peers' first WANTs: `count_beyond` and `count_within` count those for more and for no more
+--   than it had sent then
 abbrev pub standing_of : ComparingFields → Standing
 standing_of c =
     if nat_lt c.faults (count_beyond c) then Forgotten

@@ -2,14 +2,17 @@
 -- shown on one receipt.
 use Rattle.std.specs.Prelude.{◌≡◌, ◌≢◌, ◌⊎◌, ℕ, ◌≤◌, max, List, [], ◌∷◌, ◌++◌, length, slice_get}
 use Rattle.std.specs.Prelude.{slice_index_or, Option, Some, None}
+use Rattle.std.specs.List.{All}
 use Rattle.pay_frame.specs.Frame.{BodyFields}
 use Rattle.pay_member.specs.Legal.{Legal}
 use Rattle.pay_member.specs.Member.{MemberFields}
-use Rattle.pay_node.specs.declared.question.Question.TheVariants as question
+use Rattle.pay_member.specs.declared.reading.Reading.TheVariants as reading
+use Rattle.pay_member.specs.Questions.{Shows}
+use Rattle.pay_node.specs.declared.call.Call.{Call}
+use Rattle.pay_node.specs.declared.call.Call.TheVariants.{Read}
 use Rattle.pay_node.specs.Receipts.{ReceiptFields}
-use Rattle.pay_node.specs.declared.shown.Shown.TheVariants as shown
 use Rattle.pay_node.specs.Nodes.{IsOwn, IsShown, NodeFields}
-use Rattle.pay_node.specs.Receipts.{ShowsAlone, reading, reading_receipt, shown_of}
+use Rattle.pay_node.specs.Receipts.{ShowsAlone, reading_at, reading_receipt}
 use Rattle.pay_node.specs.Seats.{KeepsReceipt, SeatFields}
 use Rattle.pay_node.specs.Sending.{sent_by}
 
@@ -38,7 +41,7 @@ pub record IsKeptOnce (m : MemberFields) (before after : SeatFields) (number : �
       (after.receipts ≡ before.receipts)
       ⊎ (after.receipts
       ≡ before.receipts
-      ++ reading_receipt (length m.history) (question.Sent number 1) (shown.Sent (body ∷ [])))
+      ++ reading_receipt (length m.history) (reading.Sent number 1 (body ∷ [])))
   pub others :
       (k : ℕ) (other : BodyFields) → k ≢ number → IsKeptFor before k other → IsKeptFor after k other
   pub few : length after.marks ≤ max (length before.marks) (length (sent_by m))
@@ -47,9 +50,9 @@ pub record IsKeptOnce (m : MemberFields) (before after : SeatFields) (number : �
 abbrev pub IsNoted : MemberFields → SeatFields → SeatFields → ℕ → Option BodyFields → Type 0
 IsNoted m before after number (Some body) = IsKeptOnce m before after number body
 IsNoted m before after number None =
-    (shown.Sent [] ≡ shown_of m (question.Sent number 1))
+    Shows m (reading.Sent number 1 [])
     × KeepsReceipt before after
-    (reading (length m.history) (question.Sent number 1) (shown.Sent []))
+    (reading_at (length m.history) (reading.Sent number 1 []))
 
 -- The node's member, with some legal history, sent this body at the number, and the seat keeps its
 -- receipt.
@@ -64,10 +67,22 @@ pub record IsShownOnce (n : NodeFields) (before after : SeatFields) (number : �
 abbrev pub IsFetched : NodeFields → SeatFields → SeatFields → ℕ → Option BodyFields → Type 0
 IsFetched n before after number (Some body) = IsShownOnce n before after number body
 IsFetched n before after number None =
-    IsShown n before after (question.Sent number 1) (shown.Sent [])
+    IsShown n before after (reading.Sent number 1 [])
 
 -- so from some seat
 pub record HasFetched (n : NodeFields) (number : ℕ) (found : Option BodyFields) : Type 0 where
   pub before : SeatFields
   pub after : SeatFields
   pub is : IsFetched n before after number found
+
+-- ---- seats that do nothing else
+
+-- what was sent was read at one place
+pub record IsFetch (call : Call) : Type 0 where
+  pub number : ℕ
+  pub bodies : List BodyFields
+  pub is : call ≡ Read (reading.Sent number 1 bodies)
+
+-- nothing was called from the seat but fetches: it has grown from a fresh one by those alone
+abbrev pub HasFetchedAlone : SeatFields → Type 0
+HasFetchedAlone seat = All (λ r. IsFetch r.call) seat.receipts

@@ -1,4 +1,3 @@
-pub mod Requests
 pub mod Receipts
 pub mod Seats
 pub mod Sending

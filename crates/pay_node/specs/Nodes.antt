@@ -31,10 +31,12 @@ use Rattle.pay_member.specs.Answer.{IsAnswer, answer_of_take}
 use Rattle.pay_member.specs.Events.{events}
 use Rattle.pay_member.specs.Bringing.{answered_at_once, incoming_at, with_want}
 use Rattle.pay_member.specs.Legal.{Legal}
+use Rattle.pay_member.specs.declared.lie.Lie.{Lie}
+use Rattle.pay_member.specs.Lies.{IsFound}
 use Rattle.pay_member.specs.Member.{MemberFields}
-use Rattle.pay_node.specs.declared.question.Question.{Question}
-use Rattle.pay_node.specs.declared.shown.Shown.{Shown}
-use Rattle.pay_node.specs.Receipts.{shown_of, receipts_of, reading}
+use Rattle.pay_member.specs.declared.reading.Reading.{Reading}
+use Rattle.pay_member.specs.Questions.{Shows}
+use Rattle.pay_node.specs.Receipts.{receipts_of, reading_at}
 use Rattle.pay_node.specs.Seats.{KeepsReceipt, SeatFields, with_receipts}
 
 -- What is known of a node without its lock: its group's genesis, the keys with which it opens
@@ -97,6 +99,13 @@ pub record HasNext (n : NodeFields) (peer number : ℕ) : Type 0 where
   pub legal : Legal member.genesis member.keys member.history
   pub is : number ≡ next peer (events member.history)
 
+-- What is known of a peer's lies, by the node's member with some legal history.
+pub record FindsLie (n : NodeFields) (peer : ℕ) (lie : Option Lie) : Type 0 where
+  pub member : MemberFields
+  pub own : IsOwn n member
+  pub legal : Legal member.genesis member.keys member.history
+  pub is : IsFound (events member.history) peer lie
+
 -- ---- answers
 
 -- The node's member, with some legal history, answers so to the event, and the seat has the
@@ -109,14 +118,14 @@ pub record IsAnswered (n : NodeFields) (before after : SeatFields) (event : Even
   pub is : IsAnswer member event answer
   pub receipt : after ≡ with_receipts before (receipts_of (length member.history) event answer)
 
--- The node's member, with some legal history, shows this, and the seat keeps the receipt.
-pub record IsShown (n : NodeFields) (before after : SeatFields) (question : Question)
-    (shown : Shown) : Type 0 where
+-- The node's member, with some legal history, answers the question so, and the seat keeps the
+-- receipt.
+pub record IsShown (n : NodeFields) (before after : SeatFields) (reading : Reading) : Type 0 where
   pub member : MemberFields
   pub own : IsOwn n member
   pub legal : Legal member.genesis member.keys member.history
-  pub is : shown ≡ shown_of member question
-  pub receipt : KeepsReceipt before after (reading (length member.history) question shown)
+  pub is : Shows member reading
+  pub receipt : KeepsReceipt before after (reading_at (length member.history) reading)
 
 -- ---- what is brought
 

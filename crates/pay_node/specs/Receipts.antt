@@ -1,11 +1,7 @@
 -- Receipts of a node's calls, and when a history is consistent with one.
-use Rattle.std.specs.Prelude.{◌≡◌, ℕ, ◌+◌, ◌≤◌, nat_lt, min, Bool, true, false, if◌then◌else◌, List}
-use Rattle.std.specs.Prelude.{[], ◌∷◌, take, length, slice_get, slice_index, Option, Some, None}
-use Rattle.std.specs.Prelude.{Result, Ok, Err}
+use Rattle.std.specs.Prelude.{◌≡◌, ℕ, ◌+◌, ◌≤◌, Bool, true, false, if◌then◌else◌, List, [], ◌∷◌}
+use Rattle.std.specs.Prelude.{take, length, slice_get, Option, Some, None, Result, Ok, Err}
 use Rattle.pay_frame.specs.Frame.{BodyFields}
-use Rattle.pay_channel.specs.History.{list_of}
-use Rattle.pay_book.specs.Excerpt.{ExcerptFields}
-use Rattle.pay_book.specs.Statement.{StatementFields, statement_of}
 use Rattle.pay_member.specs.declared.event.Event.{Event}
 use Rattle.pay_member.specs.declared.event.Event.TheVariants.{Taken}
 use Rattle.pay_member.specs.declared.reply.Reply.{Reply}
@@ -13,71 +9,16 @@ use Rattle.pay_member.specs.declared.reply.Reply.TheVariants.{Took}
 use Rattle.pay_member.specs.declared.fault.MemberFault.{MemberFault}
 use Rattle.pay_member.specs.declared.fault.MemberFault.TheVariants.{Memory, Spent, TooLong, Repeat}
 use Rattle.pay_member.specs.declared.fault.MemberFault.TheVariants.{Gap, WrongKey, NoAccount}
-use Rattle.pay_member.specs.declared.query_fault.QueryFault.{QueryFault}
-use Rattle.pay_member.specs.declared.query_fault.QueryFault.TheVariants as query
-use Rattle.pay_member.specs.declared.standing.PaymentState.{PaymentState}
-use Rattle.pay_member.specs.Group.{group_in}
+use Rattle.pay_member.specs.declared.reading.Reading.{Reading}
+use Rattle.pay_member.specs.declared.reading.Reading.TheVariants as reading
 use Rattle.pay_member.specs.Events.{events}
-use Rattle.pay_member.specs.Book.{book_after}
-use Rattle.pay_member.specs.Reading.{state_of, fetched_bodies, entries_shown, waiting_shown}
+use Rattle.pay_member.specs.Questions.{Shows}
 use Rattle.pay_member.specs.Refusal.{refusal}
 use Rattle.pay_member.specs.Member.{MemberFields}
-use Rattle.pay_node.specs.declared.question.Question.{Question}
-use Rattle.pay_node.specs.declared.question.Question.TheVariants as question
-use Rattle.pay_node.specs.declared.shown.Shown.{Shown}
-use Rattle.pay_node.specs.declared.shown.Shown.TheVariants as shown
 use Rattle.pay_node.specs.declared.call.Call.{Call}
 use Rattle.pay_node.specs.declared.call.Call.TheVariants.{Handed, Read}
 use Rattle.pay_node.specs.declared.receipt.KeptCall.{KeptCall}
 use Rattle.pay_node.specs.declared.receipt.KeptCall.TheVariants as kept
-
--- ---- what a member shows
-
-abbrev pub state_shown : MemberFields → ℕ → ℕ → Result PaymentState QueryFault
-state_shown m owner seq =
-    if nat_lt owner m.genesis.members
-    then Ok (state_of m.genesis m.keys.own (events m.history) owner seq) else Err query.NoAccount
-
--- an account's lines and its balance
-abbrev pub member_statement : MemberFields → ℕ → StatementFields
-member_statement m account =
-    record {
-      lines = statement_of m.genesis.members
-          (list_of (group_in m.genesis m.keys.own) (events m.history))
-          (slice_index (book_after m.genesis m.keys.own (events m.history)).front) account;
-      balance = slice_index (book_after m.genesis m.keys.own (events m.history)).balances account;
-    }
-
-abbrev pub statement_shown : MemberFields → ℕ → Result StatementFields QueryFault
-statement_shown m account =
-    if nat_lt account m.genesis.members then Ok (member_statement m account)
-    else Err query.NoAccount
-
--- what settled of an account from a number on
-abbrev pub entries_answer : MemberFields → ℕ → ℕ → Result ExcerptFields QueryFault
-entries_answer m account from =
-    if nat_lt account m.genesis.members
-    then Ok (entries_shown m.genesis m.keys.own (events m.history) account from)
-    else Err query.NoAccount
-
--- what is known of an account and isn't settled
-abbrev pub waiting_answer : MemberFields → ℕ → Result ExcerptFields QueryFault
-waiting_answer m account =
-    if nat_lt account m.genesis.members
-    then Ok (waiting_shown m.genesis m.keys.own (events m.history) account)
-    else Err query.NoAccount
-
--- the answer to a question; 16 bodies at most are shown at once
-abbrev pub shown_of : MemberFields → Question → Shown
-shown_of m (question.Sent from max) =
-    shown.Sent (fetched_bodies m.genesis m.keys.own (events m.history) from (min max 16))
-shown_of m (question.State owner seq) = shown.State (state_shown m owner seq)
-shown_of m (question.Statement account) = shown.Statement (statement_shown m account)
-shown_of m (question.Entries account from) = shown.Entries (entries_answer m account from)
-shown_of m (question.Waiting account) = shown.Entries (waiting_answer m account)
-shown_of m question.Fronts = shown.Fronts (book_after m.genesis m.keys.own (events m.history)).front
-
--- ---- receipts
 
 -- One answered call of a seat: how many entries the history had before it, which is the place of
 -- its own entry, if it has one, and the call with its answer.
@@ -88,7 +29,7 @@ pub record ReceiptFields : Type 0 where
 -- the call that is kept so
 abbrev pub call_in : KeptCall → Call
 call_in (kept.Taken frame took) = Handed (Taken frame) (Ok (Took took))
-call_in (kept.Sent number body) = Read (question.Sent number 1) (shown.Sent (body ∷ []))
+call_in (kept.Sent number body) = Read (reading.Sent number 1 (body ∷ []))
 call_in (kept.Other call) = call.value
 
 -- the member as it was behind its first entries
@@ -104,19 +45,19 @@ IsConsistent m stamp seen (Handed event (Ok reply)) =
 IsConsistent m stamp seen (Handed event (Err fault)) =
     (seen ≤ length m.history)
     × (refusal m.genesis m.keys (events (take seen m.history)) event ≡ Some fault)
-IsConsistent m stamp seen (Read question shown) =
-    (seen ≤ length m.history) × (shown ≡ shown_of (back_at m seen) question)
+IsConsistent m stamp seen (Read reading) =
+    (seen ≤ length m.history) × Shows (back_at m seen) reading
 
 abbrev pub has_entry : Call → Bool
 has_entry (Handed event (Ok reply)) = true
 has_entry (Handed event (Err fault)) = false
-has_entry (Read question shown) = false
+has_entry (Read reading) = false
 
 -- why what was handed in was refused, if it was
 abbrev pub fault_of_call : Call → Option MemberFault
 fault_of_call (Handed event (Ok reply)) = None
 fault_of_call (Handed event (Err fault)) = Some fault
-fault_of_call (Read question shown) = None
+fault_of_call (Read reading) = None
 
 -- how many entries the history had once the call was answered
 abbrev pub entries_after : ReceiptFields → ℕ
@@ -139,12 +80,12 @@ receipts_of seen event (Err NoAccount) =
     record { seen = seen; call = Handed event (Err NoAccount) } ∷ []
 
 -- of what was read
-abbrev pub reading : ℕ → Question → Shown → ReceiptFields
-reading seen question shown = record { seen = seen; call = Read question shown }
+abbrev pub reading_at : ℕ → Reading → ReceiptFields
+reading_at seen reading = record { seen = seen; call = Read reading }
 
-abbrev pub reading_receipt : ℕ → Question → Shown → List ReceiptFields
-reading_receipt seen question shown = reading seen question shown ∷ []
+abbrev pub reading_receipt : ℕ → Reading → List ReceiptFields
+reading_receipt seen reading = reading_at seen reading ∷ []
 
 -- the receipt shows this body alone, as that of a number
 abbrev pub ShowsAlone : ReceiptFields → ℕ → BodyFields → Type 0
-ShowsAlone r number body = r.call ≡ Read (question.Sent number 1) (shown.Sent (body ∷ []))
+ShowsAlone r number body = r.call ≡ Read (reading.Sent number 1 (body ∷ []))

@@ -1,11 +1,16 @@
 -- Seats, and when a history is consistent with all that a seat was told.
-use Rattle.std.specs.Prelude.{◌≡◌, ◌⊎◌, ℕ, ◌+◌, ◌≤◌, ◌-◌, ◌==◌, List, [], ◌∷◌, ◌++◌, Option, Some}
-use Rattle.std.specs.Prelude.{false, drop, length, slice_get}
+use Rattle.std.specs.Prelude.{◌≡◌, ◌≢◌, ◌⊎◌, ℕ, ◌+◌, ◌≤◌, ◌-◌, ◌==◌, List, [], ◌∷◌, ◌++◌, Option}
+use Rattle.std.specs.Prelude.{Some, false, drop, length, slice_get, Result, Ok, Err}
 use Rattle.std.specs.List.{All, AllPairs, count_by}
-use Rattle.pay_member.specs.Member.{MemberFields}
+use Rattle.pay_member.specs.declared.event.Event.{Event}
+use Rattle.pay_member.specs.declared.fault.MemberFault.{MemberFault}
+use Rattle.pay_member.specs.declared.reply.Reply.{Reply}
+use Rattle.pay_member.specs.Answer.{IsAnswer}
+use Rattle.pay_member.specs.Legal.{Legal}
+use Rattle.pay_member.specs.Member.{MemberFields, with_entry}
 use Rattle.pay_node.specs.Receipts.{ReceiptFields}
 use Rattle.pay_node.specs.declared.seat.TheConstants.{LATEST}
-use Rattle.pay_node.specs.Receipts.{IsConsistent, has_entry, entries_after}
+use Rattle.pay_node.specs.Receipts.{IsConsistent, has_entry, entries_after, receipts_of}
 
 -- A stamp, the receipts of the calls that were made under it, oldest first, and the marks: at which
 -- place among them is that of a number's body, if it is kept.
@@ -54,6 +59,10 @@ HasItsEntries m base seat = entries_under seat.stamp (since base m) ≡ entries_
 -- From the base on, the history has as many entries under the seat's stamp as the seat was told of.
 -- Each receipt saw those before the base and is consistent with the history, and none saw fewer
 -- entries than there were when one before it was answered.
+-- page: `Right`, `IsConsistent`: a history is consistent with a seat: it has as many entries under
+--   its stamp as the seat was told of; no call saw fewer entries than there were when the one
+--   before was answered; each receipt's reply is at the place that was seen, its refusal or
+--   reading what the entries before call for
 pub record Right (m : MemberFields) (base : ℕ) (seat : SeatFields) : Type 0 where
   pub counted : entries_under seat.stamp (since base m) ≡ entries_told seat
   pub each : All (λ r. (base ≤ r.seen) × IsConsistent m seat.stamp r.seen r.call) seat.receipts
@@ -63,6 +72,30 @@ pub record Right (m : MemberFields) (base : ℕ) (seat : SeatFields) : Type 0 wh
 abbrev pub StaysRight : MemberFields → SeatFields → MemberFields → SeatFields → Type 0
 StaysRight m seat now after =
     (base : ℕ) → base ≤ length m.history → Right m base seat → Right now base after
+
+-- the member behind an event, which is unchanged where it refused that
+abbrev pub behind : MemberFields → ℕ → Event → Result Reply MemberFault → MemberFields
+behind m stamp event (Ok reply) =
+    with_entry m (record { stamp = stamp; event = event; reply = reply })
+behind m stamp event (Err fault) = m
+
+-- An event was handed to a member of a legal history from a seat, and this is the answer. A reply
+-- is an entry of its history, and the seat has the receipt.
+pub record IsHandedIn (m : MemberFields) (seat : SeatFields) (event : Event)
+    (answer : Result Reply MemberFault) (now : MemberFields) (after : SeatFields) : Type 0 where
+  pub legal : Legal m.genesis m.keys m.history
+  pub is : IsAnswer m event answer
+  pub member : now ≡ behind m seat.stamp event answer
+  pub receipt : after ≡ with_receipts seat (receipts_of (length m.history) event answer)
+
+-- What was right stays so by what is handed in: that seat, and each with another stamp.
+abbrev pub HandingInStaysRight : Type 0
+HandingInStaysRight =
+    (m now : MemberFields) (seat after : SeatFields) (event : Event)
+    (answer : Result Reply MemberFault)
+    → IsHandedIn m seat event answer now after
+    → StaysRight m seat now after
+    × ((other : SeatFields) → other.stamp ≢ seat.stamp → StaysRight m other now other)
 
 -- A reading whose receipt is of now counts as one that left another: closing judges it by the same.
 abbrev pub KeptCountsAsLeft : Type 0

@@ -1,27 +1,19 @@
 -- What a member sent to all, and whether an answer tells that it sent more.
-use Rattle.std.specs.Prelude.{◌≡◌, ℕ, ◌<◌, ◌↔◌, Bool, IsTrue, List, length, Result, Ok, Err}
+use Rattle.std.specs.Prelude.{ℕ, ◌<◌, ◌↔◌, Bool, IsTrue, List, length, Result}
 use Rattle.pay_frame.specs.Frame.{BodyFields}
 use Rattle.pay_channel.specs.History.{out}
 use Rattle.pay_link.specs.Checked.{CheckedFields}
-use Rattle.pay_member.specs.declared.event.Event.{Event}
 use Rattle.pay_member.specs.declared.event.Event.TheVariants.{Taken}
-use Rattle.pay_member.specs.declared.fault.MemberFault.{MemberFault}
-use Rattle.pay_member.specs.declared.reply.Reply.{Reply}
 use Rattle.pay_member.specs.declared.take_fault.TakeFault.{TakeFault}
 use Rattle.pay_member.specs.declared.took.Took.{Took}
 use Rattle.pay_member.specs.Answer.{IsAnswer, answer_of_take}
 use Rattle.pay_member.specs.Events.{events}
 use Rattle.pay_member.specs.Group.{group_in}
-use Rattle.pay_member.specs.Member.{MemberFields, with_entry}
+use Rattle.pay_member.specs.Member.{MemberFields}
+use Rattle.pay_node.specs.Seats.{behind}
 
 abbrev pub sent_by : MemberFields → List BodyFields
 sent_by m = out (group_in m.genesis m.keys.own) (events m.history)
-
--- the member behind an event, which is unchanged where it refused that
-abbrev pub behind : MemberFields → ℕ → Event → Result Reply MemberFault → MemberFields
-behind m stamp event (Ok reply) =
-    with_entry m (record { stamp = stamp; event = event; reply = reply })
-behind m stamp event (Err fault) = m
 
 -- Whichever member answered a frame so: its sent list has grown by it, or it hasn't.
 abbrev pub HasSent : Result Took TakeFault → Bool → Type 0

@@ -1,12 +1,9 @@
 ghost use Rattle.std.specs.Prelude.{◌≡◌, ◌↔◌, [], ◌∷◌, IsTrue};
+ghost use Rattle.pay_member.specs.declared.reading.Reading.TheVariants as reading;
 ghost use Rattle.pay_node.specs.Receipts.{fault_of_call, has_entry};
 
-use crate::bodies::Bodies;
-use crate::question::Question;
-use crate::same::{is_same_body, is_same_shown};
-use crate::shown::Shown;
 use pay_frame::Body;
-use pay_member::{Event, MemberFault, Reply};
+use pay_member::{Bodies, Event, MemberFault, Question, Reading, Reply, is_alone};
 use std::alloc::Global;
 
 /// What was called, and what was answered.
@@ -17,21 +14,18 @@ pub enum Call {
         event: Event,
         answer: Result<Reply, MemberFault>,
     },
-    /// Something was read.
-    Read {
-        question: Question,
-        shown: Shown,
-    },
+    /// A question was answered.
+    Read(Reading),
 }
 
 impl Call {
     /// What stands in the room for a call before there is one.
     pub(crate) fn none(alloc: Global) -> Call {
-        let none = Shown::Sent(Bodies::new(Vec::new(alloc)));
-        Call::Read {
-            question: Question::Fronts,
-            shown: none,
-        }
+        Call::Read(Reading::Sent {
+            from: 0,
+            max: 0,
+            bodies: Bodies::new(Vec::new(alloc)),
+        })
     }
 
     /// Whether it has an entry in the history.
@@ -40,7 +34,7 @@ impl Call {
     {
         match self {
             Call::Handed { answer: Ok(_), .. } => true,
-            Call::Handed { answer: Err(_), .. } | Call::Read { .. } => false,
+            Call::Handed { answer: Err(_), .. } | Call::Read(_) => false,
         }
     }
 
@@ -53,41 +47,29 @@ impl Call {
                 answer: Err(fault),
                 ..
             } => Some(*fault),
-            Call::Handed { answer: Ok(_), .. } | Call::Read { .. } => None,
+            Call::Handed { answer: Ok(_), .. } | Call::Read(_) => None,
         }
     }
 
-    /// Whether it shows this body alone, as that of a number.
-    pub(crate) fn shows_alone(&self, number: usize, body: &Body) -> bool
-        ensures { IsTrue result
-            ↔ (self.now ≡ Call.Read (Question.Sent number 1) (Shown.Sent (body.now ∷ []))) }
+    /// Whether it is the reading of the body at a number, alone.
+    pub(crate) fn is_of_body(&self, number: usize, body: &Body) -> bool
+        ensures { IsTrue result ↔ (self.now ≡ Call.Read (reading.Sent number 1 (body.now ∷ []))) }
     {
         match self {
-            Call::Read {
-                question: Question::Sent { from, max },
-                shown: Shown::Sent(bodies),
-            } => *from == number && *max == 1 && is_alone(bodies.as_slice(), body),
+            Call::Read(Reading::Sent { from, max, bodies }) => {
+                *from == number && *max == 1 && is_alone(bodies.as_slice(), body)
+            }
             _ => false,
         }
     }
 
     /// Whether it is of this question with this answer.
-    pub(crate) fn is_of(&self, question: Question, shown: &Shown) -> bool
-        ensures { IsTrue result ↔ (self.now ≡ Call.Read question shown.now) }
+    pub(crate) fn is_of<Q: Question>(&self, question: Q, answer: &Q::Answer) -> bool
+        ensures { IsTrue result ↔ (self.now ≡ Call.Read (Q.reading question answer.now)) }
     {
         match self {
-            Call::Read {
-                question: asked,
-                shown: told,
-            } => *asked == question && is_same_shown(told, shown),
+            Call::Read(reading) => question.is_reading(answer, reading),
             Call::Handed { .. } => false,
         }
     }
-}
-
-/// Whether bodies are this one alone.
-pub(crate) fn is_alone(bodies: &[Body], body: &Body) -> bool
-    ensures { IsTrue result ↔ (bodies.now ≡ body.now ∷ []) }
-{
-    bodies.len() == 1 && is_same_body(&bodies[0], body)
 }

@@ -7,16 +7,15 @@ ghost use Rattle.pay_node.specs.Judging.{EachConsistent};
 
 use crate::judging::{entries_since, has_its_entries, is_right};
 use crate::once::bears_out_each;
+use crate::own_member::OwnMember;
 use crate::seat::Seat;
-use pay_book::Settle;
-use pay_echo::Instance;
-use pay_member::{HistoryEntry, Member};
+use pay_member::HistoryEntry;
 use std::alloc::{AllocError, Global};
 
 /// The least stamp that isn't reconciled from a base on, if there is one.
-pub(crate) fn least_wrong<I: Instance + Drop, B: Settle + Drop>(
+pub(crate) fn least_wrong(
     alloc: Global,
-    member: &Member<I, B>,
+    member: &OwnMember,
     base: usize,
     count: u16,
     seats: &[Seat],
@@ -37,8 +36,9 @@ pub(crate) fn least_wrong<I: Instance + Drop, B: Settle + Drop>(
 
 /// The least stamp that isn't even one seat's with as many entries as that was told of, if there is
 /// one. It takes no memory.
-pub(crate) fn least_uncounted<I: Instance + Drop, B: Settle + Drop>(
-    member: &Member<I, B>,
+// promise: closing
+pub(crate) fn least_uncounted(
+    member: &OwnMember,
     base: usize,
     count: u16,
     seats: &[Seat],
@@ -57,9 +57,9 @@ pub(crate) fn least_uncounted<I: Instance + Drop, B: Settle + Drop>(
 }
 
 // Whether one seat has a stamp, and is right.
-fn is_kept<I: Instance + Drop, B: Settle + Drop>(
+fn is_kept(
     alloc: Global,
-    member: &Member<I, B>,
+    member: &OwnMember,
     base: usize,
     seats: &[Seat],
     stamp: u16,
@@ -83,12 +83,7 @@ fn is_kept<I: Instance + Drop, B: Settle + Drop>(
 }
 
 // Whether one seat has a stamp, and was told of as many entries as there are.
-fn is_counted<I: Instance + Drop, B: Settle + Drop>(
-    member: &Member<I, B>,
-    base: usize,
-    seats: &[Seat],
-    stamp: u16,
-) -> bool
+fn is_counted(member: &OwnMember, base: usize, seats: &[Seat], stamp: u16) -> bool
     requires { base ≤ length member.now.history }
     ensures { IsTrue result ↔ IsCounted member.now base stamp seats.now }
 {

@@ -7,6 +7,13 @@ use crate::standing::Standing;
 use std::alloc::{AllocError, Global};
 use std::marker::Model;
 
+// A node that goes on from its log compares before it pays. f liars can't play this. A member that
+// forgot is itself one of the f. If a value of its own was delivered anywhere, a quorum of ECHOs
+// stands for it, and a quorum that says "no further" meets that one in more than f members: itself,
+// at most f - 1 other liars, so a correct one, which took the SEND and says "beyond". Of f + 1 that
+// say "beyond" one is correct, which a member that remembers never meets. Who plays back peers'
+// WANTs of before can hold a member up, or free one that forgot: that one is then stopped by its
+// own list alone.
 /// How far each peer had got in what a member sent, by its first WANT since the member began.
 #[derive(Drop)]
 pub struct Comparing {
@@ -52,6 +59,7 @@ impl Comparing {
     }
 
     /// A WANT of a peer for this number came. What counts is its first one.
+    // promise: comparing
     pub fn note(&mut self, peer: u16, number: u64)
         ensures first { slice_get self.old.firsts peer ≡ Some None → self.new
             ≡ record self.old { firsts = slice_set self.old.firsts peer (Some number) } }
@@ -64,6 +72,7 @@ impl Comparing {
     }
 
     /// Whether the member may be asked for values by now.
+    // promise: comparing
     pub fn standing(&self) -> Standing
         ensures { result ≡ standing_of self.now }
     {

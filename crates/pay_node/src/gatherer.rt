@@ -1,9 +1,7 @@
 ghost use Rattle.std.specs.Prelude.{OnOk};
 ghost use Rattle.pay_member.specs.Member.{MemberFields};
 
-use pay_book::Settle;
-use pay_echo::Instance;
-use pay_member::Member;
+use crate::own_member::OwnMember;
 use std::alloc::AllocError;
 
 /// Gathers from a node's member while it is locked, as a log does that wants its newest entries.
@@ -15,10 +13,7 @@ pub trait Gatherer {
     ghost keeps: { Self → Self → Type 0 } = { λ _ _. Unit {0} };
 
     /// Takes from a member what it wants, while all who call the node wait.
-    fn gather<I: Instance + Drop, B: Settle + Drop>(
-        &mut self,
-        member: &Member<I, B>,
-    ) -> Result<(), AllocError>
+    fn gather(&mut self, member: &OwnMember) -> Result<(), AllocError>
         ensures gathered { OnOk result (gathers self.old member.now self.new) }
         ensures keeps { keeps self.old self.new };
 }

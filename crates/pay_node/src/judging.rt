@@ -7,29 +7,27 @@ ghost use Rattle.pay_member.specs.Events.{events};
 ghost use Rattle.pay_member.specs.Legal.{Legal};
 ghost use Rattle.pay_member.specs.Refusal.{refusal};
 ghost use Rattle.pay_node.specs.Judging.{AreConsistent, EachConsistent, IsNextConsistent};
-ghost use Rattle.pay_node.specs.Receipts.{IsConsistent, entries_after, has_entry, shown_of};
+ghost use Rattle.pay_member.specs.Questions.{Shows};
+ghost use Rattle.pay_member.specs.declared.reading.Reading.TheVariants as reading;
+ghost use Rattle.pay_node.specs.Receipts.{IsConsistent, entries_after, has_entry};
 ghost use Rattle.pay_node.specs.Seats.{HasItsEntries, Right};
 
 use crate::call::Call;
-use crate::question::Question;
+use crate::own_member::OwnMember;
 use crate::receipt::{KeptCall, Receipt};
 use crate::replaying::{anew, replay_to};
-use crate::same::{is_same_body, is_same_event, is_same_shown, is_taken};
+use crate::same::{is_same_event, is_taken};
 use crate::seat::Seat;
-use crate::showing::show;
-use crate::shown::Shown;
-use pay_book::Settle;
-use pay_echo::Instance;
 use pay_frame::Body;
 use pay_link::Checked;
-use pay_member::{Event, HistoryEntry, Member, MemberFault, Reply};
+use pay_member::{Event, HistoryEntry, MemberFault, Reply, is_same_body};
 use std::alloc::{AllocError, Global};
 
 /// Whether a member's history is consistent with all that a seat was told, from a base on. It is
 /// replayed where nobody knows yet that it is consistent with each receipt.
-pub(crate) fn is_right<I: Instance + Drop, B: Settle + Drop>(
+pub(crate) fn is_right(
     alloc: Global,
-    member: &Member<I, B>,
+    member: &OwnMember,
     base: usize,
     seat: &Seat,
     is_each_known: bool,
@@ -54,11 +52,7 @@ pub(crate) fn is_right<I: Instance + Drop, B: Settle + Drop>(
 
 /// Whether a history has as many entries under a seat's stamp, from a base on, as the seat was told
 /// of.
-pub(crate) fn has_its_entries<I: Instance + Drop, B: Settle + Drop>(
-    member: &Member<I, B>,
-    base: usize,
-    seat: &Seat,
-) -> bool
+pub(crate) fn has_its_entries(member: &OwnMember, base: usize, seat: &Seat) -> bool
     requires { base ≤ length member.now.history }
     ensures { IsTrue result ↔ HasItsEntries member.now base seat.now }
 {
@@ -133,9 +127,9 @@ fn after(receipt: &Receipt) -> Option<usize>
 
 // Whether a legal history is consistent with receipts, one after the other, and none saw less than
 // there was before it, nor the first less than the member took. That is brought up to each.
-fn are_consistent<I: Instance + Drop, B: Settle + Drop>(
+fn are_consistent(
     alloc: Global,
-    member: &mut Member<I, B>,
+    member: &mut OwnMember,
     history: &[HistoryEntry],
     stamp: u16,
     receipts: &[Receipt],
@@ -156,9 +150,9 @@ fn are_consistent<I: Instance + Drop, B: Settle + Drop>(
 
 // Whether a legal history is consistent with a receipt, and it saw no less than what the member
 // took. If so, the member is brought up to the call's end.
-fn is_next_consistent<I: Instance + Drop, B: Settle + Drop>(
+fn is_next_consistent(
     alloc: Global,
-    member: &mut Member<I, B>,
+    member: &mut OwnMember,
     history: &[HistoryEntry],
     stamp: u16,
     receipt: &Receipt,
@@ -187,9 +181,9 @@ fn is_next_consistent<I: Instance + Drop, B: Settle + Drop>(
 
 /// Whether a legal history is consistent with a receipt that saw as many entries as the member
 /// took. If so, the member is as it was.
-pub(crate) fn is_consistent_here<I: Instance + Drop, B: Settle + Drop>(
+pub(crate) fn is_consistent_here(
     alloc: Global,
-    member: &mut Member<I, B>,
+    member: &mut OwnMember,
     history: &[HistoryEntry],
     stamp: u16,
     receipt: &Receipt,
@@ -212,9 +206,9 @@ pub(crate) fn is_consistent_here<I: Instance + Drop, B: Settle + Drop>(
 }
 
 // The same, of a call.
-fn is_call_consistent<I: Instance + Drop, B: Settle + Drop>(
+fn is_call_consistent(
     alloc: Global,
-    member: &mut Member<I, B>,
+    member: &mut OwnMember,
     history: &[HistoryEntry],
     stamp: u16,
     seen: usize,
@@ -235,7 +229,7 @@ fn is_call_consistent<I: Instance + Drop, B: Settle + Drop>(
             event,
             answer: Err(fault),
         } => is_refused(alloc, member, event, *fault),
-        Call::Read { question, shown } => is_shown(alloc, member, *question, shown),
+        Call::Read(reading) => reading.is_shown(alloc, member),
     }
 }
 
@@ -259,13 +253,9 @@ fn has_taken_at(
 }
 
 // Whether a member sent a body at a place of all.
-fn has_sent_at<I: Instance + Drop, B: Settle + Drop>(
-    member: &Member<I, B>,
-    number: usize,
-    body: &Body,
-) -> bool
+fn has_sent_at(member: &OwnMember, number: usize, body: &Body) -> bool
     ensures { IsTrue result
-        ↔ (Shown.Sent (body.now ∷ []) ≡ shown_of member.now (Question.Sent number 1)) }
+        ↔ Shows member.now (reading.Sent number 1 (body.now ∷ [])) }
 {
     match member.sent(number as u64) {
         Some(sent) => is_same_body(sent, body),
@@ -293,9 +283,9 @@ fn has_entry_at(
 }
 
 // Whether a member refuses an event so. If it does, it is as it was.
-fn is_refused<I: Instance + Drop, B: Settle + Drop>(
+fn is_refused(
     alloc: Global,
-    member: &mut Member<I, B>,
+    member: &mut OwnMember,
     event: &Event,
     fault: MemberFault,
 ) -> Result<bool, AllocError>
@@ -310,17 +300,4 @@ fn is_refused<I: Instance + Drop, B: Settle + Drop>(
         Err(MemberFault::Memory) => Err(AllocError),
         Err(found) => Ok(found == fault),
     }
-}
-
-// Whether a member shows this.
-fn is_shown<I: Instance + Drop, B: Settle + Drop>(
-    alloc: Global,
-    member: &Member<I, B>,
-    question: Question,
-    shown: &Shown,
-) -> Result<bool, AllocError>
-    ensures { IfOk result (λ says. IsTrue says ↔ (shown.now ≡ shown_of member.now question)) }
-{
-    let found = show(alloc, member, question)?;
-    Ok(is_same_shown(shown, &found))
 }

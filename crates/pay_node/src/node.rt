@@ -7,45 +7,44 @@ ghost use Rattle.pay_frame.specs.OneFrame.{IsOneFrame};
 ghost use Rattle.pay_link.specs.Keys.{IsPeer};
 ghost use Rattle.pay_member.specs.declared.ask_fault.AskFault.TheVariants.{Memory};
 ghost use Rattle.pay_member.specs.declared.event.Event.TheVariants.{Query, Taken};
+ghost use Rattle.pay_member.specs.declared.reading.Reading.TheVariants as reading;
+ghost use Rattle.std.specs.Result.{result_ok};
 ghost use Rattle.pay_member.specs.Answer.{answer_of_take, answer_of_query};
 ghost use Rattle.pay_member.specs.Legal.{Legal};
 ghost use Rattle.pay_node.specs.Closing.{AllReconciled, IsCloseFault};
 ghost use Rattle.pay_node.specs.Comparing.{FindsAll, FindsForgetting, HasAsked};
 ghost use Rattle.pay_node.specs.Comparing.{HasStanding, IsComparingOf};
 ghost use Rattle.pay_node.specs.Gathering.{IsGathered};
-ghost use Rattle.pay_node.specs.Keeping.{HasFetched, IsFetched};
+ghost use Rattle.pay_node.specs.Keeping.{HasFetched};
 ghost use Rattle.pay_node.specs.Sending.{HasSent};
-ghost use Rattle.pay_node.specs.Nodes.{AreFresh, HasNext, IsAnswered, IsBrought, IsMessage};
-ghost use Rattle.pay_node.specs.Nodes.{IsOwn, node_as};
+ghost use Rattle.pay_node.specs.Nodes.{AreFresh, FindsLie, HasNext, IsAnswered, IsBrought};
+ghost use Rattle.pay_node.specs.Nodes.{IsMessage, IsOwn, node_as};
 ghost use Rattle.pay_node.specs.Nodes.{IsReceived, IsShown, IsTaken, base_of, next_of, node_with};
 ghost use Rattle.pay_node.specs.Nodes.{outcome_of_take};
 
 use crate::beginning::Beginning;
-use crate::begun::Begun;
-use crate::bodies::Bodies;
 use crate::close_fault::CloseFault;
 use crate::compared::Compared;
 use crate::comparing::Comparing;
+use crate::fetch_seat::FetchSeat;
 use crate::gate::Gate;
 use crate::gatherer::Gatherer;
 use crate::hand_in_fault::HandInFault;
-use crate::question::Question;
-use crate::request::Account;
+use crate::locked_member::LockedMember;
+use crate::own_member::OwnMember;
 use crate::seat::Seat;
-use crate::showing::show;
-use crate::shown::Shown;
 use crate::standing::Standing;
 use crate::stopped::Stopped;
-use pay_book::{Excerpt, Settle, Statement};
-use pay_channel::laws::{one_event_more, taken_in_order};
-use pay_echo::Instance;
+use pay_book::Statement;
+use pay_channel::laws::one_event_more;
 use pay_frame::{Body, Bytes, FrameRef, Kind, SharedBody, read_one};
 use pay_hmac::Tagger;
 use pay_link::{Checked, Keys, LinkFault, Opened};
 use pay_member::laws::events_in_order;
+use pay_member::question::{AllFronts, SentFrom, StateOf, StatementOf};
 use pay_member::{
-    Brought, Incoming, Member, Outcome, PaymentState, QueryFault, Received, TakeFault, Told, Took,
-    open_frame,
+    Brought, Incoming, Lie, Outcome, PaymentState, QueryFault, Question, Received, TakeFault, Told,
+    Took, open_frame,
 };
 use std::alloc::{AllocError, Global};
 use std::marker::Model;
@@ -61,8 +60,8 @@ pub const MOST_SEATS: u16 = 256;
 /// outside of the lock, with a copy of the member's keys. All is answered by the member that the
 /// node began with, as it went on.
 #[derive(Drop)]
-pub struct Node<I: Instance + Drop, B: Settle + Drop, S: Beginning> {
-    member: Mutex<Begun<I, B, S>>,
+pub struct Node<S: Beginning> {
+    member: Mutex<LockedMember<S>>,
     changed: Condvar,
     // how many bodies the member sent, as whoever had the lock last left it
     sent: AtomicU64,
@@ -70,11 +69,13 @@ pub struct Node<I: Instance + Drop, B: Settle + Drop, S: Beginning> {
     compared: Option<Mutex<Compared<S>>>,
     // whether it was found that the member has forgotten what it sent
     forgets: AtomicBool,
+    // a bit for all members of one number modulo 64, of which it was found that one lied
+    liars: AtomicU64,
     keys: Keys,
     seats: u16,
 }
 
-impl<I: Instance + Drop, B: Settle + Drop, S: Beginning> Model for Node<I, B, S> {
+impl<S: Beginning> Model for Node<S> {
     ghost use Rattle.std.specs.Prelude.{◌≡◌, is_some};
     ghost use Rattle.pay_node.specs.Nodes.{NodeFields, node_as};
 
@@ -85,14 +86,15 @@ impl<I: Instance + Drop, B: Settle + Drop, S: Beginning> Model for Node<I, B, S>
     ghost invariant = { λ n. n.keys ≡ S.beginning.keys };
 }
 
-impl<I: Instance + Drop, B: Settle + Drop, S: Beginning> Node<I, B, S> {
+impl<S: Beginning> Node<S> {
     /// A node of a member, which goes on from the history that it has, and the node's seats. Where
     /// memory is refused, the member comes back.
+    // promise: locked member
     pub fn new(
         alloc: Global,
-        member: Member<I, B>,
+        member: OwnMember,
         seats: u16,
-    ) -> Result<(Node<I, B, S>, Vec<Seat>), (Member<I, B>, AllocError)>
+    ) -> Result<(Node<S>, Vec<Seat>), (OwnMember, AllocError)>
         requires beginning { member ≡ S.beginning }
         requires few { seats ≤ MOST_SEATS }
         ensures node { IfOk result (λ made. made.0 ≡ node_with member seats) }
@@ -101,8 +103,8 @@ impl<I: Instance + Drop, B: Settle + Drop, S: Beginning> Node<I, B, S> {
     {
         match parts(alloc, &member, seats) {
             Ok((keys, made)) => {
-                let begun = Begun::new(member);
-                Ok((Node::of_parts(begun, keys, seats, None), made))
+                let locked = LockedMember::new(member);
+                Ok((Node::of_parts(locked, keys, seats, None), made))
             }
             Err(error) => Err((member, error)),
         }
@@ -112,9 +114,9 @@ impl<I: Instance + Drop, B: Settle + Drop, S: Beginning> Node<I, B, S> {
     /// know no more of its member: see [`hear`](Node::hear).
     pub fn comparing(
         alloc: Global,
-        member: Member<I, B>,
+        member: OwnMember,
         seats: u16,
-    ) -> Result<(Node<I, B, S>, Vec<Seat>), (Member<I, B>, AllocError)>
+    ) -> Result<(Node<S>, Vec<Seat>), (OwnMember, AllocError)>
         requires beginning { member ≡ S.beginning }
         requires few { seats ≤ MOST_SEATS }
         ensures node { IfOk result (λ made. made.0 ≡ node_as member seats true) }
@@ -127,9 +129,9 @@ impl<I: Instance + Drop, B: Settle + Drop, S: Beginning> Node<I, B, S> {
         };
         match parts(alloc, &member, seats) {
             Ok((keys, made)) => {
-                let begun = Begun::new(member);
+                let locked = LockedMember::new(member);
                 let compared = Mutex::new(Compared::new(comparing));
-                Ok((Node::of_parts(begun, keys, seats, Some(compared)), made))
+                Ok((Node::of_parts(locked, keys, seats, Some(compared)), made))
             }
             Err(error) => Err((member, error)),
         }
@@ -137,21 +139,22 @@ impl<I: Instance + Drop, B: Settle + Drop, S: Beginning> Node<I, B, S> {
 
     /// A node whose lock holds this member, with a copy of its keys.
     pub(crate) fn of_parts(
-        begun: Begun<I, B, S>,
+        locked: LockedMember<S>,
         keys: Keys,
         seats: u16,
         compared: Option<Mutex<Compared<S>>>,
-    ) -> Node<I, B, S>
+    ) -> Node<S>
         requires { keys ≡ S.beginning.keys }
         ensures { result ≡ node_as S.beginning seats (is_some compared) }
     {
-        let sent = begun.member().sent_len();
+        let sent = locked.member().sent_len();
         Node {
-            member: Mutex::new(begun),
+            member: Mutex::new(locked),
             changed: Condvar::new(),
             sent: AtomicU64::new(sent),
             compared,
             forgets: AtomicBool::new(false),
+            liars: AtomicU64::new(0),
             keys,
             seats,
         }
@@ -170,6 +173,7 @@ impl<I: Instance + Drop, B: Settle + Drop, S: Beginning> Node<I, B, S> {
     /// Bytes that don't open, and a WANT, are answered at once, whatever memory there is: no lock
     /// is taken, and no receipt is left.
     #[tactic(auto, using(crate::proofs::Taking::brought_frame, crate::proofs::Taking::brought_fault))]
+    // promise: node's bytes
     pub fn bring<R: Wait, T: Tagger, G: Gate>(
         &self,
         rt: &R,
@@ -194,9 +198,13 @@ impl<I: Instance + Drop, B: Settle + Drop, S: Beginning> Node<I, B, S> {
         Ok(received.with_want(tagger, self.keys(), from))
     }
 
+    // `Node::bring_frame` answers which number is next and seals no WANT. A reader that asks ahead
+    // seals those for which its window has room, and a tag that nobody sends costs a sixth of a
+    // frame.
     /// The same of a frame that was read already, without the WANT: the answer has the number that
     /// it would ask for.
     #[tactic(auto, using(crate::proofs::Taking::is_message, crate::proofs::Taking::is_want, crate::proofs::Taking::is_fault))]
+    // promise: node's bytes
     pub fn bring_frame<R: Wait, T: Tagger, G: Gate>(
         &self,
         rt: &R,
@@ -214,7 +222,7 @@ impl<I: Instance + Drop, B: Settle + Drop, S: Beginning> Node<I, B, S> {
         ensures memory { OnErr result (IsMessage self.now.keys (fields_of frame.entry)) }
     {
         match open_frame(tagger, self.keys(), frame) {
-            Ok(Incoming::Message(opened)) => self.take_opened(rt, alloc, seat, gate, &opened),
+            Ok(Incoming::Message(opened)) => self.take(rt, alloc, seat, gate, &opened),
             Ok(Incoming::Want { from, number }) => {
                 Ok(Received::at_once(Outcome::Wanted { from, number }))
             }
@@ -224,6 +232,7 @@ impl<I: Instance + Drop, B: Settle + Drop, S: Beginning> Node<I, B, S> {
 
     /// Has the member broadcast a value of its own, if it remembers what it sent before and, in a
     /// node that compares, enough peers know no more of it.
+    // promise: node's answers; comparing (asked)
     pub fn ask<R: Wait>(
         &self,
         rt: &R,
@@ -238,10 +247,10 @@ impl<I: Instance + Drop, B: Settle + Drop, S: Beginning> Node<I, B, S> {
         let copy = value.copy(alloc)?;
         seat.make_room(alloc)?;
         let standing = self.standing(rt);
-        let mut begun = self.member.lock(rt);
-        let answer = begun.ask(alloc, seat, standing, value, copy);
-        self.count_sent(&begun);
-        drop(begun);
+        let mut locked = self.member.lock(rt);
+        let answer = locked.ask(alloc, seat, standing, value, copy);
+        self.count_sent(&locked);
+        drop(locked);
         // what is asked for is sent
         if answer.is_ok() {
             self.changed.notify_all();
@@ -250,6 +259,7 @@ impl<I: Instance + Drop, B: Settle + Drop, S: Beginning> Node<I, B, S> {
     }
 
     /// Has the member tell the state of an account, and note that it was asked for.
+    // promise: node's answers
     pub fn query<R: Wait>(
         &self,
         rt: &R,
@@ -262,34 +272,33 @@ impl<I: Instance + Drop, B: Settle + Drop, S: Beginning> Node<I, B, S> {
         ensures memory { result ≡ Err QueryFault.Memory → seat.new ≡ seat.old }
     {
         seat.make_room(alloc)?;
-        let mut begun = self.member.lock(rt);
-        let account = Account(account);
-        begun.hand_in(alloc, seat, account, account)
+        self.member.lock(rt).query(alloc, seat, account)
     }
 
-    /// Reads of the member what a question asks for. Where the seat's latest receipts say just
-    /// that, none is left.
-    fn read<R: Wait>(
+    /// Asks the member a question. Where the seat's latest receipts say just that, none is left.
+    // promise: node's answers
+    pub fn read<R: Wait, Q: Question>(
         &self,
         rt: &R,
         alloc: Global,
         seat: &mut Seat,
-        question: Question,
-    ) -> Result<Shown, AllocError>
-        ensures shown { IfOk result (λ shown.
-            IsShown self.now seat.old seat.new question shown) }
+        question: Q,
+    ) -> Result<Q::Answer, AllocError>
+        ensures shown { IfOk result (λ answer.
+            IsShown self.now seat.old seat.new (Q.reading question answer)) }
         ensures err { OnErr result (seat.new ≡ seat.old) }
     {
         seat.make_room(alloc)?;
-        let begun = self.member.lock(rt);
-        let member = begun.member();
-        let shown = show(alloc, member, question)?;
-        seat.note(alloc, member, question, &shown)?;
-        Ok(shown)
+        let locked = self.member.lock(rt);
+        let member = locked.member();
+        let answer = question.ask(alloc, member)?;
+        seat.note(alloc, member, question, &answer)?;
+        Ok(answer)
     }
 
     /// Copies of the bodies that the member sent to all, from a place on: at most `max`, and at
     /// most 16.
+    // promise: node's answers
     pub fn fetch<R: Wait>(
         &self,
         rt: &R,
@@ -298,63 +307,42 @@ impl<I: Instance + Drop, B: Settle + Drop, S: Beginning> Node<I, B, S> {
         from: usize,
         max: usize,
     ) -> Result<Vec<Body>, AllocError>
-        ensures shown { IfOk result (λ bodies. IsShown self.now seat.old seat.new
-            (Question.Sent from max) (Shown.Sent bodies.items)) }
+        ensures shown { IfOk result (λ bodies.
+            IsShown self.now seat.old seat.new (reading.Sent from max bodies.items)) }
         ensures err { OnErr result (seat.new ≡ seat.old) }
     {
-        seat.make_room(alloc)?;
-        let begun = self.member.lock(rt);
-        let member = begun.member();
-        let bodies = member.fetch(alloc, from, max)?;
-        let shown = Shown::Sent(Bodies::from_slice(alloc, bodies.as_slice())?);
-        seat.note(alloc, member, Question::Sent { from, max }, &shown)?;
-        Ok(bodies)
+        let bodies = self.read(rt, alloc, seat, SentFrom { from, max })?;
+        Ok(bodies.into_vec())
     }
 
-    /// The body that the member sent at a place of all, if it is there. However often it is fetched
-    /// from a seat, one receipt is kept of it.
-    pub fn fetch_once<R: Wait>(
-        &self,
-        rt: &R,
-        alloc: Global,
-        seat: &mut Seat,
-        number: usize,
-    ) -> Result<Option<SharedBody>, AllocError>
-        ensures fetched { IfOk result (λ found.
-            IsFetched self.now seat.old seat.new number found) }
-        ensures err { OnErr result (seat.new ≡ seat.old) }
-    {
-        seat.make_room(alloc)?;
-        let begun = self.member.lock(rt);
-        seat.note_once(alloc, begun.member(), number)
-    }
-
-    /// Waits until the member sent a body at a place of all, or until told to stop, and fetches it
-    /// as [`fetch_once`](Node::fetch_once) does, in one hold of the lock. The seat is locked once
-    /// the wait is over.
+    /// The body that the member sent at a place of all, once it is there, or none once told to stop
+    /// before. However often it is fetched from a seat, one receipt is kept of it. The wait and the
+    /// fetch are in one hold of the node's lock; the seat is locked once the wait is over.
     ///
     /// How long it waits no clause can say, for none names the flag; it is tested.
+    // promise: fetched bodies; answered WANTs
     pub fn fetch_when_sent<R: Wait>(
         &self,
         rt: &R,
         alloc: Global,
-        seat: &Mutex<Seat>,
+        seat: &Mutex<FetchSeat>,
         number: u64,
         stop: &AtomicBool,
     ) -> Result<Option<SharedBody>, AllocError>
         ensures { IfOk result (λ found. HasFetched self.now number found) }
     {
         seat.lock(rt).make_room(alloc)?;
-        let begun = self.changed.wait_while(
+        let locked = self.changed.wait_while(
             rt,
             self.member.lock(rt),
-            |begun| self.has_to_wait(begun, number, stop),
+            |locked| self.has_to_wait(locked, number, stop),
         );
         let mut seat = seat.lock(rt);
-        seat.note_once(alloc, begun.member(), number as usize)
+        seat.note_once(alloc, locked.member(), number as usize)
     }
 
     /// How far the payment under a number of an account has come.
+    // promise: node's answers
     pub fn state<R: Wait>(
         &self,
         rt: &R,
@@ -364,16 +352,15 @@ impl<I: Instance + Drop, B: Settle + Drop, S: Beginning> Node<I, B, S> {
         seq: u32,
     ) -> Result<PaymentState, QueryFault>
         ensures shown { result ≢ Err QueryFault.Memory
-            → IsShown self.now seat.old seat.new (Question.State owner seq) (Shown.State result) }
+            → IsShown self.now seat.old seat.new (reading.State owner seq (result_ok result)) }
         ensures memory { result ≡ Err QueryFault.Memory → seat.new ≡ seat.old }
     {
-        match self.read(rt, alloc, seat, Question::State { owner, seq })? {
-            Shown::State(answer) => answer,
-            _ => unreachable!(),
-        }
+        self.read(rt, alloc, seat, StateOf { owner, seq })?
+            .ok_or(QueryFault::NoAccount)
     }
 
     /// The lines of an account's statement, and its balance.
+    // promise: node's answers
     pub fn statement<R: Wait>(
         &self,
         rt: &R,
@@ -382,81 +369,38 @@ impl<I: Instance + Drop, B: Settle + Drop, S: Beginning> Node<I, B, S> {
         account: u16,
     ) -> Result<Statement, QueryFault>
         ensures shown { result ≢ Err QueryFault.Memory
-            → IsShown self.now seat.old seat.new (Question.Statement account)
-            (Shown.Statement result) }
+            → IsShown self.now seat.old seat.new (reading.Statement account (result_ok result)) }
         ensures memory { result ≡ Err QueryFault.Memory → seat.new ≡ seat.old }
     {
-        match self.read(rt, alloc, seat, Question::Statement(account))? {
-            Shown::Statement(answer) => answer,
-            _ => unreachable!(),
-        }
-    }
-
-    /// What settled of an account from a number on: at most 1,000 entries.
-    pub fn entries<R: Wait>(
-        &self,
-        rt: &R,
-        alloc: Global,
-        seat: &mut Seat,
-        account: u16,
-        from: u64,
-    ) -> Result<Excerpt, QueryFault>
-        ensures shown { result ≢ Err QueryFault.Memory
-            → IsShown self.now seat.old seat.new (Question.Entries account from)
-            (Shown.Entries result) }
-        ensures memory { result ≡ Err QueryFault.Memory → seat.new ≡ seat.old }
-    {
-        match self.read(rt, alloc, seat, Question::Entries { account, from })? {
-            Shown::Entries(answer) => answer,
-            _ => unreachable!(),
-        }
-    }
-
-    /// What is known of an account and isn't settled: the first 1,000 entries.
-    pub fn waiting<R: Wait>(
-        &self,
-        rt: &R,
-        alloc: Global,
-        seat: &mut Seat,
-        account: u16,
-    ) -> Result<Excerpt, QueryFault>
-        ensures shown { result ≢ Err QueryFault.Memory
-            → IsShown self.now seat.old seat.new (Question.Waiting account)
-            (Shown.Entries result) }
-        ensures memory { result ≡ Err QueryFault.Memory → seat.new ≡ seat.old }
-    {
-        match self.read(rt, alloc, seat, Question::Waiting(account))? {
-            Shown::Entries(answer) => answer,
-            _ => unreachable!(),
-        }
+        self.read(rt, alloc, seat, StatementOf(account))?
+            .ok_or(QueryFault::NoAccount)
     }
 
     /// How many entries are settled of each account.
+    // promise: node's answers
     pub fn fronts<R: Wait>(
         &self,
         rt: &R,
         alloc: Global,
         seat: &mut Seat,
     ) -> Result<Vec<u32>, AllocError>
-        ensures shown { IfOk result (λ fronts. IsShown self.now seat.old seat.new
-            Question.Fronts (Shown.Fronts fronts.items)) }
+        ensures shown { IfOk result (λ fronts.
+            IsShown self.now seat.old seat.new (reading.Fronts fronts.items)) }
         ensures few { IfOk result (λ fronts. length fronts.items ≤ MOST_MEMBERS) }
         ensures err { OnErr result (seat.new ≡ seat.old) }
     {
-        match self.read(rt, alloc, seat, Question::Fronts)? {
-            Shown::Fronts(fronts) => Ok(fronts.into_vec()),
-            _ => unreachable!(),
-        }
+        Ok(self.read(rt, alloc, seat, AllFronts)?.into_vec())
     }
 
     /// Lends the member to a gatherer, with all that it took by now. No receipt is left. After
     /// refused memory no more is known of the gatherer than what it keeps.
+    // promise: gatherers; log stays (keeps)
     pub fn lend<R: Wait, G: Gatherer>(&self, rt: &R, gatherer: &mut G) -> Result<(), AllocError>
         ensures gathered { OnOk result (IsGathered G.gathers self.now gatherer.old gatherer.new) }
         ensures keeps { G.keeps gatherer.old gatherer.new }
     {
-        let begun = self.member.lock(rt);
-        let member = begun.member();
+        let locked = self.member.lock(rt);
+        let member = locked.member();
         // for its clause alone: the history is legal
         let _history = member.history();
         gatherer.gather(member)
@@ -487,13 +431,14 @@ impl<I: Instance + Drop, B: Settle + Drop, S: Beginning> Node<I, B, S> {
 
     /// Whether the member has forgotten what it sent: by its own history, or by what its peers
     /// show. It leaves no receipt.
+    // promise: comparing
     pub fn has_forgotten<R: Wait>(&self, rt: &R) -> bool
         ensures found { IsTrue result → FindsForgetting self.now }
         ensures remembers { result ≡ false → FindsAll self.now }
     {
         let standing = self.standing(rt);
-        let begun = self.member.lock(rt);
-        let member = begun.member();
+        let locked = self.member.lock(rt);
+        let member = locked.member();
         // for its clause alone: the history is legal
         let _history = member.history();
         member.has_forgotten() || standing == Standing::Forgotten
@@ -504,11 +449,44 @@ impl<I: Instance + Drop, B: Settle + Drop, S: Beginning> Node<I, B, S> {
         requires { IsPeer self.now.keys peer }
         ensures { HasNext self.now peer result }
     {
-        let begun = self.member.lock(rt);
-        let member = begun.member();
+        let locked = self.member.lock(rt);
+        let member = locked.member();
         // for their clauses alone: the history is legal, and the keys are those of the group
         let (_history, _keys) = (member.history(), member.keys());
         member.next(peer)
+    }
+
+    /// The lie that a peer told last to the member, if it told any: what no correct member says. It
+    /// leaves no receipt.
+    // promise: lies
+    pub fn lie<R: Wait>(&self, rt: &R, peer: u16) -> Option<Lie>
+        requires { IsPeer self.now.keys peer }
+        ensures { FindsLie self.now peer result }
+    {
+        let locked = self.member.lock(rt);
+        let member = locked.member();
+        // for their clauses alone: the history is legal, and the keys are those of the group
+        let (_history, _keys) = (member.history(), member.keys());
+        member.lie(peer)
+    }
+
+    /// Whether a peer may have lied by now. It takes no lock and leaves no receipt. No clause says
+    /// so, for none names what an atomic holds; it is tested.
+    pub fn may_have_lied(&self, peer: u16) -> bool {
+        self.liars.load(Ordering::SeqCst) & hint_of(peer) != 0
+    }
+
+    // Notes that a peer lied, if it did, while the member is locked.
+    fn note_liar(&self, locked: &LockedMember<S>, peer: u16)
+        requires { IsPeer self.now.keys peer }
+    {
+        let liars = self.liars.load(Ordering::SeqCst);
+        let member = locked.member();
+        // for its clause alone: the keys are those of the group
+        let _keys = member.keys();
+        if member.lie(peer).is_some() {
+            self.liars.store(liars | hint_of(peer), Ordering::SeqCst);
+        }
     }
 
     /// Whether it was found by now that the member has forgotten what it sent: by itself, or by
@@ -518,6 +496,9 @@ impl<I: Instance + Drop, B: Settle + Drop, S: Beginning> Node<I, B, S> {
         self.forgets.load(Ordering::SeqCst)
     }
 
+    // Only calls that sent something wake writers. They look at a length that no clause ties to the
+    // outbound list (`Node::sent_len`), since none names what an atomic holds: a wrong one delays
+    // frames.
     /// How many bodies the member sent to all by now. It takes no lock and leaves no receipt. No
     /// clause says so, for none names what an atomic holds; it is tested.
     pub fn sent_len(&self) -> u64 {
@@ -525,8 +506,8 @@ impl<I: Instance + Drop, B: Settle + Drop, S: Beginning> Node<I, B, S> {
     }
 
     // Notes how many bodies the member sent, and whether it has forgotten some, while it is locked.
-    fn count_sent(&self, begun: &Begun<I, B, S>) {
-        let member = begun.member();
+    fn count_sent(&self, locked: &LockedMember<S>) {
+        let member = locked.member();
         self.sent.store(member.sent_len(), Ordering::SeqCst);
         if member.has_forgotten() {
             self.forgets.store(true, Ordering::SeqCst);
@@ -534,21 +515,21 @@ impl<I: Instance + Drop, B: Settle + Drop, S: Beginning> Node<I, B, S> {
     }
 
     // Whether a body at a place has still to be waited for.
-    fn has_to_wait(&self, begun: &Begun<I, B, S>, place: u64, stop: &AtomicBool) -> bool {
-        begun.member().sent(place).is_none() && !stop.load(Ordering::SeqCst)
+    fn has_to_wait(&self, locked: &LockedMember<S>, place: u64, stop: &AtomicBool) -> bool {
+        locked.member().sent(place).is_none() && !stop.load(Ordering::SeqCst)
     }
 
     /// Tells those to stop who wait for what the member has still to send: a writer then has no
     /// answer. No clause can say so, for none names a flag or what a lock keeps; it is tested.
     pub fn stop_waiting<R: Wait>(&self, rt: &R, stop: &AtomicBool) {
-        let begun = self.member.lock(rt);
+        let locked = self.member.lock(rt);
         stop.store(true, Ordering::SeqCst);
-        drop(begun);
+        drop(locked);
         self.changed.notify_all();
     }
 
     /// Takes the member out of the lock, once no thread calls the node any more.
-    pub fn stop(self) -> Stopped<I, B, S>
+    pub fn stop(self) -> Stopped<S>
         ensures node { result.node ≡ self }
         ensures legal { Legal result.member.genesis result.member.keys result.member.history }
     {
@@ -564,11 +545,8 @@ impl<I: Instance + Drop, B: Settle + Drop, S: Beginning> Node<I, B, S> {
     }
 
     /// Stops the node and closes it: see [`Stopped::close`].
-    pub fn close(
-        self,
-        alloc: Global,
-        seats: &[Seat],
-    ) -> Result<Member<I, B>, (CloseFault, Stopped<I, B, S>)>
+    // promise: closing (own, own_back, closed, fault)
+    pub fn close(self, alloc: Global, seats: &[Seat]) -> Result<OwnMember, (CloseFault, Stopped<S>)>
         ensures own { IfOk result (IsOwn self) }
         ensures own_back { IfErr result (λ back. IsOwn self back.1.member) }
         ensures closed { IfOk result (λ member.
@@ -579,9 +557,10 @@ impl<I: Instance + Drop, B: Settle + Drop, S: Beginning> Node<I, B, S> {
         self.stop().close(alloc, seats)
     }
 
-    // Takes a frame that opened, and answers which number is next from its sender.
+    // Hands a frame that opened to the member, between the gate's two calls, and answers which
+    // number is next from its sender.
     #[tactic(auto, using(crate::proofs::Taking::taken_so))]
-    fn take_opened<R: Wait, G: Gate>(
+    fn take<R: Wait, G: Gate>(
         &self,
         rt: &R,
         alloc: Global,
@@ -589,66 +568,32 @@ impl<I: Instance + Drop, B: Settle + Drop, S: Beginning> Node<I, B, S> {
         gate: &G,
         opened: &Opened<'_>,
     ) -> Result<Received, AllocError>
-        requires { opened.now.frame.body.kind ≢ Kind.Want }
+        requires kind { opened.now.frame.body.kind ≢ Kind.Want }
+        requires peer { IsPeer self.now.keys opened.now.frame.from }
         ensures taken { IfOk result (λ received.
             IsTaken self.now seat.old seat.new opened.now received) }
         ensures err { OnErr result (seat.new ≡ seat.old) }
     {
         let checked = opened.own(alloc)?;
-        let answer = self.take(rt, alloc, seat, gate, checked);
-        received_of(opened.frame().number(), answer)
-    }
-
-    // Hands a frame to the member, between the gate's two calls.
-    fn take<R: Wait, G: Gate>(
-        &self,
-        rt: &R,
-        alloc: Global,
-        seat: &mut Seat,
-        gate: &G,
-        checked: Checked,
-    ) -> Result<Took, TakeFault>
-        ensures answered { result ≢ Err TakeFault.Memory
-            → IsAnswered self.now seat.old seat.new (Taken checked) (answer_of_take result) }
-        ensures next { IfOk result (λ _. checked.frame.number + 1 < 2 ^ 64) }
-        ensures memory { result ≡ Err TakeFault.Memory → seat.new ≡ seat.old }
-    {
         let copy = checked.copy()?;
         seat.make_room(alloc)?;
         gate.pass(seat.stamp());
-        let answer = self.take_locked(rt, alloc, seat, checked, copy);
+        let mut locked = self.member.lock(rt);
+        let answer = locked.take(alloc, seat, checked, copy);
+        self.count_sent(&locked);
+        self.note_liar(&locked, opened.frame().from());
+        drop(locked);
         gate.answered(seat.stamp());
         if has_sent(&answer) {
             self.changed.notify_all();
         }
-        answer
+        received_of(opened.frame().number(), answer)
     }
+}
 
-    // One hold of the lock with one frame.
-    fn take_locked<R: Wait>(
-        &self,
-        rt: &R,
-        alloc: Global,
-        seat: &mut Seat,
-        checked: Checked,
-        copy: Checked,
-    ) -> Result<Took, TakeFault>
-        requires copy { copy ≡ checked }
-        ensures answered { result ≢ Err TakeFault.Memory
-            → IsAnswered self.now seat.old seat.new (Taken checked) (answer_of_take result) }
-        ensures next { IfOk result (λ _. checked.frame.number + 1 < 2 ^ 64) }
-        ensures memory { result ≡ Err TakeFault.Memory → seat.new ≡ seat.old }
-    {
-        taken_in_order();
-        let mut begun = self.member.lock(rt);
-        let answer = begun.hand_in(alloc, seat, checked, copy);
-        // as many frames came from one member as there are entries at most, and these can be
-        // counted
-        let entries = begun.member().history().len();
-        prove!(entries < usize::MAX);
-        self.count_sent(&begun);
-        answer
-    }
+// The bit of a member's number.
+fn hint_of(member: u16) -> u64 {
+    1 << (member % 64)
 }
 
 // Whether the member sent a body to all as it took a frame: some may wait for it.
@@ -665,10 +610,7 @@ fn has_sent(answer: &Result<Took, TakeFault>) -> bool
 }
 
 // Nothing is shown yet of a member as it is.
-fn comparing_of<I: Instance + Drop, B: Settle + Drop>(
-    alloc: Global,
-    member: &Member<I, B>,
-) -> Result<Comparing, AllocError>
+fn comparing_of(alloc: Global, member: &OwnMember) -> Result<Comparing, AllocError>
     ensures { IfOk result (λ comparing. IsComparingOf member.now comparing) }
 {
     let genesis = member.genesis();
@@ -682,11 +624,7 @@ fn comparing_of<I: Instance + Drop, B: Settle + Drop>(
 
 // A copy of the member's keys, and the seats.
 #[tactic(auto, using(crate::proofs::Fresh::none_fresh, crate::proofs::Fresh::fresh_more))]
-fn parts<I: Instance + Drop, B: Settle + Drop>(
-    alloc: Global,
-    member: &Member<I, B>,
-    seats: u16,
-) -> Result<(Keys, Vec<Seat>), AllocError>
+fn parts(alloc: Global, member: &OwnMember, seats: u16) -> Result<(Keys, Vec<Seat>), AllocError>
     ensures keys { IfOk result (λ parts. parts.0 ≡ member.now.keys) }
     ensures seats { IfOk result (λ parts. AreFresh seats parts.1.items) }
 {

@@ -6,19 +6,18 @@ ghost use Rattle.pay_node.specs.Judging.{AreAllCounted, CountedConsistent, EachC
 ghost use Rattle.pay_node.specs.Judging.{FirstConsistent};
 
 use crate::judging::is_consistent_here;
+use crate::own_member::OwnMember;
 use crate::replaying::{anew, replay_to};
 use crate::seat::Seat;
-use pay_book::Settle;
-use pay_echo::Instance;
-use pay_member::{HistoryEntry, Member};
+use pay_member::HistoryEntry;
 use std::alloc::{AllocError, Global};
 
 /// Whether a member's history is consistent with each receipt of all seats, which saw all entries
 /// before a base. Where it says no, nothing is known: one may be wrong, or stand out of its seat's
 /// order.
-pub(crate) fn bears_out_each<I: Instance + Drop, B: Settle + Drop>(
+pub(crate) fn bears_out_each(
     alloc: Global,
-    member: &Member<I, B>,
+    member: &OwnMember,
     base: usize,
     seats: &[Seat],
 ) -> Result<bool, AllocError>
@@ -37,11 +36,11 @@ pub(crate) fn bears_out_each<I: Instance + Drop, B: Settle + Drop>(
 }
 
 // The same, with a member that took nothing yet and a count for each seat.
-fn count_all<I: Instance + Drop, B: Settle + Drop>(
+fn count_all(
     alloc: Global,
-    member: &Member<I, B>,
+    member: &OwnMember,
     base: usize,
-    fresh: &mut Member<I, B>,
+    fresh: &mut OwnMember,
     seats: &[Seat],
     counts: &mut [usize],
 ) -> Result<bool, AllocError>
@@ -62,9 +61,9 @@ fn count_all<I: Instance + Drop, B: Settle + Drop>(
 
 // Counts, of each seat, the receipts that saw as many entries as the member took, if the history is
 // consistent with them.
-fn count_here<I: Instance + Drop, B: Settle + Drop>(
+fn count_here(
     alloc: Global,
-    member: &mut Member<I, B>,
+    member: &mut OwnMember,
     history: &[HistoryEntry],
     seats: &[Seat],
     counts: &mut [usize],
@@ -90,9 +89,9 @@ fn count_here<I: Instance + Drop, B: Settle + Drop>(
 
 // How many receipts of a seat are consistent, from some on, up to the first that saw another number
 // of entries than the member took; none where one isn't.
-fn count_from<I: Instance + Drop, B: Settle + Drop>(
+fn count_from(
     alloc: Global,
-    member: &mut Member<I, B>,
+    member: &mut OwnMember,
     history: &[HistoryEntry],
     seat: &Seat,
     first: usize,

@@ -1,14 +1,12 @@
 ghost use Rattle.std.specs.Prelude.{◌≡◌, ◌↔◌, ◌≤◌, [], ◌∷◌, IfOk, IsTrue};
 ghost use Rattle.pay_node.specs.Receipts.{ShowsAlone, call_in, entries_after, fault_of_call};
-ghost use Rattle.pay_node.specs.Receipts.{has_entry, reading};
+ghost use Rattle.pay_node.specs.Receipts.{has_entry, reading_at};
+ghost use Rattle.pay_member.specs.declared.reading.Reading.TheVariants as reading;
 
-use crate::call::{Call, is_alone};
-use crate::question::Question;
-use crate::same::is_same_body;
-use crate::shown::Shown;
+use crate::call::Call;
 use pay_frame::{Body, SharedBody};
 use pay_link::Checked;
-use pay_member::{Event, MemberFault, Reply, Took};
+use pay_member::{Event, MemberFault, Question, Reply, Took, is_same_body};
 use std::alloc::{AllocError, Global};
 use std::marker::Model;
 
@@ -24,6 +22,9 @@ pub(crate) enum KeptCall {
     Other(Box<Call>),
 }
 
+// A refused frame stays in its receipt, value and all: its clause says of the very frame handed in
+// that the entries before call for this refusal.
+// term: receipt: a seat's note of one answered call, with the history's length before it
 /// One answered call of a seat. Contracts see it as how many entries the history had before the
 /// call, and the call with its answer.
 #[derive(Drop)]
@@ -65,23 +66,24 @@ impl Receipt {
         }
     }
 
-    /// Of a question and a copy of its answer.
-    pub(crate) fn of_reading(
+    /// Of a question with a copy of its answer.
+    pub(crate) fn of_reading<Q: Question>(
         alloc: Global,
         seen: usize,
-        question: Question,
-        shown: &Shown,
+        question: Q,
+        answer: &Q::Answer,
     ) -> Result<Receipt, AllocError>
-        ensures { IfOk result (λ receipt. receipt ≡ reading seen question shown.now) }
+        ensures { IfOk result (λ receipt.
+            receipt ≡ reading_at seen (Q.reading question answer.now)) }
     {
-        let shown = shown.copy(alloc)?;
-        let call = KeptCall::Other(Box::new(alloc, Call::Read { question, shown })?);
+        let reading = question.to_reading(alloc, answer)?;
+        let call = KeptCall::Other(Box::new(alloc, Call::Read(reading))?);
         Ok(Receipt { seen, call })
     }
 
     /// Of the body at a number, which was shown alone.
     pub(crate) fn of_body(seen: usize, number: usize, body: SharedBody) -> Receipt
-        ensures { result ≡ reading seen (Question.Sent number 1) (Shown.Sent (body ∷ [])) }
+        ensures { result ≡ reading_at seen (reading.Sent number 1 (body ∷ [])) }
     {
         let call = KeptCall::Sent { number, body };
         Receipt { seen, call }
@@ -139,32 +141,32 @@ impl Receipt {
                 number: shown,
                 body: sent,
             } => *shown == number && is_same_body(sent.body(), body),
-            KeptCall::Other(call) => call.shows_alone(number, body),
+            KeptCall::Other(call) => call.is_of_body(number, body),
             KeptCall::Taken { .. } => false,
         }
     }
 
     /// Whether it is of this question with this answer, at a history of so many entries.
-    pub(crate) fn is_reading(&self, seen: usize, question: Question, shown: &Shown) -> bool
-        ensures { IsTrue result ↔ (self.now ≡ reading seen question shown.now) }
+    pub(crate) fn is_reading<Q: Question>(
+        &self,
+        seen: usize,
+        question: Q,
+        answer: &Q::Answer,
+    ) -> bool
+        ensures { IsTrue result
+            ↔ (self.now ≡ reading_at seen (Q.reading question answer.now)) }
     {
-        self.seen == seen && self.is_of(question, shown)
+        self.seen == seen && self.is_of(question, answer)
     }
 
     // Whether it is of this question with this answer.
-    fn is_of(&self, question: Question, shown: &Shown) -> bool
-        ensures { IsTrue result ↔ (self.now.call ≡ Call.Read question shown.now) }
+    fn is_of<Q: Question>(&self, question: Q, answer: &Q::Answer) -> bool
+        ensures { IsTrue result ↔ (self.now.call ≡ Call.Read (Q.reading question answer.now)) }
     {
-        match (&self.call, shown) {
-            (KeptCall::Other(call), _) => call.is_of(question, shown),
-            (KeptCall::Sent { number, body }, Shown::Sent(bodies)) => {
-                let asked = Question::Sent {
-                    from: *number,
-                    max: 1,
-                };
-                question == asked && is_alone(bodies.as_slice(), body.body())
-            }
-            _ => false,
+        match &self.call {
+            KeptCall::Other(call) => call.is_of(question, answer),
+            KeptCall::Sent { number, body } => question.is_of_body(answer, *number, body.body()),
+            KeptCall::Taken { .. } => false,
         }
     }
 }

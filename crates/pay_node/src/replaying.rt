@@ -5,16 +5,12 @@ ghost use Rattle.pay_member.specs.Events.{events};
 ghost use Rattle.pay_member.specs.Legal.{IsOwed, Legal};
 ghost use Rattle.pay_member.specs.Member.{with_entry};
 
-use pay_book::Settle;
-use pay_echo::Instance;
+use crate::own_member::OwnMember;
 use pay_member::{HistoryEntry, Member};
 use std::alloc::{AllocError, Global};
 
 /// A member with the same genesis and keys that took nothing.
-pub(crate) fn anew<I: Instance + Drop, B: Settle + Drop>(
-    alloc: Global,
-    member: &Member<I, B>,
-) -> Result<Member<I, B>, AllocError>
+pub(crate) fn anew(alloc: Global, member: &OwnMember) -> Result<OwnMember, AllocError>
     ensures { IfOk result (λ fresh. fresh ≡ record member.now { history = [] }) }
 {
     let genesis = member.genesis().copy(alloc)?;
@@ -23,9 +19,9 @@ pub(crate) fn anew<I: Instance + Drop, B: Settle + Drop>(
 }
 
 /// Takes the entries of a legal history that are left before a place.
-pub(crate) fn replay_to<I: Instance + Drop, B: Settle + Drop>(
+pub(crate) fn replay_to(
     alloc: Global,
-    member: &mut Member<I, B>,
+    member: &mut OwnMember,
     history: &[HistoryEntry],
     place: usize,
 ) -> Result<(), AllocError>
@@ -42,11 +38,7 @@ pub(crate) fn replay_to<I: Instance + Drop, B: Settle + Drop>(
 }
 
 // Takes an entry that is owed.
-fn take_again<I: Instance + Drop, B: Settle + Drop>(
-    alloc: Global,
-    member: &mut Member<I, B>,
-    entry: &HistoryEntry,
-) -> Result<(), AllocError>
+fn take_again(alloc: Global, member: &mut OwnMember, entry: &HistoryEntry) -> Result<(), AllocError>
     requires { IsOwed member.old.genesis member.old.keys (events member.old.history) entry.now }
     ensures { OnOk result (member.new ≡ with_entry member.old entry.now) }
 {

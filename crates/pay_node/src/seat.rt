@@ -1,40 +1,37 @@
 ghost use Rattle.std.specs.Prelude.{◌≡◌, ◌≢◌, ◌↔◌, ◌+◌, ◌<◌, ℕ, Some, Err, [], ◌∷◌, ◌++◌, IfOk};
 ghost use Rattle.std.specs.Prelude.{◌-◌, IsTrue, OnErr, OnOk, drop, length, max, vec_len};
 ghost use Rattle.std.specs.Prelude.{vec_capacity};
-ghost use Rattle.pay_member.specs.Answer.{IsAnswer};
 ghost use Rattle.pay_member.specs.Legal.{Legal};
-ghost use Rattle.pay_member.specs.Member.{with_entry};
 ghost use Rattle.pay_node.specs.Keeping.{IsKeptFor, IsNoted, mark_of};
-ghost use Rattle.pay_node.specs.Receipts.{reading, reading_receipt, receipts_of, shown_of};
+ghost use Rattle.pay_member.specs.Questions.{Shows};
+ghost use Rattle.pay_member.specs.declared.reading.Reading.TheVariants as reading;
+ghost use Rattle.pay_node.specs.Receipts.{reading_at, reading_receipt, receipts_of};
 ghost use Rattle.pay_node.specs.Seats.{IsOfNow, KeepsReceipt, SeatFields, StaysRight, latest};
-ghost use Rattle.pay_node.specs.Seats.{with_receipts};
 
-use crate::bodies::Bodies;
 use crate::call::Call;
 use crate::marks::Marks;
-use crate::question::Question;
+use crate::own_member::OwnMember;
 use crate::receipt::Receipt;
-use crate::request::Request;
-use crate::shown::Shown;
-use pay_book::Settle;
-use pay_echo::Instance;
 use pay_frame::{Body, SharedBody};
-use pay_member::{Event, Member, MemberFault, Reply};
+use pay_member::question::SentFrom;
+use pay_member::{Bodies, Event, MemberFault, Question, Reply};
 use std::alloc::{AllocError, Global};
 use std::marker::Model;
 
 /// In how many of its last receipts a seat looks for one that says the same.
 pub const LATEST: usize = 256;
 
+// term: stamp: the number of the seat by which an entry came
+// term: seat: one thread's way to a node's member, with a stamp of its own
 /// From where calls are made, one at a time: a stamp, a receipt of each call that was answered, and
 /// which of them is of a body that was fetched once.
 #[derive(Drop)]
 pub struct Seat {
     stamp: u16,
-    receipts: Vec<Receipt>,
+    pub(crate) receipts: Vec<Receipt>,
     marks: Marks,
     // for the next call that a receipt can't keep by sharing
-    room: Option<Box<Call>>,
+    pub(crate) room: Option<Box<Call>>,
 }
 
 impl Model for Seat {
@@ -86,8 +83,8 @@ impl Seat {
         self.receipts.reserve(1)
     }
 
-    // The room for a call, made where there is none.
-    fn take_room(&mut self, alloc: Global) -> Result<Box<Call>, AllocError>
+    /// The room for a call, made where there is none.
+    pub(crate) fn take_room(&mut self, alloc: Global) -> Result<Box<Call>, AllocError>
         ensures { self.new ≡ self.old }
     {
         match self.room.take() {
@@ -96,68 +93,29 @@ impl Seat {
         }
     }
 
-    /// Hands a request to a member, and keeps the receipt of the answer with a copy of the request.
-    ///
-    /// What was right stays so: this seat's receipts, and those of every seat with another stamp.
-    pub(crate) fn hand_in<I: Instance + Drop, B: Settle + Drop, Q: Request + Drop>(
-        &mut self,
-        alloc: Global,
-        member: &mut Member<I, B>,
-        request: Q,
-        copy: Q,
-    ) -> Result<Q::Reply, Q::Fault>
-        requires copy { copy ≡ request }
-        ensures answer { IsAnswer member.old (Q.event request) (Q.answer result) }
-        ensures entry { IfOk (Q.answer result) (λ reply. member.new ≡ with_entry member.old
-            (record { stamp = self.old.stamp; event = Q.event request; reply = reply })) }
-        ensures err { OnErr (Q.answer result) (member.new ≡ member.old) }
-        ensures receipt { self.new ≡ with_receipts self.old
-            (receipts_of (length member.old.history) (Q.event request) (Q.answer result)) }
-        ensures legal { Legal member.old.genesis member.old.keys member.old.history }
-        ensures own { StaysRight member.old self.old member.new self.new }
-        ensures others { (seat : SeatFields) → seat.stamp ≢ self.old.stamp
-            → StaysRight member.old seat member.new seat }
-    {
-        let seen = member.history().len();
-        let Ok(room) = self.take_room(alloc) else {
-            return Err(Q::memory());
-        };
-        if self.receipts.reserve(1).is_err() {
-            return Err(Q::memory());
-        }
-        let answer = request.hand_in(alloc, self.stamp, member);
-        self.room = keep(
-            &mut self.receipts,
-            room,
-            seen,
-            copy.into_event(),
-            Q::answer_of(answer),
-        );
-        answer
-    }
-
     /// Keeps the receipt of what a member shows to a question. Where it is among the latest, and
     /// none since saw more or has an entry, no second one is left. What was right stays so.
-    pub(crate) fn note<I: Instance + Drop, B: Settle + Drop>(
+    // promise: receipts
+    pub(crate) fn note<Q: Question>(
         &mut self,
         alloc: Global,
-        member: &Member<I, B>,
-        question: Question,
-        shown: &Shown,
+        member: &OwnMember,
+        question: Q,
+        answer: &Q::Answer,
     ) -> Result<(), AllocError>
-        requires shown { shown.now ≡ shown_of member.now question }
+        requires shown { Shows member.now (Q.reading question answer.now) }
         ensures receipt { OnOk result (KeepsReceipt self.old self.new
-            (reading (length member.now.history) question shown.now)) }
+            (reading_at (length member.now.history) (Q.reading question answer.now))) }
         ensures err { OnErr result (self.new ≡ self.old) }
         ensures legal { OnOk result (Legal member.now.genesis member.now.keys
             member.now.history) }
         ensures own { StaysRight member.now self.old member.now self.new }
     {
         let seen = member.history().len();
-        if is_read_now(self.latest(), seen, question, shown) {
+        if is_read_now(self.latest(), seen, question, answer) {
             return Ok(());
         }
-        let receipt = Receipt::of_reading(alloc, seen, question, shown)?;
+        let receipt = Receipt::of_reading(alloc, seen, question, answer)?;
         self.receipts.push(receipt)?;
         Ok(())
     }
@@ -173,10 +131,11 @@ impl Seat {
 
     /// The body that a member sent at a place of all, if it is there. Where a receipt is kept that
     /// shows this body, no second one is left. What was right stays so.
-    pub(crate) fn note_once<I: Instance + Drop, B: Settle + Drop>(
+    // promise: fetched bodies; answered WANTs
+    pub(crate) fn note_once(
         &mut self,
         alloc: Global,
-        member: &Member<I, B>,
+        member: &OwnMember,
         number: usize,
     ) -> Result<Option<SharedBody>, AllocError>
         ensures noted { IfOk result (λ found.
@@ -190,11 +149,11 @@ impl Seat {
         match member.sent_shared(number as u64) {
             // no mark, for it may still come
             None => {
-                let question = Question::Sent {
+                let question = SentFrom {
                     from: number,
                     max: 1,
                 };
-                let none = Shown::Sent(Bodies::new(Vec::new(alloc)));
+                let none = Bodies::new(Vec::new(alloc));
                 self.note(alloc, member, question, &none)?;
                 Ok(None)
             }
@@ -226,7 +185,7 @@ impl Seat {
     fn keep_body(&mut self, seen: usize, number: usize, body: SharedBody) -> Result<(), AllocError>
         ensures stamp { self.new.stamp ≡ self.old.stamp }
         ensures receipt { OnOk result (self.new.receipts ≡ self.old.receipts
-            ++ reading_receipt seen (Question.Sent number 1) (Shown.Sent (body ∷ []))) }
+            ++ reading_receipt seen (reading.Sent number 1 (body ∷ []))) }
         ensures mark { OnOk result
             (mark_of self.new.marks number ≡ Some (length self.old.receipts)) }
         ensures others { OnOk result ((k : ℕ) → k ≢ number
@@ -245,20 +204,26 @@ impl Seat {
 
 // Whether one of these receipts is of this question with this answer, at a history of so many
 // entries, and none behind it tells of more.
-fn is_read_now(receipts: &[Receipt], seen: usize, question: Question, shown: &Shown) -> bool
-    ensures { IsTrue result ↔ IsOfNow receipts.now (reading seen question shown.now) }
+fn is_read_now<Q: Question>(
+    receipts: &[Receipt],
+    seen: usize,
+    question: Q,
+    answer: &Q::Answer,
+) -> bool
+    ensures { IsTrue result
+        ↔ IsOfNow receipts.now (reading_at seen (Q.reading question answer.now)) }
 {
     let mut is_found = false;
     for receipt in receipts {
-        is_found = receipt.is_reading(seen, question, shown)
+        is_found = receipt.is_reading(seen, question, answer)
             || (is_found && receipt.tells_no_more(seen));
     }
     is_found
 }
 
-// Keeps the receipt of an event that was handed in, for which there is room; refused memory has
-// none. The room for its call comes back if it wasn't used.
-fn keep(
+/// Keeps the receipt of an event that was handed in, for which there is room; refused memory has
+/// none. The room for its call comes back if it wasn't used.
+pub(crate) fn keep(
     receipts: &mut Vec<Receipt>,
     room: Box<Call>,
     seen: usize,

@@ -3,31 +3,33 @@ ghost use Rattle.pay_node.specs.Closing.{AllReconciled, IsCount, IsCloseFault};
 ghost use Rattle.pay_node.specs.Nodes.{IsOwn, base_of};
 
 use crate::beginning::Beginning;
-use crate::begun::Begun;
 use crate::close_fault::CloseFault;
 use crate::closing::{least_uncounted, least_wrong};
 use crate::compared::Compared;
+use crate::locked_member::LockedMember;
 use crate::node::Node;
+use crate::own_member::OwnMember;
 use crate::seat::Seat;
-use pay_book::Settle;
-use pay_echo::Instance;
 use pay_link::Keys;
-use pay_member::Member;
 use std::alloc::Global;
 use std::marker::Model;
 use std::sync::Mutex;
 
+// Closing takes the member out of the lock first (`Stopped`), so a clause can say when a mismatch
+// is named. It replays into a second member, because a receipt tells what a shorter history showed.
+// Without memory it still counts each seat's entries.
+// term: closing: the end of a node, where its receipts are held against its member's history
 /// A node that no thread calls any more, with its member out of the lock. So what is said of its
 /// member is about the very one that is handed out or started again.
 #[derive(Drop)]
-pub struct Stopped<I: Instance + Drop, B: Settle + Drop, S: Beginning> {
-    pub(crate) member: Begun<I, B, S>,
+pub struct Stopped<S: Beginning> {
+    pub(crate) member: LockedMember<S>,
     pub(crate) keys: Keys,
     pub(crate) seats: u16,
     pub(crate) compared: Option<Mutex<Compared<S>>>,
 }
 
-impl<I: Instance + Drop, B: Settle + Drop, S: Beginning> Model for Stopped<I, B, S> {
+impl<S: Beginning> Model for Stopped<S> {
     ghost use Rattle.std.specs.Prelude.{◌≡◌, is_some};
     ghost use Rattle.pay_node.specs.Nodes.{StoppedFields, node_as};
 
@@ -41,23 +43,23 @@ impl<I: Instance + Drop, B: Settle + Drop, S: Beginning> Model for Stopped<I, B,
     ghost invariant = { λ s. s.keys ≡ S.beginning.keys };
 }
 
-impl<I: Instance + Drop, B: Settle + Drop, S: Beginning> Stopped<I, B, S> {
+impl<S: Beginning> Stopped<S> {
     /// The member as the last call left it.
-    pub fn member(&self) -> &Member<I, B>
+    pub fn member(&self) -> &OwnMember
         ensures { result.now ≡ self.now.member }
     {
         self.member.member()
     }
 
     /// The member, whatever was told from the seats.
-    pub fn into_member(self) -> Member<I, B>
+    pub fn into_member(self) -> OwnMember
         ensures { result ≡ self.member }
     {
         self.member.into_member()
     }
 
     /// The node, with its member under the lock again.
-    pub fn start(self) -> Node<I, B, S>
+    pub fn start(self) -> Node<S>
         ensures { result ≡ self.node }
     {
         Node::of_parts(self.member, self.keys, self.seats, self.compared)
@@ -68,11 +70,8 @@ impl<I: Instance + Drop, B: Settle + Drop, S: Beginning> Stopped<I, B, S> {
     ///
     /// Where they don't, the least stamp that is missing, doubled, not of this node or wrong is
     /// named, and the node comes back as it was.
-    pub fn close(
-        self,
-        alloc: Global,
-        seats: &[Seat],
-    ) -> Result<Member<I, B>, (CloseFault, Stopped<I, B, S>)>
+    // promise: closing (own, closed, fault)
+    pub fn close(self, alloc: Global, seats: &[Seat]) -> Result<OwnMember, (CloseFault, Stopped<S>)>
         ensures member { IfOk result (λ member. member ≡ self.member) }
         ensures own { IsOwn self.node self.member }
         ensures closed { IfOk result (λ _. AllReconciled self.member (base_of self.node)

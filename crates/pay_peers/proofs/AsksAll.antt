@@ -6,7 +6,7 @@ use Rattle.pay_frame.specs.Frame.{FrameFields, frame_bytes}
 use Rattle.pay_link.specs.Keys.{KeyFields}
 use Rattle.pay_link.specs.Sealing.{want_frame}
 use Rattle.pay_node.specs.Nodes.{NodeFields}
-use Rattle.pay_peers.specs.declared.asking.Asking.{Asking}
+use Rattle.pay_peers.specs.declared.peer_reader.PeerReader.{PeerReader}
 use Rattle.pay_peers.specs.declared.window.Window.{Window}
 use Rattle.pay_peers.specs.Ahead.{wants}
 use Rattle.pay_peers.specs.AheadLaws.{AsksForAll, TakesAhead, taking_ahead}
@@ -63,7 +63,7 @@ each_more due g gs is rest (suc place) f at =
     rest place f at ∙ one_more
 
 runs :
-    (n : NodeFields) (peer ahead first came : ℕ) (before after : Asking) (fs : List FrameFields) (text : List ℕ) → 0 < ahead
+    (n : NodeFields) (peer ahead first came : ℕ) (before after : PeerReader) (fs : List FrameFields) (text : List ℕ) → 0 < ahead
     → first + came + length fs + ahead < 2 ^ 64 - 1 → before.window ≡ window_at (first + came) (asked_by ahead first came)
     → Steps (taking_ahead n peer ahead) before after fs text → Runs n.keys peer ahead first came fs text
 runs n peer ahead first came before after [] text some numbers window steps = record {
@@ -73,7 +73,7 @@ runs n peer ahead first came before after [] text some numbers window steps = re
   each = λ place f is. absurd (nothing_at place f is);
 }
 runs n peer ahead first came before after (f ∷ fs) text some numbers window steps =
-    let between : Asking = steps.0 in
+    let between : PeerReader = steps.0 in
     let step : TakesAhead n peer ahead before between f steps.1 = steps.3 in
     let w : Window = before.window in
     let w_due : w.due ≡ first + came = ap (λ (x : Window). x.due) window in

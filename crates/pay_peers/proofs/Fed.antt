@@ -9,14 +9,14 @@ use Rattle.pay_link.specs.Keys.{KeyFields}
 use Rattle.pay_member.specs.declared.received.Received.{Received}
 use Rattle.pay_node.specs.Nodes.{IsReceived, NodeFields}
 use Rattle.pay_node.specs.Seats.{SeatFields}
-use Rattle.pay_peers.specs.declared.asking.Asking.{Asking}
+use Rattle.pay_peers.specs.declared.peer_reader.PeerReader.{PeerReader}
 use Rattle.pay_peers.specs.declared.window.Window.{Window}
 use Rattle.pay_peers.specs.Ahead.{HasFedAhead, IsDue, IsFedAhead, next_told, wants}
 use Rattle.pay_peers.specs.Window.{asked_behind, first_count, first_window, moved_window, row_of, window_behind}
 
 -- where a next frame is told
 pub fed_on :
-    (n : NodeFields) (peer ahead : ℕ) (before : Asking) (seat : SeatFields) (window : Window) (f : FrameFields) (r : Received) (number next : ℕ)
+    (n : NodeFields) (peer ahead : ℕ) (before : PeerReader) (seat : SeatFields) (window : Window) (f : FrameFields) (r : Received) (number next : ℕ)
     → IsDue peer before f → IsReceived n before.seat seat f r
     → number ≡ f.number → Some next ≡ next_told r.outcome number → window ≡ moved_window ahead before.window next
     → IsFedAhead n peer ahead before (record { seat = seat; window = window }) f
@@ -31,7 +31,7 @@ fed_on n peer ahead before seat window f r number next due is of told moves = re
 
 -- where none is
 pub fed_not :
-    (n : NodeFields) (peer ahead : ℕ) (before : Asking) (seat : SeatFields) (f : FrameFields) (r : Received) (number : ℕ)
+    (n : NodeFields) (peer ahead : ℕ) (before : PeerReader) (seat : SeatFields) (f : FrameFields) (r : Received) (number : ℕ)
     → IsDue peer before f → IsReceived n before.seat seat f r
     → number ≡ f.number → None ≡ next_told r.outcome number
     → IsFedAhead n peer ahead before (record { seat = seat; window = before.window }) f []
@@ -56,8 +56,8 @@ first_is k own peer ahead w text same begun is =
 
 -- where memory is refused before anything is read or written
 pub nothing_fed :
-    (n : NodeFields) (peer ahead : ℕ) (start : Start Asking) → IsFramesThen [] [] []
-    → HasFedAhead n peer ahead start start.state start.input start.before (Err Memory)
+    (n : NodeFields) (peer ahead : ℕ) (start : Start PeerReader) → IsFramesThen [] [] []
+    → HasFedAhead n peer ahead start (record { state = start.state; left = start.input; after = start.before }) (Err Memory)
 nothing_fed n peer ahead start nothing = record {
   read = [];
   consumed = Consumes-nil start.input;

@@ -25,7 +25,7 @@ use Rattle.pay_node.specs.Nodes.{IsAnsweredAs, NodeFields}
 use Rattle.pay_node.specs.Receipts.{receipts_of}
 use Rattle.pay_node.specs.Seats.{SeatFields, with_receipts}
 use Rattle.pay_engine.specs.Handling.{Steps, Start}
-use Rattle.pay_peers.specs.declared.asking.Asking.{Asking}
+use Rattle.pay_peers.specs.declared.peer_reader.PeerReader.{PeerReader}
 use Rattle.pay_peers.specs.Ahead.{HasFedAhead, feeding_ahead}
 use Rattle.pay_peers.specs.Growing.{SeatGrows, HandsFrameOf}
 use Rattle.pay_peers.proofs.ByOne.{frame_is}
@@ -71,17 +71,17 @@ answered_grows law n peer before after f (Ok (Want from number)) r at sender is 
 answered_grows law n peer before after f (Err fault) r at sender is = same_grows peer before after is.1
 
 fed_grows :
-    OpenedIs → (n : NodeFields) (peer ahead : ℕ) (before after : Asking) (fs : List FrameFields) (text : List ℕ)
+    OpenedIs → (n : NodeFields) (peer ahead : ℕ) (before after : PeerReader) (fs : List FrameFields) (text : List ℕ)
     → Steps (feeding_ahead n peer ahead) before after fs text → SeatGrows peer before.seat after.seat
-fed_grows law n peer ahead before after [] text are = same_grows peer before.seat after.seat (ap (λ (s : Asking). s.seat) are.0)
+fed_grows law n peer ahead before after [] text are = same_grows peer before.seat after.seat (ap (λ (s : PeerReader). s.seat) are.0)
 fed_grows law n peer ahead before after (f ∷ fs) text are =
     grows_on peer before.seat are.0.seat after.seat
     (answered_grows law n peer before.seat are.0.seat f (incoming_at n.keys f) are.3.received refl are.3.due.sender are.3.is)
     (fed_grows law n peer ahead are.0 after fs are.2 are.4)
 
 pub run_grows :
-    OpenedIs → (n : NodeFields) (peer ahead : ℕ) (start : Start Asking) (asking : Asking) (left after : Option (List ℕ)) (r : Result ⊤ EngineFault)
-    → HasFedAhead n peer ahead start asking left after r → SeatGrows peer start.state.seat asking.seat
+    OpenedIs → (n : NodeFields) (peer ahead : ℕ) (start : Start PeerReader) (asking : PeerReader) (left after : Option (List ℕ)) (r : Result ⊤ EngineFault)
+    → HasFedAhead n peer ahead start (record { state = asking; left = left; after = after }) r → SeatGrows peer start.state.seat asking.seat
 run_grows law n peer ahead start asking left after (Ok _) (inl is) = fed_grows law n peer ahead start.state asking is.0.frames is.0.text is.0.handled
 run_grows law n peer ahead start asking left after (Ok _) (inr is) = fed_grows law n peer ahead start.state asking is.frames is.text is.handled
 run_grows law n peer ahead start asking left after (Err (Frame fault)) is = fed_grows law n peer ahead start.state asking is.frames is.text is.handled

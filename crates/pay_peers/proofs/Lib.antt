@@ -6,5 +6,4 @@ pub mod Fed
 pub mod Feedings
 pub mod Growings
 pub mod Opening
-pub mod Together
 pub mod Wants

@@ -12,7 +12,7 @@ use Rattle.pay_member.specs.declared.outcome.Outcome.TheVariants.{WrongKey}
 use Rattle.pay_engine.specs.Handling.{Handling, Steps}
 use Rattle.pay_link.specs.Keys.{KeyFields}
 use Rattle.pay_node.specs.Nodes.{NodeFields}
-use Rattle.pay_peers.specs.declared.asking.Asking.{Asking}
+use Rattle.pay_peers.specs.declared.peer_reader.PeerReader.{PeerReader}
 use Rattle.pay_peers.specs.declared.window.Window.{Window}
 use Rattle.pay_peers.specs.Ahead.{IsFedAhead, feeding_ahead, next_told, wants}
 use Rattle.pay_peers.specs.Feeding.{IsFed}
@@ -67,13 +67,13 @@ OpensByOne =
 -- ---- a run in which all came
 
 -- The frame that was due was brought, and the answer tells that the one after it is next.
-pub record TakesAhead (n : NodeFields) (peer ahead : ℕ) (before after : Asking) (f : FrameFields)
-    (text : List ℕ)
+pub record TakesAhead (n : NodeFields) (peer ahead : ℕ) (before after : PeerReader)
+    (f : FrameFields) (text : List ℕ)
     : Type 0 where
   pub fed : IsFedAhead n peer ahead before after f text
   pub next : next_told fed.received.outcome f.number ≡ Some (f.number + 1)
 
-abbrev pub taking_ahead : NodeFields → ℕ → ℕ → Handling Asking
+abbrev pub taking_ahead : NodeFields → ℕ → ℕ → Handling PeerReader
 taking_ahead n peer ahead = record {
   step = TakesAhead n peer ahead;
   may_stop = (feeding_ahead n peer ahead).may_stop;
@@ -95,7 +95,7 @@ pub record HasAskedForAll (k : KeyFields) (peer ahead from : ℕ) (fs : List Fra
 -- so it is after any run that begins as a connection does
 abbrev pub AsksForAll : Type 0
 AsksForAll =
-    (n : NodeFields) (peer ahead from : ℕ) (before after : Asking) (fs : List FrameFields)
+    (n : NodeFields) (peer ahead from : ℕ) (before after : PeerReader) (fs : List FrameFields)
     (text : List ℕ)
     → 0 < ahead → from + length fs + ahead < 2 ^ 64 - 1 → before.window ≡ first_window ahead from
     → Steps (taking_ahead n peer ahead) before after fs text
@@ -120,7 +120,7 @@ CameInOrder w WrongKey = ⊤
 -- to the order.
 abbrev pub AheadByOne : Type 0
 AheadByOne =
-    (n : NodeFields) (peer : ℕ) (before after : Asking) (f : FrameFields) (text : List ℕ)
+    (n : NodeFields) (peer : ℕ) (before after : PeerReader) (f : FrameFields) (text : List ℕ)
     → before.window.asked ≡ before.window.due + 1
     → (fed : IsFedAhead n peer 1 before after f text)
     → CameInOrder before.window fed.received.outcome

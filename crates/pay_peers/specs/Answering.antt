@@ -1,8 +1,9 @@
 -- What the WANT of a peer is answered.
-use Rattle.std.specs.Prelude.{◌≡◌, ◌⊎◌, ℕ, List, [], Option, Result, Ok, Err, ⊤}
+use Rattle.std.specs.Prelude.{◌≡◌, ◌⊎◌, ℕ, ◌<◌, List, [], Option, Result, Ok, Err, ⊤}
 use Rattle.std.specs.List.{Any}
 use Rattle.pay_engine.specs.declared.engine_fault.EngineFault.{EngineFault}
 use Rattle.pay_frame.specs.Frame.{BodyFields, FrameFields, frame_bytes}
+use Rattle.pay_frame.specs.declared.kind.Kind.TheVariants as kind
 use Rattle.pay_link.specs.Keys.{KeyFields}
 use Rattle.pay_link.specs.Sealing.{sealed_frame}
 use Rattle.pay_link.specs.declared.link_fault.LinkFault.TheVariants.{BadTag}
@@ -33,10 +34,20 @@ pub record IsWant {X : Type 0} (k : KeyFields) (seats : List (ℕ × X)) (f : Fr
   pub opens : incoming_at k f ≡ Ok (Want from number)
   pub seated : Any (λ s. s.0 ≡ from) seats
 
--- a frame in this peer's name that has another tag than the key of the two gives
+-- The frame has another tag than the key gives that its receiver shares with the named sender.
+abbrev pub HasWrongTag : KeyFields → FrameFields → Type 0
+HasWrongTag k f = incoming_at k f ≡ Err BadTag
+
+-- such a frame in this peer's name
 pub record IsUnopened (k : KeyFields) (f : FrameFields) (peer : ℕ) : Type 0 where
   pub from : f.from ≡ peer
-  pub fault : incoming_at k f ≡ Err BadTag
+  pub fault : HasWrongTag k f
+
+-- any other that isn't a WANT of a peer which has a seat among these
+pub record IsPassedOver {X : Type 0} (k : KeyFields) (seats : List (ℕ × X)) (f : FrameFields)
+    : Type 0 where
+  pub none : (from number : ℕ) → ¬ (IsWant k seats f from number)
+  pub right : ¬ (HasWrongTag k f)
 
 -- the frame that such a WANT asks for
 pub record IsReplyToWant {X : Type 0} (n : NodeFields) (seats : List (ℕ × X)) (f : FrameFields)
@@ -46,16 +57,21 @@ pub record IsReplyToWant {X : Type 0} (n : NodeFields) (seats : List (ℕ × X))
   pub want : IsWant n.keys seats f from number
   pub sent : IsSentTo n from number bytes
 
+-- The frame is answered without a wait by whoever sent so many frames: it is no WANT, or one for a
+-- frame that was sent.
+abbrev pub NeedsNoWait : ℕ → FrameFields → Type 0
+NeedsNoWait sent f = f.body.kind ≡ kind.Want → f.number < sent
+
 -- ---- one connection
 
--- What is written of a frame: the frame that it asks for, or nothing where it is no such WANT. The
--- stream may be left behind such a WANT, with no reply to it.
+-- What is written of a frame: the frame that it asks for, or nothing where it is passed over. The
+-- stream may be left behind a WANT, with no reply to it. It is left at a wrong tag.
 abbrev pub answering : {X : Type 0} → NodeFields → List (ℕ × X) → Handling ⊤
 answering n seats = record {
   step = λ before after f text.
-      IsReplyToWant n seats f text
-      ⊎ (((from number : ℕ) → ¬ (IsWant n.keys seats f from number)) × (text ≡ []));
-  may_stop = λ s f. (from : ℕ) × (number : ℕ) × IsWant n.keys seats f from number;
+      IsReplyToWant n seats f text ⊎ (IsPassedOver n.keys seats f × (text ≡ []));
+  may_stop = λ s f.
+      ((from : ℕ) × (number : ℕ) × IsWant n.keys seats f from number) ⊎ HasWrongTag n.keys f;
   fault_text = λ s fault. [];
 }
 
@@ -65,4 +81,5 @@ abbrev pub HasAnswered :
     → Option (List ℕ) → Option (List ℕ) → Result ⊤ EngineFault → Type 0
 HasAnswered n seats input left before after =
     HasHandled (answering n seats)
-    (record { first = []; state = tt; input = input; before = before }) tt left after
+    (record { first = []; state = tt; input = input; before = before })
+    (record { state = tt; left = left; after = after })

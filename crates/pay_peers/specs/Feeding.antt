@@ -1,6 +1,6 @@
 -- How a node is fed from a peer's stream: each frame is brought to it, and the WANTs of its answers
 -- go out.
-use Rattle.std.specs.Prelude.{◌≡◌, ℕ, List, [], Option, Result, ⊤}
+use Rattle.std.specs.Prelude.{◌≡◌, ℕ, List, [], Result, ⊤}
 use Rattle.pay_engine.specs.declared.engine_fault.EngineFault.{EngineFault}
 use Rattle.pay_frame.specs.Frame.{FrameFields, frame_bytes}
 use Rattle.pay_link.specs.Keys.{KeyFields}
@@ -8,7 +8,7 @@ use Rattle.pay_link.specs.Sealing.{want_frame}
 use Rattle.pay_member.specs.declared.received.Received.{Received}
 use Rattle.pay_member.specs.Bringing.{with_want}
 use Rattle.pay_member.specs.Serving.{bytes_if_any}
-use Rattle.pay_engine.specs.Handling.{Handling, HasHandled, Start, never}
+use Rattle.pay_engine.specs.Handling.{Handling, HasHandled, Stage, Start, never}
 use Rattle.pay_node.specs.Nodes.{IsReceived, NodeFields}
 use Rattle.pay_node.specs.Seats.{SeatFields}
 
@@ -30,6 +30,5 @@ feeding n = record { step = IsFed n; may_stop = never; fault_text = λ s fault. 
 -- The frames were brought one after the other, and the WANTs written. It ends at the input's end
 -- alone.
 abbrev pub HasFed :
-    NodeFields → Start SeatFields → SeatFields → Option (List ℕ) → Option (List ℕ)
-    → Result ⊤ EngineFault → Type 0
+    NodeFields → Start SeatFields → Stage SeatFields → Result ⊤ EngineFault → Type 0
 HasFed n = HasHandled (feeding n)

@@ -7,4 +7,3 @@ pub mod Dialing
 pub mod Telling
 pub mod SeatAsks
 pub mod Answering
-pub mod Batches

@@ -1,17 +1,20 @@
 -- What is broadcast from a seat by a desk's call: the law of a teller, for a seat.
-use Rattle.std.specs.Prelude.{◌≡◌, ◌⊎◌, ℕ, List, [], ◌∷◌, ◌++◌}
+use Rattle.std.specs.Prelude.{◌≡◌, ◌⊎◌, ℕ, List, [], ◌∷◌, ◌++◌, Result, Ok, Err}
 use Rattle.std.proofs.Common.{inl, inr, ap, sym, refl, ◌∙◌, append-nil}
 use Rattle.std.proofs.lemmas.List.Elements.{filter_map-append}
-use Rattle.pay_desk.specs.Calls as desk
-use Rattle.pay_desk.specs.Calls.{values_asked_by}
+use Rattle.pay_desk.specs.declared.teller_fault.TellerFault.{TellerFault}
 use Rattle.pay_desk.specs.declared.teller_fault.TellerFault.TheVariants as teller
-use Rattle.pay_node.specs.declared.question.Question.{Question}
-use Rattle.pay_node.specs.Receipts.{ReceiptFields}
-use Rattle.pay_node.specs.declared.shown.Shown.{Shown}
-use Rattle.pay_node.specs.Nodes.{NodeFields}
-use Rattle.pay_node.specs.Receipts.{reading}
+use Rattle.pay_desk.specs.Calls.{Exchange, Ask, Query, Read, Withhold, values_asked_by}
+use Rattle.pay_member.specs.declared.query_fault.QueryFault.{QueryFault}
+use Rattle.pay_member.specs.declared.query_fault.QueryFault.TheVariants as query
+use Rattle.pay_member.specs.declared.event.Event.TheVariants as event
+use Rattle.pay_member.specs.declared.reading.Reading.{Reading}
+use Rattle.pay_member.specs.declared.told.Told.{Told}
+use Rattle.pay_member.specs.Answer.{answer_of_query}
+use Rattle.pay_node.specs.Receipts.{ReceiptFields, reading_at}
+use Rattle.pay_node.specs.Nodes.{IsAnswered, NodeFields}
 use Rattle.pay_node.specs.Seats.{KeepsReceipt, SeatFields, with_receipts}
-use Rattle.pay_peers.specs.Telling.{SeatSays, value_told, values_told}
+use Rattle.pay_peers.specs.Telling.{IsToldOfValue, SeatSays, value_told, values_told}
 
 more_told : (seat : SeatFields) (more : List ReceiptFields)
     → values_told (with_receipts seat more).receipts ≡ values_told seat.receipts ++ values_told more
@@ -34,110 +37,41 @@ told_nothing old new same =
     ∙ sym (append-nil (values_told old.receipts))
 
 -- a seat that keeps a reading's receipt
-told_read : (old new : SeatFields) (seen : ℕ) (question : Question) (shown : Shown)
-    → KeepsReceipt old new (reading seen question shown)
+told_read : (old new : SeatFields) (seen : ℕ) (reading : Reading)
+    → KeepsReceipt old new (reading_at seen reading)
     → values_told new.receipts ≡ values_told old.receipts ++ []
 unfolding values_told
-told_read old new seen question shown keeps = go keeps.more where
-  go : (new ≡ old) ⊎ (new ≡ with_receipts old (reading seen question shown ∷ []))
+told_read old new seen reading keeps = go keeps.more where
+  go : (new ≡ old) ⊎ (new ≡ with_receipts old (reading_at seen reading ∷ []))
       → values_told new.receipts ≡ values_told old.receipts ++ []
-  go (inl same) = ap (λ (s : SeatFields). values_told s.receipts) same
-      ∙ sym (append-nil (values_told old.receipts))
-  go (inr is) = told_after old new (reading seen question shown ∷ []) [] is refl
+  go (inl same) = told_nothing old new same
+  go (inr is) = told_after old new (reading_at seen reading ∷ []) [] is refl
+
+by_ask : (n : NodeFields) (old new : SeatFields) (id : ℕ) (value : List ℕ)
+    (answer : Result ℕ TellerFault) → IsToldOfValue n old new value answer
+    → values_told new.receipts
+    ≡ values_told old.receipts ++ values_asked_by (Ask id value answer)
+unfolding values_told
+by_ask n old new id value (Ok seq) is =
+    told_after old new _ (value ∷ []) is.is.receipt refl
+by_ask n old new id value (Err teller.Spent) is = told_after old new _ [] is.is.0.receipt refl
+by_ask n old new id value (Err teller.TooEarly) is = told_nothing old new is.is.0.seat
+by_ask n old new id value (Err teller.Forgotten) is = told_nothing old new is.is.0.seat
+by_ask n old new id value (Err teller.Memory) is = absurd is
+
+by_query : (n : NodeFields) (old new : SeatFields) (account : ℕ) (answer : Result Told QueryFault)
+    → IsAnswered n old new (event.Query account) (answer_of_query answer)
+    → values_told new.receipts ≡ values_told old.receipts ++ []
+unfolding values_told
+by_query n old new account (Ok told) is = told_after old new _ [] is.receipt refl
+by_query n old new account (Err query.NoAccount) is = told_after old new _ [] is.receipt refl
+by_query n old new account (Err query.Memory) is = told_after old new _ [] is.receipt refl
 
 -- nothing is broadcast but what is asked for and gets a number
 pub seat_asks :
-    (n : NodeFields) (old new : SeatFields) (called : desk.Call) (reply : desk.TellerReply)
-    → SeatSays n old called reply new
-    → values_told new.receipts ≡ values_told old.receipts ++ values_asked_by called reply
-unfolding values_told
-seat_asks n old new (desk.Ask id value) (desk.Asked seq) said =
-    told_after old new _ (value ∷ []) said.is.receipt refl
-seat_asks n old new (desk.Ask id value) (desk.Refused teller.Spent) said =
-    told_after old new _ [] said.is.0.receipt refl
-seat_asks n old new (desk.Ask id value) (desk.Refused teller.TooEarly) said =
-    told_nothing old new said.is.0.seat
-seat_asks n old new (desk.Ask id value) (desk.Refused teller.Forgotten) said =
-    told_nothing old new said.is.0.seat
-seat_asks n old new (desk.Query account) (desk.Queried told) said =
-    told_after old new _ [] said.receipt refl
-seat_asks n old new (desk.Query account) (desk.Refused teller.NoAccount) said =
-    told_after old new _ [] said.receipt refl
-seat_asks n old new (desk.State owner seq) (desk.Stood state) said =
-    told_read old new _ _ _ said.receipt
-seat_asks n old new (desk.State owner seq) (desk.Refused teller.NoAccount) said =
-    told_read old new _ _ _ said.receipt
-seat_asks n old new (desk.State owner seq) (desk.Refused teller.Forgotten) said =
-    told_read old new _ _ _ said.read.receipt
-seat_asks n old new (desk.Statement account) (desk.Stated statement) said =
-    told_read old new _ _ _ said.receipt
-seat_asks n old new (desk.Statement account) (desk.Refused teller.NoAccount) said =
-    told_read old new _ _ _ said.receipt
-seat_asks n old new (desk.Entries account from) (desk.Listed excerpt) said =
-    told_read old new _ _ _ said.receipt
-seat_asks n old new (desk.Entries account from) (desk.Refused teller.NoAccount) said =
-    told_read old new _ _ _ said.receipt
-seat_asks n old new (desk.Entries account from) (desk.Refused teller.Forgotten) said =
-    told_read old new _ _ _ said.read.receipt
-seat_asks n old new (desk.Waiting account) (desk.Listed excerpt) said =
-    told_read old new _ _ _ said.receipt
-seat_asks n old new (desk.Waiting account) (desk.Refused teller.NoAccount) said =
-    told_read old new _ _ _ said.receipt
-seat_asks n old new (desk.Waiting account) (desk.Refused teller.Forgotten) said =
-    told_read old new _ _ _ said.read.receipt
-seat_asks n old new desk.Fronts (desk.Settled fronts) said = told_read old new _ _ _ said.receipt
-seat_asks n old new (desk.Ask id value) (desk.Queried told) said = elim said [ ]
-seat_asks n old new (desk.Ask id value) (desk.Stood state) said = elim said [ ]
-seat_asks n old new (desk.Ask id value) (desk.Stated statement) said = elim said [ ]
-seat_asks n old new (desk.Ask id value) (desk.Listed excerpt) said = elim said [ ]
-seat_asks n old new (desk.Ask id value) (desk.Settled fronts) said = elim said [ ]
-seat_asks n old new (desk.Ask id value) (desk.Refused teller.Memory) said = elim said [ ]
-seat_asks n old new (desk.Ask id value) (desk.Refused teller.NoAccount) said = elim said [ ]
-seat_asks n old new (desk.Query account) (desk.Asked seq) said = elim said [ ]
-seat_asks n old new (desk.Query account) (desk.Stood state) said = elim said [ ]
-seat_asks n old new (desk.Query account) (desk.Stated statement) said = elim said [ ]
-seat_asks n old new (desk.Query account) (desk.Listed excerpt) said = elim said [ ]
-seat_asks n old new (desk.Query account) (desk.Settled fronts) said = elim said [ ]
-seat_asks n old new (desk.Query account) (desk.Refused teller.Memory) said = elim said [ ]
-seat_asks n old new (desk.Query account) (desk.Refused teller.Spent) said = elim said [ ]
-seat_asks n old new (desk.Query account) (desk.Refused teller.TooEarly) said = elim said [ ]
-seat_asks n old new (desk.Query account) (desk.Refused teller.Forgotten) said = elim said [ ]
-seat_asks n old new (desk.State owner seq) (desk.Asked _) said = elim said [ ]
-seat_asks n old new (desk.State owner seq) (desk.Queried told) said = elim said [ ]
-seat_asks n old new (desk.State owner seq) (desk.Stated statement) said = elim said [ ]
-seat_asks n old new (desk.State owner seq) (desk.Listed excerpt) said = elim said [ ]
-seat_asks n old new (desk.State owner seq) (desk.Settled fronts) said = elim said [ ]
-seat_asks n old new (desk.State owner seq) (desk.Refused teller.Memory) said = elim said [ ]
-seat_asks n old new (desk.State owner seq) (desk.Refused teller.Spent) said = elim said [ ]
-seat_asks n old new (desk.State owner seq) (desk.Refused teller.TooEarly) said = elim said [ ]
-seat_asks n old new (desk.Statement account) (desk.Asked seq) said = elim said [ ]
-seat_asks n old new (desk.Statement account) (desk.Queried told) said = elim said [ ]
-seat_asks n old new (desk.Statement account) (desk.Stood state) said = elim said [ ]
-seat_asks n old new (desk.Statement account) (desk.Settled fronts) said = elim said [ ]
-seat_asks n old new (desk.Statement account) (desk.Listed excerpt) said = elim said [ ]
-seat_asks n old new (desk.Statement account) (desk.Refused teller.Memory) said = elim said [ ]
-seat_asks n old new (desk.Statement account) (desk.Refused teller.Spent) said = elim said [ ]
-seat_asks n old new (desk.Statement account) (desk.Refused teller.TooEarly) said = elim said [ ]
-seat_asks n old new (desk.Statement account) (desk.Refused teller.Forgotten) said = elim said [ ]
-seat_asks n old new (desk.Entries account from) (desk.Asked seq) said = elim said [ ]
-seat_asks n old new (desk.Entries account from) (desk.Queried told) said = elim said [ ]
-seat_asks n old new (desk.Entries account from) (desk.Stood state) said = elim said [ ]
-seat_asks n old new (desk.Entries account from) (desk.Stated statement) said = elim said [ ]
-seat_asks n old new (desk.Entries account from) (desk.Settled fronts) said = elim said [ ]
-seat_asks n old new (desk.Entries account from) (desk.Refused teller.Memory) said = elim said [ ]
-seat_asks n old new (desk.Entries account from) (desk.Refused teller.Spent) said = elim said [ ]
-seat_asks n old new (desk.Entries account from) (desk.Refused teller.TooEarly) said = elim said [ ]
-seat_asks n old new (desk.Waiting account) (desk.Asked seq) said = elim said [ ]
-seat_asks n old new (desk.Waiting account) (desk.Queried told) said = elim said [ ]
-seat_asks n old new (desk.Waiting account) (desk.Stood state) said = elim said [ ]
-seat_asks n old new (desk.Waiting account) (desk.Stated statement) said = elim said [ ]
-seat_asks n old new (desk.Waiting account) (desk.Settled fronts) said = elim said [ ]
-seat_asks n old new (desk.Waiting account) (desk.Refused teller.Memory) said = elim said [ ]
-seat_asks n old new (desk.Waiting account) (desk.Refused teller.Spent) said = elim said [ ]
-seat_asks n old new (desk.Waiting account) (desk.Refused teller.TooEarly) said = elim said [ ]
-seat_asks n old new desk.Fronts (desk.Asked seq) said = elim said [ ]
-seat_asks n old new desk.Fronts (desk.Queried told) said = elim said [ ]
-seat_asks n old new desk.Fronts (desk.Stood state) said = elim said [ ]
-seat_asks n old new desk.Fronts (desk.Stated statement) said = elim said [ ]
-seat_asks n old new desk.Fronts (desk.Listed excerpt) said = elim said [ ]
-seat_asks n old new desk.Fronts (desk.Refused _) said = elim said [ ]
+    (n : NodeFields) (old new : SeatFields) (said : Exchange) → SeatSays n old said new
+    → values_told new.receipts ≡ values_told old.receipts ++ values_asked_by said
+seat_asks n old new (Ask id value answer) is = by_ask n old new id value answer is
+seat_asks n old new (Query account answer) is = by_query n old new account answer is
+seat_asks n old new (Read reading) is = told_read old new _ _ is.receipt
+seat_asks n old new (Withhold reading) is = told_read old new _ _ is.read.receipt

@@ -3,6 +3,8 @@ use Rattle.std.specs.Prelude.{ℕ, ◌+◌, ◌-◌, ◌^◌, ◌<◌, ◌≤◌
 use Rattle.std.specs.Prelude.{if◌then◌else◌, List, [], ◌∷◌, Option, Some, None}
 use Rattle.pay_peers.specs.declared.window.Window.{Window}
 
+-- node: Window: Frames that are asked for ahead are [under way](DEFINITIONS.md#a-connection). If
+--   a write of WANTs takes longer than a second, the connection ends.
 -- so many frames may be asked for and not come yet
 abbrev pub CanAskAhead : ℕ → Type 0
 CanAskAhead count = (0 < count) × (count ≤ 1024)
@@ -15,6 +17,8 @@ empty_window = record { due = 0; asked = 0 }
 abbrev pub first_count : ℕ → ℕ
 first_count ahead = min ahead 4
 
+-- page: `first_window`, `moved_window`: which frames of a peer are asked for and didn't come, on a
+--   new connection and after an answer
 abbrev pub first_window : ℕ → ℕ → Window
 first_window ahead from = record { due = from; asked = from + first_count ahead }
 

@@ -6,8 +6,6 @@ ghost use Rattle.pay_peers.specs.Answering.{IsSentTo};
 
 use crate::context::NodeContext;
 use crate::wanted::Wanted;
-use pay_book::Settle;
-use pay_echo::Instance;
 use pay_hmac::Tagger;
 use pay_link::seal;
 use pay_node::Beginning;
@@ -18,14 +16,12 @@ use std::sync::atomic::AtomicBool;
 /// The frame that a WANT asks for, once its body is sent, or none once it is told to stop. It is
 /// sealed for whom the seat is, and what is sealed is what a receipt of the number shows at this
 /// seat.
-pub(crate) fn answer_want<I, B, S, R, T>(
-    context: &NodeContext<'_, R, I, B, S, T>,
+pub(crate) fn answer_want<S, R, T>(
+    context: &NodeContext<'_, R, S, T>,
     stop: &AtomicBool,
     wanted: &Wanted<'_>,
 ) -> Result<Option<Vec<u8>>, AllocError>
 where
-    I: Instance + Drop,
-    B: Settle + Drop,
     S: Beginning,
     R: Wait,
     T: Tagger,

@@ -1,13 +1,16 @@
 //! How long a worker goes on dialing a peer that it doesn't meet.
 
 ghost use Rattle.std.specs.Prelude.{◌≡◌};
-ghost use Rattle.pay_peers.specs.Dialing.{growing, idle_behind, is_spent, pause_behind};
-ghost use Rattle.pay_peers.specs.Dialing.{stale_behind};
+ghost use Rattle.pay_peers.specs.Dialing.{growing, idle_behind, is_quiet, is_spent};
+ghost use Rattle.pay_peers.specs.Dialing.{pause_behind, stale_behind};
 
 use crate::gain::Gain;
 
 /// How often in a row, without a frame that opened, a worker dials with [`Dials::Usual`].
 pub const MOST_IDLE: u64 = 1_000;
+
+/// For how many seconds a connection may bring nothing until it ends and its peer is dialed anew.
+pub const QUIET_SECONDS: u64 = 60;
 
 /// How long it then pauses behind each dial, in milliseconds.
 const PAUSE_MILLIS: u64 = 10;
@@ -30,6 +33,9 @@ pub enum Dials {
     Always,
 }
 
+// Pauses between dials begin anew with a frame that is taken, not with one that opens. A repeat
+// leaves a receipt, and a liar that ends each connection after one would have them left a hundred
+// times a second.
 /// What a worker's dials came to.
 #[derive(Drop)]
 pub(crate) struct Backoff {
@@ -53,6 +59,7 @@ impl Backoff {
     }
 
     /// Whether the worker has dialed for the last time.
+    // promise: dials
     pub(crate) fn is_over(&self) -> bool
         ensures { result ≡ is_spent self.now.dials self.now.idle }
     {
@@ -65,6 +72,7 @@ impl Backoff {
 
     /// Counts a dial, and answers for how many milliseconds the worker pauses then. The count of
     /// idle dials begins anew with a frame that opens, and the pauses with one that is taken.
+    // promise: dials
     pub(crate) fn note(&mut self, gain: Gain) -> u64
         ensures dials { self.new.dials ≡ self.old.dials }
         ensures idle { self.new.idle ≡ idle_behind self.old.idle gain }
@@ -84,6 +92,15 @@ impl Backoff {
             _ => growing(self.stale),
         }
     }
+}
+
+/// Whether a connection that stood for so many seconds, and brought nothing, was quiet and didn't
+/// fail. The timer that ends one may be early.
+// promise: dials
+pub(crate) fn is_quiet(seconds: u64) -> bool
+    ensures { result ≡ is_quiet seconds }
+{
+    seconds >= QUIET_SECONDS - 1
 }
 
 // The pause behind so many dials in a row that brought nothing new.

@@ -1,13 +1,11 @@
 //! How a node is fed from a peer's stream.
 
-ghost use Rattle.pay_io.specs.Counts.{KeepsCounts};
+ghost use Rattle.pay_io.specs.Counts.{KeepsCounts, counts_of};
 ghost use Rattle.pay_engine.specs.EngineFault.{engine_of};
 ghost use Rattle.pay_link.specs.Keys.{IsPeer};
 ghost use Rattle.pay_peers.specs.Feeding.{HasFed, feeding, want_for_all};
 
-use crate::batches::MOST_AT_ONCE;
-use pay_book::Settle;
-use pay_echo::Instance;
+use crate::reading_ahead::MOST_WAITING;
 use pay_engine::{EngineFault, FrameHandler, handle_stream};
 use pay_frame::{FrameFault, FrameRef};
 use pay_hmac::Tagger;
@@ -19,18 +17,16 @@ use std::sync::Wait;
 
 /// Brings each frame to a node from a seat, and writes the WANT of the answer.
 #[derive(Drop)]
-struct FromPeer<'a, R, I: Instance + Drop, B: Settle + Drop, S: Beginning, T, G> {
+struct FromPeer<'a, R, S: Beginning, T, G> {
     rt: &'a R,
-    node: &'a Node<I, B, S>,
+    node: &'a Node<S>,
     tagger: &'a T,
     gate: &'a G,
 }
 
-impl<R, I, B, S, T, G> FrameHandler<Seat> for FromPeer<'_, R, I, B, S, T, G>
+impl<R, S, T, G> FrameHandler<Seat> for FromPeer<'_, R, S, T, G>
 where
     R: Wait,
-    I: Instance + Drop,
-    B: Settle + Drop,
     S: Beginning,
     T: Tagger,
     G: Gate,
@@ -41,8 +37,8 @@ where
 
     ghost keeps_room = { λ _ _ _ _ _ _ _ _. tt };
 
-    fn at_once(&self, _held: &[u8]) -> usize {
-        MOST_AT_ONCE
+    fn goes_along(&self, _state: &Seat, waiting: usize, _frame: &FrameRef<'_>) -> bool {
+        waiting < MOST_WAITING
     }
 
     fn handle(
@@ -77,10 +73,11 @@ where
 /// A fault in the frames ends it, and is returned. Where a read failed or no more may be made, all
 /// frames that were read were brought. After another fault a prefix of them was, and a prefix of
 /// their WANTs is written.
-pub fn read_peer<I, B, S, R, T, G, In, Out>(
+// promise: early ends (counts); inbound streams (fed)
+pub fn read_peer<S, R, T, G, In, Out>(
     rt: &R,
     alloc: Global,
-    node: &Node<I, B, S>,
+    node: &Node<S>,
     seat: &mut Seat,
     tagger: &T,
     gate: &G,
@@ -89,8 +86,6 @@ pub fn read_peer<I, B, S, R, T, G, In, Out>(
     writer: &mut Out,
 ) -> Result<(), EngineFault>
 where
-    I: Instance + Drop,
-    B: Settle + Drop,
     S: Beginning,
     R: Wait,
     T: Tagger,
@@ -105,9 +100,16 @@ where
           input = In.remaining reader.old;
           before = Out.contents writer.old;
         })
-        seat.new (In.remaining reader.new) (Out.contents writer.new) result }
-    ensures counts { KeepsCounts engine_of In.call_count In.failure_count In.remaining
-        Out.failure_count reader.old reader.new writer.old writer.new result }
+        (record {
+          state = seat.new;
+          left = In.remaining reader.new;
+          after = Out.contents writer.new;
+        })
+        result }
+    ensures counts { let counted =
+        counts_of In.call_count In.failure_count In.remaining Out.failure_count in
+        KeepsCounts engine_of
+        (counted reader.old writer.old) (counted reader.new writer.new) result }
 {
     let from_peer = FromPeer {
         rt,

@@ -12,14 +12,13 @@
 
 mod admission;
 mod answering;
-mod asking;
 mod backoff;
-mod batches;
 mod context;
 mod feeding;
 mod gain;
 pub mod laws;
 mod observer;
+mod peer_reader;
 mod readers;
 mod reading_ahead;
 mod teller;
@@ -28,11 +27,11 @@ mod window;
 mod writing;
 
 pub use admission::Admission;
-pub use asking::Asking;
-pub use backoff::{Dials, MOST_IDLE};
+pub use backoff::{Dials, MOST_IDLE, QUIET_SECONDS};
 pub use context::NodeContext;
 pub use feeding::read_peer;
 pub use observer::{Observer, PeerEvent};
+pub use peer_reader::PeerReader;
 pub use readers::{Dial, Dialed, run_readers};
 pub use reading_ahead::read_ahead;
 pub use teller::NodeTeller;

@@ -1,5 +1,6 @@
 //! What a worker tells of its peer.
 
+use pay_member::Lie;
 use pay_node::Gate;
 use std::sync::atomic::{AtomicBool, Ordering};
 
@@ -20,6 +21,10 @@ pub enum PeerEvent {
     Missed,
     /// The peer was dialed for the last time.
     GaveUp,
+    /// It told a lie, so nothing more is read from it.
+    Lied(Lie),
+    /// A connection ended because memory was refused.
+    Starved,
 }
 
 /// A gate of one connection, behind another: the first frame that passes it is told.

@@ -1,20 +1,17 @@
 //! How a node is fed from a peer's stream, frames of which are asked for ahead.
 
 ghost use Rattle.std.specs.Prelude.{◌≡◌, ◌+◌, ◌<◌, ◌++◌, ◌^◌, OnOk};
-ghost use Rattle.pay_io.specs.Counts.{KeepsCounts};
+ghost use Rattle.pay_io.specs.Counts.{KeepsCounts, counts_of};
 ghost use Rattle.pay_engine.specs.EngineFault.{engine_of};
 ghost use Rattle.pay_link.specs.Keys.{IsPeer};
 ghost use Rattle.pay_peers.specs.Ahead.{HasFedAhead, feeding_ahead, next_told, wants};
 ghost use Rattle.pay_peers.specs.Window.{first_count, first_window, row_of};
 
-use crate::asking::Asking;
-use crate::batches::MOST_AT_ONCE;
 use crate::context::NodeContext;
+use crate::peer_reader::PeerReader;
 use crate::window::{Ahead, Asks, Window};
-use pay_book::Settle;
-use pay_echo::Instance;
 use pay_engine::{EngineFault, FrameHandler, handle_stream};
-use pay_frame::{FrameFault, FrameRef, stream_grows};
+use pay_frame::{FrameFault, FrameRef, HEAD_LEN, TAG_LEN, stream_grows};
 use pay_hmac::Tagger;
 use pay_io::{Input, Output};
 use pay_link::{Keys, LinkFault, want};
@@ -23,21 +20,22 @@ use pay_node::{Beginning, Gate};
 use std::alloc::{AllocError, Global};
 use std::sync::Wait;
 
+/// How many bytes of WANTs wait at most before another frame is brought: 64 of them.
+pub(crate) const MOST_WAITING: usize = 64 * (HEAD_LEN + TAG_LEN);
+
 /// Brings the frames of a peer that are due, and asks for more.
 #[derive(Drop)]
-struct FromPeerAhead<'a, R, I: Instance + Drop, B: Settle + Drop, S: Beginning, T, G> {
-    context: &'a NodeContext<'a, R, I, B, S, T>,
+struct FromPeerAhead<'a, R, S: Beginning, T, G> {
+    context: &'a NodeContext<'a, R, S, T>,
     gate: &'a G,
     peer: u16,
     ahead: Ahead,
     ghost is_peer: { IsPeer context.now.node.now.keys peer },
 }
 
-impl<R, I, B, S, T, G> FrameHandler<Asking> for FromPeerAhead<'_, R, I, B, S, T, G>
+impl<R, S, T, G> FrameHandler<PeerReader> for FromPeerAhead<'_, R, S, T, G>
 where
     R: Wait,
-    I: Instance + Drop,
-    B: Settle + Drop,
     S: Beginning,
     T: Tagger,
     G: Gate,
@@ -48,15 +46,16 @@ where
 
     ghost keeps_room = { λ _ _ _ _ _ _ _ _. tt };
 
-    fn at_once(&self, _held: &[u8]) -> usize {
-        MOST_AT_ONCE
+    fn goes_along(&self, _state: &PeerReader, waiting: usize, _frame: &FrameRef<'_>) -> bool {
+        waiting < MOST_WAITING
     }
 
-    // The connection ends with a frame that isn't due, which isn't brought.
+    // The connection ends with a frame that isn't due, or is of a peer that lied; neither is
+    // brought.
     fn handle(
         &self,
         alloc: Global,
-        asking: &mut Asking,
+        asking: &mut PeerReader,
         frame: FrameRef<'_>,
         out: &mut Vec<u8>,
     ) -> Result<bool, AllocError> {
@@ -65,6 +64,11 @@ where
             return Ok(false);
         }
         let context = self.context;
+        if context.node.may_have_lied(self.peer)
+            && context.node.lie(context.rt, self.peer).is_some()
+        {
+            return Ok(false);
+        }
         let received = context.node.bring_frame(
             context.rt,
             alloc,
@@ -85,7 +89,7 @@ where
 
     fn end(
         &self,
-        _asking: &Asking,
+        _asking: &PeerReader,
         _fault: FrameFault,
         _out: &mut Vec<u8>,
     ) -> Result<(), AllocError> {
@@ -129,26 +133,29 @@ fn ask_for<T: Tagger>(
     Ok(())
 }
 
+// A frame that isn't due ends its connection before it is brought. So neither repeats nor gaps of a
+// liar grow the history, and a number whose frame was wrongly tagged is asked for again on the next
+// connection.
 /// Feeds a node from a peer's stream: asks for the frames that a connection begins with, brings
 /// each frame that is due, and asks for more, so that as many as `ahead` are asked for and under
 /// way.
 ///
 /// A frame that isn't due ends it: one out of the order in which frames were asked for, or in the
-/// name of another member. A fault in the frames ends it, and is returned. Where a read failed or
-/// no more may be made, all frames that were read were brought. After another fault a prefix of
-/// them was, and a prefix of their WANTs is written.
-pub fn read_ahead<I, B, S, R, T, G, In, Out>(
-    context: &NodeContext<'_, R, I, B, S, T>,
+/// name of another member. So does the next one of a peer that is found to have lied. A fault in
+/// the frames ends it, and is returned. Where a read failed or no more may be made, all frames that
+/// were read were brought. After another fault a prefix of them was, and a prefix of their WANTs is
+/// written.
+// promise: early ends (counts); asked ahead (fed); dials
+pub fn read_ahead<S, R, T, G, In, Out>(
+    context: &NodeContext<'_, R, S, T>,
     gate: &G,
     peer: u16,
     ahead: Ahead,
-    asking: &mut Asking,
+    asking: &mut PeerReader,
     reader: &mut In,
     writer: &mut Out,
 ) -> Result<(), EngineFault>
 where
-    I: Instance + Drop,
-    B: Settle + Drop,
     S: Beginning,
     R: Wait,
     T: Tagger,
@@ -165,9 +172,16 @@ where
           input = In.remaining reader.old;
           before = Out.contents writer.old;
         })
-        asking.new (In.remaining reader.new) (Out.contents writer.new) result }
-    ensures counts { KeepsCounts engine_of In.call_count In.failure_count In.remaining
-        Out.failure_count reader.old reader.new writer.old writer.new result }
+        (record {
+          state = asking.new;
+          left = In.remaining reader.new;
+          after = Out.contents writer.new;
+        })
+        result }
+    ensures counts { let counted =
+        counts_of In.call_count In.failure_count In.remaining Out.failure_count in
+        KeepsCounts engine_of
+        (counted reader.old writer.old) (counted reader.new writer.new) result }
 {
     let from_peer = FromPeerAhead {
         context,

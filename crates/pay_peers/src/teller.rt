@@ -1,14 +1,11 @@
-ghost use Rattle.std.specs.Prelude.{◌≡◌, IfErr, OnErr, OnOk};
-ghost use Rattle.pay_desk.specs.declared.teller_fault.TellerFault.TheVariants.{Forgotten};
+ghost use Rattle.std.specs.Prelude.{◌≡◌, false, IsTrue, Some};
 ghost use Rattle.pay_node.specs.Comparing.{FindsAll, FindsForgetting};
 ghost use Rattle.pay_peers.specs.Telling.{TellerSays, values_told};
 
-use pay_book::{Excerpt, Settle, Statement};
-use pay_desk::{Teller, TellerFault};
-use pay_echo::Instance;
+use pay_desk::{ReadFault, Teller, TellerFault};
+use pay_durable::Keeper;
 use pay_frame::Bytes;
-use pay_kept::Keeper;
-use pay_member::{AskFault, PaymentState, QueryFault, Told};
+use pay_member::{AskFault, QueryFault, Question, Told};
 use pay_node::{Beginning, HandInFault, Node, Seat};
 use std::alloc::Global;
 use std::marker::Model;
@@ -17,16 +14,15 @@ use std::sync::Wait;
 /// A node as a desk's teller, which calls it from a seat of its own. The node's keeper takes the id
 /// of each value before that is asked for.
 #[derive(Drop)]
-pub struct NodeTeller<'a, R, I: Instance + Drop, B: Settle + Drop, S: Beginning, K> {
+pub struct NodeTeller<'a, R, S: Beginning, K> {
     rt: &'a R,
-    node: &'a Node<I, B, S>,
+    node: &'a Node<S>,
     keeper: &'a K,
     seat: Seat,
     next: u32,
 }
 
-impl<'a, R, I: Instance + Drop, B: Settle + Drop, S: Beginning, K> Model
-    for NodeTeller<'a, R, I, B, S, K> {
+impl<'a, R, S: Beginning, K> Model for NodeTeller<'a, R, S, K> {
     ghost use Rattle.pay_peers.specs.Telling.{TellerFields};
 
     ghost Value = { TellerFields };
@@ -34,16 +30,17 @@ impl<'a, R, I: Instance + Drop, B: Settle + Drop, S: Beginning, K> Model
     ghost view = { λ t. record { node = t.node.now; seat = t.seat; next = t.next } };
 }
 
-impl<'a, R, I: Instance + Drop, B: Settle + Drop, S: Beginning, K> NodeTeller<'a, R, I, B, S, K> {
+impl<'a, R, S: Beginning, K> NodeTeller<'a, R, S, K> {
     /// A teller that keeps the receipts of its calls at this seat of the node, whose member asked
     /// for as many values as the number `next` says.
+    // promise: ids
     pub fn new(
         rt: &'a R,
-        node: &'a Node<I, B, S>,
+        node: &'a Node<S>,
         keeper: &'a K,
         seat: Seat,
         next: u32,
-    ) -> NodeTeller<'a, R, I, B, S, K>
+    ) -> NodeTeller<'a, R, S, K>
         ensures { result ≡ record { node = node.now; seat = seat; next = next } }
     {
         NodeTeller {
@@ -63,34 +60,26 @@ impl<'a, R, I: Instance + Drop, B: Settle + Drop, S: Beginning, K> NodeTeller<'a
     }
 }
 
-impl<R, I, B, S, K> NodeTeller<'_, R, I, B, S, K>
+impl<R, S, K> NodeTeller<'_, R, S, K>
 where
     R: Wait,
-    I: Instance + Drop,
-    B: Settle + Drop,
     S: Beginning,
 {
     // Whether what was read about an account is told. Of the own one nothing is, once the member
     // has forgotten, which is looked at behind the reading.
-    fn may_tell(&self, account: u16) -> Result<(), TellerFault>
-        ensures fault { IfErr result (λ fault. fault ≡ Forgotten) }
-        ensures own { OnErr result (account ≡ self.now.node.keys.own) }
-        ensures found { OnErr result (FindsForgetting self.now.node) }
-        ensures remembers { OnOk result (account ≡ self.now.node.keys.own
-            → FindsAll self.now.node) }
+    fn may_tell(&self, account: Option<u16>) -> bool
+        ensures own { result ≡ false → account ≡ Some self.now.node.keys.own }
+        ensures found { result ≡ false → FindsForgetting self.now.node }
+        ensures remembers { IsTrue result → account ≡ Some self.now.node.keys.own
+            → FindsAll self.now.node }
     {
-        if account == self.node.keys().own() && self.node.has_forgotten(self.rt) {
-            return Err(TellerFault::Forgotten);
-        }
-        Ok(())
+        account != Some(self.node.keys().own()) || !self.node.has_forgotten(self.rt)
     }
 }
 
-impl<R, I, B, S, K> Teller for NodeTeller<'_, R, I, B, S, K>
+impl<R, S, K> Teller for NodeTeller<'_, R, S, K>
 where
     R: Wait,
-    I: Instance + Drop,
-    B: Settle + Drop,
     S: Beginning,
     K: Keeper,
 {
@@ -98,6 +87,7 @@ where
 
     ghost asked = { λ t. values_told t.seat.receipts };
 
+    // promise: ids; comparing
     fn ask(&mut self, alloc: Global, id: u64, value: Bytes) -> Result<u32, TellerFault> {
         self.keeper.order(self.rt, self.next, id)?;
         match self.node.ask(self.rt, alloc, &mut self.seat, value) {
@@ -114,64 +104,20 @@ where
         }
     }
 
-    fn query(&mut self, alloc: Global, account: u16) -> Result<Told, TellerFault> {
-        match self.node.query(self.rt, alloc, &mut self.seat, account) {
-            Ok(told) => Ok(told),
-            Err(QueryFault::NoAccount) => Err(TellerFault::NoAccount),
-            Err(QueryFault::Memory) => Err(TellerFault::Memory),
-        }
+    fn query(&mut self, alloc: Global, account: u16) -> Result<Told, QueryFault> {
+        self.node.query(self.rt, alloc, &mut self.seat, account)
     }
 
-    fn state(&mut self, alloc: Global, owner: u16, seq: u32) -> Result<PaymentState, TellerFault> {
-        match self.node.state(self.rt, alloc, &mut self.seat, owner, seq) {
-            Ok(state) => {
-                self.may_tell(owner)?;
-                Ok(state)
-            }
-            Err(QueryFault::NoAccount) => Err(TellerFault::NoAccount),
-            Err(QueryFault::Memory) => Err(TellerFault::Memory),
+    fn read<Q: Question>(&mut self, alloc: Global, question: Q) -> Result<Q::Answer, ReadFault> {
+        let answer = self.node.read(self.rt, alloc, &mut self.seat, question)?;
+        if !self.may_tell(question.account_told()) {
+            return Err(ReadFault::Forgotten);
         }
-    }
-
-    fn statement(&mut self, alloc: Global, account: u16) -> Result<Statement, TellerFault> {
-        match self.node.statement(self.rt, alloc, &mut self.seat, account) {
-            Ok(statement) => Ok(statement),
-            Err(QueryFault::NoAccount) => Err(TellerFault::NoAccount),
-            Err(QueryFault::Memory) => Err(TellerFault::Memory),
-        }
-    }
-
-    fn entries(&mut self, alloc: Global, account: u16, from: u64) -> Result<Excerpt, TellerFault> {
-        match self
-            .node
-            .entries(self.rt, alloc, &mut self.seat, account, from)
-        {
-            Ok(excerpt) => {
-                self.may_tell(account)?;
-                Ok(excerpt)
-            }
-            Err(QueryFault::NoAccount) => Err(TellerFault::NoAccount),
-            Err(QueryFault::Memory) => Err(TellerFault::Memory),
-        }
-    }
-
-    fn waiting(&mut self, alloc: Global, account: u16) -> Result<Excerpt, TellerFault> {
-        match self.node.waiting(self.rt, alloc, &mut self.seat, account) {
-            Ok(excerpt) => {
-                self.may_tell(account)?;
-                Ok(excerpt)
-            }
-            Err(QueryFault::NoAccount) => Err(TellerFault::NoAccount),
-            Err(QueryFault::Memory) => Err(TellerFault::Memory),
-        }
-    }
-
-    fn fronts(&mut self, alloc: Global) -> Result<Vec<u32>, TellerFault> {
-        Ok(self.node.fronts(self.rt, alloc, &mut self.seat)?)
+        Ok(answer)
     }
 
     ghost use Rattle.pay_peers.specs.SeatAsks.{seat_asks};
 
-    ghost only_asks = { λ old new called reply said.
-        seat_asks old.node old.seat new.seat called reply said.told };
+    ghost only_asks = { λ old new said is.
+        seat_asks old.node old.seat new.seat said is.told };
 }

@@ -50,6 +50,11 @@ impl Ahead {
     }
 }
 
+// A connection begins with four frames asked for, and its window opens by one with each that comes.
+// If connections live for a few frames only, a whole window would be lost each time. Up to 1,024
+// may be asked for, whose WANTs have 57,344 bytes. If the sockets hold less, both sides could wait
+// to write, so a write of WANTs is given up after a second.
+// term: window: the frames of a peer that were asked for on a connection and haven't come
 /// Which frames of a peer are asked for on a connection and didn't come yet: those from the one
 /// that is due on, before the next one to ask for.
 #[derive(Clone, Copy, Debug, PartialEq, Eq)]

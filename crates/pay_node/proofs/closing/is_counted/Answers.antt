@@ -3,7 +3,7 @@ use Rattle.std.proofs.lemmas.Grind.{common_steps}
 use Rattle.pay_node.proofs.closing.is_counted.Goals as goal
 
 pub loop-seat-preserved : goal.loop-seat-preserved
-loop-seat-preserved g c = grind (arith, common_steps)
+loop-seat-preserved c = grind (arith, common_steps)
 
 pub returns : goal.returns
-returns g c = grind (arith, common_steps)
+returns c = grind (arith, common_steps)

@@ -4,7 +4,7 @@ use Rattle.pay_node.proofs.Verdicts.{verdict}
 use Rattle.pay_node.proofs.closing.least_wrong.Goals as goal
 
 pub returns : goal.returns
-returns g c =
+returns c =
     let stop = c.loop-stamp-test.false in
     let at : c.entries_since-since.result.now ≡ drop c.args.base c.args.member.now.history = c.entries_since-since.ensures ∙ ap (drop c.args.base) c.history.ensures.value in
     let kept : (lower : ℕ) → lower < c.args.count → HasConsistentSeat c.args.member.now c.args.base lower c.args.seats.now = λ lower below. c.loop-stamp.invariant lower (omega arith) in

@@ -4,7 +4,7 @@ use Rattle.pay_node.proofs.Kept.{found_shown, one_shown, some_same}
 use Rattle.pay_node.proofs.judging.has_sent_at.Goals as goal
 
 pub returns-in-Some : goal.returns-in-Some
-returns-in-Some g c =
+returns-in-Some c =
     let m = c.args.member.now in
     let sent : slice_get (sent_by m) c.args.number ≡ Some c.in-Some.sent.now = search rules in (
       (λ is. one_shown m c.args.number c.args.body.now (sent ∙ ap Some (c.is_same_body.ensures.0 is))),
@@ -12,7 +12,7 @@ returns-in-Some g c =
     )
 
 pub returns-in-None : goal.returns-in-None
-returns-in-None g c =
+returns-in-None c =
     let m = c.args.member.now in
     let none : slice_get (sent_by m) c.args.number ≡ None = search rules in
     (λ is. absurd (cc is), λ shown. absurd (cc (none, found_shown m c.args.number c.args.body.now shown)))

@@ -8,12 +8,12 @@ use Rattle.pay_node.proofs.Judged.{judged_so, judged_there, known_right, not_cou
 use Rattle.pay_node.proofs.judging.is_right.Goals as goal
 
 pub returns-then-not-has_its_entries : goal.returns-then-not-has_its_entries
-returns-then-not-has_its_entries g c =
+returns-then-not-has_its_entries c =
     let failed : c.has_its_entries.result ≡ false = search rules in
     not_counted c.args.member.now c.args.base c.args.seat.now c.has_its_entries.result c.has_its_entries.ensures failed
 
 pub returns-then-are_in_order : goal.returns-then-are_in_order
-returns-then-are_in_order g c =
+returns-then-are_in_order c =
     let its : HasItsEntries c.args.member.now c.args.base c.args.seat.now = search rules in
     let rs = c.receipts-receipts.ensures in
     let since = subst (All (λ (r : ReceiptFields). c.args.base ≤ r.seen)) rs (c.are_in_order.ensures.since (search rules)) in
@@ -23,7 +23,7 @@ returns-then-are_in_order g c =
     ((λ _. right), (λ _. refl))
 
 pub returns : goal.returns
-returns g c =
+returns c =
     let its : HasItsEntries c.args.member.now c.args.base c.args.seat.now = search rules in
     judged_so c.args.member.now c.args.base c.args.seat.now c.are_consistent.result its
     (judged_there c.args.member.now c.in_ok-fresh.fresh c.replay_to.new.member c.args.base c.history-history.result.now c.args.seat.now c.stamp-stamp.result c.receipts-receipts.result.now c.are_consistent.result

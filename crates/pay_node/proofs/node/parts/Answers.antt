@@ -3,7 +3,7 @@ use Rattle.std.proofs.lemmas.Grind.{common_steps}
 use Rattle.pay_node.proofs.node.parts.Goals as goal
 
 pub loop-stamp-init : goal.loop-stamp-init
-loop-stamp-init g c = grind (arith, common_steps)
+loop-stamp-init c = grind (arith, common_steps)
 
 pub returns-clause-seats : goal.returns-clause-seats
-returns-clause-seats g c = grind (arith, common_steps)
+returns-clause-seats c = grind (arith, common_steps)

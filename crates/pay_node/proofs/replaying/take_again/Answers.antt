@@ -3,4 +3,4 @@ use Rattle.std.proofs.lemmas.Grind.{common_steps}
 use Rattle.pay_node.proofs.replaying.take_again.Goals as goal
 
 pub returns-in-Ok : goal.returns-in-Ok
-returns-in-Ok g c = grind (arith, common_steps)
+returns-in-Ok c = grind (arith, common_steps)

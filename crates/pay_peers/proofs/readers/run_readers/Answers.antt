@@ -1,5 +1,5 @@
 use Rattle.std.proofs.Common.{ℕ, slice_index_or, subst, rules}
-use Rattle.pay_peers.specs.declared.asking.Asking.{Asking}
+use Rattle.pay_peers.specs.declared.peer_reader.PeerReader.{PeerReader}
 use Rattle.pay_peers.specs.Growing.{HasGrown}
 use Rattle.pay_peers.proofs.readers.run_readers.Goals as goal
 
@@ -9,5 +9,5 @@ returns g c = record {
   each = λ k d within.
       let at = (c.for_each_mut.ensures k d within).1 in
       let grown : HasGrown at.argument.now at.after_call.now = at.call in
-      subst (λ (new : ℕ × Asking). HasGrown (slice_index_or c.args.pairs.now k d) new) at.left (subst (λ (old : ℕ × Asking). HasGrown old at.after_call.now) at.argument_is grown);
+      subst (λ (new : ℕ × PeerReader). HasGrown (slice_index_or c.args.pairs.now k d) new) at.left (subst (λ (old : ℕ × PeerReader). HasGrown old at.after_call.now) at.argument_is grown);
 }

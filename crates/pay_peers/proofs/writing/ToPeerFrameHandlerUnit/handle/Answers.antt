@@ -3,10 +3,16 @@ use Rattle.std.proofs.lemmas.Grind.{common_steps}
 use Rattle.pay_peers.specs.Answering.{IsSentTo}
 use Rattle.pay_peers.proofs.writing.ToPeerFrameHandlerUnit.handle.Goals as goal
 
-pub returns-in-Err : goal.returns-in-Err
-returns-in-Err g c =
-    let none = rw c.keys.ensures at c.in-Err.ensures.none in
-    record { handles = ([], inr (none, refl), sym (append-nil c.args.out.now.items)) }
+pub returns-in-Err-None : goal.returns-in-Err-None
+returns-in-Err-None g c =
+    let none = rw c.keys.ensures at c.in-Err-None.ensures.none in
+    let right = rw (c.in-Err-None.field-0-is, c.keys.ensures) at c.in-Err-None.ensures.passed in
+    record { handles = ([], inr (record { none = none; right = right }, refl), sym (append-nil c.args.out.now.items)) }
+
+pub returns-in-Err-Some : goal.returns-in-Err-Some
+returns-in-Err-Some g c =
+    let unopened = rw (c.in-Err-Some.field-0-is, c.keys.ensures) at c.in-Err-Some.ensures.unopened in
+    record { handles = (inr unopened.fault, refl, refl) }
 
 pub returns-in_ok-extend_from_slice-in-Some : goal.returns-in_ok-extend_from_slice-in-Some
 returns-in_ok-extend_from_slice-in-Some g c =
