@@ -9,7 +9,7 @@ use Rattle.pay_member.specs.Member.{MemberFields}
 use Rattle.pay_node.specs.Closing.{AllReconciled, seats_with}
 use Rattle.pay_node.specs.Nodes.{AreFresh, NodeFields, fresh_seat}
 use Rattle.pay_node.specs.Seats.{Right, SeatFields}
-use Rattle.pay_net.specs.Running.{DeskStart, HasServed}
+use Rattle.pay_net.specs.Running.{DeskStart, DeskStreams, HasServed}
 
 -- ---- the last seat
 
@@ -33,12 +33,12 @@ last_is_fresh count seats others desk fresh is =
     (subst (λ (all : List SeatFields). slice_get all (length others) ≡ Some desk) (sym is) (at_end others desk)) in
     some_same desk (fresh_seat (count - 1)) (sym here ∙ fresh.each (count - 1) (omega arith))
 
-pub served_well : (n : NodeFields) (start : DeskStart) (old fresh new : SeatFields) (input left before after : Option (List ℕ)) (ended : Result Unit StreamFault) (done : Unit)
-    → old ≡ fresh → ended ≡ Ok done → HasServed n start old new input left before after ended
-    → HasServed n start fresh new input left before after (Ok tt)
-served_well n start old fresh new input left before after ended done same well served =
-    subst (λ (e : Result Unit StreamFault). HasServed n start fresh new input left before after e) well
-    (subst (λ (seat : SeatFields). HasServed n start seat new input left before after ended) same served)
+pub served_well : (n : NodeFields) (start : DeskStart) (old fresh new : SeatFields) (streams : DeskStreams) (ended : Result Unit StreamFault) (done : Unit)
+    → old ≡ fresh → ended ≡ Ok done → HasServed n start old new streams ended
+    → HasServed n start fresh new streams (Ok tt)
+served_well n start old fresh new streams ended done same well served =
+    subst (λ (e : Result Unit StreamFault). HasServed n start fresh new streams e) well
+    (subst (λ (seat : SeatFields). HasServed n start seat new streams ended) same served)
 
 -- ---- a seat among those that are settled
 

@@ -1,32 +1,48 @@
 -- How a node ended, by what closing found.
-use Rattle.std.proofs.Common.{◌≡◌, inl, inr, ℕ, List, Option, Some, None, Result, Ok, Err, IfOk, sym, subst}
-use Rattle.std.specs.Prelude.{IfErr, MatchResult}
+use Rattle.std.proofs.Common.{◌≡◌, inl, inr, ℕ, List, Option, Some, None, Result, Ok, Err, IfOk, ap, sym, subst}
+use Rattle.std.specs.Prelude.{IfErr, IsErrOf, MatchResult}
+use Rattle.pay_io.specs.Counts.{KeepsCounts, counts_of, no_other_faults}
 use Rattle.pay_io.specs.declared.stream_fault.StreamFault.{StreamFault}
 use Rattle.pay_io.specs.declared.stream_fault.StreamFault.TheVariants as stream
 use Rattle.pay_member.specs.Legal.{Legal}
 use Rattle.pay_member.specs.Member.{MemberFields}
 use Rattle.pay_node.specs.declared.close_fault.CloseFault.{CloseFault}
 use Rattle.pay_node.specs.declared.close_fault.CloseFault.TheVariants as close
-use Rattle.pay_node.specs.Closing.{AllReconciled, IsCount, IsCloseFault}
+use Rattle.pay_node.specs.Closing.{AllCounted, AllReconciled, IsCount, IsCloseFault}
 use Rattle.pay_node.specs.Nodes.{IsOwn, NodeFields, StoppedFields, base_of}
 use Rattle.pay_node.specs.Seats.{SeatFields}
 use Rattle.pay_net.specs.declared.node_fault.NodeFault.{NodeFault}
 use Rattle.pay_net.specs.declared.node_fault.NodeFault.TheVariants.{Engine}
 use Rattle.pay_net.specs.declared.receipts.Receipts.{Receipts}
-use Rattle.pay_net.specs.Running.{DeskStart, HasEnded, HasRun, IsClosed, IsDeskFault, IsNodeFault, IsUnjudged, as_fault, ended_by}
+use Rattle.pay_net.specs.declared.receipts.Receipts.TheVariants.{Consistent, Unjudged}
+use Rattle.pay_net.specs.Running.{CountsReads, DeskStart, DeskStreams, HasClosed, HasEnded, HasRun, IsClosed, IsDeskFault, IsNodeFault, IsSomehowAmiss, IsUnjudged, as_fault, desk_streams, ended_by}
 use Rattle.pay_net.proofs.Desks.{right_at_end}
 
+-- by what closing found
+pub closes_so :
+    (s : StoppedFields) (seats : List SeatFields) (found : Result MemberFields (CloseFault × StoppedFields)) (uncounted : Option ℕ)
+    → IfOk found (λ m. m ≡ s.member) → IfOk found (λ _. AllReconciled s.member (base_of s.node) s.node.seats seats)
+    → IfErr found (λ back. IsCloseFault s.node s.member seats back.0) → IfErr found (λ back. back.1 ≡ s)
+    → IsCount s.member (base_of s.node) s.node.seats seats uncounted → HasClosed s seats (ended_by found uncounted)
+closes_so s seats (Ok m) uncounted is settled fault back count =
+    (is, subst (λ (x : MemberFields). AllReconciled x (base_of s.node) s.node.seats seats) (sym is) settled)
+closes_so s seats (Err (close.Mismatch stamp, again)) uncounted is settled fault back count = inl fault
+closes_so s seats (Err (close.Memory, again)) None is settled fault back count =
+    let same : again.member ≡ s.member = ap (λ (x : StoppedFields). x.member) back in
+    (same, subst (λ (x : MemberFields). AllCounted x (base_of s.node) s.node.seats seats) (sym same) count)
+closes_so s seats (Err (close.Memory, again)) (Some stamp) is settled fault back count = inr count
+
+pub closed_by :
+    (s : StoppedFields) (seats : List SeatFields) (r ended : Result (MemberFields × Receipts) ℕ) → r ≡ ended → HasClosed s seats ended → HasClosed s seats r
+closed_by s seats r ended is closed = subst (λ (x : Result (MemberFields × Receipts) ℕ). HasClosed s seats x) (sym is) closed
+
 ends_at :
-    (stopped : StoppedFields) (start : DeskStart) (ports : List ℕ) (seats : List SeatFields) (input left before after : Option (List ℕ))
-    (found : Result MemberFields (CloseFault × StoppedFields)) (uncounted : Option ℕ)
-    → Legal stopped.member.genesis stopped.member.keys stopped.member.history
-    → IfOk found (λ m. m ≡ stopped.member) → IsOwn stopped.node stopped.member
-    → IfOk found (λ _. AllReconciled stopped.member (base_of stopped.node) stopped.node.seats seats)
-    → IfErr found (λ back. IsCloseFault stopped.node stopped.member seats back.0) → IfErr found (λ back. back.1 ≡ stopped)
-    → IsCount stopped.member (base_of stopped.node) stopped.node.seats seats uncounted → HasRun stopped.node start seats input left before after
-    → HasEnded stopped.node start ports input left before after (as_fault (ended_by found uncounted))
-ends_at stopped start ports seats input left before after (Ok m) uncounted legal is own settled fault back count ran =
-    subst (λ (x : MemberFields). IsClosed stopped.node start x input left before after) (sym is) (record {
+    (s : StoppedFields) (start : DeskStart) (ports : List ℕ) (seats : List SeatFields) (streams : DeskStreams) (r : Result (MemberFields × Receipts) ℕ)
+    → Legal s.member.genesis s.member.keys s.member.history → IsOwn s.node s.member → HasClosed s seats r → HasRun s.node start seats streams
+    → HasEnded s.node start ports streams (as_fault r)
+ends_at s start ports seats streams (Ok (m, Consistent)) legal own closed ran =
+    let settled = subst (λ (x : MemberFields). AllReconciled x (base_of s.node) s.node.seats seats) closed.0 closed.1 in
+    subst (λ (x : MemberFields). IsClosed s.node start x streams) (sym closed.0) (record {
       own = own;
       legal = legal;
       seats = seats;
@@ -34,56 +50,90 @@ ends_at stopped start ports seats input left before after (Ok m) uncounted legal
       ran = ran;
       right = right_at_end _ _ _ _ _ ran.desk ran.all settled;
     })
-ends_at stopped start ports seats input left before after (Err (close.Mismatch stamp, again)) uncounted legal is own settled fault back count ran =
-    record { member = stopped.member; own = own; legal = legal; seats = seats; ran = ran; wrong = inl fault }
-ends_at stopped start ports seats input left before after (Err (close.Memory, again)) None legal is own settled fault back count ran =
-    subst (λ (x : StoppedFields). IsUnjudged stopped.node start x.member input left before after) (sym back)
-    (record { own = own; legal = legal; seats = seats; counted = count; ran = ran })
-ends_at stopped start ports seats input left before after (Err (close.Memory, again)) (Some stamp) legal is own settled fault back count ran =
-    record { member = stopped.member; own = own; legal = legal; seats = seats; ran = ran; wrong = inr count }
+ends_at s start ports seats streams (Ok (m, Unjudged)) legal own closed ran =
+    subst (λ (x : MemberFields). IsUnjudged s.node start x streams) (sym closed.0) (record {
+      own = own;
+      legal = legal;
+      seats = seats;
+      counted = subst (λ (x : MemberFields). AllCounted x (base_of s.node) s.node.seats seats) closed.0 closed.1;
+      ran = ran;
+    })
+ends_at s start ports seats streams (Err stamp) legal own closed ran =
+    record { seats = seats; ran = ran; amiss = record { member = s.member; own = own; legal = legal; amiss = closed } }
 
 pub ends_so :
-    (n : NodeFields) (stopped : StoppedFields) (start : DeskStart) (ports : List ℕ) (seats : List SeatFields) (input left before after : Option (List ℕ))
-    (found : Result MemberFields (CloseFault × StoppedFields)) (uncounted : Option ℕ) (r : Result (MemberFields × Receipts) ℕ)
-    → stopped.node ≡ n → r ≡ ended_by found uncounted → Legal stopped.member.genesis stopped.member.keys stopped.member.history
-    → IfOk found (λ m. m ≡ stopped.member) → IsOwn stopped.node stopped.member
-    → IfOk found (λ _. AllReconciled stopped.member (base_of stopped.node) stopped.node.seats seats)
-    → IfErr found (λ back. IsCloseFault stopped.node stopped.member seats back.0) → IfErr found (λ back. back.1 ≡ stopped)
-    → IsCount stopped.member (base_of stopped.node) stopped.node.seats seats uncounted → HasRun n start seats input left before after
-    → HasEnded n start ports input left before after (as_fault r)
-ends_so n stopped start ports seats input left before after found uncounted r same by legal is own settled fault back count ran =
-    subst (λ (x : Result (MemberFields × Receipts) ℕ). HasEnded n start ports input left before after (as_fault x)) (sym by)
-    (subst (λ (x : NodeFields). HasEnded x start ports input left before after (as_fault (ended_by found uncounted))) same
-    (ends_at stopped start ports seats input left before after found uncounted legal is own settled fault back count
-    (subst (λ (x : NodeFields). HasRun x start seats input left before after) (sym same) ran)))
+    (n : NodeFields) (s : StoppedFields) (start : DeskStart) (ports : List ℕ) (seats : List SeatFields) (streams : DeskStreams)
+    (r : Result (MemberFields × Receipts) ℕ)
+    → s.node ≡ n → Legal s.member.genesis s.member.keys s.member.history → IsOwn s.node s.member → HasClosed s seats r → HasRun n start seats streams
+    → HasEnded n start ports streams (as_fault r)
+ends_so n s start ports seats streams r same legal own closed ran =
+    subst (λ (x : NodeFields). HasEnded x start ports streams (as_fault r)) same
+    (ends_at s start ports seats streams r legal own closed
+    (subst (λ (x : NodeFields). HasRun x start seats streams) (sym same) ran))
+
+-- the stamp that is told
+pub amiss_so :
+    (n : NodeFields) (s : StoppedFields) (seats : List SeatFields) (r : Result (MemberFields × Receipts) ℕ) (stamp : ℕ)
+    → r ≡ Err stamp → s.node ≡ n → Legal s.member.genesis s.member.keys s.member.history → IsOwn s.node s.member → HasClosed s seats r → IsSomehowAmiss n seats stamp
+amiss_so n s seats r stamp is same legal own closed =
+    subst (λ (x : NodeFields). IsSomehowAmiss x seats stamp) same (record {
+      member = s.member;
+      own = own;
+      legal = legal;
+      amiss = subst (λ (x : Result (MemberFields × Receipts) ℕ). HasClosed s seats x) is closed;
+    })
 
 -- the same end, of what is the same
 pub ended_so :
     (r : Result (MemberFields × Receipts) NodeFault) (n node : NodeFields) (k start : DeskStart) (ports : List ℕ) (input left b before a after : Option (List ℕ))
-    → n ≡ node → k ≡ start → b ≡ before → a ≡ after → HasEnded n k ports input left b a r → HasEnded node start ports input left before after r
+    → n ≡ node → k ≡ start → b ≡ before → a ≡ after → HasEnded n k ports (desk_streams input left b a) r
+    → HasEnded node start ports (desk_streams input left before after) r
 ended_so r n node k start ports input left b before a after same_node same_kept same_before same_after ended =
-    subst (λ (x : Option (List ℕ)). HasEnded node start ports input left before x r) same_after
-    (subst (λ (x : Option (List ℕ)). HasEnded node start ports input left x a r) same_before
-    (subst (λ (x : DeskStart). HasEnded node x ports input left b a r) same_kept
-    (subst (λ (x : NodeFields). HasEnded x k ports input left b a r) same_node ended)))
+    subst (λ (x : Option (List ℕ)). HasEnded node start ports (desk_streams input left before x) r) same_after
+    (subst (λ (x : Option (List ℕ)). HasEnded node start ports (desk_streams input left x a) r) same_before
+    (subst (λ (x : DeskStart). HasEnded node x ports (desk_streams input left b a) r) same_kept
+    (subst (λ (x : NodeFields). HasEnded x k ports (desk_streams input left b a) r) same_node ended)))
 
 -- ---- a desk that ended with a fault
 
 pub desk_fault :
-    (n : NodeFields) (start : DeskStart) (ports : List ℕ) (input left before after : Option (List ℕ)) (fault : StreamFault)
-    → IsDeskFault n start fault input left before after → IsNodeFault n start ports input left before after (Engine fault)
-desk_fault n start ports input left before after stream.Memory is = tt
-desk_fault n start ports input left before after stream.Read is = is
-desk_fault n start ports input left before after stream.Write is = inl is
-desk_fault n start ports input left before after stream.Bound is = is
+    (n : NodeFields) (start : DeskStart) (ports : List ℕ) (streams : DeskStreams) (fault : StreamFault)
+    → IsDeskFault n start fault streams → IsNodeFault n start ports streams (Engine fault)
+desk_fault n start ports streams stream.Memory is = tt
+desk_fault n start ports streams stream.Read is = is
+desk_fault n start ports streams stream.Write is = inl is
+desk_fault n start ports streams stream.Bound is = is
 
 pub desk_ended :
-    {X : Type 0} (P : X → Type 0) (n : NodeFields) (start : DeskStart) (ports : List ℕ) (input left before after : Option (List ℕ)) (fault : StreamFault) (r : Result X NodeFault)
-    → r ≡ Err (Engine fault) → IsDeskFault n start fault input left before after → MatchResult r P (IsNodeFault n start ports input left before after)
-desk_ended {X} P n start ports input left before after fault r is ended =
-    subst (λ (x : Result X NodeFault). MatchResult x P (IsNodeFault n start ports input left before after)) (sym is)
-    (desk_fault n start ports input left before after fault ended)
+    {X : Type 0} (P : X → Type 0) (n : NodeFields) (start : DeskStart) (ports : List ℕ) (streams : DeskStreams) (fault : StreamFault) (r : Result X NodeFault)
+    → r ≡ Err (Engine fault) → IsDeskFault n start fault streams → MatchResult r P (IsNodeFault n start ports streams)
+desk_ended {X} P n start ports streams fault r is ended =
+    subst (λ (x : Result X NodeFault). MatchResult x P (IsNodeFault n start ports streams)) (sym is)
+    (desk_fault n start ports streams fault ended)
 
 -- what is known of a result that is well
 pub well : {X E : Type 0} (P : X → Type 0) (Q : E → Type 0) (r : Result X E) (x : X) → r ≡ Ok x → MatchResult r P Q → P x
 well {X} {E} P Q r x is known = subst (λ (y : Result X E). MatchResult y P Q) is known
+
+-- ---- the counts of a desk that ended with a fault
+
+one_fault : {X : Type 0} (a b : StreamFault) → IsErrOf {T = X} (Err (Engine a)) (Engine b) → a ≡ b
+one_fault {X} a b same = cc
+
+failed_same : {X : Type 0} (a b : StreamFault) → IsErrOf {T = X} (Err (Engine a)) (Engine b) → IsErrOf {T = Unit} (Err a) b
+failed_same {X} a b same = ap Err (one_fault {X = X} a b same)
+
+pub counts_failed :
+    {X In Out : Type 0} (calls failures : In → ℕ) (remaining : In → Option (List ℕ)) (lost : Out → ℕ) (old new : In) (was is : Out) (fault : StreamFault) (r : Result Unit StreamFault)
+    → r ≡ Err fault → KeepsCounts no_other_faults (counts_of calls failures remaining lost old was) (counts_of calls failures remaining lost new is) r
+    → CountsReads {T = X} calls failures remaining old new (Err (Engine fault))
+counts_failed {X} {In} {Out} calls failures remaining lost old new was is fault r failed counts =
+    let before = counts_of calls failures remaining lost old was in
+    let after = counts_of calls failures remaining lost new is in
+    let known = subst (λ (x : Result Unit StreamFault). KeepsCounts no_other_faults before after x) failed counts in
+    record {
+      read = λ e. known.read (failed_same {X = X} fault stream.Read e);
+      most = known.most;
+      bound = λ e. known.bound (failed_same {X = X} fault stream.Bound e);
+      gave = λ e. known.gave (failed_same {X = X} fault stream.Bound e);
+    }

@@ -1,7 +1,9 @@
-mod Few
+mod Asked
+mod Currents
 mod Places
 mod Desks
 mod Endings
 mod Seatings
 pub mod Starts
 mod Serving
+mod Workings

@@ -1,66 +1,101 @@
--- Who makes place, and that a stranger stands where all places are taken.
-use Rattle.std.proofs.Common.{◌≡◌, ◌≢◌, ℕ, zero, suc, ◌+◌, ◌*◌, ◌<◌, ◌≤◌, ◌==◌, ◌||◌, Bool, true, false, cond, nat_lt, List, [], ◌∷◌, length, get_or, Some, None, Option, refl, sym, ap, subst, ◌∙◌, arith}
-use Rattle.std.specs.Prelude.{Any, IfSome, count_by, position, is_none}
-use Rattle.std.specs.List.{list_any, position_or_len}
-use Rattle.std.specs.Option.{option_map_or}
-use Rattle.std.proofs.lemmas.Bool.{ltb-true, ltb-false}
+-- Who makes place, and that such a one stands where all places are taken.
+use Rattle.std.proofs.Common.{◌≡◌, ◌≢◌, ℕ, zero, suc, ◌+◌, ◌*◌, ◌<◌, ◌≤◌, ◌==◌, Bool, true, false, cond, nat_lt, List, [], ◌∷◌, length, get_or, Some, None, Option, refl, sym, ap, subst, ◌∙◌, arith, rules}
+use Rattle.std.specs.Prelude.{IsSome, count_by, position, slice_get}
+use Rattle.std.proofs.lemmas.Bool.{eqb-true, ltb-false}
 use Rattle.std.proofs.lemmas.Bool.Decides.{nat_tests}
 use Rattle.std.proofs.lemmas.Grind.{common_steps}
 use Rattle.std.proofs.lemmas.List.Elements.{All-head, All-tail}
 use Rattle.std.proofs.lemmas.List.Quantifiers.{position-Some}
-use Rattle.std.proofs.lemmas.List.Folds.{Any-from_list_any}
 use Rattle.std.proofs.lemmas.List.Sums.{fails_before_first}
 use Rattle.std.proofs.lemmas.Option.{get_or_from_slice_get, slice_get-get_or}
-use Rattle.pay_net.specs.Inbound.{AreFewOfEach, is_of, is_stranger, who_makes_place, who_makes_place_for}
-use Rattle.pay_net.specs.InboundLaws.{AreOfPeers, IsOldest}
+use Rattle.pay_net.specs.Inbound.{IsCurrentOnce, has_another, is_current_of, is_nobody, is_waiting_of, waiting_beside, waits_beside, who_makes_place}
+use Rattle.pay_net.specs.InboundLaws.{AreOfPeers, IsOfAnother, IsOldest}
 use Rattle.pay_net.specs.declared.inbound.Inbound.{Inbound}
+use Rattle.pay_net.specs.declared.inbound.Owner.{Owner}
+use Rattle.pay_net.specs.declared.inbound.Owner.TheVariants.{Nobody, Peer, Current}
+use Rattle.pay_net.proofs.Currents.{none_at_all, nobody, one, past_all}
 
 -- ---- the oldest
 
-pub oldest_at : (test : Inbound → Bool) (inbound : List Inbound) (i : ℕ) (d : Inbound) → position test inbound ≡ Some i → IsOldest test inbound i
-oldest_at test inbound i d is =
-    let found = position-Some test inbound i d is in
+pub oldest_at : (test : Inbound → Bool) (inbound : List Inbound) (i : ℕ) → position test inbound ≡ Some i → IsOldest test inbound i
+oldest_at test inbound i is =
+    let found = position-Some test inbound i nobody is in
     record {
-      connection = get_or inbound i d;
-      at = slice_get-get_or inbound i d found.0;
+      connection = get_or inbound i nobody;
+      at = slice_get-get_or inbound i nobody found.0;
       passes = found.1;
-      older = λ k g below at. sym (ap test (get_or_from_slice_get inbound k g d at)) ∙ found.2 k below;
+      older = λ k g below at. sym (ap test (get_or_from_slice_get inbound k g nobody at)) ∙ found.2 k below;
     }
+
+pub another_one_stays : (inbound : List Inbound) (i : ℕ) → who_makes_place inbound ≡ Some i → IsOldest (has_another inbound) inbound i
+another_one_stays inbound i is = oldest_at (has_another inbound) inbound i is
+
+-- ---- it isn't current
+
+nobody_beside : (inbound : List Inbound) (peer : ℕ) → count_by (λ h. waits_beside (Current peer) h.owner) inbound ≡ 0
+nobody_beside [] peer = refl
+nobody_beside (g ∷ inbound) peer = nobody_beside inbound peer
+
+not_current : (inbound : List Inbound) (owner : Owner) (peer : ℕ) → nat_lt 1 (count_by (λ h. waits_beside owner h.owner) inbound) ≡ true
+    → is_current_of peer owner ≡ false
+not_current inbound Nobody peer another = refl
+not_current inbound (Peer p) peer another = refl
+not_current inbound (Current p) peer another =
+    let none = rw (nobody_beside inbound p) at another in
+    cc
+
+pub current_ones_stay : (inbound : List Inbound) (i peer : ℕ) (g : Inbound) → who_makes_place inbound ≡ Some i
+    → slice_get inbound i ≡ Some g → is_current_of peer g.owner ≡ false
+current_ones_stay inbound i peer g is at =
+    let found = position-Some (has_another inbound) inbound i nobody is in
+    let another = subst (λ (h : Inbound). has_another inbound h ≡ true) (get_or_from_slice_get inbound i g nobody at) found.1 in
+    not_current inbound g.owner peer another
 
 -- ---- how many are of peers below a number
 
-abbrev is_below : ℕ → Inbound → Bool
-is_below n g = option_map_or (λ peer. nat_lt peer n) g.peer false
+abbrev owner_below : ℕ → Owner → Bool
+owner_below n Nobody = false
+owner_below n (Peer p) = nat_lt p n
+owner_below n (Current p) = nat_lt p n
 
-abbrev one : Bool → ℕ
-one b = cond b 1 0
+abbrev owner_is : ℕ → Owner → Bool
+owner_is n Nobody = false
+owner_is n (Peer p) = p == n
+owner_is n (Current p) = p == n
+
+abbrev is_below : ℕ → Inbound → Bool
+is_below n g = owner_below n g.owner
+
+abbrev is_of : ℕ → Inbound → Bool
+is_of n g = owner_is n g.owner
 
 count_cons : (test : Inbound → Bool) (g : Inbound) (inbound : List Inbound) → count_by test (g ∷ inbound) ≡ one (test g) + count_by test inbound
 count_cons test g inbound = grind (arith, common_steps)
 
-one_more_for : (n : ℕ) (o : Option ℕ)
-    → one (option_map_or (λ p. nat_lt p (n + 1)) o false) ≡ one (option_map_or (λ p. nat_lt p n) o false) + one (option_map_or (λ p. p == n) o false)
-one_more_for n None = refl
-one_more_for n (Some p) = grind (arith, nat_tests)
+one_more_for : (n : ℕ) (o : Owner) → one (owner_below (n + 1) o) ≡ one (owner_below n o) + one (owner_is n o)
+one_more_for n Nobody = refl
+one_more_for n (Peer p) = grind (arith, nat_tests)
+one_more_for n (Current p) = grind (arith, nat_tests)
 
 one_more : (n : ℕ) (inbound : List Inbound) → count_by (is_below (n + 1)) inbound ≡ count_by (is_below n) inbound + count_by (is_of n) inbound
 one_more n [] = refl
 one_more n (g ∷ inbound) =
-    let here = one_more_for n g.peer in
+    let here = one_more_for n g.owner in
     let others = one_more n inbound in
     let count-0 = count_cons (is_below (n + 1)) g inbound in
     let count-1 = count_cons (is_below n) g inbound in
     let count-2 = count_cons (is_of n) g inbound in
     omega (arith, here, others, count-0, count-1, count-2)
 
-none_below_for : (o : Option ℕ) → one (option_map_or (λ p. nat_lt p 0) o false) ≡ 0
-none_below_for None = refl
-none_below_for (Some p) = grind (arith, nat_tests)
+none_below_for : (o : Owner) → one (owner_below 0 o) ≡ 0
+none_below_for Nobody = refl
+none_below_for (Peer p) = grind (arith, nat_tests)
+none_below_for (Current p) = grind (arith, nat_tests)
 
 none_below : (inbound : List Inbound) → count_by (is_below 0) inbound ≡ 0
 none_below [] = refl
 none_below (g ∷ inbound) =
-    let here = none_below_for g.peer in
+    let here = none_below_for g.owner in
     let others = none_below inbound in
     let count-0 = count_cons (is_below 0) g inbound in
     omega (arith, here, others, count-0)
@@ -70,7 +105,7 @@ next_below : (own n below after here : ℕ) → below + 2 * one (nat_lt own n) �
 next_below own n below after here less next two none = grind (arith, nat_tests)
 
 -- two of each of so many, without the own
-few_below : (own n : ℕ) (inbound : List Inbound) → AreFewOfEach inbound → count_by (is_of own) inbound ≡ 0
+few_below : (own n : ℕ) (inbound : List Inbound) → ((peer : ℕ) → count_by (is_of peer) inbound ≤ 2) → count_by (is_of own) inbound ≡ 0
     → count_by (is_below n) inbound + 2 * one (nat_lt own n) ≤ 2 * n
 few_below own zero inbound few none =
     let below = none_below inbound in
@@ -87,81 +122,91 @@ few_below own (suc n) inbound few none =
 
 -- ---- nobody but peers
 
-none_own_for : (own : ℕ) (o : Option ℕ) → IfSome o (λ peer. (peer < 128) × (peer ≢ own)) → one (option_map_or (λ p. p == own) o false) ≡ 0
-none_own_for own None is = refl
-none_own_for own (Some p) is = let other = is.1 in grind (arith, nat_tests)
+none_own_for : (own : ℕ) (o : Owner) → IsOfAnother own o → one (owner_is own o) ≡ 0
+none_own_for own Nobody is = refl
+none_own_for own (Peer p) is = let other = is.1 in grind (arith, nat_tests)
+none_own_for own (Current p) is = let other = is.1 in grind (arith, nat_tests)
 
 none_own : (own : ℕ) (inbound : List Inbound) → AreOfPeers own inbound → count_by (is_of own) inbound ≡ 0
 none_own own [] are = refl
 none_own own (g ∷ inbound) are =
-    let here = none_own_for own g.peer (All-head (λ (g : Inbound). IfSome g.peer (λ peer. (peer < 128) × (peer ≢ own))) g inbound are) in
-    let others = none_own own inbound (All-tail (λ (g : Inbound). IfSome g.peer (λ peer. (peer < 128) × (peer ≢ own))) g inbound are) in
+    let here = none_own_for own g.owner (All-head (λ (g : Inbound). IsOfAnother own g.owner) g inbound are) in
+    let others = none_own own inbound (All-tail (λ (g : Inbound). IsOfAnother own g.owner) g inbound are) in
     let count-0 = count_cons (is_of own) g inbound in
     omega (arith, here, others, count-0)
 
-below_for : (own : ℕ) (o : Option ℕ) → IfSome o (λ peer. (peer < 128) × (peer ≢ own)) → is_none o ≡ false
-    → one (option_map_or (λ p. nat_lt p 128) o false) ≡ 1
-below_for own None is lacks = cc
-below_for own (Some p) is lacks = let within = is.0 in grind (arith, nat_tests)
+below_for : (own : ℕ) (o : Owner) → IsOfAnother own o → one (owner_below 128 o) + one (is_nobody o) ≡ 1
+below_for own Nobody is = refl
+below_for own (Peer p) is = let within = is.0 in grind (arith, nat_tests)
+below_for own (Current p) is = let within = is.0 in grind (arith, nat_tests)
 
-one_known : (a b : Bool) → (a || b) ≡ false → (a ≡ false) × (b ≡ false)
-one_known true b is = cc
-one_known false b is = (refl, is)
-
-all_below : (own : ℕ) (inbound : List Inbound) → AreOfPeers own inbound → list_any is_stranger inbound ≡ false → count_by (is_below 128) inbound ≡ length inbound
-all_below own [] are lacks = refl
-all_below own (g ∷ inbound) are lacks =
-    let known = one_known (is_none g.peer) (list_any is_stranger inbound) lacks in
-    let here = below_for own g.peer (All-head (λ (g : Inbound). IfSome g.peer (λ peer. (peer < 128) × (peer ≢ own))) g inbound are) known.0 in
-    let others = all_below own inbound (All-tail (λ (g : Inbound). IfSome g.peer (λ peer. (peer < 128) × (peer ≢ own))) g inbound are) known.1 in
+all_below : (own : ℕ) (inbound : List Inbound) → AreOfPeers own inbound
+    → count_by (is_below 128) inbound + count_by (λ g. is_nobody g.owner) inbound ≡ length inbound
+all_below own [] are = refl
+all_below own (g ∷ inbound) are =
+    let here = below_for own g.owner (All-head (λ (g : Inbound). IsOfAnother own g.owner) g inbound are) in
+    let others = all_below own inbound (All-tail (λ (g : Inbound). IsOfAnother own g.owner) g inbound are) in
     let count-0 = count_cons (is_below 128) g inbound in
-    omega (arith, here, others, count-0)
+    let count-1 = count_cons (λ g. is_nobody g.owner) g inbound in
+    omega (arith, here, others, count-0, count-1)
 
-by_any : (own : ℕ) (inbound : List Inbound) → own < 128 → AreOfPeers own inbound → AreFewOfEach inbound → length inbound ≡ 256
-    → (any : Bool) → list_any is_stranger inbound ≡ any → Any (λ g. is_stranger g ≡ true) inbound
-by_any own inbound within are few taken true is = Any-from_list_any is_stranger inbound is
-by_any own inbound within are few taken false is =
-    let less = few_below own 128 inbound few (none_own own inbound are) in
-    let all = all_below own inbound are is in
+-- ---- current ones, and those that wait
+
+both_for : (n : ℕ) (o : Owner) → one (owner_is n o) ≡ one (is_waiting_of n o) + one (is_current_of n o)
+both_for n Nobody = refl
+both_for n (Peer p) = omega arith
+both_for n (Current p) = omega arith
+
+both : (n : ℕ) (inbound : List Inbound)
+    → count_by (is_of n) inbound ≡ count_by (λ g. is_waiting_of n g.owner) inbound + count_by (λ g. is_current_of n g.owner) inbound
+both n [] = refl
+both n (g ∷ inbound) =
+    let here = both_for n g.owner in
+    let others = both n inbound in
+    let count-0 = count_cons (is_of n) g inbound in
+    let count-1 = count_cons (λ g. is_waiting_of n g.owner) g inbound in
+    let count-2 = count_cons (λ g. is_current_of n g.owner) g inbound in
+    omega (arith, here, others, count-0, count-1, count-2)
+
+same_owner : (o other : Owner) → waits_beside o other ≡ true → other ≡ o
+same_owner Nobody Nobody is = refl
+same_owner Nobody (Peer p) is = cc
+same_owner Nobody (Current p) is = cc
+same_owner (Peer p) Nobody is = cc
+same_owner (Peer p) (Peer q) is = ap Peer (eqb-true q p is)
+same_owner (Peer p) (Current q) is = cc
+same_owner (Current p) other is = cc
+
+one_by : (o : Owner) (inbound : List Inbound) (at : Option ℕ) → position (has_another inbound) inbound ≡ None
+    → position (λ g. waits_beside o g.owner) inbound ≡ at → count_by (λ g. waits_beside o g.owner) inbound ≤ 1
+one_by o inbound None lacks is =
+    let none = none_at_all (λ g. waits_beside o g.owner) inbound is in
+    omega (arith, none)
+one_by o inbound (Some i) lacks is =
+    let found = position-Some (λ g. waits_beside o g.owner) inbound i nobody is in
+    let past = past_all (has_another inbound) inbound lacks in
+    let fails = fails_before_first (has_another inbound) inbound i nobody (omega (arith, past, found.0)) in
+    let same = same_owner o (get_or inbound i nobody).owner found.1 in
+    let few = subst (λ (w : Owner). nat_lt 1 (count_by (λ h. waits_beside w h.owner) inbound) ≡ false) same fails in
+    ltb-false _ _ few
+
+-- where none makes place, of each owner one waits at most
+one_waits : (o : Owner) (inbound : List Inbound) → who_makes_place inbound ≡ None → count_by (λ g. waits_beside o g.owner) inbound ≤ 1
+one_waits o inbound lacks = one_by o inbound (position (λ g. waits_beside o g.owner) inbound) lacks refl
+
+two_of_each : (inbound : List Inbound) → who_makes_place inbound ≡ None → IsCurrentOnce inbound → (peer : ℕ) → count_by (is_of peer) inbound ≤ 2
+two_of_each inbound lacks once peer = omega (arith, both peer inbound, one_waits (Peer peer) inbound lacks, once peer)
+
+stands_by : (own : ℕ) (inbound : List Inbound) (who : Option ℕ) → own < 128 → AreOfPeers own inbound → IsCurrentOnce inbound
+    → length inbound ≡ 256 → who_makes_place inbound ≡ who → IsSome who
+stands_by own inbound (Some i) within are once taken is = search rules
+stands_by own inbound None within are once taken is =
+    let less = few_below own 128 inbound (two_of_each inbound is once) (none_own own inbound are) in
+    let all = all_below own inbound are in
+    let strangers = one_waits Nobody inbound is in
     let two : one (nat_lt own 128) ≡ 1 = grind (arith, nat_tests) in
-    absurd (omega (arith, less, all, two, taken))
+    absurd (omega (arith, less, all, strangers, two, taken))
 
-pub a_stranger_stands : (own : ℕ) (inbound : List Inbound) → own < 128 → AreOfPeers own inbound → AreFewOfEach inbound → length inbound ≡ 256
-    → Any (λ g. is_stranger g ≡ true) inbound
-a_stranger_stands own inbound within are few taken = by_any own inbound within are few taken (list_any is_stranger inbound) refl
-
--- ---- who makes place
-
-found_by : (at many : ℕ) → at < many → cond (nat_lt at many) (Some at) None ≡ Some at
-found_by at many below = grind (arith, nat_tests)
-
-within_by : (test : Inbound → Bool) (inbound : List Inbound) (i : ℕ) (d : Inbound) → i < length inbound → test (get_or inbound i d) ≡ true
-    → (is : Bool) → nat_lt (position_or_len test inbound) (length inbound) ≡ is → position_or_len test inbound < length inbound
-within_by test inbound i d within passes true is = ltb-true _ _ is
-within_by test inbound i d within passes false is =
-    let late : length inbound ≤ position_or_len test inbound = ltb-false _ _ is in
-    let fails = fails_before_first test inbound i d (omega (arith, late, within)) in
-    cc
-
-first_within : (test : Inbound → Bool) (inbound : List Inbound) (i : ℕ) (d : Inbound) → i < length inbound → test (get_or inbound i d) ≡ true
-    → position_or_len test inbound < length inbound
-first_within test inbound i d within passes =
-    within_by test inbound i d within passes (nat_lt (position_or_len test inbound) (length inbound)) refl
-
-pub stranger_makes_place : (inbound : List Inbound) → Any (λ g. is_stranger g ≡ true) inbound
-    → (i : ℕ) × (who_makes_place inbound ≡ Some i) × IsOldest is_stranger inbound i
-stranger_makes_place inbound any =
-    let at = position_or_len is_stranger inbound in
-    let below : at < length inbound = first_within is_stranger inbound any.0 any.1 any.2 (ap is_stranger any.3 ∙ any.4) in
-    let found : position is_stranger inbound ≡ Some at = found_by at (length inbound) below in
-    (at, rw found refl, oldest_at is_stranger inbound at any.1 found)
-
-own_by : (peer i : ℕ) (inbound : List Inbound) (few : Bool) → nat_lt (count_by (is_of peer) inbound) 2 ≡ few → (d : Inbound)
-    → who_makes_place_for peer inbound ≡ Some i → IsOldest (is_of peer) inbound i × (1 < count_by (is_of peer) inbound)
-own_by peer i inbound true is d makes = let none = rw is at makes in cc
-own_by peer i inbound false is d makes = (oldest_at (is_of peer) inbound i d (rw is at makes), grind (arith, nat_tests))
-
-pub own_makes_place : (peer i : ℕ) (inbound : List Inbound) → who_makes_place_for peer inbound ≡ Some i
-    → IsOldest (is_of peer) inbound i × (1 < count_by (is_of peer) inbound)
-own_makes_place peer i inbound makes =
-    own_by peer i inbound (nat_lt (count_by (is_of peer) inbound) 2) refl (record { place = 0; peer = None }) makes
+pub one_stands : (own : ℕ) (inbound : List Inbound) → own < 128 → AreOfPeers own inbound → IsCurrentOnce inbound → length inbound ≡ 256
+    → IsSome (who_makes_place inbound)
+one_stands own inbound within are once taken = stands_by own inbound (who_makes_place inbound) within are once taken refl

@@ -2,17 +2,18 @@
 use Rattle.std.proofs.Common.{◌≡◌, ◌≢◌, ◌⊎◌, inl, inr, ℕ, zero, suc, ◌+◌, ◌-◌, ◌*◌, ◌<◌, ◌≤◌, cond, List, [], ◌∷◌, ◌++◌, length, map, get_or, Option, Result, Ok, Err, refl, sym, ap, ◌∙◌, subst, arith, add-one}
 use Rattle.std.specs.List.{All}
 use Rattle.std.proofs.lemmas.Bool.{cases_eq, eq-eqb, ne_eqb}
-use Rattle.std.proofs.lemmas.List.{get_or_append_left, get_or_at, length_push, map_push}
+use Rattle.std.proofs.lemmas.List.{append-nil, append_assoc, get_or_append_left, get_or_at, length_push, map_push}
 use Rattle.std.proofs.lemmas.List.Elements.{All-cons, All-head, All-map, All-nil, All-push, All-tail}
 use Rattle.std.proofs.lemmas.Option.{get_or_from_slice_get}
 use Rattle.pay_io.specs.declared.stream_fault.StreamFault.{StreamFault}
 use Rattle.pay_link.specs.Keys.{KeyFields}
+use Rattle.pay_node.specs.Keeping.{HasFetchedAlone}
 use Rattle.pay_node.specs.Nodes.{AreFresh, NodeFields, fresh_seat}
 use Rattle.pay_node.specs.Seats.{SeatFields}
-use Rattle.pay_peers.specs.declared.asking.Asking.{Asking}
+use Rattle.pay_peers.specs.declared.peer_reader.PeerReader.{PeerReader}
 use Rattle.pay_peers.specs.Growing.{EachGrows, SeatGrows, HasGrown}
-use Rattle.pay_net.specs.Running.{DeskStart, HasRun, HasServed, IsDeskFault, IsReader, others_below, peers_of}
-use Rattle.pay_net.specs.Seating.{AreSeated, IsFresh, SeatsOne}
+use Rattle.pay_net.specs.Running.{AreAllSeats, DeskStart, DeskStreams, HasRun, HasServed, IsDeskFault, IsReader, others_below, peers_of}
+use Rattle.pay_net.specs.Seating.{AreSeated, BringsWriters, IsFresh, SeatsOne}
 use Rattle.pay_net.proofs.Desks.{last_is_fresh, served_well}
 
 -- ---- all of a list, and of what is at its front
@@ -29,6 +30,12 @@ all_front P xs x all k d within =
 
 -- ---- given out
 
+-- Of fresh seats the last but one has no receipt.
+pub none_called : (had mid left : List SeatFields) (reader writer : SeatFields) → All IsFresh had → had ≡ mid ++ reader ∷ [] → mid ≡ left ++ writer ∷ [] → writer.receipts ≡ []
+none_called had mid left reader writer fresh last before =
+    let front = all_front IsFresh mid reader (subst (All IsFresh) last fresh) in
+    ap (λ (s : SeatFields). s.receipts) (all_last IsFresh left writer (subst (All IsFresh) before front))
+
 pub all_fresh : (count : ℕ) (seats : List SeatFields) → AreFresh count seats → All IsFresh seats
 all_fresh count seats fresh k d within =
     let many = fresh.many in
@@ -42,29 +49,29 @@ below_other : (own peer : ℕ) → peer ≢ own → others_below own (suc peer) 
 below_other own peer other = ap (λ b. cond b (others_below own peer) (others_below own peer ++ peer ∷ [])) (ne_eqb peer own other)
 
 -- the member itself has no reader
-seated_own : (own peer : ℕ) (old new : List (ℕ × Asking)) (had left : List SeatFields)
+seated_own : (own peer : ℕ) (old new : List (ℕ × PeerReader)) (had left : List SeatFields)
     → peer ≡ own → new ≡ old → left ≡ had → AreSeated own peer old had → AreSeated own (suc peer) new left
 seated_own own peer old new had left same is rest so_far = record {
-  peers = ap (map (λ (r : ℕ × Asking). r.0)) is ∙ so_far.peers ∙ sym (below_own own peer same);
-  fresh = subst (All (λ (r : ℕ × Asking). IsFresh r.1.seat)) (sym is) so_far.fresh;
+  peers = ap (map (λ (r : ℕ × PeerReader). r.0)) is ∙ so_far.peers ∙ sym (below_own own peer same);
+  fresh = subst (All (λ (r : ℕ × PeerReader). IsFresh r.1.seat)) (sym is) so_far.fresh;
   left = subst (All IsFresh) (sym rest) so_far.left;
 }
 
 -- a peer has
-seated_other : (own peer : ℕ) (old new : List (ℕ × Asking)) (had left : List SeatFields)
+seated_other : (own peer : ℕ) (old new : List (ℕ × PeerReader)) (had left : List SeatFields)
     → peer ≢ own → SeatsOne peer old new had left → AreSeated own peer old had → AreSeated own (suc peer) new left
 seated_other own peer old new had left other one so_far =
     let all = subst (All IsFresh) one.taken so_far.left in
     let front = all_front IsFresh (left ++ one.writer ∷ []) one.reader all in
     record {
-      peers = ap (map (λ (r : ℕ × Asking). r.0)) one.readers ∙ map_push (λ (r : ℕ × Asking). r.0) old _
+      peers = ap (map (λ (r : ℕ × PeerReader). r.0)) one.readers ∙ map_push (λ (r : ℕ × PeerReader). r.0) old _
           ∙ ap (λ l. l ++ peer ∷ []) so_far.peers ∙ sym (below_other own peer other);
-      fresh = subst (All (λ (r : ℕ × Asking). IsFresh r.1.seat)) (sym one.readers)
-          (All-push (λ (r : ℕ × Asking). IsFresh r.1.seat) old _ so_far.fresh (all_last IsFresh (left ++ one.writer ∷ []) one.reader all));
+      fresh = subst (All (λ (r : ℕ × PeerReader). IsFresh r.1.seat)) (sym one.readers)
+          (All-push (λ (r : ℕ × PeerReader). IsFresh r.1.seat) old _ so_far.fresh (all_last IsFresh (left ++ one.writer ∷ []) one.reader all));
       left = all_front IsFresh left one.writer front;
     }
 
-pub seated_on : (own peer : ℕ) (old new : List (ℕ × Asking)) (had left : List SeatFields)
+pub seated_on : (own peer : ℕ) (old new : List (ℕ × PeerReader)) (had left : List SeatFields)
     → (peer ≡ own → new ≡ old) → (peer ≡ own → left ≡ had) → (peer ≢ own → SeatsOne peer old new had left)
     → AreSeated own peer old had → AreSeated own (peer + 1) new left
 seated_on own peer old new had left same rest one so_far =
@@ -73,10 +80,10 @@ seated_on own peer old new had left same rest one so_far =
       go (inl is) = seated_own own peer old new had left is (same is) (rest is) so_far
       go (inr other) = seated_other own peer old new had left other (one other) so_far
 
-pub seated_none : (own : ℕ) (readers : List (ℕ × Asking)) (seats left : List SeatFields) (desk : SeatFields)
+pub seated_none : (own : ℕ) (readers : List (ℕ × PeerReader)) (seats left : List SeatFields) (desk : SeatFields)
     → readers ≡ [] → seats ≡ left ++ desk ∷ [] → All IsFresh seats → AreSeated own 0 readers left
 seated_none own readers seats left desk empty is fresh =
-    subst (λ (rs : List (ℕ × Asking)). AreSeated own 0 rs left) (sym empty)
+    subst (λ (rs : List (ℕ × PeerReader)). AreSeated own 0 rs left) (sym empty)
     (record { peers = refl; fresh = All-nil _; left = all_front IsFresh left desk (subst (All IsFresh) is fresh) })
 
 -- how many seats are left behind each peer
@@ -90,7 +97,7 @@ left_at_first own members seats left desk is count =
     let n1 = length_push left desk in
     ((λ up. omega arith), (λ past. omega arith))
 
-pub left_on : (own members peer : ℕ) (old new : List (ℕ × Asking)) (had left : List SeatFields)
+pub left_on : (own members peer : ℕ) (old new : List (ℕ × PeerReader)) (had left : List SeatFields)
     → (peer ≡ own → left ≡ had) → (peer ≢ own → SeatsOne peer old new had left)
     → AreLeft own members peer had → AreLeft own members (peer + 1) left
 left_on own members peer old new had left rest one so_far = go (cases_eq peer own) where
@@ -110,10 +117,10 @@ none_left own members peer (s ∷ left) below over are top = (let b = are.1 (ome
 -- ---- come back
 
 -- a peer with its seat alone
-abbrev reader_from : ℕ × Asking → ℕ × SeatFields
+abbrev reader_from : ℕ × PeerReader → ℕ × SeatFields
 reader_from r = (r.0, r.1.seat)
 
-grown_peers : (old new : List (ℕ × Asking)) → EachGrows old new → map (λ (r : ℕ × Asking). r.0) new ≡ map (λ (r : ℕ × Asking). r.0) old
+grown_peers : (old new : List (ℕ × PeerReader)) → EachGrows old new → map (λ (r : ℕ × PeerReader). r.0) new ≡ map (λ (r : ℕ × PeerReader). r.0) old
 grown_peers [] [] grown = refl
 grown_peers [] (y ∷ ys) grown = (let many = grown.many in absurd (omega arith))
 grown_peers (x ∷ xs) [] grown = (let many = grown.many in absurd (omega arith))
@@ -123,15 +130,15 @@ grown_peers (x ∷ xs) (y ∷ ys) grown =
     let rest : EachGrows xs ys = record { many = omega arith; each = λ k d within. grown.each (suc k) d (omega arith) } in
     (λ i. first.0 i ∷ grown_peers xs ys rest i)
 
-reader_of : (x y : ℕ × Asking) → IsFresh x.1.seat → HasGrown x y → IsReader (reader_from y)
+reader_of : (x y : ℕ × PeerReader) → IsFresh x.1.seat → HasGrown x y → IsReader (reader_from y)
 reader_of x y fresh grown =
     let stamp : y.1.seat.stamp ≡ x.1.seat.stamp = ap (λ (s : SeatFields). s.stamp) grown.1.is in
     let was : x.1.seat ≡ fresh_seat y.1.seat.stamp = fresh ∙ ap fresh_seat (sym stamp) in
     subst (λ peer. SeatGrows peer (fresh_seat y.1.seat.stamp) y.1.seat) (sym grown.0)
     (subst (λ (s : SeatFields). SeatGrows x.0 s y.1.seat) was grown.1)
 
-grown_readers : (old new : List (ℕ × Asking)) → EachGrows old new → All (λ (r : ℕ × Asking). IsFresh r.1.seat) old
-    → All (λ (r : ℕ × Asking). IsReader (reader_from r)) new
+grown_readers : (old new : List (ℕ × PeerReader)) → EachGrows old new → All (λ (r : ℕ × PeerReader). IsFresh r.1.seat) old
+    → All (λ (r : ℕ × PeerReader). IsReader (reader_from r)) new
 grown_readers [] [] grown fresh = All-nil _
 grown_readers [] (y ∷ ys) grown fresh = (let many = grown.many in absurd (omega arith))
 grown_readers (x ∷ xs) [] grown fresh = (let many = grown.many in absurd (omega arith))
@@ -139,47 +146,80 @@ grown_readers (x ∷ xs) (y ∷ ys) grown fresh =
     let first : HasGrown x y = grown.each zero x (omega arith) in
     let many = grown.many in
     let rest : EachGrows xs ys = record { many = omega arith; each = λ k d within. grown.each (suc k) d (omega arith) } in
-    All-cons (λ (r : ℕ × Asking). IsReader (reader_from r)) y ys (reader_of x y (All-head (λ (r : ℕ × Asking). IsFresh r.1.seat) x xs fresh) first)
-    (grown_readers xs ys rest (All-tail (λ (r : ℕ × Asking). IsFresh r.1.seat) x xs fresh))
+    All-cons (λ (r : ℕ × PeerReader). IsReader (reader_from r)) y ys (reader_of x y (All-head (λ (r : ℕ × PeerReader). IsFresh r.1.seat) x xs fresh) first)
+    (grown_readers xs ys rest (All-tail (λ (r : ℕ × PeerReader). IsFresh r.1.seat) x xs fresh))
 
 map_twice : {X Y Z : Type 0} (f : X → Y) (h : Y → Z) (xs : List X) → map h (map f xs) ≡ map (λ x. h (f x)) xs
 map_twice f h [] = refl
 map_twice f h (x ∷ xs) = ap (λ l. h (f x) ∷ l) (map_twice f h xs)
 
 pub has_run :
-    (n : NodeFields) (start : DeskStart) (first all : List SeatFields) (desk last : SeatFields) (old new : List (ℕ × Asking)) (input left before after : Option (List ℕ))
+    (n : NodeFields) (start : DeskStart) (first all : List SeatFields) (desk last : SeatFields) (old new : List (ℕ × PeerReader)) (streams : DeskStreams)
     (ended : Result Unit StreamFault) (done : Unit)
     → AreFresh n.seats first → (others : List SeatFields) × (first ≡ others ++ desk ∷ [])
-    → map (λ (r : ℕ × Asking). r.0) old ≡ peers_of n.keys → All (λ (r : ℕ × Asking). IsFresh r.1.seat) old → EachGrows old new
-    → (writers : List SeatFields) × (all ≡ (map (λ (r : ℕ × Asking). r.1.seat) new ++ writers) ++ last ∷ [])
-    → ended ≡ Ok done → HasServed n start desk last input left before after ended → HasRun n start all input left before after
-has_run n start first all desk last old new input left before after ended done fresh seated peers readers grown gathered well served = record {
+    → map (λ (r : ℕ × PeerReader). r.0) old ≡ peers_of n.keys → All (λ (r : ℕ × PeerReader). IsFresh r.1.seat) old → EachGrows old new
+    → (writers : List SeatFields) × All HasFetchedAlone writers × (all ≡ (map (λ (r : ℕ × PeerReader). r.1.seat) new ++ writers) ++ last ∷ []) → AreAllSeats n.seats all
+    → ended ≡ Ok done → HasServed n start desk last streams ended → HasRun n start all streams
+has_run n start first all desk last old new streams ended done fresh seated peers readers grown gathered stamped well served = record {
   readers = map reader_from new;
   writers = gathered.0;
   desk = last;
-  all = gathered.1 ∙ sym (ap (λ l. (l ++ gathered.0) ++ last ∷ []) (map_twice reader_from (λ (r : ℕ × SeatFields). r.1) new));
+  all = gathered.2 ∙ sym (ap (λ l. (l ++ gathered.0) ++ last ∷ []) (map_twice reader_from (λ (r : ℕ × SeatFields). r.1) new));
+  stamped = stamped;
   peers = map_twice reader_from (λ (r : ℕ × SeatFields). r.0) new ∙ grown_peers old new grown ∙ peers;
   read = All-map IsReader reader_from new (grown_readers old new grown readers);
-  served = served_well _ _ _ _ _ _ _ _ _ _ _ (last_is_fresh _ first seated.0 desk fresh seated.1) well served;
+  fetched = gathered.1;
+  served = served_well _ _ _ _ _ _ _ _ (last_is_fresh _ first seated.0 desk fresh seated.1) well served;
 }
 
 -- a desk that ended with a fault
-pub served_from : (n : NodeFields) (start : DeskStart) (first others : List SeatFields) (desk last : SeatFields) (input left before after : Option (List ℕ)) (ended : Result Unit StreamFault)
-    → AreFresh n.seats first → first ≡ others ++ desk ∷ [] → HasServed n start desk last input left before after ended
-    → HasServed n start (fresh_seat (n.seats - 1)) last input left before after ended
-served_from n start first others desk last input left before after ended fresh is served =
-    subst (λ (seat : SeatFields). HasServed n start seat last input left before after ended) (last_is_fresh _ first others desk fresh is) served
+pub served_from : (n : NodeFields) (start : DeskStart) (first others : List SeatFields) (desk last : SeatFields) (streams : DeskStreams) (ended : Result Unit StreamFault)
+    → AreFresh n.seats first → first ≡ others ++ desk ∷ [] → HasServed n start desk last streams ended
+    → HasServed n start (fresh_seat (n.seats - 1)) last streams ended
+served_from n start first others desk last streams ended fresh is served =
+    subst (λ (seat : SeatFields). HasServed n start seat last streams ended) (last_is_fresh _ first others desk fresh is) served
 
 pub desk_failed :
-    (n : NodeFields) (start : DeskStart) (first others : List SeatFields) (desk last : SeatFields) (input left before after : Option (List ℕ)) (ended : Result Unit StreamFault) (fault : StreamFault)
-    → AreFresh n.seats first → first ≡ others ++ desk ∷ [] → ended ≡ Err fault → HasServed n start desk last input left before after ended
-    → IsDeskFault n start fault input left before after
-desk_failed n start first others desk last input left before after ended fault fresh is failed served = record {
+    (n : NodeFields) (start : DeskStart) (first others : List SeatFields) (desk last : SeatFields) (streams : DeskStreams) (ended : Result Unit StreamFault) (fault : StreamFault)
+    → AreFresh n.seats first → first ≡ others ++ desk ∷ [] → ended ≡ Err fault → HasServed n start desk last streams ended
+    → IsDeskFault n start fault streams
+desk_failed n start first others desk last streams ended fault fresh is failed served = record {
   desk = last;
-  served = served_from n start first others desk last input left before after (Err fault) fresh is
-      (subst (λ (e : Result Unit StreamFault). HasServed n start desk last input left before after e) failed served);
+  served = served_from n start first others desk last streams (Err fault) fresh is
+      (subst (λ (e : Result Unit StreamFault). HasServed n start desk last streams e) failed served);
 }
 
 -- the peers, by their number and the own one
 pub peers_same : (k : KeyFields) (own members : ℕ) (peers : List ℕ) → peers ≡ others_below own members → own ≡ k.own → members ≡ length k.keys → peers ≡ peers_of k
 peers_same k own members peers is one all = is ∙ (λ i. others_below (one i) (all i))
+
+-- ---- the writers
+
+-- the writers to a peer more, and to the member itself none
+pub answered_on : (own peer : ℕ) (had have : List ℕ) → (peer ≡ own → have ≡ had) → (peer ≢ own → have ≡ had ++ peer ∷ []) → had ≡ others_below own peer
+    → have ≡ others_below own (peer + 1)
+answered_on own peer had have same more so_far =
+    subst (λ k. have ≡ others_below own k) (sym (add-one peer)) (go (cases_eq peer own)) where
+      go : (peer ≡ own) ⊎ (peer ≢ own) → have ≡ others_below own (suc peer)
+      go (inl is) = same is ∙ so_far ∙ sym (below_own own peer is)
+      go (inr other) = more other ∙ ap (λ l. l ++ peer ∷ []) so_far ∙ sym (below_other own peer other)
+
+pub brings_none : (all : List SeatFields) → BringsWriters 0 all all
+brings_none all = record { more = []; many = refl; fetched = All-nil _; is = sym (append-nil all) }
+
+pub brings_more : {W : Type 0} (done : List W) (writer : W) (old now all : List SeatFields) (seat : SeatFields)
+    → HasFetchedAlone seat → all ≡ now ++ seat ∷ [] → BringsWriters (length done) old now → BringsWriters (length (done ++ writer ∷ [])) old all
+brings_more done writer old now all seat alone pushed so_far =
+    let n = length_push done writer in
+    let m = length_push so_far.more seat in
+    let many = so_far.many in
+    record {
+      more = so_far.more ++ seat ∷ [];
+      many = omega arith;
+      fetched = All-push HasFetchedAlone so_far.more seat so_far.fetched alone;
+      is = pushed ∙ ap (λ l. l ++ seat ∷ []) so_far.is ∙ append_assoc old so_far.more (seat ∷ []);
+    }
+
+-- all seats, by the number that they are
+pub all_of : (count n : ℕ) (seats : List SeatFields) → count ≡ n → AreAllSeats count seats → AreAllSeats n seats
+all_of count n seats same all = subst (λ k. AreAllSeats k seats) same all

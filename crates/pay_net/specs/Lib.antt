@@ -3,7 +3,10 @@ pub mod Faults
 pub mod Figures
 pub mod Inbound
 pub mod InboundLaws
+pub mod Limits
 pub mod Ports
+pub mod Refusals
 pub mod Running
 pub mod Seating
 pub mod Starting
+pub mod Workers

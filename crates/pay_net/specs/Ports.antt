@@ -10,6 +10,7 @@ abbrev pub IsPort : ℕ → Type 0
 IsPort port = (0 < port) × (port < 2 ^ 16)
 
 -- an object has a list of ports, one for each of so many members
+-- page: `SaysPorts`: ports are those of RFC 6335 and RFC 9293
 pub record SaysPorts (members : ℕ) (d : Data) (ports : List ℕ) : Type 0 where
   pub listed : numbers_at (codes "ports") d ≡ Some ports
   pub count : length ports ≡ members

@@ -1,10 +1,8 @@
 use crate::inbound_connections::{Entry, InboundConnections};
-use pay_book::Settle;
-use pay_echo::Instance;
-use pay_hmac::Tagger;
+use pay_durable::{DurableOutput, Keeper};
+use pay_hmac::PreparedHmac;
 use pay_io::{Reader, Writer};
-use pay_kept::{Behind, Keeper};
-use pay_node::{Beginning, Node, Seat};
+use pay_node::{Beginning, FetchSeat};
 use pay_peers::{Admission, NodeContext, Observer, PeerEvent, write_peer};
 use std::net::TcpStream;
 use std::sync::atomic::{AtomicBool, Ordering};
@@ -13,8 +11,8 @@ use std::thread::Threads;
 use std::time::{Clock, Duration};
 use std::{io, thread};
 
-/// How many connections that others dialed may stand at once: of each peer of the largest group
-/// two, and two whose senders aren't known yet.
+/// How many connections that others dialed may stand at once: of each peer of the largest group the
+/// current one and another, one whose sender isn't known yet, and one more, which makes place.
 pub const MOST_CONNECTIONS: u16 = 256;
 
 /// How long an acceptor sleeps after a connection that it couldn't take.
@@ -45,10 +43,10 @@ pub(crate) trait Host {
 /// What those share who answer WANTs: a seat for each peer, the connections that stand, and who has
 /// to have kept the history before a frame is written.
 #[derive(Drop)]
-pub(crate) struct Answering<'a, R, I: Instance + Drop, B: Settle + Drop, S: Beginning, T, K, O> {
-    pub context: &'a NodeContext<'a, R, I, B, S, T>,
+pub(crate) struct Answering<'a, R, S: Beginning, K, O> {
+    pub context: &'a NodeContext<'a, R, S, PreparedHmac>,
     pub keeper: &'a K,
-    pub seats: &'a [(u16, Mutex<Seat>)],
+    pub seats: &'a [(u16, Mutex<FetchSeat>)],
     pub inbound: &'a InboundConnections,
     pub observer: &'a O,
     pub stop: &'a AtomicBool,
@@ -56,26 +54,23 @@ pub(crate) struct Answering<'a, R, I: Instance + Drop, B: Settle + Drop, S: Begi
 
 /// Has the connection at a place be a peer's, who so was heard.
 #[derive(Drop)]
-struct Claiming<'a, I: Instance + Drop, B: Settle + Drop, S: Beginning, O> {
-    node: &'a Node<I, B, S>,
+struct Claiming<'a, O> {
     inbound: &'a InboundConnections,
     observer: &'a O,
     place: usize,
 }
 
-impl<I, B, S, O> Admission for Claiming<'_, I, B, S, O>
-where
-    I: Instance + Drop,
-    B: Settle + Drop,
-    S: Beginning,
-    O: Observer<PeerEvent>,
-{
-    fn admit<R: Wait>(&self, rt: &R, peer: u16) -> bool {
-        let stands = self.inbound.claim(rt, self.node, self.place, peer);
+impl<O: Observer<PeerEvent>> Admission for Claiming<'_, O> {
+    fn admit<R: Wait>(&self, rt: &R, peer: u16, number: u64) -> bool {
+        let stands = self.inbound.ask(rt, self.place, peer, number);
         if stands {
             self.observer.observe(peer, PeerEvent::Heard);
         }
         stands
+    }
+
+    fn advance<R: Wait>(&self, rt: &R, peer: u16, number: u64) -> bool {
+        self.inbound.ask(rt, self.place, peer, number)
     }
 
     fn mistrust(&self, peer: u16) {
@@ -83,13 +78,10 @@ where
     }
 }
 
-impl<H, I, B, S, T, K, O> Host for Answering<'_, H, I, B, S, T, K, O>
+impl<H, S, K, O> Host for Answering<'_, H, S, K, O>
 where
-    I: Instance + Drop,
-    B: Settle + Drop,
     S: Beginning,
     H: Wait,
-    T: Tagger,
     K: Keeper,
     O: Observer<PeerEvent>,
 {
@@ -109,9 +101,13 @@ where
         if let Some(leave) = self.inbound.leave(place) {
             let _ = stream.set_nodelay(true);
             let mut reader = Reader::new(stream);
-            let mut writer = Behind::new(rt, self.keeper, self.context.node, Writer::new(stream));
+            let mut writer = DurableOutput::new(
+                rt,
+                self.keeper,
+                self.context.node,
+                Writer::new(stream),
+            );
             let claiming = Claiming {
-                node: self.context.node,
                 inbound: self.inbound,
                 observer: self.observer,
                 place,

@@ -1,6 +1,6 @@
 use std::alloc::{AllocError, Global};
 use std::net::{Shutdown, TcpStream};
-use std::sync::atomic::{AtomicBool, Ordering};
+use std::sync::atomic::{AtomicBool, AtomicU64, Ordering};
 use std::sync::{Mutex, Wait};
 
 /// Clones of the connections that stand, so that they can be shut while others read from them or
@@ -11,17 +11,24 @@ use std::sync::{Mutex, Wait};
 #[derive(Drop)]
 pub(crate) struct Connections {
     places: Mutex<Vec<Option<TcpStream>>>,
+    // how often any was heard, and how often by the last time that each was
+    heard: AtomicU64,
+    heard_last: Vec<AtomicU64>,
 }
 
 impl Connections {
     /// Room for so many connections.
     pub(crate) fn new(alloc: Global, most: u16) -> Result<Connections, AllocError> {
         let mut places = Vec::new(alloc);
+        let mut heard_last = Vec::new(alloc);
         for _ in 0..most {
             places.push(None)?;
+            heard_last.push(AtomicU64::new(0))?;
         }
         Ok(Connections {
             places: Mutex::new(places),
+            heard: AtomicU64::new(0),
+            heard_last,
         })
     }
 
@@ -45,7 +52,42 @@ impl Connections {
         if let Some(place) = places.get_mut(free) {
             *place = Some(clone);
         }
+        self.hear(free);
         Some(free)
+    }
+
+    /// Notes that something came on the connection at a place.
+    pub(crate) fn hear(&self, place: usize) {
+        if let Some(last) = self.heard_last.get(place) {
+            let before = self.heard.fetch_add(1, Ordering::SeqCst);
+            last.store(before.saturating_add(1), Ordering::SeqCst);
+        }
+    }
+
+    /// How often any was heard.
+    pub(crate) fn times_heard(&self) -> u64 {
+        self.heard.load(Ordering::SeqCst)
+    }
+
+    /// Shuts the connection that wasn't heard for longest, if it wasn't since so many times. It
+    /// keeps its place until whoever answers it gives that back.
+    pub(crate) fn shut_idlest<R: Wait>(&self, rt: &R, since: u64) {
+        let places = self.places.lock(rt);
+        let mut least = since;
+        let mut idlest = None;
+        for (place, last) in self.heard_last.iter().enumerate() {
+            let heard = last.load(Ordering::SeqCst);
+            if heard <= least {
+                least = heard;
+                idlest = Some(place);
+            }
+        }
+        let Some(place) = idlest else {
+            return;
+        };
+        if let Some(Some(stream)) = places.get(place) {
+            let _ = stream.shutdown(Shutdown::Both);
+        }
     }
 
     /// Shuts the connection at a place, and gives the place back.

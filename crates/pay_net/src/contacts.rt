@@ -1,6 +1,11 @@
+ghost use Rattle.std.specs.Prelude.{◌≡◌, IfOk, map};
+ghost use Rattle.pay_net.specs.Running.{others_below};
+
 use crate::contact::Contact;
-use crate::figures::PeerCounts;
+use crate::figures::PeerFigures;
+use crate::inbound_connections::InboundConnections;
 use crate::news::News;
+use crate::refusals::Refusals;
 use pay_peers::{Observer, PeerEvent};
 use std::alloc::{AllocError, Global};
 use std::sync::atomic::{AtomicBool, Ordering};
@@ -15,6 +20,8 @@ pub(crate) struct Contacts<'a, R, O> {
     observer: &'a O,
     stop: &'a AtomicBool,
     peers: Vec<Mutex<Heard>>,
+    begun: Option<Instant>,
+    refusals: Mutex<Refusals>,
 }
 
 // A peer, and when it was heard last.
@@ -45,21 +52,62 @@ impl<'a, R: Wait + Clock, O: Observer<News>> Contacts<'a, R, O> {
             observer,
             stop,
             peers,
+            begun: Instant::now(rt).ok(),
+            refusals: Mutex::new(Refusals::new()),
         })
     }
 
-    /// How many peers are met by now, and how many are lost or given up.
-    pub(crate) fn counts(&self) -> PeerCounts {
-        let mut counts = PeerCounts { met: 0, lost: 0 };
-        for heard in &self.peers {
-            let last = heard.lock(self.rt).contact.last();
-            match last {
-                Some(News::Met) => counts.met = counts.met.saturating_add(1),
-                Some(News::Lost | News::GivenUp) => counts.lost = counts.lost.saturating_add(1),
-                Some(News::Unopened) | None => {}
+    /// What is known of each peer by now.
+    // promise: figures
+    pub(crate) fn figures(
+        &self,
+        alloc: Global,
+        own: u16,
+        members: u16,
+        inbound: &InboundConnections,
+    ) -> Result<Vec<PeerFigures>, AllocError>
+        ensures { IfOk result (λ figures.
+            map (λ p. p.peer) figures.items ≡ others_below own members) }
+    {
+        let mut figures = Vec::new(alloc);
+        for peer in 0..members {
+            if peer != own {
+                figures.push(self.figures_of(peer, inbound))?;
             }
         }
-        counts
+        Ok(figures)
+    }
+
+    fn figures_of(&self, peer: u16, inbound: &InboundConnections) -> PeerFigures
+        ensures { result.peer ≡ peer }
+    {
+        let mut figures = PeerFigures {
+            peer,
+            last: None,
+            mistrusted: false,
+            silent_seconds: None,
+            asked: inbound.want_count(self.rt, peer),
+        };
+        if let Some(heard) = self.peers.get(usize::from(peer)) {
+            let heard = heard.lock(self.rt);
+            figures.last = heard.contact.last();
+            figures.mistrusted = heard.contact.is_mistrusted();
+            if heard.last.is_some() {
+                figures.silent_seconds = Some(silence_since(self.rt, heard.last) / 1_000);
+            }
+        }
+        figures
+    }
+
+    /// Whether memory stays refused to those who read from peers.
+    pub(crate) fn are_starved(&self) -> bool {
+        self.refusals.lock(self.rt).are_lasting()
+    }
+
+    // Where no clock tells, all refusals are of one time.
+    fn note_refusal(&self) {
+        let now = silence_since(self.rt, self.begun);
+        self.refusals.lock(self.rt).note(now);
     }
 
     // Tells what is to be told of a peer, under its lock: so no other news of it comes before.
@@ -86,7 +134,12 @@ impl<R: Wait + Clock, O: Observer<News>> Observer<PeerEvent> for Contacts<'_, R,
                     heard.contact.miss(silence)
                 }
                 PeerEvent::GaveUp => heard.contact.give_up(),
+                PeerEvent::Lied(lie) => heard.contact.accuse(lie),
                 PeerEvent::Unopened => heard.contact.mistrust(),
+                PeerEvent::Starved => {
+                    self.note_refusal();
+                    None
+                }
             };
             self.tell(peer, news);
         }

@@ -1,7 +1,7 @@
 use crate::connections::Connections;
 use crate::ports::Ports;
 use pay_io::{Reader, Writer};
-use pay_peers::{Dial, Dialed};
+use pay_peers::{Dial, Dialed, QUIET_SECONDS};
 use std::io;
 use std::io::Read;
 use std::net::{IpAddr, Ipv4Addr, Net, SocketAddr, TcpListener, TcpStream};
@@ -78,6 +78,7 @@ impl<'a, R: Net<Listener = TcpListener, Stream = TcpStream> + Wait> Dialer<'a, R
             return None;
         }
         let _ = stream.set_nodelay(true);
+        let _ = stream.set_read_timeout(Some(Duration::from_secs(QUIET_SECONDS)));
         let _ = stream.set_write_timeout(Some(Duration::from_millis(WRITE_MILLIS)));
         let writer = stream.try_clone().ok()?;
         let place = self.dialed.keep(self.rt, self.stop, &stream)?;

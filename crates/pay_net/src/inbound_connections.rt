@@ -1,15 +1,20 @@
 use crate::connections::{shut, shut_all};
 use crate::inbound_list::InboundList;
-use pay_book::Settle;
-use pay_echo::Instance;
 use pay_node::{Beginning, Node};
+use pay_peers::QUIET_SECONDS;
 use std::alloc::{AllocError, Global};
 use std::net::{Shutdown, TcpStream};
-use std::sync::atomic::{AtomicBool, Ordering};
+use std::sync::atomic::{AtomicBool, AtomicU64, Ordering};
 use std::sync::{Mutex, Wait};
 
+/// How often somebody looks at the connections in a second.
+pub(crate) const LOOKS_A_SECOND: u64 = 10;
+
+/// So many looks behind its last new WANT a connection is quiet: its peer has long dialed anew.
+const QUIET_LOOKS: u64 = 2 * QUIET_SECONDS * LOOKS_A_SECOND;
+
 /// The connections that others dialed. Each has a place, and a flag that ends its wait for what
-/// isn't sent yet.
+/// isn't sent yet. One that is quiet, and beside which another waits, is given up.
 ///
 /// One that is given up is nobody's at once, and stands no more. Another comes to its place once
 /// the thread that answered it gave that back. So a flag is never lowered while somebody may still
@@ -18,6 +23,9 @@ use std::sync::{Mutex, Wait};
 pub(crate) struct InboundConnections {
     room: Mutex<Room>,
     leave: Vec<AtomicBool>,
+    // how often somebody has looked, and by the last time that each asked for something new
+    looks: AtomicU64,
+    asked: Vec<AtomicU64>,
 }
 
 /// What became of a connection that wants a place.
@@ -44,13 +52,17 @@ impl InboundConnections {
         let list = InboundList::new(alloc, most)?;
         let mut streams = Vec::new(alloc);
         let mut leave = Vec::new(alloc);
+        let mut asked = Vec::new(alloc);
         for _ in 0..most {
             streams.push(None)?;
             leave.push(AtomicBool::new(false))?;
+            asked.push(AtomicU64::new(0))?;
         }
         Ok(InboundConnections {
             room: Mutex::new(Room { list, streams }),
             leave,
+            looks: AtomicU64::new(0),
+            asked,
         })
     }
 
@@ -58,17 +70,15 @@ impl InboundConnections {
     ///
     /// The flag to stop is set before all are shut: so what is kept after it was looked at here is
     /// shut with them.
-    pub(crate) fn admit<R, I, B, S>(
+    pub(crate) fn admit<R, S>(
         &self,
         rt: &R,
-        node: &Node<I, B, S>,
+        node: &Node<S>,
         stop: &AtomicBool,
         stream: &TcpStream,
     ) -> Entry
     where
         R: Wait,
-        I: Instance + Drop,
-        B: Settle + Drop,
         S: Beginning,
     {
         let Ok(clone) = stream.try_clone() else {
@@ -92,31 +102,49 @@ impl InboundConnections {
             leave.store(false, Ordering::SeqCst);
             *kept = Some(clone);
         }
+        self.note_asked(free);
         Entry::At(free)
     }
 
-    /// Has a connection be a peer's, for which that one's older one is given up where it has two
-    /// already. Answers whether it still stands.
-    pub(crate) fn claim<R, I, B, S>(
-        &self,
-        rt: &R,
-        node: &Node<I, B, S>,
-        place: usize,
-        peer: u16,
-    ) -> bool
-    where
-        R: Wait,
-        I: Instance + Drop,
-        B: Settle + Drop,
-        S: Beginning,
-    {
+    /// Notes that a WANT of a peer for this number came on a connection, which is that one's from
+    /// then on, and its current one if the number is above all before. Answers whether it still
+    /// stands.
+    pub(crate) fn ask<R: Wait>(&self, rt: &R, place: usize, peer: u16, number: u64) -> bool {
         let mut room = self.room.lock(rt);
-        if !room.list.has(place) {
-            return false;
+        self.note_asked(place);
+        room.list.ask(place, peer, number);
+        room.list.has(place)
+    }
+
+    /// How many frames a peer asked for.
+    pub(crate) fn want_count<R: Wait>(&self, rt: &R, peer: u16) -> u64 {
+        self.room.lock(rt).list.want_count(peer)
+    }
+
+    /// Takes one look more, and gives up those that are quiet and beside which another waits:
+    /// whoever dialed them has long dialed anew.
+    pub(crate) fn look<R: Wait, S: Beginning>(&self, rt: &R, node: &Node<S>) {
+        let looks = self.looks.fetch_add(1, Ordering::SeqCst);
+        for (place, asked) in self.asked.iter().enumerate() {
+            if looks.saturating_sub(asked.load(Ordering::SeqCst)) > QUIET_LOOKS {
+                self.give_up_another(rt, node, place);
+            }
         }
-        let older = room.list.claim(place, peer);
-        self.give_up(rt, node, &*room, older);
-        true
+    }
+
+    // Gives up the one at a place, if another waits beside it.
+    fn give_up_another<R: Wait, S: Beginning>(&self, rt: &R, node: &Node<S>, place: usize) {
+        let mut room = self.room.lock(rt);
+        if room.list.leave_another(place) {
+            self.give_up(rt, node, &*room, Some(place));
+        }
+    }
+
+    // Something new was asked for at a place by now.
+    fn note_asked(&self, place: usize) {
+        if let Some(asked) = self.asked.get(place) {
+            asked.store(self.looks.load(Ordering::SeqCst), Ordering::SeqCst);
+        }
     }
 
     /// The flag of a place.
@@ -144,11 +172,9 @@ impl InboundConnections {
 
     // Ends whatever the thread of a connection waits for that stands no more: then it gives the
     // place back.
-    fn give_up<R, I, B, S>(&self, rt: &R, node: &Node<I, B, S>, room: &Room, place: Option<usize>)
+    fn give_up<R, S>(&self, rt: &R, node: &Node<S>, room: &Room, place: Option<usize>)
     where
         R: Wait,
-        I: Instance + Drop,
-        B: Settle + Drop,
         S: Beginning,
     {
         let Some(place) = place else {

@@ -10,6 +10,7 @@
 
 mod accepting;
 mod clients;
+mod closing;
 mod config;
 mod connections;
 mod contact;
@@ -29,19 +30,25 @@ mod pause;
 mod ports;
 mod ports_fault;
 mod receipts;
+mod refusals;
 mod running;
+mod runtime;
+mod seats;
 mod start;
+mod waits;
 mod watching;
+mod workers;
 
 pub use accepting::MOST_CONNECTIONS;
 pub use clients::MOST_CLIENTS;
 pub use config::NodeConfig;
 pub use desk_socket::{DeskSocket, MOST_SOCKET_NAME};
-pub use figures::{MemberFigures, NodeFigures, PeerCounts, Watcher};
+pub use figures::{MemberFigures, NodeFigures, PeerFigures, Watcher};
 pub use news::News;
 pub use node_fault::NodeFault;
 pub use ports::Ports;
 pub use ports_fault::PortsFault;
 pub use receipts::Receipts;
 pub use running::run_node;
+pub use runtime::NodeRuntime;
 pub use start::{NodeStart, StartFault};

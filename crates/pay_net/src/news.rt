@@ -1,3 +1,5 @@
+use pay_member::Lie;
+
 /// What is told of a peer.
 #[derive(Clone, Copy, Debug, PartialEq, Eq)]
 pub enum News {
@@ -7,6 +9,8 @@ pub enum News {
     Lost,
     /// It was dialed for the last time.
     GivenUp,
+    /// It told a lie, so nothing more is read from it.
+    Lied(Lie),
     /// A frame in its name has another tag than the key of the two gives.
     Unopened,
 }

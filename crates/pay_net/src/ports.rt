@@ -23,6 +23,7 @@ impl Model for Ports {
 
 impl Ports {
     /// The ports that a file of JSON says for the members of this genesis.
+    // promise: files
     pub fn read(alloc: Global, genesis: &Genesis, bytes: &[u8]) -> Result<Ports, PortsFault>
         ensures value { IfOk result (HasPorts genesis.now.members bytes.now) }
         ensures fault { IfErr result (IsPortsFault genesis.now.members bytes.now) }

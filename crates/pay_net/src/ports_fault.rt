@@ -8,14 +8,16 @@ use thiserror::Error;
 /// Why there are no ports, in the order in which it is tested; memory stands apart.
 #[derive(Clone, Copy, Debug, PartialEq, Eq, Error)]
 pub enum PortsFault {
+    /// There is no memory: the file may be right.
     Memory,
-    /// The file isn't JSON.
+    /// It isn't JSON.
     BadJson,
-    /// It has no list of ports with one for each member.
+    /// It has no list of N ports, or a number there is no port.
     BadShape,
 }
 
 impl PortsFault {
+    // promise: order of refusals (number, name)
     const fn entry(self) -> (u8, &'static str)
         ensures number { result.0 ≡ ports_fault_number self }
         ensures name { result.1.now ≡ ports_fault_name self }

@@ -1,15 +1,13 @@
 //! What a node starts from.
 
-ghost use Rattle.std.specs.Prelude.{◌≡◌, ◌≤◌, [], IfOk, OnOk, false, map, true};
+ghost use Rattle.std.specs.Prelude.{◌≡◌, ◌<◌, ◌≤◌, [], IfOk, OnOk, false, length, map, true};
 ghost use Rattle.pay_net.specs.Starting.{IsKeptOf, KeepsEntry, KeepsNext};
 ghost use Rattle.pay_node.specs.Nodes.{AreFresh, node_as};
 
-use pay_book::Settle;
 use pay_desk::{Kept, KeptValues};
-use pay_echo::Instance;
 use pay_frame::Bytes;
-use pay_member::{Event, HistoryEntry, Member};
-use pay_node::{Beginning, MOST_SEATS, Node, Seat};
+use pay_member::{Event, HistoryEntry};
+use pay_node::{Beginning, MOST_SEATS, Node, OwnMember, Seat};
 use std::alloc::{AllocError, Global};
 use std::marker::Model;
 use thiserror::Error;
@@ -38,13 +36,13 @@ impl From<AllocError> for StartFault {
 /// A member, what its desk keeps of the values that it asked for, and whether it compares that with
 /// what its peers show before it is asked for more.
 #[derive(Drop)]
-pub struct NodeStart<I: Instance + Drop, B: Settle + Drop> {
-    member: Member<I, B>,
+pub struct NodeStart {
+    member: OwnMember,
     kept: KeptValues,
     compares: bool,
 }
 
-impl<I: Instance + Drop, B: Settle + Drop> Model for NodeStart<I, B> {
+impl Model for NodeStart {
     ghost use Rattle.pay_net.specs.Starting.{IsKeptOf, StartFields};
 
     ghost Value = { StartFields };
@@ -54,9 +52,10 @@ impl<I: Instance + Drop, B: Settle + Drop> Model for NodeStart<I, B> {
     ghost invariant = { λ s. IsKeptOf s.member.history s.kept };
 }
 
-impl<I: Instance + Drop, B: Settle + Drop> NodeStart<I, B> {
+impl NodeStart {
     /// A member that took nothing.
-    pub fn fresh(alloc: Global, member: Member<I, B>) -> NodeStart<I, B>
+    // promise: desk goes on; end of a restart
+    pub fn fresh(alloc: Global, member: OwnMember) -> NodeStart
         requires { member.history ≡ [] }
         ensures { result ≡ record { member = member; kept = []; compares = false } }
     {
@@ -68,11 +67,8 @@ impl<I: Instance + Drop, B: Settle + Drop> NodeStart<I, B> {
     }
 
     /// A member that goes on, and the id under which its owner asked for each value, oldest first.
-    pub fn again(
-        alloc: Global,
-        member: Member<I, B>,
-        ids: &[u64],
-    ) -> Result<NodeStart<I, B>, StartFault>
+    // promise: desk goes on; ids (ids); end of a restart
+    pub fn again(alloc: Global, member: OwnMember, ids: &[u64]) -> Result<NodeStart, StartFault>
         ensures member { IfOk result (λ start. start.member ≡ member) }
         ensures ids { IfOk result (λ start. map (λ k. k.id) start.kept ≡ ids.now) }
         ensures compares { IfOk result (λ start. start.compares ≡ false) }
@@ -87,7 +83,8 @@ impl<I: Instance + Drop, B: Settle + Drop> NodeStart<I, B> {
 
     /// The same start, of a member that may have forgotten what it sent: it is asked for nothing
     /// before enough peers have shown that they know no more of it.
-    pub fn comparing(self) -> NodeStart<I, B>
+    // promise: comparing
+    pub fn comparing(self) -> NodeStart
         ensures { result ≡ record self { compares = true } }
     {
         NodeStart {
@@ -97,8 +94,16 @@ impl<I: Instance + Drop, B: Settle + Drop> NodeStart<I, B> {
         }
     }
 
+    /// The member's own number.
+    pub(crate) fn own(&self) -> u16
+        ensures own { result ≡ self.now.member.keys.own }
+        ensures within { result < length self.now.member.keys.keys }
+    {
+        self.member.keys().own()
+    }
+
     /// The member, what its desk keeps, and whether it compares.
-    pub(crate) fn into_parts(self) -> (Member<I, B>, KeptValues, bool)
+    pub(crate) fn into_parts(self) -> (OwnMember, KeptValues, bool)
         ensures member { result.0 ≡ self.member }
         ensures kept { result.1 ≡ self.kept }
         ensures compares { result.2 ≡ self.compares }
@@ -109,12 +114,12 @@ impl<I: Instance + Drop, B: Settle + Drop> NodeStart<I, B> {
 }
 
 /// The node of a member with so many seats, which compares what its peers show or not.
-pub(crate) fn node_of<I: Instance + Drop, B: Settle + Drop, S: Beginning>(
+pub(crate) fn node_of<S: Beginning>(
     alloc: Global,
-    member: Member<I, B>,
+    member: OwnMember,
     seats: u16,
     compares: bool,
-) -> Result<(Node<I, B, S>, Vec<Seat>), (Member<I, B>, AllocError)>
+) -> Result<(Node<S>, Vec<Seat>), (OwnMember, AllocError)>
     requires beginning { member ≡ S.beginning }
     requires few { seats ≤ MOST_SEATS }
     ensures node { IfOk result (λ made. made.0 ≡ node_as member seats compares) }

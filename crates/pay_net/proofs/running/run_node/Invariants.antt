@@ -1,5 +1,5 @@
 use Rattle.pay_net.proofs.running.run_node.Given as goal
 
 -- the member that the node begins with
-abbrev pub ghosts-run_begun : goal.ghosts-run_begun
-ghosts-run_begun g a = record { beginning = a.start.member }
+abbrev pub ghosts-run : goal.ghosts-run
+ghosts-run g a = record { beginning = a.start.member }

@@ -1,0 +1,20 @@
+-- How much a node has at once, and how long it waits.
+use Rattle.std.specs.Prelude.{◌≡◌}
+use Rattle.pay_net.specs.declared.accepting.TheConstants.{MOST_CONNECTIONS}
+use Rattle.pay_net.specs.declared.clients.TheConstants.{IDLE_SECONDS, MOST_CLIENTS}
+use Rattle.pay_net.specs.declared.dialing.TheConstants.{DIAL_MILLIS, WRITE_MILLIS}
+use Rattle.pay_net.specs.declared.refusals.TheConstants.{RELIEVED_MILLIS, STARVED_MILLIS}
+use Rattle.pay_peers.specs.declared.backoff.TheConstants.{QUIET_SECONDS}
+
+-- connections that others dialed, and clients of its desk; how long a client may be silent, an
+-- attempt to connect may take, a write of WANTs may wait, and a dialed connection bring nothing;
+-- for how long memory is refused to a node that starves, and how far apart
+pub record AreLimits : Type 0 where
+  pub connections : MOST_CONNECTIONS ≡ 256
+  pub clients : MOST_CLIENTS ≡ 16
+  pub idle : IDLE_SECONDS ≡ 600
+  pub dial : DIAL_MILLIS ≡ 1000
+  pub write : WRITE_MILLIS ≡ 1000
+  pub quiet : QUIET_SECONDS ≡ 60
+  pub starved : STARVED_MILLIS ≡ 5000
+  pub relieved : RELIEVED_MILLIS ≡ 2000
