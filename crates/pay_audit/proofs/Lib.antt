@@ -6,7 +6,7 @@ mod Comparing
 mod Digits
 mod Firsts
 mod Forking
-mod Forks
+mod FirstFork
 mod ExportText
 mod Gathering
 mod Items
@@ -20,3 +20,4 @@ mod Taking
 mod Text
 mod Verdicts
 mod Former
+mod Pieces

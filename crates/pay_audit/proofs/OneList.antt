@@ -11,7 +11,7 @@ use Rattle.pay_audit.specs.Said.{EachBefore, EachTwo}
 use Rattle.pay_audit.specs.Verdict.{first_from, fork_between, fork_from}
 use Rattle.pay_audit.specs.declared.verdict.Verdict.{Verdict}
 use Rattle.pay_audit.proofs.Firsts.{from_here}
-use Rattle.pay_audit.proofs.Forks.{all_agree, none_agrees}
+use Rattle.pay_audit.proofs.FirstFork.{all_agree, none_agrees}
 
 -- ---- two lists
 

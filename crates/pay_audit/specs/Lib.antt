@@ -15,3 +15,4 @@ pub mod Columns
 pub mod Gathering
 pub mod Former
 pub mod ByLists
+pub mod Findings

@@ -13,6 +13,9 @@ use Rattle.pay_audit.specs.declared.verdict.Verdict.{Verdict}
 use Rattle.pay_audit.specs.declared.verdict.Verdict.TheVariants.{Clean, OtherGenesis, WrongFront}
 use Rattle.pay_audit.specs.declared.verdict.Verdict.TheVariants.{WrongBalance, Fork}
 
+-- change: a verdict of an audit, as `Fork`: `specs/Said.antt`; each case of it:
+--   `specs/Findings.antt`; that correct members' exports don't have it: `pay_laws`; words
+--   in `tools/report`; model `tests/models/audits.py`
 -- the first answer that there is, where each is asked with its place, counted from here
 abbrev pub first_from : {A B : Type 0} → (ℕ → A → Option B) → ℕ → List A → Option B
 first_from ask place [] = None
@@ -82,6 +85,8 @@ fork_from x (e ∷ es) = option_or (first_from (fork_between x e) (x + 1) es) (f
 
 -- ---- the verdict
 
+-- page: `verdict_of`, `IsSaid`: the least case of the first kind, item by item; the same in the
+--   subject's words
 unfoldable pub verdict_of : List ExportFields → Verdict
 verdict_of exports =
     unwrap_or (option_or (other_genesis exports)

@@ -16,6 +16,7 @@ use std::alloc::{AllocError, Global};
 
 /// What is wrong with these exports, if anything is: what an auditor says that takes one after the
 /// other.
+// promise: order of refusals; audits
 pub fn audit(alloc: Global, exports: &[Export]) -> Result<Verdict, AllocError>
     ensures { IfOk result (λ verdict. verdict ≡ verdict_of exports.now) }
 {
@@ -24,6 +25,7 @@ pub fn audit(alloc: Global, exports: &[Export]) -> Result<Verdict, AllocError>
 }
 
 /// The first export that begins with another genesis than the first of all.
+// promise: group's book
 pub fn other_genesis(exports: &[Export]) -> Option<Verdict>
     ensures { result ≡ other_genesis exports.now }
 {
@@ -153,6 +155,7 @@ fn fork_between(one: usize, export: &Export, other: usize, against: &Export) -> 
 
 /// The first place that the lists of an account in two exports both have and where their values
 /// differ.
+// promise: group's book
 pub fn difference_at(one: &Export, other: &Export, account: u16) -> Option<u32>
     requires one { account < one.now.genesis.members }
     requires other { account < other.now.genesis.members }

@@ -38,6 +38,7 @@ impl Auditor {
     }
 
     /// One that has taken these exports.
+    // promise: audits
     pub fn of(alloc: Global, exports: &[Export]) -> Result<Auditor, AllocError>
         ensures { IfOk result (HasTakenExports exports.now) }
     {
@@ -49,6 +50,7 @@ impl Auditor {
     }
 
     /// Takes one more export, and lets it go.
+    // promise: audits
     pub fn take(self, alloc: Global, export: Export) -> Result<Auditor, AllocError>
         requires { taken_by self < usize.MAX }
         ensures taken { IfOk result (λ auditor. (exports : List ExportFields)
@@ -59,6 +61,7 @@ impl Auditor {
     }
 
     /// Takes one more export that was settled before, and lets it go.
+    // promise: audits
     pub fn take_judged(self, alloc: Global, judged: JudgedExport) -> Result<Auditor, AllocError>
         requires { taken_by self < usize.MAX }
         ensures taken { IfOk result (λ auditor. (exports : List ExportFields)
@@ -109,6 +112,7 @@ impl Auditor {
 
     /// What is wrong with the exports taken, if anything is. None of them is needed any more.
     #[tactic(auto, unfolding(crate::specs::Verdict::verdict_of))]
+    // promise: audits
     pub fn verdict(&self) -> Verdict
         ensures { (exports : List ExportFields)
             → HasTakenExports exports self.now → result ≡ verdict_of exports }

@@ -17,6 +17,7 @@ use pay_pending::WaitingBook;
 use std::alloc::{AllocError, Global};
 
 /// What a member shows that has these lists: all is settled that they allow.
+// promise: group's book
 pub fn export_of_lists<S: Source>(
     alloc: Global,
     genesis: &Genesis,

@@ -8,16 +8,19 @@ use thiserror::Error;
 /// Why a file is no export, in the order in which it is tested; memory stands apart.
 #[derive(Clone, Copy, Debug, PartialEq, Eq, Error)]
 pub enum ExportFault {
+    /// There is no memory: the file may be right.
     Memory,
-    /// The file isn't JSON.
+    /// It isn't JSON.
     BadJson,
-    /// It lacks a member, or one isn't of the type or the size that it should be.
+    /// It lacks a member, or one has the wrong type, also a list without an item for each member,
+    /// `member` too large, or a text too long.
     BadShape,
-    /// Its members, faults and opening make no genesis.
+    /// Its parts make no genesis.
     BadGenesis,
 }
 
 impl ExportFault {
+    // promise: order of refusals (number, name)
     const fn entry(self) -> (u8, &'static str)
         ensures number { result.0 ≡ export_fault_number self }
         ensures name { result.1.now ≡ export_fault_name self }

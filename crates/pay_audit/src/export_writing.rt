@@ -31,6 +31,7 @@ pub(crate) enum Column {
 
 /// Writes the text of a member's own export, that of `export_text`. After a failure, a prefix of it
 /// has been written.
+// promise: exports (text, beginning)
 pub fn write_export<I: Instance + Drop, B: Settle + Drop, W: Output>(
     member: &Member<I, B>,
     writer: &mut W,

@@ -6,6 +6,7 @@ use pay_channel::Source;
 use pay_link::Genesis;
 use std::marker::Model;
 
+// term: export: what a member shows: its lists, front and balances, without its keys
 /// What a member shows of its own without its keys: what the ledger began with, the list of each
 /// account's values, how many entries of it are settled, and all balances. Nothing of it is taken
 /// for true.

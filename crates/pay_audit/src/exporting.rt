@@ -23,6 +23,7 @@ use std::alloc::{AllocError, Global};
 
 /// What a member shows of its own without its keys: what the ledger began with, each account's list
 /// of values in hexadecimal, how many entries of it are settled, and all balances.
+// promise: exports
 pub fn export<I: Instance + Drop, B: Settle + Drop>(
     alloc: Global,
     member: &Member<I, B>,
@@ -36,6 +37,7 @@ pub fn export<I: Instance + Drop, B: Settle + Drop>(
 }
 
 /// The text of a member's own export, without spaces. `read_export` reads it as that export.
+// promise: exports (text, reads_back)
 pub fn export_text<I: Instance + Drop, B: Settle + Drop>(
     alloc: Global,
     member: &Member<I, B>,

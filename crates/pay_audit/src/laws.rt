@@ -15,6 +15,7 @@ use pay_link::laws::genesis_limits;
 /// A file isn't JSON exactly where it has no value, of a wrong shape exactly where its value lacks
 /// a part of an export or has one of another size, and without a genesis exactly where the genesis
 /// that it says is none.
+// promise: exports
 pub fn export_file_faults()
     ensures json { BadJsonCause }
     ensures shape { BadShapeCause }
@@ -25,6 +26,7 @@ pub fn export_file_faults()
 
 /// No account's front is named exactly where the export's front is the largest that steps reach
 /// over its own lists.
+// promise: audits
 pub fn front_is_judged()
     ensures { FrontIsJudged }
 {
@@ -34,6 +36,7 @@ pub fn front_is_judged()
 
 /// Where the front is right, no account's balance is named exactly where the balances are those at
 /// that front.
+// promise: audits
 pub fn balances_are_judged()
     ensures { BalancesAreJudged }
 {
@@ -43,17 +46,20 @@ pub fn balances_are_judged()
 
 /// Two exports have no fork exactly where their lists of each account agree at every place that
 /// both have.
+// promise: audits
 pub fn fork_is_judged()
     ensures { ForkIsJudged }
 {}
 
 /// No two exports fork exactly where each account has one list that begins with every export's.
+// promise: audits
 pub fn one_list_is_no_fork()
     ensures { OneListIsNoFork }
 {}
 
 /// What the verdict of exports says is so: nothing is wrong, or the case that it names is the first
 /// of the first kind that there is. It is Clean exactly where nothing is wrong.
+// promise: audits
 pub fn verdict_is_judged()
     ensures said { VerdictIsSaid }
     ensures clean { CleanIsJudged }
@@ -65,6 +71,7 @@ pub fn verdict_is_judged()
 
 /// Where no listed value is of several payments, exports have the verdict that they had when each
 /// value was one payment.
+// promise: audits
 pub fn verdict_of_single_payments()
     ensures { VerdictIsAsFormer }
 {
@@ -73,12 +80,14 @@ pub fn verdict_of_single_payments()
 
 /// All exports that an auditor can have taken have one verdict. That there are some is what making
 /// one says.
+// promise: audits
 pub fn verdict_of_taken_is_one()
     ensures { VerdictOfTakenIsOne }
 {}
 
 /// An export whose values a frame has room for is read back from each text that has the value which
 /// is written for it.
+// promise: exports
 pub fn export_reads_back()
     ensures { ExportReadsBack }
 {

@@ -2,7 +2,8 @@
 //! wrong with several of these, if anything is.
 //!
 //! [`export_text`] is a member's [`Export`], [`read_export`] reads one, and an [`Auditor`] takes
-//! them one by one, as [`audit`] does.
+//! them one by one, as [`audit`] does. Where a verdict names the first case, [`findings_text`]
+//! names each, in lines for people, by the files that the exports are of.
 //!
 //! ```
 //! let mut auditor = Auditor::new(alloc);
@@ -15,6 +16,7 @@
 
 mod auditing;
 mod auditor;
+mod books;
 mod by_lists;
 mod comparison;
 mod differences;
@@ -22,10 +24,13 @@ mod export_fault;
 mod export_writing;
 mod exported;
 mod exporting;
+mod findings;
+mod forks;
 mod gathered;
 mod judged_export;
 pub mod laws;
 mod lengths;
+mod lines;
 mod owner_list;
 mod pairs;
 mod parts;
@@ -44,6 +49,7 @@ pub use export_fault::ExportFault;
 pub use export_writing::write_export;
 pub use exported::Export;
 pub use exporting::{export, export_text};
+pub use findings::{Named, findings_text};
 pub use judged_export::JudgedExport;
 pub use pairs::audit_by_pairs;
 pub use reading::read_export;

@@ -11,6 +11,7 @@ use std::alloc::{AllocError, Global};
 
 /// What `audit` says, found by comparing the lists of each export with those of each one after it.
 #[tactic(auto, unfolding(crate::specs::Verdict::verdict_of))]
+// promise: audits
 pub fn audit_by_pairs(alloc: Global, exports: &[Export]) -> Result<Verdict, AllocError>
     ensures { IfOk result (λ verdict. verdict ≡ verdict_of exports.now) }
 {

@@ -8,6 +8,7 @@ use pay_link::{Genesis, GenesisFault, value_in};
 use std::alloc::Global;
 
 /// The export that a file of JSON says.
+// promise: order of refusals; exports
 pub fn read_export(alloc: Global, bytes: &[u8]) -> Result<Export, ExportFault>
     ensures { (result ≡ export_in bytes.now) ⊎ (result ≡ Err ExportFault.Memory) }
 {

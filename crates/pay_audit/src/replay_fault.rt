@@ -14,6 +14,7 @@ pub enum ReplayFault {
 }
 
 impl ReplayFault {
+    // promise: order of refusals (number, name)
     const fn entry(self) -> (u8, &'static str)
         ensures number { result.0 ≡ replay_fault_number self }
         ensures name { result.1.now ≡ replay_fault_name self }

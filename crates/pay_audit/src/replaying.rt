@@ -17,6 +17,7 @@ use pay_member::{HistoryEntry, Member, MemberFault};
 use std::alloc::{AllocError, Global};
 
 /// The member that has this history, if one can have it. The keys are one member's of that genesis.
+// promise: replay
 pub fn replay<I: Instance + Drop, B: Settle + Drop>(
     alloc: Global,
     genesis: &Genesis,

@@ -36,6 +36,7 @@ impl Source for FirstLists<'_> {
 }
 
 /// A book that settled all that an export's lists allow, whatever its own front and balances say.
+// promise: statements of exports
 pub fn settle_export<B: Settle + Drop>(alloc: Global, export: &Export) -> Result<B, AllocError>
     ensures { IfOk result (λ book. B.shows book ≡ book_of export.now) }
 {

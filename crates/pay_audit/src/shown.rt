@@ -19,6 +19,7 @@ use serde_json::{Map, Value, put};
 use std::alloc::{AllocError, Global};
 
 /// The text of an export, without spaces. `read_export` reads it as that export.
+// promise: group's book
 pub fn shown_text(alloc: Global, export: &Export) -> Result<String, AllocError>
     ensures text { IfOk result
         (λ text. string_bytes text ≡ compact_text (export_data export.now)) }
@@ -34,6 +35,7 @@ pub fn shown_text(alloc: Global, export: &Export) -> Result<String, AllocError>
 }
 
 /// The text of a genesis, without spaces.
+// promise: group's book
 pub fn genesis_text(alloc: Global, genesis: &Genesis) -> Result<String, AllocError>
     ensures { IfOk result (λ text.
         string_bytes text ≡ compact_text (object (genesis_members genesis.now))) }
@@ -53,6 +55,7 @@ fn genesis_value(alloc: Global, genesis: &Genesis) -> Result<Value, AllocError>
 
 /// The genesis in which each account opens with its balance in an export, if its balances have a
 /// total that one can have.
+// promise: group's book
 pub fn next_genesis(alloc: Global, export: &Export) -> Result<Genesis, GenesisFault>
     ensures fault { MatchOption (genesis_fault (next_genesis export.now))
         (IsOkUnless result GenesisFault.Memory) (λ fault. result ≡ Err fault) }

@@ -1,5 +1,6 @@
 use std::fmt;
 
+// term: fork: two different values of one account under one number
 /// What is wrong with exports, named by their places from 0: the first kind that there is, and
 /// within it the least case in the order of its words.
 #[derive(Clone, Copy, Debug, PartialEq, Eq)]

@@ -1,3 +1,6 @@
 pub mod Backing
-pub mod Laws
+pub mod ListLaws
 pub mod Listed
+pub mod Book
+pub mod Text
+pub mod BookLaws

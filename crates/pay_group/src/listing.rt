@@ -4,9 +4,9 @@ ghost use Rattle.std.specs.Prelude.{◌≡◌, ◌<◌, ◌≤◌, ℕ, Err, Som
 ghost use Rattle.std.specs.Prelude.{map, slice_get, take};
 ghost use Rattle.std.specs.List.{All, filter};
 ghost use Rattle.pay_group.specs.Backing.{IsGroupList, IsSplit, begins, has_at};
-ghost use Rattle.pay_group.specs.declared.fault.GroupFault.TheVariants.{Split};
+ghost use Rattle.pay_group.specs.declared.group_fault.GroupFault.TheVariants.{Split};
 
-use crate::fault::GroupFault;
+use crate::group_fault::GroupFault;
 use crate::support::{has, is_disputed, supported_value};
 use pay_channel::Source;
 use std::alloc::{AllocError, Global};

@@ -3,9 +3,9 @@
 ghost use Rattle.std.specs.Prelude.{◌≡◌, ◌<◌, ◌≤◌, ℕ, IfErr, IfOk, List, Some, length, map};
 ghost use Rattle.std.specs.Prelude.{slice_get};
 ghost use Rattle.pay_group.specs.Backing.{IsGroupList, IsSplit};
-ghost use Rattle.pay_group.specs.declared.fault.GroupFault.TheVariants.{Split};
+ghost use Rattle.pay_group.specs.declared.group_fault.GroupFault.TheVariants.{Split};
 
-use crate::fault::GroupFault;
+use crate::group_fault::GroupFault;
 use crate::listing::{GroupList, group_list};
 use pay_channel::Source;
 use std::alloc::Global;
@@ -28,6 +28,7 @@ impl<'a, S: Source> Model for GroupLists<'a, S> {
 /// What more than `faults` of the sources list of each account: the longest list with which they
 /// begin. Where two values follow the same ones, each with more than `faults` sources, the fault
 /// names account and number, and no earlier account has such two.
+// promise: group's book
 pub fn group_lists<'a, S: Source>(
     alloc: Global,
     sources: &[&'a S],

@@ -78,5 +78,8 @@ journal_on day e =
     ++ flat_map (account_transactions day e) (range_with_len 0 e.genesis.members)
 
 -- The journal of a date.
+-- page: `journal_of`, `IsDateWord`: the journal of an export on a date, in the format that the
+--   manuals of `hledger` and `ledger` share; a word is this date as ISO 8601's YYYY-MM-DD, of a
+--   year that `ledger` has
 abbrev pub journal_of : Date → ExportFields → List ℕ
 journal_of date e = journal_on (date_text date) e

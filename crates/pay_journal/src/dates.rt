@@ -11,6 +11,7 @@ use std::alloc::{AllocError, Global};
 const FIRST_YEAR: i16 = 1400;
 
 /// The date that a word is, as YYYY-MM-DD, if it is one that journals can have.
+// promise: statements of exports
 pub fn date_named(alloc: Global, word: &str) -> Result<Option<Date>, AllocError>
     ensures date { IfOk result (λ named. IfSome named (IsDateWord word.now)) }
     ensures none { IfOk result (λ named.

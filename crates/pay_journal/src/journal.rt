@@ -16,8 +16,11 @@ use pay_pending::WaitingBook;
 use pay_text::{push_number, push_word};
 use std::alloc::{AllocError, Global};
 
+// A journal takes one export: a second repeats the same transactions, or is of another book. Its
+// date is today's unless `--date` says another.
 /// The journal of an export, each transaction on this date.
 #[tactic(auto, unfolding(crate::specs::Journal::journal_on))]
+// promise: statements of exports
 pub fn journal_text(alloc: Global, export: &Export, date: Date) -> Result<Vec<u8>, AllocError>
     ensures { IfOk result (λ text. text.items ≡ journal_of date export.now) }
 {

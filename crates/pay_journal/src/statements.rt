@@ -14,6 +14,7 @@ use pay_text::number;
 use std::alloc::{AllocError, Global};
 
 /// The account that a word names, if it is a number and the export has that account.
+// promise: statements of exports
 pub fn account_named(export: &Export, word: &[u8]) -> Option<u16>
     ensures value { result ≡ account_named export.now word.now }
     ensures limit { IfSome result (λ account. account < export.now.genesis.members) }
@@ -27,6 +28,7 @@ pub fn account_named(export: &Export, word: &[u8]) -> Option<u16>
 }
 
 /// An account's statement, as the desk of a member that took the same answers it.
+// promise: statements of exports
 pub fn statement_text(alloc: Global, export: &Export, account: u16) -> Result<Vec<u8>, AllocError>
     requires { account < export.now.genesis.members }
     ensures { IfOk result (λ text. text.items ≡ statement_in export.now account) }
@@ -38,6 +40,7 @@ pub fn statement_text(alloc: Global, export: &Export, account: u16) -> Result<Ve
 }
 
 /// The statements of all accounts, one after the other.
+// promise: statements of exports
 pub fn statements_text(alloc: Global, export: &Export) -> Result<Vec<u8>, AllocError>
     ensures { IfOk result (λ texts. texts.items ≡ statements_in export.now) }
 {

@@ -1,4 +1,4 @@
-use Rattle.pay_group.proofs.Vouching.{backed_listed}
+use Rattle.pay_group.proofs.ListVouching.{backed_listed}
 use Rattle.pay_group.proofs.laws.backed_is_listed.Goals as goal
 
 pub returns : goal.returns

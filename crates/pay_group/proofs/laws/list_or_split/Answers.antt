@@ -1,4 +1,4 @@
-use Rattle.pay_group.proofs.Vouching.{exists, not_both, one_list}
+use Rattle.pay_group.proofs.ListVouching.{exists, not_both, one_list}
 use Rattle.pay_group.proofs.laws.list_or_split.Goals as goal
 
 pub returns : goal.returns

@@ -1,0 +1,8 @@
+use Rattle.pay_group.specs.Text.{beyond_words}
+use Rattle.pay_group.proofs.Accounts.{one_more}
+use Rattle.pay_group.proofs.lines.push_export.Goals as goal
+
+pub loop-account-preserved : goal.loop-account-preserved
+loop-account-preserved c =
+    one_more _ (beyond_words c.args.book.now c.args.place c.args.export.now) c.loop-account.account _ _ c.loop-account.invariant
+    c.in_ok-push_beyond.ensures

@@ -1,0 +1,284 @@
+//! The lines of a group's book.
+
+ghost use Rattle.std.specs.Prelude.{◌≡◌, ◌<◌, ◌++◌, ◌^◌, OnOk, length, sum};
+ghost use Rattle.std.specs.List.{enumerate_from, flat_map, range_with_len};
+ghost use Rattle.pay_audit.specs.Findings.{payment_or_void};
+ghost use Rattle.pay_group.specs.Book.{AreOfSize};
+ghost use Rattle.pay_group.specs.Text.{account_words, against_words, all_export_words};
+ghost use Rattle.pay_group.specs.Text.{all_waiting_words, beyond_words, claim_words};
+ghost use Rattle.pay_group.specs.Text.{export_words, if_waits, lack_words};
+ghost use Rattle.pay_group.specs.Text.{shortfall_words, total_words, account_waiting_words};
+ghost use Rattle.pay_group.specs.Text.{waits_words};
+
+use crate::entries::numbered_entries;
+use pay_audit::{Export, difference_at};
+use pay_book::Entry;
+use pay_channel::Source;
+use pay_text::{push_number, push_word};
+use std::alloc::{AllocError, Global};
+
+/// How many entries of each account are settled, and its balance.
+pub(crate) fn push_accounts(out: &mut Vec<u8>, book: &Export) -> Result<(), AllocError>
+    ensures { OnOk result (out.new.items ≡ out.old.items
+        ++ flat_map (account_words book.now) (range_with_len 0 book.now.genesis.members)) }
+{
+    for account in 0..book.genesis().members() {
+        push_account(out, book, account)?;
+    }
+    Ok(())
+}
+
+#[tactic(auto, unfolding(crate::specs::Text::account_words))]
+fn push_account(out: &mut Vec<u8>, book: &Export, account: u16) -> Result<(), AllocError>
+    requires { account < book.now.genesis.members }
+    ensures { OnOk result (out.new.items ≡ out.old.items ++ account_words book.now account) }
+{
+    push_word(out, "account ")?;
+    push_number(out, u64::from(account))?;
+    push_word(out, " settled ")?;
+    push_number(out, book.front(account))?;
+    push_word(out, " balance ")?;
+    push_number(out, book.balance(account))?;
+    push_word(out, "\n")
+}
+
+/// What waits, account by account.
+pub(crate) fn push_all_waiting(
+    alloc: Global,
+    out: &mut Vec<u8>,
+    book: &Export,
+) -> Result<(), AllocError>
+    ensures { OnOk result (out.new.items ≡ out.old.items ++ all_waiting_words book.now) }
+{
+    for account in 0..book.genesis().members() {
+        push_waiting(alloc, out, book, account)?;
+    }
+    Ok(())
+}
+
+// An account's entries after its front.
+#[tactic(auto, unfolding(crate::specs::Text::account_waiting_words))]
+fn push_waiting(
+    alloc: Global,
+    out: &mut Vec<u8>,
+    book: &Export,
+    account: u16,
+) -> Result<(), AllocError>
+    requires { account < book.now.genesis.members }
+    ensures { OnOk result
+        (out.new.items ≡ out.old.items ++ account_waiting_words book.now account) }
+{
+    let entries = numbered_entries(alloc, book, book.genesis().members(), account)?;
+    push_those_that_wait(out, book, account, entries.as_slice())
+}
+
+fn push_those_that_wait(
+    out: &mut Vec<u8>,
+    book: &Export,
+    account: u16,
+    entries: &[(u32, Entry)],
+) -> Result<(), AllocError>
+    requires { account < book.now.genesis.members }
+    ensures { OnOk result (out.new.items ≡ out.old.items
+        ++ flat_map (if_waits book.now account) (enumerate_from 0 entries.now)) }
+{
+    for (number, numbered) in entries.iter().enumerate() {
+        push_if_waiting(out, book, account, number as u64, *numbered)?;
+    }
+    Ok(())
+}
+
+// An entry, if it isn't settled.
+fn push_if_waiting(
+    out: &mut Vec<u8>,
+    book: &Export,
+    account: u16,
+    number: u64,
+    numbered: (u32, Entry),
+) -> Result<(), AllocError>
+    requires { account < book.now.genesis.members }
+    ensures { OnOk result (out.new.items
+        ≡ out.old.items ++ if_waits book.now account (number, numbered)) }
+{
+    if number < book.front(account) {
+        return Ok(());
+    }
+    push_waits(out, book, account, number, numbered.0, numbered.1)
+}
+
+#[tactic(auto, unfolding(crate::specs::Text::waits_words))]
+fn push_waits(
+    out: &mut Vec<u8>,
+    book: &Export,
+    account: u16,
+    number: u64,
+    seq: u32,
+    entry: Entry,
+) -> Result<(), AllocError>
+    requires { account < book.now.genesis.members }
+    ensures { OnOk result (out.new.items
+        ≡ out.old.items ++ waits_words book.now account number seq entry) }
+{
+    push_word(out, "waits account ")?;
+    push_number(out, u64::from(account))?;
+    push_word(out, " entry ")?;
+    push_number(out, number)?;
+    push_word(out, " seq ")?;
+    push_number(out, u64::from(seq))?;
+    push_entry(out, entry)?;
+    push_lack(out, book, account, number, entry)?;
+    push_word(out, "\n")
+}
+
+#[tactic(auto, unfolding(pay_audit::specs::Findings::payment_or_void))]
+fn push_entry(out: &mut Vec<u8>, entry: Entry) -> Result<(), AllocError>
+    ensures { OnOk result (out.new.items ≡ out.old.items ++ payment_or_void entry) }
+{
+    match entry {
+        Entry::Pay { payee, amount } => {
+            push_word(out, " to ")?;
+            push_number(out, u64::from(payee))?;
+            push_word(out, " amount ")?;
+            push_number(out, amount)
+        }
+        Entry::Void => push_word(out, " void"),
+    }
+}
+
+// What the balance lacks of an account's first payment that waits.
+fn push_lack(
+    out: &mut Vec<u8>,
+    book: &Export,
+    account: u16,
+    number: u64,
+    entry: Entry,
+) -> Result<(), AllocError>
+    requires { account < book.now.genesis.members }
+    ensures { OnOk result (out.new.items
+        ≡ out.old.items ++ lack_words book.now account number entry) }
+{
+    if number == book.front(account) {
+        push_short(out, book.balance(account), entry)
+    } else {
+        Ok(())
+    }
+}
+
+#[tactic(auto, unfolding(crate::specs::Text::shortfall_words))]
+fn push_short(out: &mut Vec<u8>, balance: u64, entry: Entry) -> Result<(), AllocError>
+    ensures { OnOk result (out.new.items ≡ out.old.items ++ shortfall_words balance entry) }
+{
+    match entry {
+        Entry::Pay { amount, .. } => {
+            push_word(out, " short ")?;
+            push_number(out, amount.saturating_sub(balance))
+        }
+        Entry::Void => Ok(()),
+    }
+}
+
+/// What is beyond the book, export by export.
+pub(crate) fn push_all_exports(
+    out: &mut Vec<u8>,
+    book: &Export,
+    exports: &[Export],
+) -> Result<(), AllocError>
+    requires { AreOfSize book.now.genesis.members exports.now }
+    ensures { OnOk result (out.new.items ≡ out.old.items
+        ++ all_export_words book.now exports.now) }
+{
+    for (place, export) in exports.iter().enumerate() {
+        push_export(out, book, place as u64, export)?;
+    }
+    Ok(())
+}
+
+#[tactic(auto, unfolding(crate::specs::Text::export_words))]
+fn push_export(
+    out: &mut Vec<u8>,
+    book: &Export,
+    place: u64,
+    export: &Export,
+) -> Result<(), AllocError>
+    requires { export.now.genesis.members ≡ book.now.genesis.members }
+    ensures { OnOk result (out.new.items ≡ out.old.items
+        ++ export_words book.now place export.now) }
+{
+    for account in 0..book.genesis().members() {
+        push_beyond(out, book, place, export, account)?;
+    }
+    Ok(())
+}
+
+// Where an export has another value of an account within the group's list, or else goes on at its
+// end.
+#[tactic(auto, unfolding(crate::specs::Text::beyond_words))]
+fn push_beyond(
+    out: &mut Vec<u8>,
+    book: &Export,
+    place: u64,
+    export: &Export,
+    account: u16,
+) -> Result<(), AllocError>
+    requires book { account < book.now.genesis.members }
+    requires export { account < export.now.genesis.members }
+    ensures { OnOk result (out.new.items ≡ out.old.items
+        ++ beyond_words book.now place export.now account) }
+{
+    let end = book.length(account);
+    match difference_at(book, export, account) {
+        Some(seq) => push_claim(out, "differs", place, account, seq),
+        None => {
+            if end < export.length(account) {
+                push_claim(out, "beyond", place, account, end)
+            } else {
+                Ok(())
+            }
+        }
+    }
+}
+
+#[tactic(auto, unfolding(crate::specs::Text::claim_words))]
+fn push_claim(
+    out: &mut Vec<u8>,
+    word: &str,
+    place: u64,
+    account: u16,
+    seq: u32,
+) -> Result<(), AllocError>
+    ensures { OnOk result (out.new.items ≡ out.old.items
+        ++ claim_words word.now place account seq) }
+{
+    push_word(out, word)?;
+    push_word(out, " ")?;
+    push_number(out, place)?;
+    push_word(out, " account ")?;
+    push_number(out, u64::from(account))?;
+    push_word(out, " seq ")?;
+    push_number(out, u64::from(seq))?;
+    push_word(out, "\n")
+}
+
+/// What all balances are together.
+#[tactic(auto, unfolding(crate::specs::Text::total_words))]
+pub(crate) fn push_total(out: &mut Vec<u8>, book: &Export) -> Result<(), AllocError>
+    requires total { sum book.now.balances < 2 ^ 64 }
+    requires count { length book.now.balances ≡ book.now.genesis.members }
+    ensures { OnOk result (out.new.items ≡ out.old.items ++ total_words book.now) }
+{
+    push_word(out, "total ")?;
+    push_number(out, total(book))?;
+    push_word(out, "\n")
+}
+
+fn total(book: &Export) -> u64
+    requires total { sum book.now.balances < 2 ^ 64 }
+    requires count { length book.now.balances ≡ book.now.genesis.members }
+    ensures { result ≡ sum book.now.balances }
+{
+    let mut total = 0;
+    for account in 0..book.genesis().members() {
+        total += book.balance(account);
+    }
+    total
+}

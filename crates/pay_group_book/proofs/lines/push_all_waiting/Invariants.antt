@@ -1,8 +1,0 @@
-use Rattle.std.proofs.Common.{◌≡◌, ◌++◌}
-use Rattle.std.specs.List.{flat_map, range_with_len}
-use Rattle.pay_group_book.specs.Text.{account_waiting_words}
-use Rattle.pay_group_book.proofs.lines.push_all_waiting.Given as goal
-
--- what waits of the accounts so far
-abbrev pub invariant-loop-account : goal.invariant-loop-account
-invariant-loop-account l = (l.out.items ≡ l.fn.out.items ++ flat_map (account_waiting_words l.book) (range_with_len 0 l.account))

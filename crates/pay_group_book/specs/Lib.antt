@@ -1,3 +1,0 @@
-pub mod Book
-pub mod Text
-pub mod Laws
