@@ -1,5 +1,5 @@
 -- What a job is, by the rows of the command that was met; and that the program's command is simple.
-use Rattle.std.proofs.Common.{◌≡◌, List, [], Option, Some, None, Result, Ok, Err, option_map, true, refl, ap, ap₂, ◌∙◌, Bor}
+use Rattle.std.proofs.Common.{◌≡◌, List, [], Option, Some, None, Result, Ok, Err, option_map, true, false, refl, ap, ap₂, ◌∙◌, Bor}
 use Rattle.std.specs.Option.{unwrap_or}
 use Rattle.std.specs.Prelude.{IfOk, IsOkAnd}
 use Rattle.clap.specs.Words.{AddsArg, AddsSubcommand, App, Row, Rule, Text, is_simple, is_simple_and_free, with_rule, with_subcommand}
@@ -33,7 +33,7 @@ pub text_or : (lent : Option (Bor Text)) (other : Bor Text)
 text_or None other = refl
 text_or (Some s) other = refl
 
-pub view_of_job-none : (met : Option (Text × List Row)) → None ≡ option_map (λ p. p.1) met → check None None None ≡ job_of_command met
+pub view_of_job-none : (met : Option (Text × List Row)) → None ≡ option_map (λ p. p.1) met → check None None None false ≡ job_of_command met
 view_of_job-none None h = refl
 view_of_job-none (Some p) h = absurd cc
 

@@ -10,6 +10,7 @@ use Rattle.pay_link.specs.Keys.{KeyFields}
 use Rattle.pay_cli.specs.declared.progress.Progress.{Progress}
 use Rattle.pay_cli.specs.Lines.{Outcome, Taken, Wanted, Refused, progress_after, check_outcome, fronts_after}
 use Rattle.pay_cli.specs.CheckText.{at_start, known_after, outcomes, is_ok_from}
+use Rattle.pay_cli.specs.Values.{CheckerFields}
 use Rattle.pay_cli.proofs.Room.{length-fronts_after}
 
 -- one frame's part
@@ -43,16 +44,18 @@ progress_after-length : (k : KeyFields) (p : Progress) (f : FrameFields) → len
 unfolding progress_after
 progress_after-length k p f = length-fronts_after p.fronts f (check_outcome k p.fronts f)
 
-counts_from : (k : KeyFields) (p : Progress) (fs : List FrameFields) (member : ℕ) → member < length p.fronts → get_or (known_after k p fs).fronts member 0 ≡ get_or p.fronts member 0 + count_by (is_ok_from member) (outcomes k p fs)
-counts_from k p [] member lt = omega arith
-counts_from k p (f ∷ fs) member lt =
+counts_from : (q : CheckerFields) (p : Progress) (fs : List FrameFields) (member : ℕ) → member < length p.fronts → get_or (known_after q p fs).fronts member 0 ≡ get_or p.fronts member 0 + count_by (is_ok_from member) (outcomes q.keys p fs)
+counts_from q p [] member lt = omega arith
+counts_from q p (f ∷ fs) member lt =
+    let k = q.keys in
     let rest : ℕ = count_by (is_ok_from member) (outcomes k (progress_after k p f) fs) in
     let front = progress_after-front k p f member lt in
     let step : get_or (progress_after k p f).fronts member 0 + rest ≡ get_or p.fronts member 0 + (one_more member f (check_outcome k p.fronts f) + rest) = omega arith in
-    counts_from k (progress_after k p f) fs member (omega (arith, progress_after-length k p f)) ∙ step
+    counts_from q (progress_after k p f) fs member (omega (arith, progress_after-length k p f)) ∙ step
     ∙ ap (λ n. get_or p.fronts member 0 + n) (sym (sum_by-cons (one_of member) (f, check_outcome k p.fronts f) (outcomes k (progress_after k p f) fs)))
 
-pub counts : (k : KeyFields) (fs : List FrameFields) (member : ℕ) → member < length k.keys → get_or (known_after k (at_start k) fs).fronts member 0 ≡ count_by (is_ok_from member) (outcomes k (at_start k) fs)
-counts k fs member lt =
+pub counts : (q : CheckerFields) (fs : List FrameFields) (member : ℕ) → member < length q.keys.keys → get_or (known_after q (at_start q.keys) fs).fronts member 0 ≡ count_by (is_ok_from member) (outcomes q.keys (at_start q.keys) fs)
+counts q fs member lt =
+    let k = q.keys in
     let zero-front : get_or (replicate (length k.keys) 0) member 0 ≡ 0 = get_or-replicate {A = ℕ} (length k.keys) member 0 0 lt in
-    omega (arith, counts_from k (at_start k) fs member (omega (arith, length-replicate {A = ℕ} (length k.keys) 0)))
+    omega (arith, counts_from q (at_start k) fs member (omega (arith, length-replicate {A = ℕ} (length k.keys) 0)))

@@ -9,8 +9,9 @@ use Rattle.pay_link.specs.Keys.{KeyFields}
 use Rattle.pay_cli.specs.declared.progress.Progress.{Progress}
 use Rattle.pay_cli.specs.CheckText.{HasCheckText, at_start, checking}
 use Rattle.pay_cli.specs.Engine.{WritesCheckText, check_start}
+use Rattle.pay_cli.specs.Values.{CheckerFields}
 
-pub nothing_written : (k : KeyFields) → ((bytes : List ℕ) → IsBytes bytes → HasCheckText k bytes) → (r w : Option (List ℕ)) → WritesBeginning (checking k) (check_start k r w) w
+pub nothing_written : (k : CheckerFields) → ((bytes : List ℕ) → IsBytes bytes → HasCheckText k bytes) → (r w : Option (List ℕ)) → WritesBeginning (checking k) (check_start k.keys r w) w
 nothing_written k every None w = tt
 nothing_written k every (Some bytes) w = λ is.
     let some = every bytes is in
@@ -27,6 +28,6 @@ pub is_at_start : (k : KeyFields) (members : ℕ) (p : Progress) → p ≡ recor
 is_at_start k members p new each = new ∙ ap (λ (n : ℕ). let first : Progress = record { fronts = replicate n 0; line = 1 } in first) each
 
 -- an engine that began there writes the text of `check`
-pub text_from_start : (k : KeyFields) (p known : Progress) (input before left after : Option (List ℕ)) (result : Result ⊤ EngineFault)
-    → p ≡ at_start k → EngineWrites (checking k) (record { first = []; state = p; input = input; before = before }) known left after result → WritesCheckText k input left before after result
-text_from_start k p known input before left after result start writes = (known, subst (λ (q : Progress). EngineWrites (checking k) (record { first = []; state = q; input = input; before = before }) known left after result) start writes)
+pub text_from_start : (k : CheckerFields) (p known : Progress) (input before left after : Option (List ℕ)) (result : Result ⊤ EngineFault)
+    → p ≡ at_start k.keys → EngineWrites (checking k) (record { first = []; state = p; input = input; before = before }) (record { state = known; left = left; after = after }) result → WritesCheckText k input left before after result
+text_from_start k p known input before left after result start writes = (known, subst (λ (q : Progress). EngineWrites (checking k) (record { first = []; state = q; input = input; before = before }) (record { state = known; left = left; after = after }) result) start writes)

@@ -1,6 +1,6 @@
--- The text of `check` for a list of bytes: a line for each frame of the stream, and one for the
--- fault that it ends with.
-use Rattle.std.specs.Prelude.{ℕ, Bool, false, ◌==◌, List, [], ◌∷◌, length, replicate, Option}
+-- The text of `check` for a list of bytes: a line for each frame of the stream, behind it one for
+-- what its value pays, where that is asked, and one for the fault that the stream ends with.
+use Rattle.std.specs.Prelude.{ℕ, Bool, false, ◌==◌, List, [], ◌∷◌, ◌++◌, length, replicate, Option}
 use Rattle.pay_frame.specs.declared.fault.FrameFault.{FrameFault}
 use Rattle.pay_frame.specs.Frame.{FrameFields}
 use Rattle.pay_engine.specs.Exact.{Function, IsText, state_after}
@@ -9,12 +9,17 @@ use Rattle.pay_cli.specs.declared.progress.Progress.{Progress}
 use Rattle.pay_cli.specs.Lines.{Outcome, Taken, Wanted, Refused, check_outcome, line_of}
 use Rattle.pay_cli.specs.Lines.{progress_after}
 use Rattle.pay_cli.specs.Lines.{fault_line}
+use Rattle.pay_cli.specs.Values.{CheckerFields, value_line}
 
--- a line for each frame, and the one of a fault
-abbrev pub checking : KeyFields → Function Progress
-checking k = record {
-  after = progress_after k;
-  text = line_of k;
+-- a frame's line, and that of its value
+abbrev pub frame_lines : CheckerFields → Progress → FrameFields → List ℕ
+frame_lines q p f = line_of q.keys p f ++ value_line q f
+
+-- the lines of each frame, and the one of a fault
+abbrev pub checking : CheckerFields → Function Progress
+checking q = record {
+  after = progress_after q.keys;
+  text = frame_lines q;
   fault_text = λ p fault. fault_line p.line fault;
 }
 
@@ -23,20 +28,20 @@ abbrev pub at_start : KeyFields → Progress
 at_start k = record { fronts = replicate (length k.keys) 0; line = 1 }
 
 -- what is known after some frames
-abbrev pub known_after : KeyFields → Progress → List FrameFields → Progress
-known_after k p frames = state_after (checking k) p frames
+abbrev pub known_after : CheckerFields → Progress → List FrameFields → Progress
+known_after q p frames = state_after (checking q) p frames
 
 -- the text of these bytes, and the fault that it ends with
-pub record IsCheckText (k : KeyFields) (bytes text : List ℕ) (ending : Option FrameFault)
+pub record IsCheckText (q : CheckerFields) (bytes text : List ℕ) (ending : Option FrameFault)
     : Type 0 where
   pub known : Progress
-  pub is : IsText (checking k) [] (at_start k) known bytes text ending
+  pub is : IsText (checking q) [] (at_start q.keys) known bytes text ending
 
 -- some text is it
-pub record HasCheckText (k : KeyFields) (bytes : List ℕ) : Type 0 where
+pub record HasCheckText (q : CheckerFields) (bytes : List ℕ) : Type 0 where
   pub text : List ℕ
   pub ending : Option FrameFault
-  pub is : IsCheckText k bytes text ending
+  pub is : IsCheckText q bytes text ending
 
 -- ---- how the next numbers come about
 

@@ -8,6 +8,7 @@ use Rattle.pay_engine.specs.Exact.{Writes as EngineWrites}
 use Rattle.pay_link.specs.Keys.{KeyFields}
 use Rattle.pay_cli.specs.declared.progress.Progress.{Progress}
 use Rattle.pay_cli.specs.Lines.{progress_after}
+use Rattle.pay_cli.specs.Values.{CheckerFields}
 use Rattle.pay_cli.specs.CheckText.{checking, at_start}
 
 -- nothing is written before the first line
@@ -18,11 +19,12 @@ check_start k input before =
 -- What is written, by how the engine ended: the whole text at the input's end, or up to the fault
 -- in what was read; else a prefix of it.
 abbrev pub WritesCheckText :
-    KeyFields → Option (List ℕ) → Option (List ℕ) → Option (List ℕ) → Option (List ℕ)
+    CheckerFields → Option (List ℕ) → Option (List ℕ) → Option (List ℕ) → Option (List ℕ)
     → Result ⊤ EngineFault → Type 0
-WritesCheckText k input left before after result =
+WritesCheckText q input left before after result =
     (known : Progress)
-    × EngineWrites (checking k) (check_start k input before) known left after result
+    × EngineWrites (checking q) (check_start q.keys input before)
+    (record { state = known; left = left; after = after }) result
 
 -- There is a front for each member, none has come further than the lines, and one line more can be
 -- counted.

@@ -8,7 +8,7 @@ use Rattle.pay_frame.specs.declared.kind.Kind.{Kind}
 use Rattle.pay_frame.specs.declared.kind.Kind.TheVariants.{Send, Echo, Ready, Want}
 use Rattle.pay_frame.specs.Frame.{FrameFields, frame_bytes}
 use Rattle.pay_frame.specs.Stream.{IsFramesThen}
-use Rattle.pay_engine.specs.Exact.{Function, state_after, texts_from}
+use Rattle.pay_engine.specs.Exact.{state_after, texts_from}
 use Rattle.pay_link.specs.declared.link_fault.LinkFault.{LinkFault}
 use Rattle.pay_link.specs.Fronts.{turn}
 use Rattle.pay_link.specs.Keys.{KeyFields}
@@ -18,6 +18,7 @@ use Rattle.pay_cli.specs.declared.progress.Progress.{Progress}
 use Rattle.pay_cli.specs.declared.finding.Turn.{Turn}
 use Rattle.pay_cli.specs.declared.finding.Finding.{Finding}
 use Rattle.pay_cli.specs.CheckText.{checking}
+use Rattle.pay_cli.specs.Values.{CheckerFields, value_line}
 use Rattle.pay_cli.specs.Lines.{ok_words, want_words, link_refused_words}
 
 -- the words of a frame that opened, where it is its sender's turn
@@ -49,35 +50,35 @@ frame_words k f = judged_words f (judgement k f)
 abbrev pub turn_of : KeyFields → FrameFields → Option Turn
 turn_of k f = judged_turn f (judgement k f)
 
-abbrev pub finding_of : KeyFields → FrameFields → Finding
-finding_of k f = record { size = length (frame_words k f); turn = turn_of k f }
+-- these words, and the line of its value behind them
+abbrev pub words_and_value : CheckerFields → FrameFields → List ℕ
+words_and_value q f = frame_words q.keys f ++ value_line q f
 
--- a finding for each frame, and its words
-abbrev pub judging : KeyFields → Function (List Finding)
-judging k = record {
-  after = λ findings f. findings ++ finding_of k f ∷ [];
-  text = λ findings f. frame_words k f;
-  fault_text = λ findings fault. [];
+abbrev pub finding_of : CheckerFields → FrameFields → Finding
+finding_of q f = record {
+  size = length (frame_words q.keys f);
+  value_size = length (value_line q f);
+  turn = turn_of q.keys f;
 }
 
 -- all findings and all words of some frames
-pub record IsJudged (k : KeyFields) (fs : List FrameFields) (judged : Judged) : Type 0 where
-  pub findings : judged.findings ≡ map (finding_of k) fs
-  pub words : judged.words.items ≡ flat_map (frame_words k) fs
+pub record IsJudged (q : CheckerFields) (fs : List FrameFields) (judged : Judged) : Type 0 where
+  pub findings : judged.findings ≡ map (finding_of q) fs
+  pub words : judged.words.items ≡ flat_map (words_and_value q) fs
 
 -- so in parts, one after the other
-abbrev pub AreJudged : KeyFields → List FrameFields → List Judged → Type 0
-AreJudged k fs [] = fs ≡ []
-AreJudged k fs (judged ∷ behind) =
+abbrev pub AreJudged : CheckerFields → List FrameFields → List Judged → Type 0
+AreJudged q fs [] = fs ≡ []
+AreJudged q fs (judged ∷ behind) =
     (first : List FrameFields) × (others : List FrameFields) × (fs ≡ first ++ others)
-    × IsJudged k first judged × AreJudged k others behind
+    × IsJudged q first judged × AreJudged q others behind
 
 -- of the frames that the bytes are
 abbrev pub JudgesAll :
-    KeyFields → List ℕ → Result (Vec Judged Global) AllocError → Type 0
-JudgesAll k bytes result =
+    CheckerFields → List ℕ → Result (Vec Judged Global) AllocError → Type 0
+JudgesAll q bytes result =
     (fs : List FrameFields) → IsFramesThen bytes fs []
-    → IfOk result (λ parts. AreJudged k fs parts.items)
+    → IfOk result (λ parts. AreJudged q fs parts.items)
 
 -- some of the frames end there
 pub record IsCut (fs : List FrameFields) (at : ℕ) : Type 0 where
@@ -120,17 +121,21 @@ abbrev pub line_in_turn : Progress → Option Turn → List ℕ → List ℕ
 line_in_turn p turn words =
     decimal p.line ++ words_in_turn p.fronts turn words ++ codes "\n"
 
+-- and the line of its value
+abbrev pub lines_in_turn : Progress → Option Turn → List ℕ → List ℕ → List ℕ
+lines_in_turn p turn words value = line_in_turn p turn words ++ value
+
 abbrev pub moved_in_turn : Progress → Option Turn → Progress
 moved_in_turn p turn = record { fronts = fronts_in_turn p.fronts turn; line = p.line + 1 }
 
 -- The lines of some frames are written, all of them; where memory is refused, the first of them
 -- were counted.
 abbrev pub Pushes :
-    KeyFields → Progress → Progress → List FrameFields → List ℕ → List ℕ → Result ⊤ AllocError
+    CheckerFields → Progress → Progress → List FrameFields → List ℕ → List ℕ → Result ⊤ AllocError
     → Type 0
-Pushes k before after fs old new (Ok _) =
-    (after ≡ state_after (checking k) before fs)
-    × (new ≡ old ++ texts_from (checking k) before fs)
-Pushes k before after fs old new (Err _) =
+Pushes q before after fs old new (Ok _) =
+    (after ≡ state_after (checking q) before fs)
+    × (new ≡ old ++ texts_from (checking q) before fs)
+Pushes q before after fs old new (Err _) =
     (first : List FrameFields) × (others : List FrameFields) × (fs ≡ first ++ others)
-    × (after ≡ state_after (checking k) before first)
+    × (after ≡ state_after (checking q) before first)

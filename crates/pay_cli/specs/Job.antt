@@ -14,6 +14,7 @@ use Rattle.pay_cli.specs.declared.job.Job.{Job}
 use Rattle.pay_cli.specs.declared.job.Job.TheVariants.{Check, Desk, Node, Send, Export, Audit, Book}
 use Rattle.pay_cli.specs.declared.job.Job.TheVariants.{Statement, Journal, Sim}
 
+-- change: a word or an option of the program: `src/words.rt`
 -- an option that takes a word
 abbrev pub option_rule : Text → Rule
 option_rule name = record (new_rule name) { long = Some name; value_names = 1 }
@@ -26,13 +27,16 @@ required_rule name = record (option_rule name) { required = true }
 abbrev pub flag_rule : Text → Rule
 flag_rule name = record (new_rule name) { long = Some name; action = Some SetTrue }
 
--- `check`, which takes a genesis, keys and a count of threads
+-- `check`, which takes a genesis, keys and a count of threads, and tells of values what they pay
+-- where that is asked for
 abbrev pub check_app : App
 check_app =
     with_rule
+    (with_rule
     (with_rule (with_rule (new_app (codes "check")) (option_rule (codes "genesis")))
     (option_rule (codes "keys")))
-    (option_rule (codes "jobs"))
+    (option_rule (codes "jobs")))
+    (flag_rule (codes "values"))
 
 -- `desk`, which needs both
 abbrev pub desk_app : App
@@ -65,12 +69,13 @@ node_app =
 abbrev pub lines_rule : Rule
 lines_rule = record (new_rule (codes "lines")) { action = Some Append; value_names = 1 }
 
--- `send`, which takes a folder, a socket and lines
+-- `send`, which takes a folder, a socket, a time and lines
 abbrev pub send_app : App
 send_app =
-    with_rule (with_rule (with_rule (new_app (codes "send")) lines_rule)
+    with_rule (with_rule (with_rule (with_rule (new_app (codes "send")) lines_rule)
     (option_rule (codes "data")))
-    (option_rule (codes "socket"))
+    (option_rule (codes "socket")))
+    (option_rule (codes "timeout"))
 
 -- `export`, which needs both, and a folder
 abbrev pub export_app : App
@@ -158,15 +163,15 @@ pub record IsArgument (o : Arg) (r : Rule) : Type 0 where
   pub global : o.global ≡ false
 
 -- a command, and what it is given: the names of files, of a folder and of a socket, an account, a
--- date, lines, and the words that say the threads of a check or an audit, whether the audit names
--- all that is wrong, how a book is written, and of a node its dials, how many frames it asks for
--- ahead, whether its member is made, and whether it stays
+-- date, lines, and the words that say the threads of a check or an audit, whether the check tells
+-- what values pay, whether the audit names all that is wrong, how a book is written, and of a node
+-- its dials, how many frames it asks for ahead, whether its member is made, and whether it stays
 pub data Asked : Type 0 where
-  check : Option Text → Option Text → Option Text → Asked
+  check : Option Text → Option Text → Option Text → Bool → Asked
   desk : Text → Text → Asked
   node : Text → Text → Text → Option Text → Option Text → Option Text → Bool → Bool → Option Text
       → Asked
-  sent : List Text → Option Text → Option Text → Asked
+  sent : List Text → Option Text → Option Text → Option Text → Asked
   exported : Text → Text → Text → Asked
   audit : List Text → Option Text → Bool → Asked
   book : List Text → Bool → Bool → Asked
@@ -176,9 +181,9 @@ pub data Asked : Type 0 where
 
 -- what a job is, by the texts that it lends
 abbrev pub view_of_job : Job → Asked
-view_of_job (Check genesis keys jobs) =
+view_of_job (Check genesis keys jobs tells_values) =
     check (option_map (λ name. name.now) genesis) (option_map (λ name. name.now) keys)
-    (option_map (λ word. word.now) jobs)
+    (option_map (λ word. word.now) jobs) tells_values
 view_of_job (Desk genesis keys) = desk genesis.now keys.now
 view_of_job (Node words) =
     node words.genesis.now words.keys.now words.ports.now
@@ -189,6 +194,7 @@ view_of_job (Node words) =
 view_of_job (Send words) =
     sent (map (λ line. line.now) words.lines.items) (option_map (λ name. name.now) words.folder)
     (option_map (λ name. name.now) words.socket)
+    (option_map (λ word. word.now) words.timeout)
 view_of_job (Export genesis keys folder) = exported genesis.now keys.now folder.now
 view_of_job (Audit files jobs all) =
     audit (map (λ name. name.now) files.items) (option_map (λ word. word.now) jobs) all
@@ -199,11 +205,15 @@ view_of_job (Statement export account) =
 view_of_job (Journal export date) = journal export.now (option_map (λ word. word.now) date)
 view_of_job Sim = sim
 
+-- whether a flag is given
+abbrev pub is_set : Text → List Row → Bool
+is_set flag rows = option_map_or (λ word. bytes_eq word (codes "true")) (first_of flag rows) false
+
 -- what the words of a command ask for
 abbrev pub check_asked : List Row → Asked
 check_asked rows =
     check (first_of (codes "genesis") rows) (first_of (codes "keys") rows)
-    (first_of (codes "jobs") rows)
+    (first_of (codes "jobs") rows) (is_set (codes "values") rows)
 
 -- the value of an option that has to be there: the words aren't read without it
 abbrev pub required_text : Text → List Row → Text
@@ -211,10 +221,6 @@ required_text option rows = unwrap_or (first_of option rows) []
 
 abbrev pub desk_asked : List Row → Asked
 desk_asked rows = desk (required_text (codes "genesis") rows) (required_text (codes "keys") rows)
-
--- whether a flag is given
-abbrev pub is_set : Text → List Row → Bool
-is_set flag rows = option_map_or (λ word. bytes_eq word (codes "true")) (first_of flag rows) false
 
 abbrev pub node_asked : List Row → Asked
 node_asked rows =
@@ -229,6 +235,7 @@ texts_of_lines rows = unwrap_or (all_of (codes "lines") rows) []
 abbrev pub send_asked : List Row → Asked
 send_asked rows =
     sent (texts_of_lines rows) (first_of (codes "data") rows) (first_of (codes "socket") rows)
+    (first_of (codes "timeout") rows)
 
 abbrev pub export_asked : List Row → Asked
 export_asked rows =
@@ -266,8 +273,10 @@ asked_of name rows =
     else check_asked rows
 
 -- what the command that was met asks for; without one it is `check`
+-- page: `job_of_command`: a job is what the words ask for, as `clap` describes a simple command
 abbrev pub job_of_command : Option (Text × List Row) → Asked
-job_of_command command = option_map_or (λ met. asked_of met.0 met.1) command (check None None None)
+job_of_command command =
+    option_map_or (λ met. asked_of met.0 met.1) command (check None None None false)
 
 -- what these words ask for, the program's name the first of them
 abbrev pub job_of_words : List Text → Asked

@@ -1,4 +1,5 @@
 pub mod Lines
+pub mod Values
 pub mod CheckText
 pub mod Engine
 pub mod Findings

@@ -1,10 +1,11 @@
-ghost use Rattle.std.specs.Prelude.{◌≡◌, List, []};
+ghost use Rattle.std.specs.Prelude.{◌≡◌, ◌≤◌, List, [], length, take};
 ghost use Rattle.pay_frame.specs.Frame.{FrameFields};
 ghost use Rattle.pay_frame.specs.Stream.{IsFramesThen};
 ghost use Rattle.pay_engine.specs.Exact.{exactly};
 ghost use Rattle.pay_cli.specs.CheckText.{checking};
 ghost use Rattle.pay_cli.specs.Engine.{HasRoom};
 ghost use Rattle.pay_cli.specs.Findings.{JudgesAll};
+ghost use Rattle.pay_cli.specs.Values.{checker_of};
 ghost use Rattle.std.proofs.Common.{subst, sym};
 ghost use Rattle.std.proofs.Math.Numerals.{add-one};
 
@@ -12,8 +13,8 @@ use crate::checking::Checking;
 use crate::judging::Judged;
 use crate::progress::Progress;
 use crate::turns::push_parts;
-use pay_engine::{FrameHandler, GREATEST_READ};
-use pay_frame::{FrameFault, FrameRef, frame_sizes};
+use pay_engine::{FrameHandler, GREATEST_READ, Handled, Next};
+use pay_frame::{FrameFault, FrameRef, frame_sizes, frames_in_front, stream_grows};
 use pay_hmac::Tagger;
 use std::alloc::{AllocError, Global};
 use std::marker::Model;
@@ -49,7 +50,7 @@ impl Shared {
     }
 }
 
-/// Writes what `Checking` does, and has a large batch judged by several threads, which `judge`
+/// Writes what `Checking` does, and has many frames judged by several threads, which `judge`
 /// starts.
 #[derive(Drop)]
 pub(crate) struct OverCores<'a, T, F> {
@@ -62,24 +63,20 @@ where
     T: Tagger,
     F: Fn(&[u8], Vec<Judged>) -> Result<Vec<Judged>, AllocError>,
 {
-    ghost handling = { λ c. exactly (checking c.checking.keys.now) };
+    ghost handling = { λ c. exactly (checking (checker_of c.checking.checker.now)) };
 
     // There is room for so many lines, and whole frames can be judged.
-    ghost has_room = { λ c p n. HasRoom c.checking.keys.now p n
+    ghost has_room = { λ c p n. HasRoom c.checking.checker.now.keys.now p n
         × ((frames : _) → ((fs : List FrameFields) × IsFramesThen frames.now fs [])
         → (before : _) → F.pre c.judge.now frames before
         × ((r : _) → F.post c.judge.now frames before r
-        → JudgesAll c.checking.keys.now frames.now r)) };
+        → JudgesAll (checker_of c.checking.checker.now) frames.now r)) };
 
     ghost keeps_room = { λ c p q f text n step room. (
-      subst (λ s. HasRoom c.checking.keys.now s n) (sym step.0)
-          ((subst (HasRoom c.checking.keys.now p) (add-one n) room.0).1 f),
+      subst (λ s. HasRoom c.checking.checker.now.keys.now s n) (sym step.0)
+          ((subst (HasRoom c.checking.checker.now.keys.now p) (add-one n) room.0).1 f),
       room.1,
     ) };
-
-    fn at_once(&self, _held: &[u8]) -> usize {
-        usize::MAX
-    }
 
     // As much as there may be, so that there is something to share.
     fn buffer_size(&self) -> usize {
@@ -97,35 +94,53 @@ where
             .handle(alloc, &mut shared.progress, frame, out)
     }
 
-    fn handle_batch(
+    fn handle_front(
         &self,
         alloc: Global,
         shared: &mut Shared,
-        frames: &[u8],
+        held: &[u8],
         out: &mut Vec<u8>,
-    ) -> Result<bool, AllocError> {
-        // a law that the proof stands on: the call does nothing
+    ) -> Result<Handled, AllocError> {
+        // laws that the proof stands on: the calls do nothing
         frame_sizes();
-        if frames.len() < 2 * LEAST_PART {
+        stream_grows();
+        let size = size_in_front(held);
+        if size < 2 * LEAST_PART {
             return self
                 .checking
-                .handle_batch(alloc, &mut shared.progress, frames, out);
+                .handle_front(alloc, &mut shared.progress, held, out);
         }
         let before = mem::replace(&mut shared.judged, Vec::new(alloc));
-        match (self.judge)(frames, before) {
+        match (self.judge)(&held[..size], before) {
             Ok(judged) => {
                 push_parts(out, &mut shared.progress, judged.as_slice())?;
                 shared.judged = judged;
-                Ok(true)
+                Ok(Handled {
+                    size,
+                    next: Next::Frame,
+                })
             }
             // they may still be judged one by one, which takes less memory
             Err(_) => self
                 .checking
-                .handle_batch(alloc, &mut shared.progress, frames, out),
+                .handle_front(alloc, &mut shared.progress, held, out),
         }
     }
 
     fn end(&self, shared: &Shared, fault: FrameFault, out: &mut Vec<u8>) -> Result<(), AllocError> {
         self.checking.end(&shared.progress, fault, out)
+    }
+}
+
+/// How many bytes the whole frames have that these bytes begin with.
+fn size_in_front(held: &[u8]) -> usize
+    ensures within { result ≤ length held.now }
+    ensures whole { (fs : List FrameFields) × IsFramesThen (take result held.now) fs [] }
+{
+    // a law that the proof stands on: the call does nothing
+    stream_grows();
+    match frames_in_front(held, usize::MAX) {
+        Ok((size, _)) => size,
+        Err(_) => 0,
     }
 }

@@ -12,11 +12,12 @@ pub struct Turn {
     pub number: u64,
 }
 
-/// How many bytes the words of a frame's line have, and whose turn has to be for the line to say
-/// them.
+/// How many bytes the words of a frame's line have, and what is told of its value, and whose turn
+/// has to be for the line to say them.
 #[derive(Clone, Copy, Debug, PartialEq, Eq)]
 pub struct Finding {
     pub size: usize,
+    pub value_size: usize,
     pub turn: Option<Turn>,
 }
 

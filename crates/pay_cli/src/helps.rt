@@ -1,9 +1,10 @@
 //! What the program says of itself and of its commands.
 
 /// What is said where a word isn't UTF-8, which `clap` never sees.
-pub const NOT_UTF8: &str = "error: a word is not UTF-8\n\nFor more information, try '--help'.";
+pub const NOT_UTF8: &str = "a word is not UTF-8\n\nFor more information, try '--help'.";
 
-pub(crate) const VERSION: &str = "0.1.0";
+/// The program's version.
+pub const VERSION: &str = "0.1.0";
 
 pub(crate) const ABOUT: &str = "A payment ledger without consensus";
 
@@ -25,6 +26,9 @@ Output: a line for each frame, numbered from 1.
   K refused C NAME next M                           5 Repeat, 6 Gap: M is the next number from P
   K fault C NAME                                    no frame; the last line
 
+--values adds a line behind that of each frame but a WANT, whatever became of it:
+    pays PAYEE AMOUNT ..   a pair for each entry of its value, and void for one that moves nothing
+
 Status: 0 at the input's end, 1 after a fault, 2 for words or a file that can't be read, 3 where memory,
 a read or a write fails, or after 1,000,000 reads.
 
@@ -39,6 +43,7 @@ most.
   PAY ID TO AMOUNT   pays an account, once under this ID: the same line again has the same answer
   PAYS ID TO AMOUNT ..
                      the same, of 1 to 32 payments in one value
+  NOTE ID TEXT       says this in the own name, which all in the group can read, once under this ID
   BALANCE A          an account's balance
   STATE OWNER SEQ    what became of the payment under a number of an account
   STATEMENT A        all that settled of an account, and what was paid to it
@@ -51,8 +56,8 @@ Output: the answer to each line.
   balance A B
   state OWNER SEQ WORD            unknown, asked, waiting or settled
   out SEQ to PAYEE AMOUNT, void SEQ, in OWNER SEQ AMOUNT, end A balance B
-  entry A E seq S to PAYEE AMOUNT, entry A E seq S void, end A E
-  waiting A E seq S to PAYEE AMOUNT, waiting A E seq S void, end A short B
+  entry A E seq S WHAT, end A E   to PAYEE AMOUNT, void, or note TEXT
+  waiting A E seq S WHAT, end A short B
   front F0 F1 ..
   refused C NAME                  1 BadLine, 2 NoAccount, 3 ZeroOrSelf, 4 IdUsed, 5 Spent, 0 Memory
 
@@ -87,7 +92,8 @@ that takes no answer for as long.
 The socket's name has 101 bytes at most.
 
 A node with a folder writes its figures to FOLDER/status.prom, in Prometheus' text format, every 5 seconds,
-and removes the file at its end.
+and removes the file at its end. It appends to FOLDER/times when it saw entries settle, and has copies of
+the files of --genesis and --keys there, group.json and keys.json.
 
 The member listens on its own port of 127.0.0.1 and dials those of all others, a thousand times some
 10 milliseconds apart and again after each connection that brought a frame. So a group's nodes are
@@ -98,7 +104,7 @@ The pauses then grow from 10 milliseconds to a second, each twice the one before
 the system gives out by itself, mostly 32768 and more, are best.
 
 Standard error has a line that says which member of which group this is, and one when a peer is met, is
-lost, is given up, or when a frame in its name doesn't open: payd: peer 2 met.
+lost, is given up, lied, or when a frame in its name doesn't open: payd: peer 2 met.
 
 Of each peer as many as 256 frames are asked for before the first of them is there, or with --ahead:
   --ahead COUNT    so many, from 1 to 1024: more over a longer way; with 1 each takes it to and fro
@@ -120,13 +126,14 @@ Output: the answers, in order, each once it is there. Of an answer that refuses 
 names the ID, and of another one the line's number: payd: refused 7: 4 IdUsed.
 
 Status: 0 where no line was refused, 1 where one was, 2 for words that can't be read, 3 where nobody
-listens there, where the node ended before it answered, or where memory, a read or a write fails, or
-after 1,000,000 reads. A line that wasn't answered may be given again: under its ID it pays once.
+listens there or the socket is another user's, where the node ended before it answered or a line has no
+answer after 10 seconds (--timeout), or where memory, a read or a write fails, or after 1,000,000 reads.
+A line that wasn't answered may be given again: under its ID it pays once.
 
 Example: payd send --data member 'PAY 7 1 30' FRONT";
 
 pub(crate) const EXPORT_ABOUT: &str =
-    "Writes the export of a member that a node keeps in a folder, while no node has it";
+    "Writes the export of a member that a node keeps in a folder, also while it runs";
 
 pub(crate) const EXPORT_HELP: &str = "\
 Input: the folder that payd node --data was given, and its files of genesis and keys. Nothing in it changes,

@@ -4,11 +4,13 @@
 #[derive(Drop)]
 pub enum Job<'a> {
     /// Judge the frames on standard input, as a member of this genesis with these keys, each read
-    /// from the file of this name, by as many threads as this word says.
+    /// from the file of this name, by as many threads as this word says; and tell what values pay,
+    /// if that is asked.
     Check {
         genesis: Option<&'a str>,
         keys: Option<&'a str>,
         jobs: Option<&'a str>,
+        tells_values: bool,
     },
     /// Answer the lines on standard input, as the desk of the member with these keys, each read
     /// from the file of this name.
@@ -81,4 +83,6 @@ pub struct SendWords<'a> {
     /// The folder or the socket of the node.
     pub folder: Option<&'a str>,
     pub socket: Option<&'a str>,
+    /// For how many seconds an answer is waited for.
+    pub timeout: Option<&'a str>,
 }

@@ -4,65 +4,25 @@ ghost use Rattle.std.specs.Prelude.{◌≡◌, ◌++◌, ℕ, List, [], IfOk, On
 ghost use Rattle.pay_frame.specs.Frame.{FrameFields};
 ghost use Rattle.pay_frame.specs.Lent.{fields_of};
 ghost use Rattle.pay_frame.specs.Stream.{IsFramesThen};
-ghost use Rattle.pay_engine.specs.Exact.{exactly};
-ghost use Rattle.pay_cli.specs.Findings.{IsJudged, judging, opened_turn, opened_words, turn_of};
-ghost use Rattle.pay_cli.specs.Findings.{frame_words};
+ghost use Rattle.pay_cli.specs.Findings.{IsJudged, finding_of, opened_turn, opened_words, turn_of};
+ghost use Rattle.pay_cli.specs.Findings.{frame_words, words_and_value};
+ghost use Rattle.pay_cli.specs.Values.{checker_of};
 
+use crate::checker::Checker;
 use crate::finding::{Finding, Findings, Turn};
 use crate::lines::{push_ok, push_refused, push_want};
-use pay_engine::FrameHandler;
-use pay_frame::{FrameFault, FrameRef, Kind};
+use crate::values::push_told;
+use pay_frame::{FrameRef, Kind, frame_sizes, read, read_again};
 use pay_hmac::Tagger;
 use pay_link::{Keys, laws, open};
 use std::alloc::{AllocError, Global};
 
-/// The findings of some frames, and the words of their lines, one after the other.
+/// The findings of some frames, and the words of their lines and what is told of their values, one
+/// after the other.
 #[derive(Drop)]
 pub struct Judged {
     pub findings: Findings,
     pub words: Vec<u8>,
-}
-
-/// Judges frames by these keys.
-#[derive(Drop)]
-pub struct Judging<'a, T> {
-    pub tagger: &'a T,
-    pub keys: &'a Keys,
-}
-
-impl<T: Tagger> FrameHandler<Findings> for Judging<'_, T> {
-    ghost handling = { λ j. exactly (judging j.keys.now) };
-
-    ghost has_room = { λ _ _ _. Unit {0} };
-
-    ghost keeps_room = { λ _ _ _ _ _ _ _ _. tt };
-
-    fn at_once(&self, _held: &[u8]) -> usize {
-        usize::MAX
-    }
-
-    fn handle(
-        &self,
-        _alloc: Global,
-        findings: &mut Findings,
-        frame: FrameRef<'_>,
-        words: &mut Vec<u8>,
-    ) -> Result<bool, AllocError> {
-        let before = words.len();
-        let turn = push_words(words, self.tagger, self.keys, frame)?;
-        let size = words.len() - before;
-        findings.push(Finding { size, turn })?;
-        Ok(true)
-    }
-
-    fn end(
-        &self,
-        _findings: &Findings,
-        _fault: FrameFault,
-        _words: &mut Vec<u8>,
-    ) -> Result<(), AllocError> {
-        Ok(())
-    }
 }
 
 impl Judged {
@@ -82,23 +42,59 @@ impl Judged {
 pub fn judge<T: Tagger>(
     alloc: Global,
     t: &T,
-    keys: &Keys,
+    checker: &Checker<'_>,
     frames: &[u8],
     before: Judged,
 ) -> Result<Judged, AllocError>
     requires whole { (fs : List FrameFields) × IsFramesThen frames.now fs [] }
     ensures judged { (fs : List FrameFields) → IsFramesThen frames.now fs []
-        → IfOk result (IsJudged keys.now fs) }
+        → IfOk result (IsJudged (checker_of checker.now) fs) }
 {
+    // laws that the proof stands on: the calls do nothing
+    frame_sizes();
+    read_again();
     let Judged {
         mut findings,
         mut words,
     } = before;
     findings.clear();
     words.clear();
-    let judging = Judging { tagger: t, keys };
-    judging.handle_batch(alloc, &mut findings, frames, &mut words)?;
-    Ok(Judged { findings, words })
+    let mut at = 0;
+    'frames: loop {
+        match read(&frames[at..]) {
+            Ok(Some((frame, size))) => {
+                let finding = push_frame(&mut words, t, checker, frame)?;
+                findings.push(finding)?;
+                at += size;
+            }
+            Ok(None) => return Ok(Judged { findings, words }),
+            Err(_) => return Ok(Judged { findings, words }),
+        }
+    }
+}
+
+/// Writes the words of a frame and what is told of its value, and returns what becomes of it.
+fn push_frame<T: Tagger>(
+    words: &mut Vec<u8>,
+    t: &T,
+    checker: &Checker<'_>,
+    frame: FrameRef,
+) -> Result<Finding, AllocError>
+    ensures words { OnOk result (words.new.items ≡ words.old.items
+        ++ words_and_value (checker_of checker.now) (fields_of frame.entry)) }
+    ensures finding { IfOk result
+        (λ finding. finding ≡ finding_of (checker_of checker.now) (fields_of frame.entry)) }
+{
+    let (kind, owner, value) = (frame.kind(), frame.owner(), frame.value());
+    let start = words.len();
+    let turn = push_words(words, t, checker.keys, frame)?;
+    let end = words.len();
+    push_told(words, checker, kind, owner, value)?;
+    Ok(Finding {
+        size: end - start,
+        value_size: words.len() - end,
+        turn,
+    })
 }
 
 /// Writes the words of a frame, and returns whose turn has to be for its line to say them.

@@ -5,32 +5,35 @@ ghost use Rattle.std.specs.Prelude.{◌≡◌, ◌<◌, ℕ, List, Option, lengt
 ghost use Rattle.pay_frame.specs.declared.fault.FrameFault.{FrameFault as Fault};
 ghost use Rattle.pay_frame.specs.Frame.{FrameFields};
 ghost use Rattle.pay_frame.specs.Stream.{IsBytes};
-ghost use Rattle.pay_link.specs.Keys.{KeyFields};
 ghost use Rattle.pay_cli.specs.CheckText.{IsCheckText, HasCheckText, at_start, known_after};
 ghost use Rattle.pay_cli.specs.CheckText.{outcomes, is_ok_from};
+ghost use Rattle.pay_cli.specs.Values.{CheckerFields};
 
 /// Any bytes have a text.
+// promise: check's text
 pub fn every_text()
-    ensures law { (keys : KeyFields) (bytes : List ℕ) → IsBytes bytes → HasCheckText keys bytes }
+    ensures law { (q : CheckerFields) (bytes : List ℕ) → IsBytes bytes → HasCheckText q bytes }
 {
     pay_frame::every_stream();
 }
 
-/// Bytes have one text, and one fault that it ends with: both depend on the keys and the bytes
+/// Bytes have one text, and one fault that it ends with: both depend on who checks and the bytes
 /// alone, and on no cut.
+// promise: check's text
 pub fn one_text()
-    ensures text { (keys : KeyFields) (bytes one two : List ℕ) (a b : Option Fault) →
-        IsCheckText keys bytes one a → IsCheckText keys bytes two b → one ≡ two }
-    ensures ending { (keys : KeyFields) (bytes one two : List ℕ) (a b : Option Fault) →
-        IsCheckText keys bytes one a → IsCheckText keys bytes two b → a ≡ b }
+    ensures text { (q : CheckerFields) (bytes one two : List ℕ) (a b : Option Fault) →
+        IsCheckText q bytes one a → IsCheckText q bytes two b → one ≡ two }
+    ensures ending { (q : CheckerFields) (bytes one two : List ℕ) (a b : Option Fault) →
+        IsCheckText q bytes one a → IsCheckText q bytes two b → a ≡ b }
 {
     pay_frame::one_stream();
 }
 
 /// The next number of a member is the count of its `ok` lines before.
+// promise: check's text
 pub fn next_is_ok_lines_before()
-    ensures law { (keys : KeyFields) (before : List FrameFields) (member : ℕ) →
-        member < length keys.keys →
-        slice_index (known_after keys (at_start keys) before).fronts member
-        ≡ count_by (is_ok_from member) (outcomes keys (at_start keys) before) }
+    ensures law { (q : CheckerFields) (before : List FrameFields) (member : ℕ) →
+        member < length q.keys.keys →
+        slice_index (known_after q (at_start q.keys) before).fronts member
+        ≡ count_by (is_ok_from member) (outcomes q.keys (at_start q.keys) before) }
 {}

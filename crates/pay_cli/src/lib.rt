@@ -1,13 +1,15 @@
 //! The words of the program, and the engine of its command `check`: a line for each frame of a
-//! stream, which several threads may judge.
+//! stream, which several threads may judge, and one for what its value pays, where that is asked.
 //!
 //! ```
 //! let job = job_of(alloc, words.as_slice())?;
-//! run_check(alloc, &tagger, &genesis, &keys, &mut reader, &mut writer)?;
+//! let checker = Checker { keys: &keys, tells_values: true };
+//! run_check(alloc, &tagger, &genesis, &checker, &mut reader, &mut writer)?;
 //! ```
 #![tactic(auto)]
 
 mod check;
+mod checker;
 mod checking;
 mod cores;
 mod finding;
@@ -20,10 +22,12 @@ mod lines;
 mod progress;
 mod sharing;
 mod turns;
+mod values;
 mod words;
 
 pub use check::{run_check, run_check_by};
-pub use helps::NOT_UTF8;
+pub use checker::Checker;
+pub use helps::{NOT_UTF8, VERSION};
 pub use job::{Job, NodeWords, SendWords};
 pub use jobs::Jobs;
 pub use laws::{every_text, next_is_ok_lines_before, one_text};

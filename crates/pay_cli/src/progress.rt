@@ -1,12 +1,16 @@
 ghost use Rattle.std.specs.Prelude.{◌≡◌, ◌⊎◌, ℕ, ◌+◌, ◌++◌, ◌<◌, ◌^◌, IfOk, OnErr, OnOk, length};
 ghost use Rattle.std.specs.Prelude.{replicate, slice_index};
 ghost use Rattle.pay_frame.specs.Lent.{fields_of};
-ghost use Rattle.pay_cli.specs.Lines.{line_of, progress_after, check_outcome, check_words};
+ghost use Rattle.pay_cli.specs.CheckText.{frame_lines};
+ghost use Rattle.pay_cli.specs.Lines.{progress_after, check_outcome, check_words};
 ghost use Rattle.pay_cli.specs.Lines.{opened_outcome};
 ghost use Rattle.pay_cli.specs.Lines.{fronts_after};
 ghost use Rattle.pay_cli.specs.Engine.{HasRoom};
+ghost use Rattle.pay_cli.specs.Values.{checker_of};
 
+use crate::checker::Checker;
 use crate::lines::{push_ok, push_refused, push_want};
+use crate::values::push_told;
 use pay_frame::{FrameRef, Kind};
 use pay_hmac::Tagger;
 use pay_link::{Fronts, Keys, laws, open};
@@ -32,27 +36,31 @@ impl Progress {
     }
 }
 
-/// Writes the line of a frame. Where memory is refused the frame was counted, or nothing changed.
+/// Writes the line of a frame, and what is told of its value. Where memory is refused the frame was
+/// counted, or nothing changed.
 #[tactic(auto, unfolding(crate::specs::Lines::line_of, crate::specs::Lines::progress_after))]
+// promise: check's text
 pub fn push_line<T: Tagger>(
     out: &mut Vec<u8>,
     t: &T,
-    keys: &Keys,
+    checker: &Checker<'_>,
     progress: &mut Progress,
     frame: FrameRef,
 ) -> Result<(), AllocError>
-    requires room { HasRoom keys.now progress.old 1 }
+    requires room { HasRoom checker.now.keys.now progress.old 1 }
     ensures text { OnOk result (out.new.items ≡ out.old.items
-        ++ line_of keys.now progress.old (fields_of frame.entry)) }
+        ++ frame_lines (checker_of checker.now) progress.old (fields_of frame.entry)) }
     ensures moved { OnOk result (progress.new
-        ≡ progress_after keys.now progress.old (fields_of frame.entry)) }
-    ensures err { OnErr result ((progress.new ≡ progress.old)
-        ⊎ (progress.new ≡ progress_after keys.now progress.old (fields_of frame.entry))) }
+        ≡ progress_after checker.now.keys.now progress.old (fields_of frame.entry)) }
+    ensures err { let k = checker.now.keys.now in OnErr result ((progress.new ≡ progress.old)
+        ⊎ (progress.new ≡ progress_after k progress.old (fields_of frame.entry))) }
 {
+    let (kind, owner, value) = (frame.kind(), frame.owner(), frame.value());
     push_number(out, progress.line)?;
-    push_judged(out, t, keys, &mut progress.fronts, frame)?;
+    push_judged(out, t, checker.keys, &mut progress.fronts, frame)?;
     progress.line += 1;
-    push_word(out, "\n")
+    push_word(out, "\n")?;
+    push_told(out, checker, kind, owner, value)
 }
 
 /// Writes what a member makes of a frame.

@@ -5,47 +5,56 @@ ghost use denote.Param.Send.{IsSync};
 ghost use Rattle.pay_frame.specs.Frame.{FrameFields};
 ghost use Rattle.pay_frame.specs.Stream.{IsFramesThen};
 ghost use Rattle.pay_cli.specs.Findings.{AreHalves, IsCut, JudgesAll};
+ghost use Rattle.pay_cli.specs.Values.{checker_of, checks};
 
+use crate::checker::Checker;
 use crate::judging::{Judged, judge};
 use pay_frame::{frame_sizes, read, read_again};
 use pay_hmac::Tagger;
-use pay_link::Keys;
 use std::alloc::{AllocError, Global};
 use std::thread::{Threads, join};
 
 /// Judges the frames that the bytes are, in so many parts, each in a thread of its own where one
 /// can be made. The memory of what was judged before is used again.
+// promise: check's text
 pub(crate) fn judge_parts<R: Threads + Sync, T: Tagger + Sync>(
     rt: &R,
     alloc: Global,
     t: &T,
-    keys: &Keys,
+    checker: &Checker<'_>,
     frames: &[u8],
     parts: usize,
     mut before: Vec<Judged>,
 ) -> Result<Vec<Judged>, AllocError>
     requires whole { (fs : List FrameFields) × IsFramesThen frames.now fs [] }
-    ensures judged { JudgesAll keys.now frames.now result }
+    ensures judged { JudgesAll (checker_of checker.now) frames.now result }
 {
     if parts < 2 {
-        return judge_one(alloc, t, keys, frames, before);
+        return judge_one(alloc, t, checker, frames, before);
     }
     let low = parts / 2;
     let high = parts - low;
     let behind = before.split_off(before.len() / 2)?;
     let (front, back) = split_frames(frames, frames.len() / parts * low);
+    let Checker { keys, tells_values } = *checker;
     let (first, rest) = join(
         rt,
         move || -> Result<Vec<Judged>, AllocError>
             requires { IsSync R.row × IsSync T.row
                 × ((fs : List FrameFields) × IsFramesThen front.now fs []) }
-            ensures { JudgesAll keys.entry.now front.entry.now result }
-        { judge_parts(rt, alloc, t, keys, front, low, before) },
+            ensures { JudgesAll (checks keys.entry.now tells_values) front.entry.now result }
+        {
+            let checker = Checker { keys, tells_values };
+            judge_parts(rt, alloc, t, &checker, front, low, before)
+        },
         move || -> Result<Vec<Judged>, AllocError>
             requires { IsSync R.row × IsSync T.row
                 × ((fs : List FrameFields) × IsFramesThen back.now fs []) }
-            ensures { JudgesAll keys.entry.now back.entry.now result }
-        { judge_parts(rt, alloc, t, keys, back, high, behind) },
+            ensures { JudgesAll (checks keys.entry.now tells_values) back.entry.now result }
+        {
+            let checker = Checker { keys, tells_values };
+            judge_parts(rt, alloc, t, &checker, back, high, behind)
+        },
     );
     append_parts(first?, rest?)
 }
@@ -62,18 +71,18 @@ fn append_parts(mut first: Vec<Judged>, mut rest: Vec<Judged>) -> Result<Vec<Jud
 fn judge_one<T: Tagger>(
     alloc: Global,
     t: &T,
-    keys: &Keys,
+    checker: &Checker<'_>,
     frames: &[u8],
     mut before: Vec<Judged>,
 ) -> Result<Vec<Judged>, AllocError>
     requires whole { (fs : List FrameFields) × IsFramesThen frames.now fs [] }
-    ensures judged { JudgesAll keys.now frames.now result }
+    ensures judged { JudgesAll (checker_of checker.now) frames.now result }
 {
     let used = match before.pop() {
         Some(used) => used,
         None => Judged::new(alloc),
     };
-    let judged = judge(alloc, t, keys, frames, used)?;
+    let judged = judge(alloc, t, checker, frames, used)?;
     before.clear();
     before.push(judged)?;
     Ok(before)

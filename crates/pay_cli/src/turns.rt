@@ -3,10 +3,10 @@
 ghost use Rattle.std.specs.Prelude.{◌≡◌, ◌⊎◌, ℕ, List, ◌+◌, ◌++◌, ◌<◌, ◌^◌, IfSome, OnErr, OnOk};
 ghost use Rattle.std.specs.Prelude.{length, slice_index};
 ghost use Rattle.pay_frame.specs.Frame.{FrameFields};
-ghost use Rattle.pay_link.specs.Keys.{KeyFields};
 ghost use Rattle.pay_cli.specs.Engine.{HasRoom};
-ghost use Rattle.pay_cli.specs.Findings.{AreJudged, IsJudged, Pushes, fronts_in_turn, line_in_turn};
-ghost use Rattle.pay_cli.specs.Findings.{moved_in_turn, words_in_turn};
+ghost use Rattle.pay_cli.specs.Findings.{AreJudged, IsJudged, Pushes, fronts_in_turn};
+ghost use Rattle.pay_cli.specs.Findings.{lines_in_turn, moved_in_turn, words_in_turn};
+ghost use Rattle.pay_cli.specs.Values.{CheckerFields};
 
 use crate::finding::Turn;
 use crate::judging::Judged;
@@ -17,15 +17,16 @@ use pay_text::{push_number, push_word};
 use std::alloc::AllocError;
 
 /// Writes the lines of frames that were judged in parts.
+// promise: check's text
 pub fn push_parts(
     out: &mut Vec<u8>,
     progress: &mut Progress,
     parts: &[Judged],
 ) -> Result<(), AllocError>
-    requires room { (k : KeyFields) × (fs : List FrameFields) × AreJudged k fs parts.now
-        × HasRoom k progress.old (length fs) }
-    ensures pushes { (k : KeyFields) (fs : List FrameFields) → AreJudged k fs parts.now
-        → Pushes k progress.old progress.new fs out.old.items out.new.items result }
+    requires room { (q : CheckerFields) × (fs : List FrameFields) × AreJudged q fs parts.now
+        × HasRoom q.keys progress.old (length fs) }
+    ensures pushes { (q : CheckerFields) (fs : List FrameFields) → AreJudged q fs parts.now
+        → Pushes q progress.old progress.new fs out.old.items out.new.items result }
 {
     let mut rest = parts;
     while let Some((judged, others)) = rest.split_first() {
@@ -37,37 +38,39 @@ pub fn push_parts(
 
 /// Writes the lines of frames that were judged in one part.
 fn push_part(out: &mut Vec<u8>, progress: &mut Progress, judged: &Judged) -> Result<(), AllocError>
-    requires room { (k : KeyFields) × (fs : List FrameFields) × IsJudged k fs judged.now
-        × HasRoom k progress.old (length fs) }
-    ensures pushes { (k : KeyFields) (fs : List FrameFields) → IsJudged k fs judged.now
-        → Pushes k progress.old progress.new fs out.old.items out.new.items result }
+    requires room { (q : CheckerFields) × (fs : List FrameFields) × IsJudged q fs judged.now
+        × HasRoom q.keys progress.old (length fs) }
+    ensures pushes { (q : CheckerFields) (fs : List FrameFields) → IsJudged q fs judged.now
+        → Pushes q progress.old progress.new fs out.old.items out.new.items result }
 {
     // a law that the proof stands on: the call does nothing
     laws::judgement_opens();
     let mut findings = judged.findings.as_slice();
     let mut words = judged.words.as_slice();
     while let Some((finding, others)) = findings.split_first() {
-        let (own, rest) = words.split_at(finding.size);
-        push_finding(out, progress, finding.turn, own)?;
+        let (own, behind) = words.split_at(finding.size);
+        let (value, rest) = behind.split_at(finding.value_size);
+        push_finding(out, progress, finding.turn, own, value)?;
         findings = others;
         words = rest;
     }
     Ok(())
 }
 
-/// Writes the line of a frame that was judged. Where memory is refused the frame was counted, or
-/// nothing changed.
+/// Writes the line of a frame that was judged, and what is told of its value. Where memory is
+/// refused the frame was counted, or nothing changed.
 fn push_finding(
     out: &mut Vec<u8>,
     progress: &mut Progress,
     turn: Option<Turn>,
     words: &[u8],
+    value: &[u8],
 ) -> Result<(), AllocError>
     requires known { IfSome turn (λ t. t.from < length progress.old.fronts) }
     requires room { (member : ℕ) → slice_index progress.old.fronts member + 1 < 2 ^ 64 }
     requires line { progress.old.line + 1 < 2 ^ 64 }
     ensures text { OnOk result (out.new.items
-        ≡ out.old.items ++ line_in_turn progress.old turn words.now) }
+        ≡ out.old.items ++ lines_in_turn progress.old turn words.now value.now) }
     ensures moved { OnOk result (progress.new ≡ moved_in_turn progress.old turn) }
     ensures err { OnErr result ((progress.new ≡ progress.old)
         ⊎ (progress.new ≡ moved_in_turn progress.old turn)) }
@@ -75,7 +78,9 @@ fn push_finding(
     push_number(out, progress.line)?;
     push_in_turn(out, &mut progress.fronts, turn, words)?;
     progress.line += 1;
-    push_word(out, "\n")
+    push_word(out, "\n")?;
+    out.extend_from_slice(value)?;
+    Ok(())
 }
 
 /// Writes the words, or that it isn't the turn.

@@ -23,6 +23,7 @@ use std::alloc::{AllocError, Global};
 
 /// What the words ask for, the program's name the first of them; or help, the version, or what is
 /// wrong with them. Without a command it is `check`.
+// promise: words and files
 pub fn job_of<'a>(alloc: Global, words: &'a [String]) -> Result<Job<'a>, Error>
     ensures value { IfOk result
         (λ job. view_of_job job ≡ job_of_words (map string_bytes words.now)) }
@@ -53,6 +54,7 @@ fn job_in<'a>(alloc: Global, matches: &ArgMatches<'a>) -> Result<Job<'a>, AllocE
             genesis: None,
             keys: None,
             jobs: None,
+            tells_values: false,
         }),
     }
 }
@@ -97,6 +99,7 @@ fn check_job<'a>(check: &ArgMatches<'a>) -> Job<'a>
         genesis: option_value(check, "genesis"),
         keys: option_value(check, "keys"),
         jobs: option_value(check, "jobs"),
+        tells_values: is_set(check, "values"),
     }
 }
 
@@ -135,6 +138,7 @@ fn send_job<'a>(alloc: Global, send: &ArgMatches<'a>) -> Result<Job<'a>, AllocEr
         lines: lines_in(alloc, send)?,
         folder: option_value(send, "data"),
         socket: option_value(send, "socket"),
+        timeout: option_value(send, "timeout"),
     }))
 }
 
@@ -284,7 +288,8 @@ fn check<'a>(alloc: Global) -> Result<Command<'a>, AllocError>
     titled_command(alloc, "check", CHECK_ABOUT, CHECK_HELP)
         .arg(file_option(alloc, "genesis", "A file of JSON with the genesis"))?
         .arg(file_option(alloc, "keys", "A file of JSON with the keys of one member"))?
-        .arg(option(alloc, "jobs", "COUNT", "How many threads judge the frames"))
+        .arg(option(alloc, "jobs", "COUNT", "How many threads judge the frames"))?
+        .arg(flag(alloc, "values", "Tells what the value of each frame pays"))
 }
 
 /// The command `desk` and its options.
@@ -347,7 +352,13 @@ fn send<'a>(alloc: Global) -> Result<Command<'a>, AllocError>
     titled_command(alloc, "send", SEND_ABOUT, SEND_HELP)
         .arg(lines(alloc))?
         .arg(option(alloc, "data", "FOLDER", "The folder of the node"))?
-        .arg(option(alloc, "socket", "PATH", "The socket of the node"))
+        .arg(option(alloc, "socket", "PATH", "The socket of the node"))?
+        .arg(option(
+            alloc,
+            "timeout",
+            "SECONDS",
+            "How long to wait for an answer; 10 without it",
+        ))
 }
 
 /// The command `export` and its options.

@@ -2,3 +2,5 @@ mod Exports
 mod Reading
 mod Outcomes
 mod Said
+mod Appending
+mod Members

@@ -13,12 +13,16 @@ use Rattle.pay_link.specs.Files.{genesis_in, keys_in_file}
 use Rattle.pay_link.specs.Genesis.{GenesisFields}
 use Rattle.pay_link.specs.Keys.{KeyFields}
 use Rattle.pay_link.specs.TestKeys.{test_keys_of}
+use Rattle.pay_link.specs.declared.genesis_fault.GenesisFault.{GenesisFault}
 use Rattle.pay_link.specs.declared.genesis_fault.GenesisFault.TheVariants as genesis
+use Rattle.pay_link.specs.declared.keys_fault.KeysFault.{KeysFault}
 use Rattle.pay_link.specs.declared.keys_fault.KeysFault.TheVariants as keys
 use Rattle.pay_net.specs.Ports.{HasPorts, IsPortsFault}
 use Rattle.pay_net.specs.declared.ports_fault.PortsFault.{PortsFault}
+use Rattle.payd.specs.Groups.{IsOther, digits_named, digits_of}
 use Rattle.payd.specs.declared.stop.Stop.{Stop}
 use Rattle.payd.specs.declared.stop.Stop.TheVariants.{Engine, Genesis, Keys, Ports, Export, File}
+use Rattle.payd.specs.declared.stop.Stop.TheVariants.{OtherGroup}
 
 -- how many bytes a file has at most that is read
 abbrev pub most_bytes : ℕ
@@ -32,7 +36,7 @@ IsFileJudged holds name judge verdict =
 
 -- why the bytes of a file can't be had: it can't be read, or memory was refused
 abbrev pub IsUnread : List ℕ → Stop → Type 0
-IsUnread name (File named) = named.now ≡ name
+IsUnread name (File named kind) = named.now ≡ name
 IsUnread name (Engine fault) = fault ≡ engine.Memory
 IsUnread name _ = ⊥
 
@@ -78,6 +82,55 @@ abbrev pub IsKeysStop : (List ℕ → List ℕ → Type 0) → ℕ → Option (L
 IsKeysStop holds members None stop = stop ≡ Engine engine.Memory
 IsKeysStop holds members (Some name) stop =
     IsStop holds name (keys_in_file members) Keys keys.Memory stop
+
+-- ---- a member, by its genesis and keys
+
+-- why bytes of a file of this name are no genesis: they have this fault, or memory was refused
+abbrev pub IsGenesisFault : List ℕ → List ℕ → Stop → Type 0
+IsGenesisFault name bytes stop =
+    IsSaidOf name Genesis genesis.Memory stop
+    ⊎ ((fault : GenesisFault) × IsSaidOf name Genesis fault stop × (genesis_in bytes ≡ Err fault))
+
+-- and why they are no keys, for a genesis of so many members
+abbrev pub IsKeysFault : List ℕ → ℕ → List ℕ → Stop → Type 0
+IsKeysFault name members bytes stop =
+    IsSaidOf name Keys keys.Memory stop
+    ⊎ ((fault : KeysFault) × IsSaidOf name Keys fault stop
+    × (keys_in_file members bytes ≡ Err fault))
+
+-- Bytes that the files of these names may hold are this genesis, and these keys, which name no
+-- other group.
+pub record AreOfMember (holds : List ℕ → List ℕ → Type 0) (genesis keys : List ℕ)
+    (g : GenesisFields) (k : KeyFields) : Type 0 where
+  pub file : List ℕ
+  pub said : List ℕ
+  pub file_held : holds genesis file
+  pub said_held : holds keys said
+  pub is : genesis_in file ≡ Ok g
+  pub are : keys_in_file g.members said ≡ Ok k
+  pub one : ¬ (IsOther (digits_named said) (digits_of g file))
+
+-- The keys are of another group.
+pub record IsOtherGroup (holds : List ℕ → List ℕ → Type 0) (genesis keys : List ℕ) (stop : Stop)
+    : Type 0 where
+  pub named : Bor (List ℕ)
+  pub name : named.now ≡ keys
+  pub stopped : stop ≡ OtherGroup named
+  pub g : GenesisFields
+  pub file : List ℕ
+  pub said : List ℕ
+  pub file_held : holds genesis file
+  pub said_held : holds keys said
+  pub is : genesis_in file ≡ Ok g
+  pub other : IsOther (digits_named said) (digits_of g file)
+
+-- why there is no member: by its genesis, by its keys, or by both
+abbrev pub IsMemberStop : (List ℕ → List ℕ → Type 0) → List ℕ → List ℕ → Stop → Type 0
+IsMemberStop holds genesis keys stop =
+    IsUnread genesis stop ⊎ IsUnread keys stop
+    ⊎ ((bytes : List ℕ) × holds genesis bytes × IsGenesisFault genesis bytes stop)
+    ⊎ ((members : ℕ) × (bytes : List ℕ) × holds keys bytes × IsKeysFault keys members bytes stop)
+    ⊎ IsOtherGroup holds genesis keys stop
 
 -- ---- ports, for a genesis of so many members
 

@@ -1,4 +1,5 @@
 pub mod Files
+pub mod Groups
 pub mod Stops
 pub mod Statuses
 pub mod Dials
@@ -11,3 +12,9 @@ pub mod Sending
 pub mod Saying
 pub mod Sockets
 pub mod Starts
+pub mod Patience
+pub mod Controls
+pub mod Metrics
+pub mod Times
+pub mod Advice
+pub mod Values

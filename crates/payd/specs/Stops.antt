@@ -15,7 +15,7 @@ use Rattle.pay_node.specs.declared.close_fault.CloseFault.TheVariants as close
 use Rattle.payd.specs.declared.stop.Stop.{Stop}
 use Rattle.payd.specs.declared.stop.Stop.TheVariants.{Engine, Genesis, Keys, Ports, Export, Close}
 use Rattle.payd.specs.declared.stop.Stop.TheVariants.{Log, Unkept, Socket, Nobody, Unanswered, Port}
-use Rattle.payd.specs.declared.stop.Stop.TheVariants.{Clock, Forgets}
+use Rattle.payd.specs.declared.stop.Stop.TheVariants.{Barred, Clock, Forgets, Late, OtherGroup}
 
 -- why there is no member to export
 abbrev pub node_stop : NodeFault → Stop
@@ -38,8 +38,10 @@ status_of (Export export.Memory file) = 3
 status_of (Log log.Memory) = 3
 status_of (Log log.Held) = 3
 status_of (Port number) = 3
-status_of (Socket path) = 3
+status_of (Socket path kind) = 3
 status_of (Nobody path) = 3
+status_of (Barred path) = 3
+status_of (Late seconds) = 3
 status_of Unanswered = 3
 status_of Clock = 3
 status_of (Log log.Disk) = 4
@@ -57,6 +59,7 @@ stop_place (Export export.Memory file) = None
 stop_place (Genesis fault file) = Some (file.now, None)
 stop_place (Keys (keys.BadKey member) file) = Some (file.now, Some member)
 stop_place (Keys fault file) = Some (file.now, None)
+stop_place (OtherGroup file) = Some (file.now, None)
 stop_place (Ports fault file) = Some (file.now, None)
 stop_place (Export fault file) = Some (file.now, None)
 stop_place _ = None

@@ -5,13 +5,13 @@ use Rattle.std.specs.List.{AllZip}
 use Rattle.pay_audit.specs.Export.{ExportFields}
 use Rattle.pay_engine.specs.declared.engine_fault.EngineFault.TheVariants as engine
 use Rattle.pay_journal.specs.Statements.{account_named, statement_in, statements_in}
-use Rattle.pay_group_book.specs.Text.{IsBookText}
-use Rattle.pay_group_book.specs.declared.form.BookForm.{BookForm}
-use Rattle.pay_group_book.specs.declared.form.BookForm.TheVariants.{AsExport, Lines, NextGenesis}
+use Rattle.pay_group.specs.Text.{IsBookText}
+use Rattle.pay_group.specs.declared.texts.BookForm.{BookForm}
+use Rattle.pay_group.specs.declared.texts.BookForm.TheVariants.{AsExport, Lines, NextGenesis}
 use Rattle.pay_audit.specs.Verdict.{verdict_of, verdict_words}
 use Rattle.pay_audit.specs.declared.verdict.Verdict.{Verdict}
-use Rattle.pay_findings.specs.Findings.{findings_words}
-use Rattle.pay_findings.specs.declared.named.Named.{Named}
+use Rattle.pay_audit.specs.Findings.{findings_words}
+use Rattle.pay_audit.specs.declared.findings.Named.{Named}
 use Rattle.payd.specs.Files.{IsExportOf, IsExportsStop, IsVerdictOn}
 use Rattle.payd.specs.Jobs.{IsJobsStop}
 use Rattle.payd.specs.declared.stop.Stop.{Stop}

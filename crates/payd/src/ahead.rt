@@ -9,6 +9,7 @@ use pay_peers::Ahead;
 use pay_text::number;
 
 /// As many as this word says, or as may be.
+// promise: words and files; dials
 pub(crate) fn ahead_of<'a>(word: Option<&'a str>) -> Result<Ahead, Stop<'a>>
     ensures value { IfOk result (λ ahead.
         ahead_in (option_map (λ word. word.now) word.entry) ≡ Some ahead.count) }

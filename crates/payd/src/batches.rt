@@ -18,6 +18,7 @@ type Outcome<'a> = Result<JudgedExport, Stop<'a>>;
 /// What is wrong with the exports in the files of these names, if anything is. So many of them are
 /// read and settled side by side, each in a thread of its own where one can be made, and are let go
 /// before the next are read.
+// promise: words and files
 pub(crate) fn verdict_over<'a, R: Threads + Sync, F: NamedFiles + Sync>(
     rt: &R,
     jobs: usize,

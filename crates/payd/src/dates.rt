@@ -13,6 +13,7 @@ use std::alloc::Global;
 use std::time::Clock;
 
 /// The date that this word is, or today's in UTC.
+// promise: statements of exports
 pub(crate) fn date_of<'a>(
     alloc: Global,
     clock: &impl Clock,

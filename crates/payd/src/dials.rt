@@ -12,6 +12,7 @@ use pay_text::number;
 const ALWAYS: &str = "always";
 
 /// The dials that this word asks for, or the usual ones.
+// promise: words and files; dials
 pub(crate) fn dials_of<'a>(word: Option<&'a str>) -> Result<Dials, Stop<'a>>
     ensures value { IfOk result (λ dials.
         dials_in (option_map (λ word. word.now) word.entry) ≡ Some dials) }

@@ -1,13 +1,18 @@
 //! The files that words name. Each is judged before the next is read, but for the exports of an
 //! audit with several jobs: of these `batches` reads and judges as many side by side.
 
-ghost use Rattle.std.specs.Prelude.{◌≡◌, ◌+◌, ◌≤◌, ℕ, List, IfErr, IfOk, IfSome, map, take};
+ghost use Rattle.std.specs.Prelude.{◌≡◌, ◌+◌, ◌≤◌, ℕ, List, Ok, Some, IfErr, IfOk, IfSome};
+ghost use Rattle.std.specs.Prelude.{map, take};
 ghost use Rattle.std.specs.List.{AllZip};
 ghost use Rattle.std.specs.Option.{option_map};
+ghost use Rattle.pay_link.specs.Files.{genesis_in, keys_in_file};
 ghost use Rattle.pay_link.specs.Keys.{IsKeysOf};
-ghost use Rattle.payd.specs.Files.{AreKeysIn, IsExportOf, IsExportStop, IsExportsStop, IsGenesisOf};
-ghost use Rattle.payd.specs.Files.{IsGenesisStop, IsKeysStop, IsUnread, IsVerdictOn, most_bytes};
+ghost use Rattle.payd.specs.Files.{AreKeysIn, AreOfMember, IsExportOf, IsExportStop};
+ghost use Rattle.payd.specs.Files.{IsExportsStop, IsGenesisFault, IsGenesisOf, IsGenesisStop};
+ghost use Rattle.payd.specs.Files.{IsKeysFault, IsKeysStop, IsMemberStop, IsUnread, IsVerdictOn};
+ghost use Rattle.payd.specs.Files.{most_bytes};
 
+use crate::copies::{Given, given_in};
 use crate::stop::Stop;
 use pay_audit::{Auditor, Export, Verdict, read_export};
 use pay_engine::EngineFault;
@@ -23,7 +28,7 @@ use std::{fs, io};
 const OTHERS: u32 = 0o077;
 
 /// A file of more bytes counts as one that can't be read.
-const MOST_BYTES: u64 = 1_073_741_824;
+pub(crate) const MOST_BYTES: u64 = 1_073_741_824;
 
 /// Members, faults and opening amounts where no file names them.
 const MEMBERS: u64 = 4;
@@ -54,7 +59,7 @@ impl<F: Files> NamedFiles for F {
         match read(alloc, self, name) {
             Ok(bytes) => {
                 if bytes.len() as u64 > MOST_BYTES {
-                    return Err(Stop::File(name));
+                    return Err(Stop::File(name, io::ErrorKind::FileTooLarge));
                 }
                 Ok(bytes)
             }
@@ -62,14 +67,82 @@ impl<F: Files> NamedFiles for F {
                 if error.kind() == io::ErrorKind::OutOfMemory {
                     return Err(Stop::Engine(EngineFault::Memory));
                 }
-                Err(Stop::File(name))
+                Err(Stop::File(name, error.kind()))
             }
         }
     }
 }
 
+/// A member's genesis and its keys, in the files of these names.
+// promise: words and files
+pub(crate) fn member_of<'a, F: NamedFiles>(
+    alloc: Global,
+    files: &F,
+    genesis: &'a str,
+    keys: &'a str,
+) -> Result<(Genesis, Keys), Stop<'a>>
+    ensures value { IfOk result (λ member. AreOfMember (F.holds files.now)
+        genesis.entry.now keys.entry.now member.0 member.1) }
+    ensures stop { IfErr result (IsMemberStop (F.holds files.now)
+        genesis.entry.now keys.entry.now) }
+    ensures genesis { IfOk result (λ member. IsKeysOf member.0 member.1) }
+{
+    let Given { genesis, keys, .. } = given_in(alloc, files, genesis, keys)?;
+    Ok((genesis, keys))
+}
+
+/// The same, or what stands for a file that isn't named: four members, and the test keys.
+pub(crate) fn member_or_test<'a, F: NamedFiles>(
+    alloc: Global,
+    files: &F,
+    genesis: Option<&'a str>,
+    keys: Option<&'a str>,
+) -> Result<(Genesis, Keys), Stop<'a>>
+    ensures { IfOk result (λ member. IsKeysOf member.0 member.1) }
+{
+    if let (Some(genesis), Some(keys)) = (genesis, keys) {
+        return member_of(alloc, files, genesis, keys);
+    }
+    let genesis = genesis_of(alloc, files, genesis)?;
+    let keys = keys_of(alloc, files, &genesis, keys)?;
+    Ok((genesis, keys))
+}
+
+/// The genesis that these bytes of the file of this name are.
+pub(crate) fn genesis_in<'a>(
+    alloc: Global,
+    bytes: &[u8],
+    name: &'a str,
+) -> Result<Genesis, Stop<'a>>
+    ensures value { IfOk result (λ genesis. genesis_in bytes.now ≡ Ok genesis) }
+    ensures stop { IfErr result (IsGenesisFault name.entry.now bytes.now) }
+{
+    match Genesis::read(alloc, bytes) {
+        Ok(genesis) => Ok(genesis),
+        Err(fault) => Err(Stop::Genesis(fault, name)),
+    }
+}
+
+/// The keys that these bytes of the file of this name are.
+pub(crate) fn keys_in<'a>(
+    alloc: Global,
+    genesis: &Genesis,
+    bytes: &[u8],
+    name: &'a str,
+) -> Result<Keys, Stop<'a>>
+    ensures value { IfOk result (λ keys. keys_in_file genesis.now.members bytes.now ≡ Ok keys) }
+    ensures stop { IfErr result (IsKeysFault name.entry.now genesis.now.members bytes.now) }
+    ensures genesis { IfOk result (IsKeysOf genesis.now) }
+{
+    match Keys::read(alloc, genesis, bytes) {
+        Ok(keys) => Ok(keys),
+        Err(fault) => Err(Stop::Keys(fault, name)),
+    }
+}
+
 /// The genesis in the file of this name, or that of four members.
-pub(crate) fn genesis_of<'a, F: NamedFiles>(
+// promise: words and files
+fn genesis_of<'a, F: NamedFiles>(
     alloc: Global,
     files: &F,
     name: Option<&'a str>,
@@ -82,10 +155,7 @@ pub(crate) fn genesis_of<'a, F: NamedFiles>(
     match name {
         Some(name) => {
             let bytes = files.bytes_of(alloc, name)?;
-            match Genesis::read(alloc, bytes.as_slice()) {
-                Ok(genesis) => Ok(genesis),
-                Err(fault) => Err(Stop::Genesis(fault, name)),
-            }
+            genesis_in(alloc, bytes.as_slice(), name)
         }
         None => match Genesis::new(alloc, MEMBERS, FAULTS, &OPENING) {
             Ok(genesis) => Ok(genesis),
@@ -96,7 +166,8 @@ pub(crate) fn genesis_of<'a, F: NamedFiles>(
 
 /// The keys in the file of this name, or the test keys of member 1, or of 0 where there is no
 /// other.
-pub(crate) fn keys_of<'a, F: NamedFiles>(
+// promise: words and files
+fn keys_of<'a, F: NamedFiles>(
     alloc: Global,
     files: &F,
     genesis: &Genesis,
@@ -111,10 +182,7 @@ pub(crate) fn keys_of<'a, F: NamedFiles>(
     match name {
         Some(name) => {
             let bytes = files.bytes_of(alloc, name)?;
-            match Keys::read(alloc, genesis, bytes.as_slice()) {
-                Ok(keys) => Ok(keys),
-                Err(fault) => Err(Stop::Keys(fault, name)),
-            }
+            keys_in(alloc, genesis, bytes.as_slice(), name)
         }
         None => {
             let own = if genesis.members() > 1 { 1 } else { 0 };
@@ -125,6 +193,7 @@ pub(crate) fn keys_of<'a, F: NamedFiles>(
 
 /// What is wrong with the exports in the files of these names, if anything is. Each is let go
 /// before the next is read.
+// promise: words and files
 pub(crate) fn verdict_on<'a, F: NamedFiles>(
     alloc: Global,
     files: &F,
@@ -144,6 +213,7 @@ pub(crate) fn verdict_on<'a, F: NamedFiles>(
 }
 
 /// The exports in the files of these names, in their order. All are in memory at once.
+// promise: words and files
 pub(crate) fn exports_of<'a, F: NamedFiles>(
     alloc: Global,
     files: &F,
@@ -163,6 +233,7 @@ pub(crate) fn exports_of<'a, F: NamedFiles>(
 }
 
 /// The export in the file of this name.
+// promise: words and files
 pub(crate) fn export_of<'a, F: NamedFiles>(
     alloc: Global,
     files: &F,

@@ -6,23 +6,22 @@ ghost use Rattle.pay_member.specs.Events.{events};
 ghost use Rattle.pay_member.specs.Group.{group_in};
 ghost use Rattle.pay_member.specs.Remembering.{Remembers};
 
-use crate::{OwnMember, tagger_of};
-use pay_echo::MaskInstance;
+use crate::tagger_of;
+use pay_durable::{Restarted, begin, restart, view_log_of};
 use pay_hmac::PreparedHmac;
-use pay_kept::{Restarted, begin, restart, view_log_of};
 use pay_link::{Genesis, Keys};
 use pay_log::{
     FoundLog, FoundRest, LogFault, LogFile, LogLock, LogView, MadeLog, make_log, name_log,
     open_log, view_log,
 };
-use pay_pending::WaitingBook;
-use pay_resume::Resumed;
+use pay_node::OwnMember;
+use pay_record::Resumed;
 use std::alloc::Global;
 use std::fs::File;
 use std::rt::Files;
 
 /// A member as its folder has it, with its log, in the forms of its parts that the program runs.
-pub(crate) type KeptMember = Restarted<MaskInstance, WaitingBook, LogFile>;
+pub(crate) type KeptMember = Restarted<LogFile>;
 
 /// How a member's log was found.
 #[derive(Clone, Copy, Debug)]

@@ -8,8 +8,8 @@ use std::sync::{Condvar, Mutex, Wait};
 /// How a node refuses a payment before enough of its peers were heard.
 const EARLY: &[u8] = b"refused 6 TooEarly";
 
-/// How often a client gives payments again, a tenth of a second after each other.
-const TRIES: u64 = 100;
+/// How often a client gives payments again in a second.
+const TRIES_A_SECOND: u64 = 10;
 
 /// What the thread that sends lines and the one that reads answers tell each other.
 ///
@@ -33,12 +33,13 @@ struct Held {
 }
 
 impl Holding {
-    pub(crate) fn new() -> Holding {
+    /// Payments are held for so many seconds in all.
+    pub(crate) fn new(seconds: u64) -> Holding {
         Holding {
             state: Mutex::new(Held {
                 answered: 0,
                 again: false,
-                tries: TRIES,
+                tries: seconds.saturating_mul(TRIES_A_SECOND),
                 flows: false,
             }),
             changed: Condvar::new(),

@@ -13,6 +13,7 @@ const MOST_JOBS: u64 = 8;
 
 /// As many threads as this word says, or, without one, as the machine has processors, where that
 /// can be found out.
+// promise: words and files
 pub(crate) fn jobs_of<'a>(rt: &impl Threads, word: Option<&'a str>) -> Result<usize, Stop<'a>>
     ensures value { IfSome (option_map (λ word. word.now) word.entry)
         (λ word. IfOk result (λ jobs. jobs_by word ≡ Some jobs)) }

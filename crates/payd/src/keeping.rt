@@ -1,11 +1,9 @@
 //! What is said of a member's log while its node runs.
 
 ghost use Rattle.std.specs.Prelude.{IsTrue};
-ghost use Rattle.pay_kept.specs.Kept.{AreDurable, IsHistoryKept};
+ghost use Rattle.pay_durable.specs.Kept.{AreDurable, IsHistoryKept};
 
-use pay_book::Settle;
-use pay_echo::Instance;
-use pay_kept::{Keeper, Kept};
+use pay_durable::{Keeper, Kept};
 use pay_log::{Device, LogFault};
 use pay_node::{Beginning, Node};
 use std::alloc::AllocError;
@@ -25,11 +23,7 @@ impl<H: Eprint, D: Device + Drop> Keeper for SayingKept<'_, H, D> {
 
     ghost has = { λ _ entries. AreDurable D.is_known D.seen D.may_leave entries };
 
-    fn keep<R: Wait, I: Instance + Drop, B: Settle + Drop, S: Beginning>(
-        &self,
-        rt: &R,
-        node: &Node<I, B, S>,
-    ) -> bool {
+    fn keep<R: Wait, S: Beginning>(&self, rt: &R, node: &Node<S>) -> bool {
         if self.kept.keep(rt, node) {
             return true;
         }

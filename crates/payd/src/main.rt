@@ -10,18 +10,24 @@ ghost use Rattle.payd.specs.Statuses.{audit_status, book_status, ended_status};
 ghost use Rattle.payd.specs.Statuses.{send_status, sim_status};
 ghost use Rattle.payd.specs.Texts.{IsAuditStop};
 
+mod advice;
 mod ahead;
 mod batches;
+mod controls;
+mod copies;
 mod dates;
 mod dials;
 mod figures;
 mod files;
 mod folders;
+mod groups;
 mod holding;
 mod jobs;
 mod keeping;
 mod metrics;
+mod mistakes;
 mod nodes;
+mod patience;
 mod ports;
 mod saying;
 mod sending;
@@ -30,14 +36,19 @@ mod sockets;
 mod staying;
 mod stop;
 mod texts;
+mod times;
+mod values;
 
+use advice::{Looks, Place, say_advice};
 use clap::error::ErrorKind;
+use controls::control_in;
 use dates::date_of;
-use files::{NamedFiles, export_of, genesis_of, keys_of};
+use files::{NamedFiles, export_of, member_of, member_or_test};
 use jobs::jobs_of;
+use mistakes::say_mistake;
 use nodes::{export, serve_node};
 use pay_audit::Verdict;
-use pay_cli::{Job, Jobs, NOT_UTF8, job_of, run_check, run_check_by};
+use pay_cli::{Checker, Job, Jobs, NOT_UTF8, job_of, run_check, run_check_by};
 use pay_desk::{Desk, OneMember, Teller, run_desk};
 use pay_echo::MaskInstance;
 use pay_engine::EngineFault;
@@ -46,9 +57,10 @@ use pay_io::{Reader, StreamFault, Writer, write_text};
 use pay_journal::journal_text;
 use pay_link::{Genesis, Keys};
 use pay_member::Member;
+use pay_node::OwnMember;
 use pay_pending::WaitingBook;
 use pay_sim::{SimEnd, run_sim};
-use saying::{say_advice, say_place};
+use saying::say_place;
 use sending::call;
 use std::alloc::{AllocError, AllocGlobal, Global};
 use std::process::ExitCode;
@@ -59,25 +71,29 @@ use std::{env, io, thread};
 use stop::Stop;
 use texts::{Findings, book_over, findings_over, form_of, statement_said, verdict_said};
 
-/// A member, in the forms of its parts that the program runs.
-type OwnMember = Member<MaskInstance, WaitingBook>;
-
 fn main(rt: HostRuntime) -> ExitCode {
     let alloc = rt.alloc();
     let words = match words_given(&rt) {
         Ok(words) => words,
         Err(error) => return status_without_words(&rt, &error),
     };
+    if let Some(place) = control_in(words.as_slice()) {
+        return status_of(&rt, Err(Stop::Control(place)));
+    }
     match job_of(alloc, words.as_slice()) {
         Ok(
             Job::Check {
                 genesis,
                 keys,
                 jobs,
+                tells_values,
             },
-        ) => status_of(&rt, check(alloc, &rt, genesis, keys, jobs)),
+        ) => status_of(&rt, check(alloc, &rt, genesis, keys, jobs, tells_values)),
         Ok(Job::Desk { genesis, keys }) => status_of(&rt, serve_desk(alloc, &rt, genesis, keys)),
-        Ok(Job::Node(words)) => status_of(&rt, serve_node(alloc, &rt, words)),
+        Ok(Job::Node(words)) => {
+            let place = words.folder.map_or(Place::Nowhere, Place::Write);
+            status_at(&rt, serve_node(alloc, &rt, words), place)
+        }
         Ok(Job::Send(words)) => match call(alloc, &rt, words) {
             Ok((sending, answers)) => match thread::spawn(&rt, move || sending.send(&rt)) {
                 Ok(_) => status_of_send(&rt, answers.write(alloc, &rt)),
@@ -91,7 +107,11 @@ fn main(rt: HostRuntime) -> ExitCode {
                 keys,
                 folder,
             },
-        ) => status_of(&rt, export(alloc, &rt, genesis, keys, folder)),
+        ) => status_at(
+            &rt,
+            export(alloc, &rt, genesis, keys, folder),
+            Place::Read(folder),
+        ),
         Ok(Job::Audit { files, jobs, all }) => {
             status_of_audit(&rt, audit(alloc, &rt, &rt, files.as_slice(), jobs, all))
         }
@@ -130,28 +150,32 @@ fn check<'a>(
     genesis: Option<&'a str>,
     keys: Option<&'a str>,
     jobs: Option<&'a str>,
+    tells_values: bool,
 ) -> Result<(), Stop<'a>> {
     let jobs = jobs_of(rt, jobs)?;
-    let genesis = genesis_of(alloc, rt, genesis)?;
-    let keys = keys_of(alloc, rt, &genesis, keys)?;
-    Ok(judge_frames(alloc, rt, jobs, &genesis, &keys)?)
+    let (genesis, keys) = member_or_test(alloc, rt, genesis, keys)?;
+    let checker = Checker {
+        keys: &keys,
+        tells_values,
+    };
+    Ok(judge_frames(alloc, rt, jobs, &genesis, &checker)?)
 }
 
-/// Judges them as the member with these keys.
+/// Judges them as whoever checks.
 fn judge_frames(
     alloc: Global,
     rt: &(impl Input + Print + Threads + Sync),
     jobs: usize,
     genesis: &Genesis,
-    keys: &Keys,
+    checker: &Checker<'_>,
 ) -> Result<(), EngineFault>
-    requires { IsKeysOf genesis.now keys.now }
+    requires { IsKeysOf genesis.now checker.now.keys.now }
 {
-    let tagger = tagger_of(alloc, keys)?;
+    let tagger = tagger_of(alloc, checker.keys)?;
     let mut reader = Reader::new(rt.reader());
     let mut writer = Writer::new(io::writer(rt));
     if jobs < 2 {
-        return run_check(alloc, &tagger, genesis, keys, &mut reader, &mut writer);
+        return run_check(alloc, &tagger, genesis, checker, &mut reader, &mut writer);
     }
     let jobs = Jobs { rt, count: jobs };
     run_check_by(
@@ -159,7 +183,7 @@ fn judge_frames(
         alloc,
         &tagger,
         genesis,
-        keys,
+        checker,
         &mut reader,
         &mut writer,
     )
@@ -172,8 +196,7 @@ fn serve_desk<'a>(
     genesis: &'a str,
     keys: &'a str,
 ) -> Result<(), Stop<'a>> {
-    let genesis = genesis_of(alloc, rt, Some(genesis))?;
-    let keys = keys_of(alloc, rt, &genesis, Some(keys))?;
+    let (genesis, keys) = member_of(alloc, rt, genesis, keys)?;
     let (accounts, own) = (genesis.members(), keys.own());
     let member: OwnMember = Member::new(alloc, genesis, keys)?;
     let teller = OneMember { member, stamp: 0 };
@@ -305,9 +328,16 @@ fn tagger_of(alloc: Global, keys: &Keys) -> Result<PreparedHmac, AllocError> {
     PreparedHmac::new(alloc, shared.as_slice())
 }
 
+/// The status of what is done in no folder.
+fn status_of(rt: &impl Looks, ended: Result<(), Stop>) -> ExitCode
+    ensures { exit_status result ≡ ended_status ended.entry }
+{
+    status_at(rt, ended, Place::Nowhere)
+}
+
 /// A fault in the frames has its line already, as has a member that has forgotten; another fault is
-/// named on standard error.
-fn status_of(rt: &impl Eprint, ended: Result<(), Stop>) -> ExitCode
+/// named on standard error, with what more can be said of it.
+fn status_at(rt: &impl Looks, ended: Result<(), Stop>, place: Place) -> ExitCode
     ensures { exit_status result ≡ ended_status ended.entry }
 {
     match ended {
@@ -316,9 +346,7 @@ fn status_of(rt: &impl Eprint, ended: Result<(), Stop>) -> ExitCode
             if !matches!(stop, Stop::Engine(EngineFault::Frame(_)) | Stop::Forgets) {
                 let _ = eprintln!(rt; "payd: {stop}");
                 say_place(rt, stop.place());
-                if let Stop::Log(fault) = &stop {
-                    say_advice(rt, *fault);
-                }
+                say_advice(rt, &stop, place);
             }
             ExitCode::from(stop.status())
         }
@@ -326,7 +354,8 @@ fn status_of(rt: &impl Eprint, ended: Result<(), Stop>) -> ExitCode
 }
 
 /// An audit that isn't clean has its line already.
-fn status_of_audit(rt: &impl Eprint, ended: Result<Verdict, Stop>) -> ExitCode
+// promise: statuses
+fn status_of_audit(rt: &impl Looks, ended: Result<Verdict, Stop>) -> ExitCode
     ensures { exit_status result ≡ audit_status ended.entry }
 {
     match ended {
@@ -337,7 +366,8 @@ fn status_of_audit(rt: &impl Eprint, ended: Result<Verdict, Stop>) -> ExitCode
 }
 
 /// Where there is no book its line says why.
-fn status_of_book(rt: &impl Eprint, ended: Result<bool, Stop>) -> ExitCode
+// promise: statuses
+fn status_of_book(rt: &impl Looks, ended: Result<bool, Stop>) -> ExitCode
     ensures { exit_status result ≡ book_status ended.entry }
 {
     match ended {
@@ -348,7 +378,8 @@ fn status_of_book(rt: &impl Eprint, ended: Result<bool, Stop>) -> ExitCode
 }
 
 /// A line that was refused has its answer already.
-fn status_of_send(rt: &impl Eprint, ended: Result<bool, Stop>) -> ExitCode
+// promise: statuses
+fn status_of_send(rt: &impl Looks, ended: Result<bool, Stop>) -> ExitCode
     ensures { exit_status result ≡ send_status ended.entry }
 {
     match ended {
@@ -359,9 +390,9 @@ fn status_of_send(rt: &impl Eprint, ended: Result<bool, Stop>) -> ExitCode
 }
 
 /// No words can be had where one isn't UTF-8, and where memory ran out.
-fn status_without_words(rt: &impl Eprint, error: &io::Error) -> ExitCode {
+fn status_without_words(rt: &impl Looks, error: &io::Error) -> ExitCode {
     if error.kind() == io::ErrorKind::InvalidData {
-        let _ = eprintln!(rt; "{NOT_UTF8}");
+        say_mistake(rt, NOT_UTF8);
         ExitCode::from(2)
     } else {
         status_of(rt, Err(Stop::Engine(EngineFault::Memory)))
@@ -370,23 +401,34 @@ fn status_without_words(rt: &impl Eprint, error: &io::Error) -> ExitCode {
 
 /// Prints what the reading of the words answers in place of a job: help, the version, or a mistake,
 /// which is one also where it can't be printed.
-fn status_of_answer(rt: &(impl Print + Eprint), answer: &clap::Error) -> ExitCode {
+fn status_of_answer(rt: &(impl Print + Looks), answer: &clap::Error) -> ExitCode {
     if answer.kind() == ErrorKind::OutOfMemory {
         return status_of(rt, Err(Stop::Engine(EngineFault::Memory)));
     }
-    let printed = answer.print(rt);
     if answer.use_stderr() {
-        return ExitCode::from(2);
+        return status_of_mistake(rt, answer);
     }
-    match printed {
+    match answer.print(rt) {
         Ok(()) => ExitCode::SUCCESS,
         Err(_) => status_of(rt, Err(Stop::Engine(EngineFault::Write))),
     }
 }
 
+/// Says what is wrong with the words.
+fn status_of_mistake(rt: &impl Looks, mistake: &clap::Error) -> ExitCode {
+    match format!(in rt.alloc(); "{mistake}") {
+        Ok(text) => {
+            say_mistake(rt, text.as_str());
+            ExitCode::from(2)
+        }
+        Err(_) => status_of(rt, Err(Stop::Engine(EngineFault::Memory))),
+    }
+}
+
 /// A script that ends before its input does has its last line already; a fault is named on standard
 /// error.
-fn status_of_sim(rt: &impl Eprint, ended: Result<SimEnd, StreamFault>) -> ExitCode
+// promise: statuses
+fn status_of_sim(rt: &impl Looks, ended: Result<SimEnd, StreamFault>) -> ExitCode
     ensures { exit_status result ≡ sim_status ended }
 {
     match ended {

@@ -1,14 +1,15 @@
 //! A member's node, in memory alone or over the folder in which the member is kept.
 
-ghost use Rattle.std.specs.Prelude.{◌≡◌, IfErr, IfOk, OnOk, length};
+ghost use Rattle.std.specs.Prelude.{◌≡◌, IfErr, IfOk, OnOk, is_some, length};
 ghost use Rattle.pay_link.specs.Keys.{IsKeysOf};
 ghost use Rattle.payd.specs.Starts.{is_found};
 ghost use Rattle.payd.specs.Stops.{IsUnconcluded};
 
 use crate::ahead::ahead_of;
+use crate::copies::{Given, given_in};
 use crate::dials::dials_of;
 use crate::figures::FiguresFile;
-use crate::files::{genesis_of, keys_of, warn_of_keys};
+use crate::files::{member_of, warn_of_keys};
 use crate::folders::{FoundAs, KeptMember, Opened, Viewed, open_member, view_member};
 use crate::keeping::SayingKept;
 use crate::ports::ports_of;
@@ -16,20 +17,21 @@ use crate::saying::{Found, Saying, say_in_memory, say_node, say_start, say_view}
 use crate::sockets::{NamedSocket, listen, socket_path};
 use crate::staying::{Ends, Lines, judge_new, judge_stay};
 use crate::stop::Stop;
-use crate::{OwnMember, tagger_of};
+use crate::tagger_of;
+use crate::times::TimesFile;
+use crate::values::ValuesWatch;
 use pay_audit::write_export;
 use pay_cli::NodeWords;
-use pay_echo::MaskInstance;
+use pay_durable::{Keeper, Kept, Restarted, Unkept};
+use pay_engine::EngineFault;
 use pay_hmac::PreparedHmac;
 use pay_io::{Reader, StreamFault, Writer, write_text};
-use pay_kept::{Keeper, Kept, Restarted, Unkept};
 use pay_link::{Genesis, Keys};
 use pay_log::{LogFault, end_log};
 use pay_member::Member;
 use pay_net::{NodeConfig, NodeStart, Ports, Receipts, StartFault, run_node};
-use pay_node::CloseFault;
+use pay_node::{CloseFault, OwnMember};
 use pay_peers::{Ahead, Dials};
-use pay_pending::WaitingBook;
 use std::alloc::{Alloc, Global};
 use std::fs::File;
 use std::io;
@@ -52,6 +54,7 @@ struct Meeting {
 impl Meeting {
     // The same, with who is told of peers and who keeps the history, and how often figures are
     // shown.
+    // promise: dials (dials, ahead)
     fn config<'a, O, K>(
         &'a self,
         observer: &'a O,
@@ -59,6 +62,12 @@ impl Meeting {
         shown_every: Option<Duration>,
     ) -> NodeConfig<'a, O, K>
         ensures ports { result.ports.now ≡ self.now.ports }
+        ensures dials { result.dials ≡ self.now.dials }
+        ensures ahead { result.ahead ≡ self.now.ahead }
+        ensures observer { result.observer.now ≡ observer.now }
+        ensures keeper { result.keeper.now ≡ keeper.now }
+        ensures shown_every { result.shown_every ≡ shown_every }
+        ensures socket { is_some result.socket ≡ is_some self.now.socket }
     {
         NodeConfig {
             ports: &self.ports,
@@ -81,9 +90,6 @@ impl Meeting {
         }
     }
 }
-
-/// What a node starts from, in the forms of its parts that the program runs.
-type OwnStart = NodeStart<MaskInstance, WaitingBook>;
 
 /// Answers the lines on standard input, once the words and the files are read, while the member
 /// meets its peers; then writes its export, also where memory was refused for a look at what the
@@ -108,8 +114,11 @@ where
     let ahead = ahead_of(words.ahead)?;
     judge_stay(&words)?;
     judge_new(&words)?;
-    let genesis = genesis_of(alloc, rt, Some(words.genesis))?;
-    let keys = keys_of(alloc, rt, &genesis, Some(words.keys))?;
+    let Given {
+        genesis,
+        keys,
+        copies,
+    } = given_in(alloc, rt, words.genesis, words.keys)?;
     let ports = ports_of(alloc, rt, &genesis, words.ports)?;
     warn_of_keys(rt, words.keys);
     let path = socket_path(alloc, words.folder, words.socket)?;
@@ -133,6 +142,7 @@ where
                 found,
                 lock: _lock,
             } = open_member(alloc, rt, &genesis, &keys, folder, words.makes_new)?;
+            copies.keep(alloc, rt, folder)?;
             meeting.socket = listen(alloc, rt, path)?;
             let ended = serve_kept(alloc, rt, folder, kept, found, &meeting, words.stays);
             meeting.leave(rt);
@@ -162,10 +172,12 @@ where
     say_in_memory(rt);
     let start = NodeStart::fresh(alloc, member);
     let (has_failed, forgets) = (AtomicBool::new(false), AtomicBool::new(false));
+    let starves = AtomicBool::new(false);
     let reads = AtomicU64::new(0);
     let ends = Ends {
         has_failed: &has_failed,
         forgets: &forgets,
+        starves: &starves,
     };
     serve_fresh(alloc, rt, start, &tagger, meeting, ends, &reads)
 }
@@ -174,7 +186,7 @@ where
 fn serve_fresh<'a, 'x, R>(
     alloc: Global,
     rt: &'x R,
-    start: OwnStart,
+    start: NodeStart,
     tagger: &PreparedHmac,
     meeting: &Meeting,
     ends: Ends<'x>,
@@ -189,7 +201,11 @@ where
     let saying = Saying {
         rt,
         figures: None,
+        times: None,
+        values: ValuesWatch::new(rt),
         forgets: ends.forgets,
+        // it would lose its account
+        starves: None,
     };
     let lines = Lines::new(rt, Reader::new(rt.reader()), false, ends, reads);
     let config = meeting.config(&saying, &Unkept, None);
@@ -213,15 +229,20 @@ where
     requires { length meeting.now.ports ≡ length kept.member.keys.keys }
 {
     let (has_failed, forgets) = (AtomicBool::new(false), AtomicBool::new(false));
+    let starves = AtomicBool::new(false);
     let reads = AtomicU64::new(0);
     let saying = Saying {
         rt,
         figures: Some(FiguresFile::new(rt, alloc, folder, &reads)?),
+        times: Some(TimesFile::new(rt, alloc, folder)?),
+        values: ValuesWatch::new(rt),
         forgets: &forgets,
+        starves: Some(&starves),
     };
     let ends = Ends {
         has_failed: &has_failed,
         forgets: &forgets,
+        starves: &starves,
     };
     let lines = Lines::new(rt, Reader::new(rt.reader()), stays, ends, &reads);
     let ended = serve_restarted(alloc, rt, kept, found, meeting, &saying, lines);
@@ -286,7 +307,7 @@ fn start_again<'a>(
     member: OwnMember,
     ids: &[u64],
     found: FoundAs,
-) -> Result<OwnStart, Stop<'a>>
+) -> Result<NodeStart, Stop<'a>>
     ensures member { IfOk result (λ start. start.member ≡ member) }
     ensures compares { IfOk result (λ start. start.compares ≡ is_found found) }
 {
@@ -305,7 +326,7 @@ fn start_again<'a>(
 fn serve<'a, R, K, In>(
     alloc: Global,
     rt: &R,
-    start: OwnStart,
+    start: NodeStart,
     tagger: &PreparedHmac,
     config: &NodeConfig<'_, Saying<'_, R>, K>,
     lines: Lines<'_, R, In>,
@@ -324,6 +345,9 @@ where
     // that is said already
     if config.observer.forgets.load(Ordering::SeqCst) {
         return Err(Stop::Forgets);
+    }
+    if config.observer.has_starved() {
+        return Err(Stop::Engine(EngineFault::Memory));
     }
     let (member, receipts) = ended?;
     conclude(rt, &member, receipts)
@@ -352,8 +376,7 @@ pub(crate) fn export<'a, R>(
 where
     R: Files<File = File> + Print + Eprint + Alloc,
 {
-    let genesis = genesis_of(alloc, rt, Some(genesis))?;
-    let keys = keys_of(alloc, rt, &genesis, Some(keys))?;
+    let (genesis, keys) = member_of(alloc, rt, genesis, keys)?;
     let Viewed {
         member,
         is_held,

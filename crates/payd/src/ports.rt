@@ -10,6 +10,7 @@ use pay_net::Ports;
 use std::alloc::Global;
 
 /// The ports in the file of this name.
+// promise: words and files
 pub(crate) fn ports_of<'a, F: NamedFiles>(
     alloc: Global,
     files: &F,

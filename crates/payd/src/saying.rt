@@ -1,49 +1,47 @@
 //! What is said of a node: of its member, and of its peers.
 
 ghost use Rattle.std.specs.Prelude.{◌≡◌, length};
-ghost use Rattle.payd.specs.Saying.{news_words};
+ghost use Rattle.payd.specs.Saying.{is_about_another, kind_words};
 
-use crate::OwnMember;
+use crate::advice::say_log_advice;
 use crate::figures::FiguresFile;
 use crate::folders::FoundAs;
+use crate::times::TimesFile;
+use crate::values::ValuesWatch;
+use pay_frame::Kind;
 use pay_link::{Genesis, Keys};
 use pay_log::LogFault;
+use pay_member::Lie;
 use pay_net::{News, NodeFigures, Ports, Watcher};
+use pay_node::OwnMember;
 use pay_peers::Observer;
 use pay_record::log_header;
 use std::alloc::{AllocError, Global};
+use std::fmt;
 use std::fs::File;
 use std::rt::Files;
 use std::sync::atomic::{AtomicBool, Ordering};
+use std::time::Clock;
 
 /// What is said of a member that no folder keeps.
 const IN_MEMORY: &str =
     "without --data the member lives in memory alone: what ends the node before its input does \
 loses its account";
 
-const FORGOTTEN: &str =
-    "this log is older than what the group has settled for its member: never start it again \
-in this group; its balance goes on in the next one";
+const STARVED: &str = "memory was refused for 5 seconds on end";
 
-const MISSING: &str =
-    "there is no log in this folder: --new makes a member there, but one that had a log needs \
-that very log, which may be on a disk that isn't mounted";
-
-const EXISTS: &str =
-    "there is or was a log in this folder: without --new its member goes on where it was";
-
-const CHANGED: &str =
-    "the log ended cleanly and isn't whole any more: put that very log back, and never an \
-older one";
-
-/// Says on standard error what becomes of a node's peers, a line each time, and that its member has
-/// forgotten what it sent, and has its figures written.
+/// Says on standard error what becomes of a node's peers, a line each time, that its member has
+/// forgotten what it sent, and that memory stays refused, and has its figures and times written.
 #[derive(Drop)]
 pub(crate) struct Saying<'a, R> {
     pub(crate) rt: &'a R,
     pub(crate) figures: Option<FiguresFile<'a, R>>,
+    pub(crate) times: Option<TimesFile<'a, R>>,
+    pub(crate) values: ValuesWatch<'a, R>,
     /// Whether the member has forgotten.
     pub(crate) forgets: &'a AtomicBool,
+    /// Whether memory stays refused, in a node that may end then.
+    pub(crate) starves: Option<&'a AtomicBool>,
 }
 
 impl<R: Files> Saying<'_, R> {
@@ -53,19 +51,38 @@ impl<R: Files> Saying<'_, R> {
             figures.remove();
         }
     }
+
+    /// Whether memory stays refused, in a node that may end then.
+    pub(crate) fn has_starved(&self) -> bool {
+        match self.starves {
+            Some(starves) => starves.load(Ordering::SeqCst),
+            None => false,
+        }
+    }
 }
 
-impl<R: Files<File = File> + Eprint> Watcher for Saying<'_, R> {
+impl<R: Files<File = File> + Eprint + Clock> Watcher for Saying<'_, R> {
     fn watch(&self, figures: &NodeFigures) {
+        self.values.watch(figures.member.used);
+        if let Some(file) = &self.times {
+            file.watch(figures.member.fronts.as_slice());
+        }
         if let Some(file) = &self.figures {
             file.watch(figures);
+        }
+    }
+
+    fn starves(&self) {
+        let _ = eprintln!(self.rt; "payd: {STARVED}");
+        if let Some(starves) = self.starves {
+            starves.store(true, Ordering::SeqCst);
         }
     }
 
     fn forgets(&self) {
         let fault = LogFault::Forgotten;
         let _ = eprintln!(self.rt; "payd: log {fault}");
-        say_advice(self.rt, fault);
+        say_log_advice(self.rt, fault);
         self.forgets.store(true, Ordering::SeqCst);
     }
 }
@@ -73,8 +90,8 @@ impl<R: Files<File = File> + Eprint> Watcher for Saying<'_, R> {
 impl<R: Eprint> Observer<News> for Saying<'_, R> {
     // Where it can't be said, the node goes on.
     fn observe(&self, peer: u16, news: News) {
-        let word = word_of(news);
-        let _ = eprintln!(self.rt; "payd: peer {peer} {word}");
+        let said = NewsSaid { peer, news };
+        let _ = eprintln!(self.rt; "payd: peer {peer} {said}");
     }
 }
 
@@ -165,18 +182,6 @@ pub(crate) fn say_view(rt: &impl Eprint, is_held: bool, behind: u64) {
     }
 }
 
-/// Says what to do where a fault alone doesn't tell.
-pub(crate) fn say_advice(rt: &impl Eprint, fault: LogFault) {
-    let advice = match fault {
-        LogFault::Changed => CHANGED,
-        LogFault::Forgotten => FORGOTTEN,
-        LogFault::Missing => MISSING,
-        LogFault::Exists => EXISTS,
-        _ => return,
-    };
-    let _ = eprintln!(rt; "payd: {advice}");
-}
-
 // How many payments of all accounts are settled.
 fn settled_count(member: &OwnMember) -> u64 {
     let mut sum: u64 = 0;
@@ -186,13 +191,79 @@ fn settled_count(member: &OwnMember) -> u64 {
     sum
 }
 
-fn word_of(news: News) -> &'static str
-    ensures { result.now ≡ news_words news }
+/// News of a peer, in words.
+#[derive(Clone, Copy)]
+struct NewsSaid {
+    peer: u16,
+    news: News,
+}
+
+impl fmt::Display for NewsSaid {
+    ghost use Rattle.std.specs.Prelude.{Some};
+    ghost use Rattle.payd.specs.Saying.{news_words};
+
+    ghost output = { λ said. Some (news_words said.peer said.news) };
+
+    fn fmt<W: fmt::Write>(&self, f: &mut fmt::Formatter<W>) -> fmt::Result {
+        match self.news {
+            News::Met => write!(f, "met"),
+            News::Lost => write!(f, "lost"),
+            News::GivenUp => write!(f, "given up"),
+            News::Lied(lie) => {
+                let lie = LieSaid {
+                    peer: self.peer,
+                    lie,
+                };
+                write!(f, "lied: {lie}; nothing more is read from it")
+            }
+            News::Unopened => write!(
+                f,
+                "sends frames that don't open: another key or another group"
+            ),
+        }
+    }
+}
+
+/// A lie of a peer, in words.
+#[derive(Clone, Copy)]
+struct LieSaid {
+    peer: u16,
+    lie: Lie,
+}
+
+impl fmt::Display for LieSaid {
+    ghost use Rattle.std.specs.Prelude.{Some};
+    ghost use Rattle.payd.specs.Saying.{lie_words};
+
+    ghost output = { λ said. Some (lie_words said.peer said.lie) };
+
+    fn fmt<W: fmt::Write>(&self, f: &mut fmt::Formatter<W>) -> fmt::Result {
+        let Lie { kind, owner, seq } = self.lie;
+        if is_about_another(self.peer, self.lie) {
+            return write!(f, "a SEND about account {owner}, which isn't its own");
+        }
+        let kind = word_of(kind);
+        write!(f, "a second {kind} about value {seq} of account {owner}")
+    }
+}
+
+// Whether a peer spoke as if another's account were its own.
+fn is_about_another(peer: u16, lie: Lie) -> bool
+    ensures { result ≡ is_about_another peer lie }
 {
-    match news {
-        News::Met => "met",
-        News::Lost => "lost",
-        News::GivenUp => "given up",
-        News::Unopened => "sends frames that don't open: another key or another group",
+    match lie.kind {
+        Kind::Send => lie.owner != peer,
+        Kind::Echo | Kind::Ready | Kind::Want => false,
+    }
+}
+
+fn word_of(kind: Kind) -> &'static str
+    ensures { result.now ≡ kind_words kind }
+{
+    match kind {
+        Kind::Send => "SEND",
+        Kind::Echo => "ECHO",
+        Kind::Ready => "READY",
+        Kind::Want => "WANT",
     }
 }

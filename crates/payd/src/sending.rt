@@ -7,6 +7,7 @@ ghost use Rattle.payd.specs.Sending.{RelaysOrHolds, Relays, counted_if, is_last,
 ghost use Rattle.payd.specs.Sending.{line_text, said_of};
 
 use crate::holding::Holding;
+use crate::patience::{PatientStream, seconds_of};
 use crate::sent::{LineNotes, SentLines, payment_id};
 use crate::sockets::socket_path;
 use crate::stop::Stop;
@@ -15,6 +16,7 @@ use pay_engine::EngineFault;
 use pay_io::{DeviceFailed, Reader, StreamFault, Writer, write_all};
 use pay_text::{Answer, Answerer, Text, run_lines};
 use std::alloc::{AllocError, Global};
+use std::io::ErrorKind;
 use std::net::{Net, Shutdown};
 use std::os::unix::net::UnixStream;
 use std::sync::atomic::{AtomicU64, Ordering};
@@ -199,6 +201,7 @@ pub(crate) struct Answers {
     lines: Arc<SentLines>,
     holding: Arc<Holding>,
     sent: Arc<AtomicU64>,
+    seconds: u64,
 }
 
 impl Answers {
@@ -219,9 +222,13 @@ impl Answers {
             lines: &self.lines,
             holding: &self.holding,
         };
-        let mut reader = Reader::new(&self.stream);
+        let answers = PatientStream::new(rt, &self.stream, &self.lines, self.seconds);
+        let mut reader = Reader::new(answers);
         let mut writer = Writer::new(io::writer(rt));
         let ended = run_lines(alloc, MOST_ANSWER, &mut naming, &mut reader, &mut writer);
+        if reader.into_inner().is_late() {
+            return Err(Stop::Late(self.seconds));
+        }
         match ended {
             Ok(_) | Err(StreamFault::Read) => {
                 said_of(&naming.relay, self.sent.load(Ordering::SeqCst))
@@ -237,11 +244,12 @@ pub(crate) fn call<'a>(
     rt: &impl Net,
     words: SendWords<'a>,
 ) -> Result<(Sending, Answers), Stop<'a>> {
+    let seconds = seconds_of(words.timeout)?;
     let stream = connect(alloc, rt, words.folder, words.socket)?;
     let text = text_of(alloc, words.lines.as_slice())?;
     let sent = Arc::new(alloc, AtomicU64::new(STILL_SENDING))?;
     let lines = Arc::new(alloc, SentLines::new(alloc))?;
-    let holding = Arc::new(alloc, Holding::new())?;
+    let holding = Arc::new(alloc, Holding::new(seconds))?;
     let Ok(own) = stream.try_clone() else {
         return Err(Stop::Engine(EngineFault::Memory));
     };
@@ -260,6 +268,7 @@ pub(crate) fn call<'a>(
             lines,
             holding,
             sent,
+            seconds,
         },
     ))
 }
@@ -292,6 +301,7 @@ fn connect<'a>(
     };
     match UnixStream::connect(rt, path.as_str()) {
         Ok(stream) => Ok(stream),
+        Err(error) if error.kind() == ErrorKind::PermissionDenied => Err(Stop::Barred(path)),
         Err(_) => Err(Stop::Nobody(path)),
     }
 }

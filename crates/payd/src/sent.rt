@@ -30,6 +30,11 @@ impl SentLines {
         ids.pop_front()?
     }
 
+    /// Whether a line that was sent has no answer yet.
+    pub(crate) fn has_unanswered<R: Wait>(&self, rt: &R) -> bool {
+        !self.ids.lock(rt).is_empty()
+    }
+
     fn push<R: Wait>(&self, rt: &R, id: Option<u64>) -> Result<(), AllocError> {
         let mut ids = self.ids.lock(rt);
         Ok(ids.push_back(id)?)

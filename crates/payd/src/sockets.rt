@@ -76,6 +76,6 @@ pub(crate) fn listen<'a, R: Files + Net>(
     match DeskSocket::bind(rt, alloc, path.as_str()) {
         Ok(socket) => Ok(Some(NamedSocket { socket, path })),
         Err(error) if error.kind() == ErrorKind::OutOfMemory => Err(Stop::from(AllocError)),
-        Err(_) => Err(Stop::Socket(path)),
+        Err(error) => Err(Stop::Socket(path, error.kind())),
     }
 }

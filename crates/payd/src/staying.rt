@@ -39,7 +39,7 @@ pub(crate) fn judge_new<'a>(words: &NodeWords) -> Result<(), Stop<'a>>
 }
 
 /// Lines behind whose end, or a read that failed, a read may wait until the node has to end. They
-/// can't be read any more once its member has forgotten what it sent.
+/// can't be read any more once its member has forgotten what it sent, or memory stays refused.
 #[derive(Drop)]
 pub(crate) struct Lines<'a, R, In> {
     rt: &'a R,
@@ -59,12 +59,19 @@ pub(crate) struct Ends<'a> {
     pub(crate) has_failed: &'a AtomicBool,
     /// Its member has forgotten what it sent.
     pub(crate) forgets: &'a AtomicBool,
+    /// Memory stays refused to it.
+    pub(crate) starves: &'a AtomicBool,
 }
 
 impl Ends<'_> {
     // Whether it has to, by now.
     fn are_there(&self) -> bool {
-        self.has_failed.load(Ordering::SeqCst) || self.forgets.load(Ordering::SeqCst)
+        self.has_failed.load(Ordering::SeqCst) || self.are_before_lines()
+    }
+
+    // Whether it has to before another line is read.
+    fn are_before_lines(&self) -> bool {
+        self.forgets.load(Ordering::SeqCst) || self.starves.load(Ordering::SeqCst)
     }
 }
 
@@ -104,7 +111,7 @@ impl<R: Wait + Clock, In: Input> Input for Lines<'_, R, In> {
     fn read(&mut self, buffer: &mut [u8]) -> Result<usize, DeviceFailed> {
         self.calls = self.calls.saturating_add(1);
         self.reads.store(self.calls, Ordering::SeqCst);
-        if self.ends.forgets.load(Ordering::SeqCst) {
+        if self.ends.are_before_lines() {
             self.failures = self.failures.saturating_add(1);
             return Err(DeviceFailed);
         }

@@ -14,22 +14,32 @@ use pay_net::{NodeFault, PortsFault};
 use pay_node::CloseFault;
 use std::alloc::{AllocError, AllocFailed};
 use std::fmt;
+use std::io::ErrorKind;
 use thiserror::Error;
 
 /// Why the work wasn't done, or not all of it.
 #[derive(Drop, Error)]
 pub(crate) enum Stop<'a> {
+    /// Memory was refused, a read or a write failed, or the bound was met: `0 Memory`, `2 Read`, `3
+    /// Write`, `4 Bound`.
     #[error("engine {0}")]
     Engine(EngineFault),
-    /// Beside their fault, these have the name of the file that has it.
+    /// The file has this fault. Behind it stands `payd: in FILE`.
     #[error("genesis {0}")]
     Genesis(GenesisFault, &'a str),
+    /// The same of a file of keys, and of a bad key whose it is: `, the key for member M`.
     #[error("keys {0}")]
     Keys(KeysFault, &'a str),
+    /// The keys are of another group than the genesis.
+    #[error("keys 6 OtherGroup")]
+    OtherGroup(&'a str),
+    /// The same of a file of ports.
     #[error("ports {0}")]
     Ports(PortsFault, &'a str),
+    /// The same of an export.
     #[error("export {0}")]
     Export(ExportFault, &'a str),
+    /// The history contradicts what the node answered, or no memory was left to compare them.
     #[error("close {0}")]
     Close(CloseFault),
     /// The log in the folder isn't read, or the folder isn't to be had.
@@ -50,24 +60,36 @@ pub(crate) enum Stop<'a> {
     /// A client names no node, or two.
     #[error("send: --data or --socket")]
     NoNode,
-    /// The socket of this name can't be had.
+    /// The socket of this name can't be had, for this reason.
     #[error("socket {0}")]
-    Socket(String),
+    Socket(String, ErrorKind),
     /// The socket's name is longer than the system takes.
     #[error("socket {0}: more than 101 bytes; --socket gives it a shorter name")]
     LongSocket(String),
     /// Nobody listens on the socket of this name.
     #[error("nobody listens on {0}")]
     Nobody(String),
+    /// The socket of this name is another user's.
+    #[error("you may not open {0}")]
+    Barred(String),
+    /// The word at this place has a control character.
+    #[error("word {0}: a control character")]
+    Control(usize),
+    /// This word says no number of seconds.
+    #[error("timeout {0}: no number of seconds from 1 to 86400")]
+    Timeout(&'a str),
+    /// A line has no answer after so many seconds.
+    #[error("no answer after {0} seconds")]
+    Late(u64),
     /// The node ended before it answered all lines.
     #[error("the node ended before it answered")]
     Unanswered,
     /// The own port can't be had.
     #[error("port {0}")]
     Port(u16),
-    /// The file of this name can't be read.
+    /// The file of this name can't be read, or has more than 1,073,741,824 bytes.
     #[error("file {0}")]
-    File(&'a str),
+    File(&'a str, ErrorKind),
     /// This word says no count of dials.
     #[error("dials {0}: neither a count from 1 on nor always")]
     Dials(&'a str),
@@ -160,9 +182,10 @@ impl<'a> Stop<'a> {
             | Stop::Keys(KeysFault::Memory, _)
             | Stop::Ports(PortsFault::Memory, _)
             | Stop::Export(ExportFault::Memory, _) => None,
-            Stop::Genesis(_, file) | Stop::Ports(_, file) | Stop::Export(_, file) => {
-                Some((*file, None))
-            }
+            Stop::Genesis(_, file)
+            | Stop::OtherGroup(file)
+            | Stop::Ports(_, file)
+            | Stop::Export(_, file) => Some((*file, None)),
             Stop::Keys(KeysFault::BadKey(member), file) => Some((*file, Some(*member))),
             Stop::Keys(_, file) => Some((*file, None)),
             _ => None,
@@ -170,6 +193,7 @@ impl<'a> Stop<'a> {
     }
 
     /// The status with which the program ends.
+    // promise: statuses
     pub(crate) fn status(&self) -> u8
         ensures { result ≡ status_of self.now }
     {
@@ -183,13 +207,16 @@ impl<'a> Stop<'a> {
             | Stop::Close(CloseFault::Memory)
             | Stop::Log(LogFault::Memory | LogFault::Held)
             | Stop::Port(_)
-            | Stop::Socket(_)
+            | Stop::Socket(..)
             | Stop::Nobody(_)
+            | Stop::Barred(_)
+            | Stop::Late(_)
             | Stop::Unanswered
             | Stop::Clock => 3,
             Stop::Unkept(_) | Stop::Forgets | Stop::Log(LogFault::Disk | LogFault::Forgotten) => 4,
             Stop::Genesis(..)
             | Stop::Keys(..)
+            | Stop::OtherGroup(_)
             | Stop::Ports(..)
             | Stop::Export(..)
             | Stop::Log(_)
@@ -197,7 +224,9 @@ impl<'a> Stop<'a> {
             | Stop::Stay
             | Stop::NoNode
             | Stop::LongSocket(_)
-            | Stop::File(_)
+            | Stop::Control(_)
+            | Stop::Timeout(_)
+            | Stop::File(..)
             | Stop::Dials(_)
             | Stop::Ahead(_)
             | Stop::Jobs(_)

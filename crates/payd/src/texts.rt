@@ -9,14 +9,14 @@ ghost use Rattle.payd.specs.Texts.{IsVerdictSaid, form_by, statement_said, verdi
 use crate::batches::verdict_over;
 use crate::files::{NamedFiles, exports_of};
 use crate::stop::Stop;
-use pay_audit::{Export, Verdict, audit};
-use pay_findings::{Named, findings_text};
-use pay_group_book::{BookForm, Said, book_text};
+use pay_audit::{Export, Named, Verdict, audit, findings_text};
+use pay_group::{BookForm, Said, book_text};
 use pay_journal::{account_named, statement_text, statements_text};
 use std::alloc::{AllocError, Global};
 use std::thread::Threads;
 
 /// The statement of the account that a word names, or without a word those of all.
+// promise: statements of exports
 pub(crate) fn statement_said<'a>(
     alloc: Global,
     export: &Export,
@@ -57,6 +57,7 @@ pub(crate) fn form_of<'a>(as_genesis: bool, as_export: bool) -> Result<BookForm,
 }
 
 /// What is said of the exports in the files of these names.
+// promise: group's book
 pub(crate) fn book_over<'a, F: NamedFiles>(
     alloc: Global,
     files: &F,
@@ -80,6 +81,7 @@ pub(crate) struct Findings {
 }
 
 /// The verdict on the exports in the files of these names, read by so many threads.
+// promise: findings
 pub(crate) fn verdict_said<'a, R: Threads + Sync, F: NamedFiles + Sync>(
     rt: &R,
     jobs: usize,
@@ -107,6 +109,7 @@ fn line_of(alloc: Global, verdict: Verdict) -> Result<Vec<u8>, AllocError>
 }
 
 /// The verdict on the exports in the files of these names, and then all that is wrong with them.
+// promise: findings
 pub(crate) fn findings_over<'a, F: NamedFiles>(
     alloc: Global,
     files: &F,

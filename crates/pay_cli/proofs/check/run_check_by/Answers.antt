@@ -3,24 +3,25 @@ use Rattle.pay_engine.specs.declared.engine_fault.EngineFault.TheVariants.{Memor
 use Rattle.pay_cli.specs.declared.progress.Progress.{Progress}
 use Rattle.pay_cli.specs.CheckText.{checking, at_start}
 use Rattle.pay_cli.specs.Engine.{HasRoom}
+use Rattle.pay_cli.specs.Values.{checker_of}
 use Rattle.pay_cli.proofs.Room.{room_at_start}
 use Rattle.pay_cli.proofs.Starting.{is_at_start, nothing_written, text_from_start}
 use Rattle.pay_cli.proofs.check.run_check_by.Goals as goal
 
 pub returns-in_err-progress-clause-text : goal.returns-in_err-progress-clause-text
 returns-in_err-progress-clause-text g c =
-    let k = c.args.keys.now in
+    let k = checker_of c.args.checker.now in
     let memory : c.from_residual.result ≡ Err Memory = search rules in
-    rw memory (at_start k, nothing_written k (c.every_text.ensures.law k) (g.R.Input.remaining c.args.reader.now) (g.W.Output.contents c.args.writer.now))
+    rw memory (at_start k.keys, nothing_written k (c.every_text.ensures.law k) (g.R.Input.remaining c.args.reader.now) (g.W.Output.contents c.args.writer.now))
 
 pub handle_stream-requires : goal.handle_stream-requires
 handle_stream-requires g c =
-    let k = c.args.keys.now in
-    let start = c.new-shared.ensures ∙ is_at_start k c.members.result c.in_ok-progress.progress c.in_ok-progress.ensures.start (c.members.ensures.value ∙ sym c.requires.keys) in
-    record { room = λ n few. (subst (λ (p : Progress). HasRoom k p n) (sym start) (room_at_start k n few), λ frames whole before. (search rules, λ r post. search rules)) }
+    let k = checker_of c.args.checker.now in
+    let start = c.new-shared.ensures ∙ is_at_start k.keys c.members.result c.in_ok-progress.progress c.in_ok-progress.ensures.start (c.members.ensures.value ∙ sym c.requires.keys) in
+    record { room = λ n few. (subst (λ (p : Progress). HasRoom k.keys p n) (sym start) (room_at_start k.keys n few), λ frames whole before. (search rules, λ r post. search rules)) }
 
 pub returns-clause-text : goal.returns-clause-text
 returns-clause-text g c =
-    let k = c.args.keys.now in
-    let start = c.new-shared.ensures ∙ is_at_start k c.members.result c.in_ok-progress.progress c.in_ok-progress.ensures.start (c.members.ensures.value ∙ sym c.requires.keys) in
-    text_from_start k c.new-shared.result _ _ _ _ _ _ start (c.exact_text.ensures.text (checking k) _ _ _ _ _ c.handle_stream.ensures.handled)
+    let k = checker_of c.args.checker.now in
+    let start = c.new-shared.ensures ∙ is_at_start k.keys c.members.result c.in_ok-progress.progress c.in_ok-progress.ensures.start (c.members.ensures.value ∙ sym c.requires.keys) in
+    text_from_start k c.new-shared.result _ _ _ _ _ _ start (c.exact_text.ensures.text (checking k) _ _ _ c.handle_stream.ensures.handled)

@@ -5,13 +5,13 @@ use Rattle.pay_cli.proofs.laws.every_text.Goals as goal
 
 pub returns : goal.returns
 returns c = record {
-  law = λ keys bytes is.
+  law = λ q bytes is.
       let stream = c.every_stream.ensures.law bytes is in
       record {
-        text = text_from (checking keys) (at_start keys) stream.frames stream.ending;
+        text = text_from (checking q) (at_start q.keys) stream.frames stream.ending;
         ending = stream.ending;
         is = record {
-          known = known_after keys (at_start keys) stream.frames;
+          known = known_after q (at_start q.keys) stream.frames;
           is = record { frames = stream.frames; stream = stream.is; texts = refl; state = refl };
         };
       };

@@ -1,12 +1,13 @@
 use Rattle.std.proofs.Common.{◌≡◌, Ok, rules}
 use Rattle.std.specs.Prelude.{IfOk}
 use Rattle.pay_cli.specs.Findings.{AreJudged}
+use Rattle.pay_cli.specs.Values.{checker_of}
 use Rattle.pay_cli.proofs.Cuts.{both_judged, joined_is, told_of}
 use Rattle.pay_cli.proofs.sharing.+fn-judge_parts-join+arg2+fn-judge_parts-join+arg3+judge_parts.Goals as goal
 
 pub returns : goal.returns
 returns g t c =
-    let k = c.args.keys.now in
+    let k = checker_of c.args.checker.now in
     let a = c.in_ok-first.field-0 in
     let b = c.in_ok-rest.field-0 in
     record {

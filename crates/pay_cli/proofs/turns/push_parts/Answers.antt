@@ -7,7 +7,7 @@ loop-judged-init c =
     let room = c.requires.room in
     record {
       among = λ k fs are. before_parts k fs c.args.progress.now c.args.out.now.items c.args.parts.now are;
-      room = record { keys = room.0; frames = room.1; judged = room.2; room = room.3 };
+      room = record { checker = room.0; frames = room.1; judged = room.2; room = room.3 };
     }
 
 pub push_part-requires : goal.push_part-requires

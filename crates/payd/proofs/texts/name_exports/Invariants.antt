@@ -1,6 +1,6 @@
 use Rattle.std.proofs.Common.{◌≡◌, Bor, List, ℕ, map, take}
 use Rattle.pay_audit.specs.Export.{ExportFields}
-use Rattle.pay_findings.specs.declared.named.Named.{Named}
+use Rattle.pay_audit.specs.declared.findings.Named.{Named}
 use Rattle.payd.proofs.texts.name_exports.Given as goal
 
 -- those so far

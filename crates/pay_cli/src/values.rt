@@ -1,0 +1,74 @@
+//! What the values of frames pay, appended to what is written already.
+
+ghost use Rattle.std.specs.Prelude.{◌≡◌, ◌++◌, OnOk};
+ghost use Rattle.std.specs.List.{flat_map};
+ghost use Rattle.pay_book.specs.Payment.{entries_in};
+ghost use Rattle.pay_cli.specs.Values.{checker_of, payee_and_amount, pays_line, told_line};
+
+use crate::checker::Checker;
+use pay_book::laws::values_count_their_entries;
+use pay_book::{Entry, entries_in, entry_at};
+use pay_frame::Kind;
+use pay_text::{push_number, push_word};
+use std::alloc::AllocError;
+
+/// The line of what a frame's value pays, if it has one and that is asked for.
+#[tactic(auto, unfolding(crate::specs::Values::told_line))]
+// promise: check's text
+pub fn push_told(
+    out: &mut Vec<u8>,
+    checker: &Checker<'_>,
+    kind: Kind,
+    owner: u16,
+    value: &[u8],
+) -> Result<(), AllocError>
+    ensures { OnOk result (out.new.items
+        ≡ out.old.items ++ told_line (checker_of checker.now) kind owner value.now) }
+{
+    if !checker.tells_values || kind == Kind::Want {
+        return Ok(());
+    }
+    push_pays(out, checker.keys.members(), owner, value)
+}
+
+/// The line of what a value pays in the list of this owner, among this many accounts.
+fn push_pays(out: &mut Vec<u8>, accounts: u16, owner: u16, value: &[u8]) -> Result<(), AllocError>
+    ensures { OnOk result (out.new.items ≡ out.old.items ++ pays_line accounts owner value.now) }
+{
+    push_word(out, "  pays")?;
+    push_entries(out, accounts, owner, value)?;
+    push_word(out, "\n")
+}
+
+/// What each entry of a value pays, and whom.
+fn push_entries(
+    out: &mut Vec<u8>,
+    accounts: u16,
+    owner: u16,
+    value: &[u8],
+) -> Result<(), AllocError>
+    ensures { OnOk result (out.new.items ≡ out.old.items
+        ++ flat_map payee_and_amount (entries_in accounts owner value.now)) }
+{
+    // a law that the proof stands on: the call does nothing
+    values_count_their_entries();
+    for place in 0..entries_in(value) {
+        push_entry(out, entry_at(value, place, owner, accounts))?;
+    }
+    Ok(())
+}
+
+#[tactic(auto, unfolding(crate::specs::Values::payee_and_amount))]
+fn push_entry(out: &mut Vec<u8>, entry: Entry) -> Result<(), AllocError>
+    ensures { OnOk result (out.new.items ≡ out.old.items ++ payee_and_amount entry) }
+{
+    match entry {
+        Entry::Pay { payee, amount } => {
+            push_word(out, " ")?;
+            push_number(out, u64::from(payee))?;
+            push_word(out, " ")?;
+            push_number(out, amount)
+        }
+        Entry::Void => push_word(out, " void"),
+    }
+}
