@@ -5,10 +5,12 @@
 use pay_audit::{Export, ReplayFault, Verdict, audit, export_text, read_export, replay};
 use pay_book::PlainBook;
 use pay_echo::MaskInstance;
-use pay_frame::{Bytes, FrameFault};
+use pay_frame::{Bytes, FrameFault, Kind};
 use pay_hmac::HmacSha256;
 use pay_link::{Genesis, LinkFault, test_keys};
-use pay_member::{AskFault, Brought, HistoryEntry, Member, Outcome, PaymentState, Reply, Took};
+use pay_member::{
+    AskFault, Brought, HistoryEntry, Lie, Member, Outcome, PaymentState, Reply, Took,
+};
 use std::alloc::{AllocError, Global};
 use std::process::Abort;
 use std::test::Fail;
@@ -26,6 +28,8 @@ enum Step {
     /// How far the first value of account 0 has come, and how many entries of that account are
     /// settled.
     Show(PaymentState, u32),
+    /// Which lie a member told last.
+    Lied(u16, Option<Lie>),
 }
 
 /// The steps of a new member, and what it exports after them.
@@ -77,6 +81,13 @@ const READY_AND_SETTLED_1: Took = Took {
 const READY_AND_SETTLED_2: Took = Took {
     settled: 2,
     ..READY_AND_DELIVERED
+};
+
+/// A SEND about number 0 of account 3, by another.
+const FOREIGN: Lie = Lie {
+    kind: Kind::Send,
+    owner: 3,
+    seq: 0,
 };
 
 /// Member 0 sends member 1 its first frame, thirty to account 1.
@@ -201,10 +212,13 @@ const ALONE: &[Row] = &[
                 "003701030002000000000000000000010003000000000001592f32e57f05b2d45c72eb3f785f6db3374fa222cee48cbc70faef94bc92b9d7a9",
                 READY_AND_SETTLED_2,
             ),
+            Step::Lied(1, None),
             Step::Take(
                 "003701010001000000000000000000020003000000000001590898928d3ba9b8e8590ed402597256593dae374cf144a37e9e12e84657d48acb",
                 NOTHING,
             ),
+            Step::Lied(1, Some(FOREIGN)),
+            Step::Lied(2, None),
             Step::Ask("41", 0),
             Step::Show(PaymentState::Asked, 0),
         ],
@@ -368,6 +382,9 @@ impl Step {
                 member.genesis().members() > 0
                     && member.state(0, 0) == *state
                     && member.front(0) == *front,
+            ),
+            Step::Lied(peer, lie) => Ok(
+                *peer < member.genesis().members() && member.lie(*peer) == *lie,
             ),
         }
     }

@@ -9,8 +9,7 @@ use pay_frame::{Bytes, GREATEST_VALUE};
 use pay_hmac::HmacSha256;
 use pay_link::{Genesis, Keys, test_keys};
 use pay_member::{Event, HistoryEntry};
-use pay_record::{EntryRecords, log_header, log_key, push_record};
-use pay_resume::{RecordFault, Records};
+use pay_record::{EntryRecords, RecordFault, Records, log_header, log_key, push_record};
 use std::alloc::Global;
 use std::test::Fail;
 

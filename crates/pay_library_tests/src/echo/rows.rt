@@ -42,12 +42,13 @@ const ALL: Moves = Moves {
     ..READY_AND_DELIVERED
 };
 
-/// Process 0 of so many, of whom so many may be faulty; votes, and what each makes known; and what
-/// is echoed, readied and delivered in the end.
+/// Process 0 of so many, of whom so many may be faulty; votes, and what each makes known; the places
+/// of those that came in another's place; and what is echoed, readied and delivered in the end.
 struct Row {
     members: u16,
     faults: u16,
     steps: &'static [(VoteRef<'static>, Moves)],
+    again: &'static [usize],
     known: &'static [Option<&'static [u8]>; 3],
 }
 
@@ -66,6 +67,7 @@ const ROWS: &[Row] = &[
             (VoteRef::Ready(2, A), DELIVERED),
             (VoteRef::Ready(3, B), NOTHING),
         ],
+        again: &[3, 6],
         known: &[Some(A), Some(A), Some(A)],
     },
     Row {
@@ -77,27 +79,30 @@ const ROWS: &[Row] = &[
             (VoteRef::Send(B), ECHO),
             (VoteRef::Send(A), NOTHING),
         ],
+        again: &[3],
         known: &[Some(B), Some(A), Some(A)],
     },
     Row {
         members: 1,
         faults: 0,
         steps: &[(VoteRef::Send(A), ALL)],
+        again: &[],
         known: &[Some(A), Some(A), Some(A)],
     },
 ];
 
-// Whether each vote makes known what it has to, as was foreseen.
+// Whether each vote makes known what it has to, as was foreseen, and is known to be one more or not.
 fn are_told<I: Instance>(
     alloc: Global,
     group: Group,
     instance: &mut I,
-    steps: &[(VoteRef, Moves)],
+    row: &Row,
 ) -> Result<bool, AllocError>
     requires { (I.meaning instance.old).group ≡ group }
 {
-    for (vote, told) in steps {
+    for (place, (vote, told)) in row.steps.iter().enumerate() {
         if !is_foreign(group, *vote)
+            || instance.has_voted(*vote) != row.again.contains(&place)
             || instance.moves(*vote) != *told
             || tell(instance, alloc, *vote)? != *told
         {
@@ -126,7 +131,7 @@ fn is_met<I: Instance + Drop>(alloc: Global, row: &Row) -> Result<bool, AllocErr
         return Ok(false);
     }
     let mut instance = I::fresh(alloc, group)?;
-    Ok(are_told(alloc, group, &mut instance, row.steps)? && is_known(&instance, *row.known))
+    Ok(are_told(alloc, group, &mut instance, row)? && is_known(&instance, *row.known))
 }
 
 #[test]

@@ -3,9 +3,9 @@
 ghost use Rattle.std.specs.Prelude.{◌≡◌};
 
 use crate::node::rows::{FOUR, PAYMENT};
-use crate::node::trial::{OwnMember, Tried, member_of};
+use crate::node::trial::member_of;
 use pay_frame::Bytes;
-use pay_node::{Beginning, HandInFault, Node, Seat};
+use pay_node::{Beginning, HandInFault, Node, OwnMember, Seat};
 use std::alloc::Global;
 use std::marker::Brand;
 use std::sync::Wait;
@@ -30,7 +30,7 @@ struct Wants {
 fn asks<S: Beginning, R: Wait>(
     rt: &R,
     alloc: Global,
-    node: &Tried<S>,
+    node: &Node<S>,
     seat: &mut Seat,
 ) -> Option<Result<u32, HandInFault>> {
     let value = Bytes::from_slice(alloc, PAYMENT).ok()?;
@@ -50,7 +50,7 @@ fn compares<S: Beginning, R: Wait>(
     requires { member ≡ S.beginning }
 {
     let (node, mut seats) = Node::comparing(alloc, member, 1).ok()?;
-    let node: Tried<S> = node;
+    let node: Node<S> = node;
     let seat = seats.first_mut()?;
     node.hear(rt, wants.first.0, wants.first.1);
     let first = asks(rt, alloc, &node, seat)?;

@@ -3,17 +3,13 @@
 ghost use Rattle.std.specs.Prelude.{◌≡◌};
 
 use crate::node::rows::{FOUR, PAYMENT};
-use pay_book::PlainBook;
-use pay_echo::MaskInstance;
 use pay_frame::Bytes;
 use pay_link::{Genesis, test_keys};
 use pay_member::Member;
-use pay_node::{Beginning, CloseFault, Node, Seat};
+use pay_node::{Beginning, CloseFault, Node, OwnMember, Seat};
 use std::alloc::Global;
 use std::marker::Brand;
 use std::sync::Wait;
-
-type OwnMember = Member<MaskInstance, PlainBook>;
 
 // A member of four that was asked for a value, under the stamp of a node's first seat.
 fn asked_member(alloc: Global) -> Option<OwnMember> {
@@ -34,7 +30,7 @@ fn goes_on<S: Beginning, R: Wait>(
 ) -> Option<(u32, Option<CloseFault>)>
     requires { member ≡ S.beginning }
 {
-    let (node, mut seats) = Node::<MaskInstance, PlainBook, S>::new(alloc, member, 2).ok()?;
+    let (node, mut seats) = Node::<S>::new(alloc, member, 2).ok()?;
     let seat = seats.first_mut()?;
     let value = Bytes::from_slice(alloc, PAYMENT).ok()?;
     let seq = node.ask(rt, alloc, seat, value).ok()?;
@@ -44,7 +40,7 @@ fn goes_on<S: Beginning, R: Wait>(
 // Why a node doesn't close with these seats, if it doesn't; nothing, where memory is refused.
 fn fault_at_closing<S: Beginning>(
     alloc: Global,
-    node: Node<MaskInstance, PlainBook, S>,
+    node: Node<S>,
     seats: &[Seat],
 ) -> Option<Option<CloseFault>> {
     match node.close(alloc, seats) {

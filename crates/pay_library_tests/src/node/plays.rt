@@ -4,24 +4,22 @@ ghost use Rattle.std.specs.Prelude.{◌≡◌};
 
 use crate::node::rows::{FOUR, HANDED, PAYMENT, ROWS};
 use crate::node::step::{Group, Row, Step, Whose};
-use crate::node::trial::{OwnMember, Tried, fault_at_closing, meets, member_of, node_of};
-use pay_book::PlainBook;
-use pay_echo::MaskInstance;
-use pay_node::{Beginning, CloseFault, Seat, Stopped};
-use std::alloc::Global;
+use crate::node::trial::{TwoSeats, asks, fault_at_closing, meets, member_of, node_of, two_of};
+use pay_node::{Beginning, CloseFault, Node, OwnMember, Seat, Stopped};
+use std::alloc::{AllocError, Global};
 use std::marker::Brand;
 use std::sync::Wait;
 
-// The place of the first call that isn't answered so from this seat, if there is one.
+// The place of the first call that isn't answered so from these seats, if there is one.
 fn unmet_in<S: Beginning, R: Wait>(
     rt: &R,
     alloc: Global,
-    node: &Tried<S>,
-    seat: &mut Seat,
+    node: &Node<S>,
+    seats: &mut TwoSeats,
     steps: &[Step],
 ) -> Option<usize> {
     for (place, step) in steps.iter().enumerate() {
-        if !meets(rt, alloc, node, seat, step) {
+        if !meets(rt, alloc, node, seats, step) {
             return Some(place);
         }
     }
@@ -36,7 +34,15 @@ fn fresh(alloc: Global, group: Group) -> Option<OwnMember> {
     }
 }
 
-// The same from the first seat of a member's fresh node, or after the calls the node's closing.
+// Puts two seats back among those of their node.
+fn give_back(seats: &mut Vec<Seat>, two: TwoSeats) -> Result<(), AllocError> {
+    let TwoSeats { calls, fetches } = two;
+    seats.push(calls)?;
+    seats.push(fetches.into_inner().into_seat())?;
+    Ok(())
+}
+
+// The same from two seats of a member's fresh node, or after the calls the node's closing.
 fn unmet_by<S: Beginning, R: Wait>(
     rt: &R,
     alloc: Global,
@@ -48,10 +54,13 @@ fn unmet_by<S: Beginning, R: Wait>(
     let Some((node, mut seats)) = node_of::<S>(alloc, member, row.group.seats) else {
         return Some(0);
     };
-    let unmet = match seats.first_mut() {
-        Some(seat) => unmet_in(rt, alloc, &node, seat, row.steps),
-        None => Some(0),
+    let Some(mut two) = two_of(&mut seats) else {
+        return Some(0);
     };
+    let unmet = unmet_in(rt, alloc, &node, &mut two, row.steps);
+    if give_back(&mut seats, two).is_err() {
+        return Some(0);
+    }
     let fault = fault_at_closing(alloc, node, seats.as_slice());
     unmet.or(fault.is_some().then_some(row.steps.len()))
 }
@@ -127,12 +136,12 @@ fn node_asked_once<S: Beginning, R: Wait>(
     rt: &R,
     alloc: Global,
     member: OwnMember,
-) -> Option<(Tried<S>, Vec<Seat>)>
+) -> Option<(Node<S>, Vec<Seat>)>
     requires { member ≡ S.beginning }
 {
     let (node, mut seats) = node_of::<S>(alloc, member, FOUR.seats)?;
     let asks = match seats.first_mut() {
-        Some(seat) => meets(rt, alloc, &node, seat, &Step::Ask(&[], Ok(0))),
+        Some(seat) => asks(rt, alloc, &node, seat, &[], Ok(0)) == Some(true),
         None => false,
     };
     asks.then_some((node, seats))
@@ -172,10 +181,7 @@ fn seats_agree_or_not(rt: HostRuntime) {
 
 // Closes a node with the seats of another one, if that is refused: the fault, and the node after
 // it.
-fn refused_close<S: Beginning>(
-    alloc: Global,
-    node: Tried<S>,
-) -> Option<(CloseFault, Stopped<MaskInstance, PlainBook, S>)> {
+fn refused_close<S: Beginning>(alloc: Global, node: Node<S>) -> Option<(CloseFault, Stopped<S>)> {
     let others = others(alloc)?;
     node.close(alloc, others.as_slice()).err()
 }
@@ -185,11 +191,11 @@ fn refused_close<S: Beginning>(
 fn asked_again<S: Beginning, R: Wait>(
     rt: &R,
     alloc: Global,
-    node: Tried<S>,
+    node: Node<S>,
     seats: &mut [Seat],
 ) -> (bool, Option<CloseFault>) {
     let asks = match seats.first_mut() {
-        Some(seat) => meets(rt, alloc, &node, seat, &Step::Ask(PAYMENT, Ok(1))),
+        Some(seat) => asks(rt, alloc, &node, seat, PAYMENT, Ok(1)) == Some(true),
         None => false,
     };
     (asks, fault_at_closing(alloc, node, seats))

@@ -1,21 +1,21 @@
 //! The rows.
 
-use crate::node::step::{ECHOED, Group, Handed, Row, Said, Step, Whose};
+use crate::node::step::{AGAIN, ECHOED, Group, Handed, Row, Said, Step, Whose};
 use pay_book::Line;
 use pay_frame::Kind;
 use pay_link::LinkFault;
-use pay_member::{Outcome, PaymentState, QueryFault, Told};
+use pay_member::{Lie, Outcome, PaymentState, QueryFault, Told};
 use pay_node::CloseFault;
 
 /// A payment of 5 to account 0.
 pub(crate) const PAYMENT: &[u8] = &[1, 0, 0, 0, 0, 0, 0, 0, 0, 0, 5];
 
-/// A member alone, with one seat.
+/// A member alone, with two seats.
 const ALONE: Group = Group {
     faults: 0,
     opening: &[7],
     own: 0,
-    seats: 1,
+    seats: 2,
 };
 
 /// Member 1 of four, with two seats.
@@ -34,7 +34,21 @@ const SEND: &[u8] = &[
     95, 28, 6, 226, 59, 98,
 ];
 
-/// The same with a tag of zeros.
+/// The same as number 1.
+const SEND_AGAIN: &[u8] = &[
+    0, 54, 1, 1, 0, 0, 0, 1, 0, 0, 0, 0, 0, 0, 0, 1, 0, 0, 0, 0, 0, 0, 0, 0, 98, 5, 106, 172, 93,
+    233, 152, 250, 78, 179, 187, 205, 144, 27, 68, 14, 54, 237, 66, 22, 235, 205, 113, 211, 234,
+    179, 237, 209, 62, 244, 117, 208,
+];
+
+/// What that is.
+const SECOND_SEND: Lie = Lie {
+    kind: Kind::Send,
+    owner: 0,
+    seq: 0,
+};
+
+/// The first SEND with a tag of zeros.
 const WRONG_TAG: &[u8] = &[
     0, 54, 1, 1, 0, 0, 0, 1, 0, 0, 0, 0, 0, 0, 0, 0, 0, 0, 0, 0, 0, 0, 0, 0, 0, 0, 0, 0, 0, 0, 0,
     0, 0, 0, 0, 0, 0, 0, 0, 0, 0, 0, 0, 0, 0, 0, 0, 0, 0, 0, 0, 0, 0, 0, 0, 0,
@@ -62,7 +76,7 @@ const LONE: &[Said] = &[
     },
 ];
 
-/// Calls from a seat: each has a receipt, but for a body that was fetched once before, and for
+/// Calls from two seats: each has a receipt, but for a body that was fetched once before, and for
 /// bytes that don't open.
 pub(crate) const ROWS: &[Row] = &[
     Row {
@@ -120,6 +134,11 @@ pub(crate) const ROWS: &[Row] = &[
             Step::Bring(SEND, ECHOED, true),
             Step::Bring(SEND, Outcome::Link(LinkFault::Repeat(1)), true),
             Step::Receipts(2, 1),
+            Step::Lied(0, None),
+            Step::Bring(SEND_AGAIN, AGAIN, true),
+            Step::Lied(0, Some(SECOND_SEND)),
+            Step::Lied(2, None),
+            Step::Receipts(3, 2),
         ],
     },
 ];

@@ -1,13 +1,21 @@
-//! Rows as plain data: what is called from a seat, and what has to be answered.
+//! Rows as plain data: what is called from two seats, and what has to be answered.
 
 use pay_book::Line;
 use pay_frame::Kind;
-use pay_member::{AskFault, Outcome, PaymentState, QueryFault, Told, Took};
+use pay_member::{AskFault, Lie, Outcome, PaymentState, QueryFault, Told, Took};
 use pay_node::CloseFault;
 
 /// What comes of a SEND of its owner.
 pub(crate) const ECHOED: Outcome = Outcome::Took(Took {
     echo: true,
+    ready: false,
+    deliver: false,
+    settled: 0,
+});
+
+/// What comes of a second one.
+pub(crate) const AGAIN: Outcome = Outcome::Took(Took {
+    echo: false,
     ready: false,
     deliver: false,
     settled: 0,
@@ -44,11 +52,13 @@ pub(crate) enum Step {
     Fetch(usize, usize, &'static [Said]),
     /// The body of a number: the one at that place of these, if there is one.
     FetchOnce(usize, &'static [Said]),
-    /// So many receipts has the seat, of which so many are of calls with an entry.
+    /// Which lie a peer told last, which leaves no receipt.
+    Lied(u16, Option<Lie>),
+    /// So many receipts have the two seats, of which so many are of calls with an entry.
     Receipts(usize, usize),
 }
 
-/// What is called from the first seat of a node, which then closes.
+/// What is called from two seats of a node, which then closes.
 pub(crate) struct Row {
     pub(crate) name: &'static str,
     pub(crate) group: Group,

@@ -1,23 +1,47 @@
-//! A node that is given steps from one of its seats.
+//! A node that is given steps from two of its seats.
 
 ghost use Rattle.std.specs.Prelude.{◌≡◌};
 
 use crate::node::step::{Group, Said, Step};
-use pay_book::{Line, PlainBook};
-use pay_echo::MaskInstance;
+use pay_book::Line;
 use pay_frame::{Body, Bytes, SharedBody};
 use pay_hmac::HmacSha256;
 use pay_link::{Genesis, test_keys};
-use pay_member::{AskFault, Member, Outcome, QueryFault};
+use pay_member::{AskFault, Lie, Member, Outcome, QueryFault};
 use pay_node::{
-    Beginning, CloseFault, HandInFault, MOST_SEATS, Node, OpenGate, Receipt, Seat, Stopped,
+    Beginning, CloseFault, FetchSeat, HandInFault, MOST_SEATS, Node, OpenGate, OwnMember, Receipt,
+    Seat, Stopped,
 };
 use std::alloc::Global;
-use std::sync::Wait;
+use std::sync::atomic::AtomicBool;
+use std::sync::{Mutex, Wait};
 
-pub(crate) type OwnMember = Member<MaskInstance, PlainBook>;
+/// Two seats of a node: bodies are fetched from one once they are sent, and all else is called from
+/// the other.
+#[derive(Drop)]
+pub(crate) struct TwoSeats {
+    pub(crate) calls: Seat,
+    pub(crate) fetches: Mutex<FetchSeat>,
+}
 
-pub(crate) type Tried<S> = Node<MaskInstance, PlainBook, S>;
+/// The last two seats of these, if there are so many.
+pub(crate) fn two_of(seats: &mut Vec<Seat>) -> Option<TwoSeats> {
+    let calls = seats.pop()?;
+    let fetches = fetch_seat(seats.pop()?)?;
+    Some(TwoSeats {
+        calls,
+        fetches: Mutex::new(fetches),
+    })
+}
+
+/// A seat to fetch from, if nothing was called from it.
+pub(crate) fn fetch_seat(seat: Seat) -> Option<FetchSeat> {
+    if seat.receipts().is_empty() {
+        Some(FetchSeat::new(seat))
+    } else {
+        None
+    }
+}
 
 /// A group's member that took nothing, if there is such a member and memory isn't refused.
 pub(crate) fn member_of(alloc: Global, group: Group) -> Option<OwnMember> {
@@ -36,7 +60,7 @@ pub(crate) fn node_of<S: Beginning>(
     alloc: Global,
     member: OwnMember,
     seats: u16,
-) -> Option<(Tried<S>, Vec<Seat>)>
+) -> Option<(Node<S>, Vec<Seat>)>
     requires { member ≡ S.beginning }
 {
     if seats > MOST_SEATS {
@@ -52,7 +76,7 @@ pub(crate) fn node_of<S: Beginning>(
 /// they agree.
 pub(crate) fn fault_at_closing<S: Beginning>(
     alloc: Global,
-    node: Tried<S>,
+    node: Node<S>,
     seats: &[Seat],
 ) -> Option<CloseFault> {
     let (fault, stopped) = node.close(alloc, seats).err()?;
@@ -64,9 +88,9 @@ pub(crate) fn fault_at_closing<S: Beginning>(
 fn refused_at_last<S: Beginning>(
     alloc: Global,
     fault: CloseFault,
-    node: Stopped<MaskInstance, PlainBook, S>,
+    node: Stopped<S>,
     seats: &[Seat],
-) -> Option<(CloseFault, Stopped<MaskInstance, PlainBook, S>)> {
+) -> Option<(CloseFault, Stopped<S>)> {
     if fault == CloseFault::Memory {
         node.close(alloc, seats).err()
     } else {
@@ -79,13 +103,13 @@ fn refused_at_last<S: Beginning>(
 pub(crate) fn meets<S: Beginning, R: Wait>(
     rt: &R,
     alloc: Global,
-    node: &Tried<S>,
-    seat: &mut Seat,
+    node: &Node<S>,
+    seats: &mut TwoSeats,
     step: &Step,
 ) -> bool {
-    match is_met(rt, alloc, node, seat, step) {
+    match is_met(rt, alloc, node, seats, step) {
         Some(is_met) => is_met,
-        None => is_met(rt, alloc, node, seat, step) == Some(true),
+        None => is_met(rt, alloc, node, seats, step) == Some(true),
     }
 }
 
@@ -93,7 +117,34 @@ pub(crate) fn meets<S: Beginning, R: Wait>(
 fn is_met<S: Beginning, R: Wait>(
     rt: &R,
     alloc: Global,
-    node: &Tried<S>,
+    node: &Node<S>,
+    seats: &mut TwoSeats,
+    step: &Step,
+) -> Option<bool> {
+    match *step {
+        Step::FetchOnce(number, said) => {
+            let stop = AtomicBool::new(true);
+            let found = node
+                .fetch_when_sent(rt, alloc, &seats.fetches, number as u64, &stop)
+                .ok()?;
+            Some(is_fetched(found, said.get(number)))
+        }
+        Step::Receipts(all, with_entry) => {
+            let fetches = seats.fetches.lock(rt);
+            let (called, fetched) = (seats.calls.receipts(), fetches.receipts());
+            let found = called.len().saturating_add(fetched.len());
+            let entries = entries_in(called).saturating_add(entries_in(fetched));
+            Some(found == all && entries == with_entry)
+        }
+        _ => is_met_from(rt, alloc, node, &mut seats.calls, step),
+    }
+}
+
+// The same of a call from a seat that nobody else has.
+fn is_met_from<S: Beginning, R: Wait>(
+    rt: &R,
+    alloc: Global,
+    node: &Node<S>,
     seat: &mut Seat,
     step: &Step,
 ) -> Option<bool> {
@@ -118,14 +169,8 @@ fn is_met<S: Beginning, R: Wait>(
             let bodies = node.fetch(rt, alloc, seat, from, max).ok()?;
             Some(are_said(bodies.as_slice(), said))
         }
-        Step::FetchOnce(number, said) => {
-            let found = node.fetch_once(rt, alloc, seat, number).ok()?;
-            Some(is_fetched(found, said.get(number)))
-        }
-        Step::Receipts(all, with_entry) => {
-            let receipts = seat.receipts();
-            Some(receipts.len() == all && entries_in(receipts) == with_entry)
-        }
+        Step::Lied(peer, lie) => Some(has_lied(rt, node, peer, lie)),
+        Step::FetchOnce(..) | Step::Receipts(..) => None,
     }
 }
 
@@ -134,7 +179,7 @@ fn is_met<S: Beginning, R: Wait>(
 pub(crate) fn brings<S: Beginning, R: Wait>(
     rt: &R,
     alloc: Global,
-    node: &Tried<S>,
+    node: &Node<S>,
     seat: &mut Seat,
     bytes: &[u8],
     outcome: Outcome,
@@ -146,10 +191,11 @@ pub(crate) fn brings<S: Beginning, R: Wait>(
     Some(brought.outcome == outcome && brought.want.is_some() == wants)
 }
 
-fn asks<S: Beginning, R: Wait>(
+/// Whether a value is answered so; nothing, where memory is refused.
+pub(crate) fn asks<S: Beginning, R: Wait>(
     rt: &R,
     alloc: Global,
-    node: &Tried<S>,
+    node: &Node<S>,
     seat: &mut Seat,
     value: &[u8],
     answer: Result<u32, AskFault>,
@@ -160,10 +206,17 @@ fn asks<S: Beginning, R: Wait>(
     (!lacks).then_some(found == answer.map_err(|fault| HandInFault::Ask(fault)))
 }
 
+// Whether this is known of a peer's lies, also without the lock.
+fn has_lied<S: Beginning, R: Wait>(rt: &R, node: &Node<S>, peer: u16, lie: Option<Lie>) -> bool {
+    node.keys().is_peer(peer)
+        && node.lie(rt, peer) == lie
+        && node.may_have_lied(peer) == lie.is_some()
+}
+
 fn states<S: Beginning, R: Wait>(
     rt: &R,
     alloc: Global,
-    node: &Tried<S>,
+    node: &Node<S>,
     seat: &mut Seat,
     account: u16,
     lines: &[Line],
@@ -178,7 +231,7 @@ fn states<S: Beginning, R: Wait>(
 fn settles<S: Beginning, R: Wait>(
     rt: &R,
     alloc: Global,
-    node: &Tried<S>,
+    node: &Node<S>,
     seat: &mut Seat,
     fronts: &[u32],
 ) -> Option<bool> {

@@ -1,26 +1,28 @@
-//! Whose a connection is: told once, when its first WANT opens; and what becomes of the WANTs that
-//! come on it.
+//! Whose a connection is: told once, when its first WANT opens; which greater numbers are asked for
+//! on it; and what becomes of the WANTs that come.
 
 ghost use Rattle.std.specs.Prelude.{◌≡◌};
 
-use crate::node::trial::{OwnMember, Tried, member_of, node_of};
+use crate::node::trial::{fetch_seat, member_of, node_of};
 use crate::peers::rows::{FOUR, PAYMENT, SEND, WANT, WANT_FROM_2, WANT_OF_0, WANT_OF_2};
 use pay_frame::Bytes;
 use pay_hmac::HmacSha256;
 use pay_io::{Output, Reader, Writer};
-use pay_node::{Beginning, Seat};
+use pay_node::{Beginning, FetchSeat, Node, OwnMember, Seat};
 use pay_peers::{Admission, NodeContext, write_peer};
 use std::alloc::Global;
 use std::marker::Brand;
 use std::sync::atomic::{AtomicBool, AtomicU64, Ordering};
 use std::sync::{Mutex, Wait};
 
-/// Counts how often a connection was admitted, for whom last, and lets it go on or not.
+/// Counts how often a connection was admitted, for whom last, and how often it asked for a greater
+/// number, and lets it go on or not.
 #[derive(Drop)]
 pub(crate) struct Admissions {
     goes_on: bool,
     count: AtomicU64,
     peer: AtomicU64,
+    advances: AtomicU64,
 }
 
 impl Admissions {
@@ -29,22 +31,29 @@ impl Admissions {
             goes_on,
             count: AtomicU64::new(0),
             peer: AtomicU64::new(u64::MAX),
+            advances: AtomicU64::new(0),
         }
     }
 
-    // How often, and for whom last.
-    fn counts(&self) -> (u64, u64) {
+    // How often, for whom last, and how often more was asked for.
+    fn counts(&self) -> (u64, u64, u64) {
         (
             self.count.load(Ordering::SeqCst),
             self.peer.load(Ordering::SeqCst),
+            self.advances.load(Ordering::SeqCst),
         )
     }
 }
 
 impl Admission for Admissions {
-    fn admit<R: Wait>(&self, _rt: &R, peer: u16) -> bool {
+    fn admit<R: Wait>(&self, _rt: &R, peer: u16, _number: u64) -> bool {
         self.count.fetch_add(1, Ordering::SeqCst);
         self.peer.store(u64::from(peer), Ordering::SeqCst);
+        self.goes_on
+    }
+
+    fn advance<R: Wait>(&self, _rt: &R, _peer: u16, _number: u64) -> bool {
+        self.advances.fetch_add(1, Ordering::SeqCst);
         self.goes_on
     }
 
@@ -58,11 +67,12 @@ struct Row {
     came: Came,
 }
 
-/// How often a connection was admitted, and for whom last; how many bytes were written in how many
-/// calls; and how many receipts are left in the seats of members 0 and 2.
+/// How often a connection was admitted, for whom last, and how often it asked for a greater number;
+/// how many bytes were written in how many calls; and how many receipts are left in the seats of
+/// members 0 and 2.
 #[derive(Clone, Copy, Debug, PartialEq, Eq)]
 struct Came {
-    admitted: (u64, u64),
+    admitted: (u64, u64, u64),
     bytes: usize,
     calls: u64,
     receipts: (usize, usize),
@@ -73,13 +83,13 @@ const REPLY: usize = 67;
 
 /// Nobody asked for it, and nothing was written.
 const NOTHING: Came = Came {
-    admitted: (0, u64::MAX),
+    admitted: (0, u64::MAX, 0),
     bytes: 0,
     calls: 0,
     receipts: (0, 0),
 };
 
-// Replies after the first go out together, and a repeated WANT leaves no receipt.
+// The replies go out together, and a repeated WANT leaves no receipt.
 const ROWS: &[Row] = &[
     Row {
         frames: &[SEND],
@@ -90,7 +100,7 @@ const ROWS: &[Row] = &[
         frames: &[WANT, WANT],
         goes_on: false,
         came: Came {
-            admitted: (1, 0),
+            admitted: (1, 0, 0),
             ..NOTHING
         },
     },
@@ -98,7 +108,7 @@ const ROWS: &[Row] = &[
         frames: &[SEND, WANT],
         goes_on: true,
         came: Came {
-            admitted: (1, 0),
+            admitted: (1, 0, 0),
             bytes: REPLY,
             calls: 1,
             receipts: (1, 0),
@@ -108,9 +118,9 @@ const ROWS: &[Row] = &[
         frames: &[SEND, WANT, WANT],
         goes_on: true,
         came: Came {
-            admitted: (1, 0),
+            admitted: (1, 0, 0),
             bytes: 2 * REPLY,
-            calls: 2,
+            calls: 1,
             receipts: (1, 0),
         },
     },
@@ -118,9 +128,9 @@ const ROWS: &[Row] = &[
         frames: &[WANT, WANT_OF_0],
         goes_on: true,
         came: Came {
-            admitted: (1, 0),
+            admitted: (1, 0, 0),
             bytes: 2 * REPLY,
-            calls: 2,
+            calls: 1,
             receipts: (2, 0),
         },
     },
@@ -128,9 +138,9 @@ const ROWS: &[Row] = &[
         frames: &[WANT, WANT_OF_2, SEND, WANT_OF_0],
         goes_on: true,
         came: Came {
-            admitted: (1, 0),
+            admitted: (1, 0, 0),
             bytes: 3 * REPLY,
-            calls: 2,
+            calls: 1,
             receipts: (3, 0),
         },
     },
@@ -138,17 +148,27 @@ const ROWS: &[Row] = &[
         frames: &[WANT, WANT, WANT_OF_0, WANT, WANT_OF_0],
         goes_on: true,
         came: Came {
-            admitted: (1, 0),
+            admitted: (1, 0, 0),
             bytes: 5 * REPLY,
-            calls: 2,
+            calls: 1,
             receipts: (2, 0),
+        },
+    },
+    Row {
+        frames: &[WANT_OF_0, WANT_OF_2, WANT],
+        goes_on: true,
+        came: Came {
+            admitted: (1, 0, 2),
+            bytes: 3 * REPLY,
+            calls: 1,
+            receipts: (3, 0),
         },
     },
     Row {
         frames: &[WANT_FROM_2],
         goes_on: true,
         came: Came {
-            admitted: (1, 2),
+            admitted: (1, 2, 0),
             bytes: REPLY,
             calls: 1,
             receipts: (0, 1),
@@ -158,9 +178,9 @@ const ROWS: &[Row] = &[
         frames: &[WANT, WANT_OF_0, WANT_FROM_2],
         goes_on: true,
         came: Came {
-            admitted: (1, 0),
+            admitted: (1, 0, 0),
             bytes: 3 * REPLY,
-            calls: 2,
+            calls: 1,
             receipts: (2, 1),
         },
     },
@@ -168,9 +188,9 @@ const ROWS: &[Row] = &[
         frames: &[WANT_FROM_2, WANT_OF_0],
         goes_on: true,
         came: Came {
-            admitted: (1, 2),
+            admitted: (1, 2, 0),
             bytes: 2 * REPLY,
-            calls: 2,
+            calls: 1,
             receipts: (1, 1),
         },
     },
@@ -189,7 +209,7 @@ fn join_frames(alloc: Global, frames: &[&[u8]]) -> Option<Vec<u8>> {
 fn asks_twice<S: Beginning, R: Wait>(
     rt: &R,
     alloc: Global,
-    node: &Tried<S>,
+    node: &Node<S>,
     seat: &mut Seat,
 ) -> bool {
     for _ in 0..2 {
@@ -207,8 +227,8 @@ fn asks_twice<S: Beginning, R: Wait>(
 fn write_frames<S: Beginning, R: Wait>(
     rt: &R,
     alloc: Global,
-    node: &Tried<S>,
-    seats: &[(u16, Mutex<Seat>)],
+    node: &Node<S>,
+    seats: &[(u16, Mutex<FetchSeat>)],
     admissions: &Admissions,
     frames: &[u8],
 ) -> Option<(usize, u64)> {
@@ -227,7 +247,7 @@ fn write_frames<S: Beginning, R: Wait>(
 }
 
 // How many receipts a peer's seat has.
-fn receipts_in<R: Wait>(rt: &R, seat: &Mutex<Seat>) -> usize {
+fn receipts_in<R: Wait>(rt: &R, seat: &Mutex<FetchSeat>) -> usize {
     seat.lock(rt).receipts().len()
 }
 
@@ -235,8 +255,8 @@ fn receipts_in<R: Wait>(rt: &R, seat: &Mutex<Seat>) -> usize {
 fn came_of<S: Beginning, R: Wait>(
     rt: &R,
     alloc: Global,
-    node: &Tried<S>,
-    writing: &[(u16, Mutex<Seat>); 2],
+    node: &Node<S>,
+    writing: &[(u16, Mutex<FetchSeat>); 2],
     row: &Row,
 ) -> Option<Came> {
     let frames = join_frames(alloc, row.frames)?;
@@ -254,9 +274,9 @@ fn came_of<S: Beginning, R: Wait>(
 }
 
 // The seats of members 2 and 0, of three.
-fn writing_of(seats: &mut Vec<Seat>) -> Option<[(u16, Mutex<Seat>); 2]> {
-    let of_2 = seats.pop()?;
-    let of_0 = seats.pop()?;
+fn writing_of(seats: &mut Vec<Seat>) -> Option<[(u16, Mutex<FetchSeat>); 2]> {
+    let of_2 = fetch_seat(seats.pop()?)?;
+    let of_0 = fetch_seat(seats.pop()?)?;
     Some([(2, Mutex::new(of_2)), (0, Mutex::new(of_0))])
 }
 
@@ -264,7 +284,7 @@ fn writing_of(seats: &mut Vec<Seat>) -> Option<[(u16, Mutex<Seat>); 2]> {
 fn asks_from_last<S: Beginning, R: Wait>(
     rt: &R,
     alloc: Global,
-    node: &Tried<S>,
+    node: &Node<S>,
     seats: &mut Vec<Seat>,
 ) -> bool {
     match seats.pop() {
@@ -277,7 +297,7 @@ fn asks_from_last<S: Beginning, R: Wait>(
 fn came_behind_asks<S: Beginning, R: Wait>(
     rt: &R,
     alloc: Global,
-    node: &Tried<S>,
+    node: &Node<S>,
     seats: &mut Vec<Seat>,
     row: &Row,
 ) -> Option<Came> {

@@ -2,11 +2,11 @@
 
 ghost use Rattle.std.specs.Prelude.{◌≡◌};
 
-use crate::node::trial::{OwnMember, Tried, fault_at_closing, member_of, node_of};
+use crate::node::trial::{fault_at_closing, member_of, node_of};
 use crate::peers::rows::{FED, FOUR, WANTED};
 use pay_hmac::HmacSha256;
 use pay_io::{Output, Reader, Writer};
-use pay_node::{Beginning, OpenGate, Seat};
+use pay_node::{Beginning, Node, OpenGate, OwnMember, Seat};
 use pay_peers::read_peer;
 use std::alloc::Global;
 use std::marker::Brand;
@@ -16,7 +16,7 @@ use std::sync::Wait;
 fn feeds<S: Beginning, R: Wait>(
     rt: &R,
     alloc: Global,
-    node: &Tried<S>,
+    node: &Node<S>,
     seat: &mut Seat,
     bytes: &[u8],
     writer: &mut Writer<Vec<u8>>,
@@ -44,7 +44,7 @@ fn feeds<S: Beginning, R: Wait>(
 fn feed_twice<S: Beginning, R: Wait>(
     rt: &R,
     alloc: Global,
-    node: &Tried<S>,
+    node: &Node<S>,
     seats: &mut [Seat],
 ) -> (bool, usize) {
     let Some(seat) = seats.first_mut() else {

@@ -3,13 +3,13 @@
 
 ghost use Rattle.std.specs.Prelude.{◌≡◌};
 
-use crate::node::trial::{OwnMember, Tried, fault_at_closing, member_of, node_of};
+use crate::node::trial::{fault_at_closing, member_of, node_of};
 use crate::peers::rows::{FOUR, SEND, SEND_OF_2};
 use crate::peers::told::Told;
 use pay_hmac::{HmacSha256, Tagger};
 use pay_io::{Reader, Writer};
-use pay_node::{Beginning, Gate, Seat};
-use pay_peers::{Ahead, Asking, Dial, Dialed, Dials, NodeContext, run_readers};
+use pay_node::{Beginning, Gate, Node, OwnMember, Seat};
+use pay_peers::{Ahead, Dial, Dialed, Dials, NodeContext, PeerReader, run_readers};
 use std::alloc::Global;
 use std::marker::Brand;
 use std::sync::Wait;
@@ -132,18 +132,18 @@ fn peer_of(seat: &Seat) -> u16 {
 }
 
 // Each seat with its peer.
-fn pairs_of(alloc: Global, seats: Vec<Seat>) -> Option<Vec<(u16, Asking)>> {
+fn pairs_of(alloc: Global, seats: Vec<Seat>) -> Option<Vec<(u16, PeerReader)>> {
     let mut pairs = Vec::new(alloc);
     for seat in seats {
-        pairs.push((peer_of(&seat), Asking::new(seat))).ok()?;
+        pairs.push((peer_of(&seat), PeerReader::new(seat))).ok()?;
     }
     Some(pairs)
 }
 
-fn seats_of(alloc: Global, pairs: Vec<(u16, Asking)>) -> Option<Vec<Seat>> {
+fn seats_of(alloc: Global, pairs: Vec<(u16, PeerReader)>) -> Option<Vec<Seat>> {
     let mut seats = Vec::new(alloc);
     for (_, asking) in pairs {
-        let Asking { seat, window: _ } = asking;
+        let PeerReader { seat, window: _ } = asking;
         seats.push(seat).ok()?;
     }
     Some(seats)
@@ -153,10 +153,10 @@ fn seats_of(alloc: Global, pairs: Vec<(u16, Asking)>) -> Option<Vec<Seat>> {
 fn run<S: Beginning + Send + Sync, R: Threads + Wait + Clock + Sync>(
     rt: &R,
     alloc: Global,
-    node: &Tried<S>,
+    node: &Node<S>,
     held: u16,
     at_tag: bool,
-    pairs: &mut [(u16, Asking)],
+    pairs: &mut [(u16, PeerReader)],
 ) -> bool {
     let gate = Held {
         clock: rt,
@@ -187,14 +187,14 @@ fn run<S: Beginning + Send + Sync, R: Threads + Wait + Clock + Sync>(
         Ahead::usual(),
         pairs,
     );
-    !gate.gave_up.load(Ordering::SeqCst) && told.counts() == (2, 0, 0, 0)
+    !gate.gave_up.load(Ordering::SeqCst) && told.counts() == (2, 0, 0, 0, 0, 0)
 }
 
 // The seats after two workers of which one was held, if that was let go in time.
 fn held_seats<S: Beginning + Send + Sync, R: Threads + Wait + Clock + Sync>(
     rt: &R,
     alloc: Global,
-    node: &Tried<S>,
+    node: &Node<S>,
     held: u16,
     at_tag: bool,
     seats: Vec<Seat>,
@@ -232,7 +232,7 @@ const ROWS: &[Row] = &[
 ];
 
 // Whether a node closes with these seats, and each was told what it has to be.
-fn is_closed<S: Beginning>(alloc: Global, node: Tried<S>, seats: Option<Vec<Seat>>) -> bool {
+fn is_closed<S: Beginning>(alloc: Global, node: Node<S>, seats: Option<Vec<Seat>>) -> bool {
     match seats {
         Some(seats) => {
             fault_at_closing(alloc, node, seats.as_slice()).is_none() && are_told(seats.as_slice())

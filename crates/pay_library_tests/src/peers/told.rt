@@ -9,7 +9,9 @@ pub(crate) struct Told {
     heard: AtomicU64,
     missed: AtomicU64,
     gave_up: AtomicU64,
+    lied: AtomicU64,
     unopened: AtomicU64,
+    starved: AtomicU64,
 }
 
 impl Told {
@@ -18,17 +20,22 @@ impl Told {
             heard: AtomicU64::new(0),
             missed: AtomicU64::new(0),
             gave_up: AtomicU64::new(0),
+            lied: AtomicU64::new(0),
             unopened: AtomicU64::new(0),
+            starved: AtomicU64::new(0),
         }
     }
 
-    /// How often a peer was heard, missed and given up, and how often a frame of it didn't open.
-    pub(crate) fn counts(&self) -> (u64, u64, u64, u64) {
+    /// How often a peer was heard, missed and given up, how often one lied, how often a frame of it
+    /// didn't open, and how often memory was refused.
+    pub(crate) fn counts(&self) -> (u64, u64, u64, u64, u64, u64) {
         (
             self.heard.load(Ordering::SeqCst),
             self.missed.load(Ordering::SeqCst),
             self.gave_up.load(Ordering::SeqCst),
+            self.lied.load(Ordering::SeqCst),
             self.unopened.load(Ordering::SeqCst),
+            self.starved.load(Ordering::SeqCst),
         )
     }
 }
@@ -39,7 +46,9 @@ impl Observer<PeerEvent> for Told {
             PeerEvent::Heard => &self.heard,
             PeerEvent::Missed => &self.missed,
             PeerEvent::GaveUp => &self.gave_up,
+            PeerEvent::Lied(_) => &self.lied,
             PeerEvent::Unopened => &self.unopened,
+            PeerEvent::Starved => &self.starved,
         };
         count.fetch_add(1, Ordering::SeqCst);
     }
