@@ -20,6 +20,7 @@ import tempfile
 
 import compiling
 import toolchain
+import usage
 from toolchain import TOP, BuildError
 
 STORE = os.path.join(TOP, ".built")
@@ -78,7 +79,7 @@ def run_script(main):
         sys.exit(1)
     except (BuildError, OSError) as error:
         file = getattr(error, "filename", None)
-        say(f"{file}: {error.strerror}" if file else error)
+        say(f"{usage.shown(file)}: {error.strerror}" if file else error)
         sys.exit(NO_PROGRAM)
 
 
@@ -98,6 +99,9 @@ def sums():
     """The sum of what is compiled, and that of all sources, from what git says of the files of an index that has them
     as they stand; ./payd asks git the same."""
     paths = source_files()
+    odd = next((it for it in paths if not it.isprintable()), None)
+    if odd:
+        raise BuildError(f"{usage.shown(odd)}: no source has a name that can't be printed")
     how = {"cwd": TOP, "input": "".join(f"{it}\n" for it in paths).encode(), "stdout": subprocess.PIPE, "check": True}
     env = {name: value for name, value in os.environ.items() if not name.startswith("GIT_")}
     hashes = subprocess.run(["git", "hash-object", "--stdin-paths"], env=env, **how).stdout.decode().split()

@@ -36,10 +36,12 @@ def outcome_of(job):
     name, said = "::".join(job), io.StringIO()
     try:
         with contextlib.ExitStack() as given, contextlib.redirect_stdout(said):
-            conftest, test = sys.modules["conftest"], getattr(importlib.import_module(job[0]), job[1])
+            conftest, module = sys.modules["conftest"], importlib.import_module(job[0])
+            test = getattr(module, job[1])
             marks = [SimpleNamespace(args=it) for it in vars(test).get("marks", [])]
             conftest.pytest_runtest_setup(SimpleNamespace(iter_markers=lambda _: marks))
-            test(**{it: given.enter_context(getattr(conftest, it)()) for it in inspect.signature(test).parameters})
+            names = inspect.signature(test).parameters
+            test(**{it: given.enter_context((getattr(module, it, None) or getattr(conftest, it))()) for it in names})
     except SkipTest as reason:
         return "skipped", f"SKIPPED {name}: {reason}"
     except Exception:

@@ -21,6 +21,11 @@ proofs. A method of a trait can have no twin; its mutant takes its place, with a
 - It survived where all is proved.
 - An edit that can't be applied, or that the prover can't read, is a bad one.
 
+A check takes 10 to 25 seconds to load what it stands on, and each mutant 1 to 15. One costs little whose body calls
+the function itself, which in a twin is the true one, and changes an argument or the result, or else changes a value, a
+comparison or a branch and keeps the names that proof files use; and whose goal one tactic answers. Two mutants of one
+method of a trait need two checks.
+
 All but the first are failures. --above also takes the crates that stand on those named, --said prints what the prover
 said of each mutant, and --dry reads the edits and proves nothing. The libraries that rt ci leaves are built where
 their sources are newer; with --beside checks don't wait until that rt ci ends. A whole run also tries itself, on a

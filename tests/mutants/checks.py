@@ -13,7 +13,8 @@ from dataclasses import dataclass, field
 from edits import INVARIANT, REQUIRED, Place
 from stubs import stub_out
 from kit import rtlib
-from sources import TRUE, cut, item, named, proof_folders, read_file, with_answers_to, with_one_clause, write_files
+from inventory import read_file
+from sources import TRUE, cut, item, named, proof_folders, with_answers_to, with_one_clause, write_files
 
 KILLED, SURVIVED, ELSEWHERE, BAD_EDIT = "killed", "SURVIVED", "REFUSED ELSEWHERE", "BAD EDIT"
 

@@ -15,8 +15,8 @@ WITHOUT_OTHER_BODY = {
     "pay_frame::shared_body::SharedBody::body",
     "pay_frame::shared_body::SharedBody::copy",
     "pay_io::counted::Counted::into_inner",
-    "pay_kept::behind::Behind::into_inner",
-    "pay_kept::following::Following::new",
+    "pay_durable::durable_output::DurableOutput::into_inner",
+    "pay_durable::following::Following::new",
     "pay_link::checked::Checked::body",
     "pay_link::checked::Checked::copy",
     "pay_link::opened::Opened::frame",
@@ -25,12 +25,12 @@ WITHOUT_OTHER_BODY = {
     "pay_member::member::Member::genesis",
     "pay_member::member::Member::keys",
     "pay_net::start::NodeStart::fresh",
+    "pay_node::fetch_seat::FetchSeat::new",
     "pay_node::node::Node::keys",
     "pay_node::stopped::Stopped::into_member",
     "pay_node::stopped::Stopped::member",
     "pay_peers::teller::NodeTeller::into_seat",
     "pay_record::reading::EntryRecords::new",
-    "pay_service::shared_desk::SharedDesk::into_desk",
 }
 
 

@@ -6,7 +6,8 @@ import os
 import re
 from dataclasses import dataclass
 
-from sources import clauses_of, cut, is_answered_whole, is_of_trait, item, named, proof_folders, read_file
+from inventory import read_file
+from sources import clauses_of, cut, is_answered_whole, is_of_trait, item, named, proof_folders
 
 FOLDER = "mutants"
 # What a mutant names in place of a clause that the invariant of a type has to kill.

@@ -8,11 +8,6 @@ import re
 FUNCTION = re.compile(r"( *)(?:pub(?:\([a-z]+\))? )?(?:const )?fn (\w+)")
 
 
-def read_file(path: str) -> str:
-    with open(path, encoding="utf-8") as file:
-        return file.read()
-
-
 def write_files(folder: str, texts: dict[str, str]) -> None:
     for path, text in texts.items():
         os.makedirs(os.path.dirname(f"{folder}/{path}"), exist_ok=True)

@@ -13,7 +13,8 @@ from __future__ import annotations
 import os
 import shutil
 
-from sources import cut, path_of, proof_folders, read_file, write_files
+from inventory import read_file
+from sources import cut, path_of, proof_folders, write_files
 
 BODY = "\n    loop {}\n"
 HOLE = """\
