@@ -56,13 +56,18 @@ def fault_at(place, byte, head):
     return None
 
 
+def fault_in_head(stream):
+    """Number and name of the first fault of a head, or nothing."""
+    head = stream[: HEAD.size]
+    return next((it for it in (fault_at(place, byte, head[:place]) for place, byte in enumerate(head)) if it), None)
+
+
 def read_frame(stream):
     """Number and name of the fault of bytes that should be one frame; else kind, sender, receiver, number, the body
     (kind, owner, seq, value), and whether the tag is right under the test key."""
-    for place, byte in enumerate(stream[: HEAD.size]):
-        fault = fault_at(place, byte, stream[:place])
-        if fault:
-            return fault
+    fault = fault_in_head(stream)
+    if fault:
+        return fault
     size = 2 + int.from_bytes(stream[:2], "big")
     if len(stream) < HEAD.size or len(stream) < size:
         return "7 Truncated"

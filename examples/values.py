@@ -1,6 +1,8 @@
-"""The payments of values, read by hand as docs/DEFINITIONS.md has them. It shares no code with the crates."""
+"""Payments and notes in values, read by hand as docs/DEFINITIONS.md has them. It shares no code with the crates."""
 
-MOST_PAYMENTS = 32
+import unicodedata
+
+MOST_PAYMENTS, MOST_NOTE = 32, 1000
 
 
 def pairs_in(value):
@@ -13,6 +15,16 @@ def pairs_in(value):
         return None
     pairs = [body[at : at + 10] for at in range(0, len(body), 10)]
     return [(int.from_bytes(pair[:2], "big"), int.from_bytes(pair[2:], "big")) for pair in pairs]
+
+
+def note_in(value):
+    """The text of a note, where the value is one, or None."""
+    try:
+        text = value[1:].decode()
+    except UnicodeDecodeError:
+        return None
+    is_note = value[:1] == b"\x03" and 1 < len(value) <= 1 + MOST_NOTE
+    return text if is_note and not any(unicodedata.category(it) == "Cc" for it in text) else None
 
 
 def entries(value, owner, members):

@@ -4,14 +4,17 @@ The number and the group are those of the folder's log. Files of keys and of the
 same or are refused; where there is no log, the number is that of the keys.
 """
 
+import contextlib
 import json
 import os
 import re
+import stat
 import struct
 
 from desk_client import SECONDS, Desk, socket_in
 from desk_view import View, Wrong
-from groups import genesis_digest
+from groups import DIGITS_OF_KEYS, Failure, Group, genesis_digest
+from times import TimesFile, times_path
 
 # What is found in a folder where no other file is given.
 GROUP, KEYS, LOG = "group.json", "keys.json", "log"
@@ -36,7 +39,7 @@ def read_json(path):
             value = json.load(file)
     except OSError as error:
         raise Wrong(f"cannot read {path}: {error.strerror}") from error
-    except ValueError as error:
+    except (ValueError, RecursionError) as error:
         raise Wrong(f"{path}: it is no file of JSON") from error
     if not isinstance(value, dict):
         raise Wrong(f"{path}: it is no object")
@@ -59,17 +62,35 @@ def read_header(folder):
     return digest.hex(), own
 
 
+def digest_in(path, given):
+    """The digest by which keys say that they are of this group."""
+    try:
+        return Group(given, has_cryptography=False).digest()[:DIGITS_OF_KEYS]
+    except Failure as why:
+        raise Wrong(f"{path}: {why}") from why
+
+
+def check_own(folder):
+    """What others may write may be theirs: a desk that pays nobody, and orders."""
+    with contextlib.suppress(OSError):
+        if os.stat(folder).st_mode & (stat.S_IWGRP | stat.S_IWOTH):
+            raise Wrong(f"{folder}: others may write in it: chmod go-w {folder}")
+
+
 class Account:
     """What words say of an account, checked."""
 
     def __init__(self, data, group=None, keys=None, socket=None, seconds=SECONDS):
+        check_own(data or "")
         self.folder, header = data, read_header(data) if data else None
         self.digest, self.own = header or (None, None)
+        self.members, self.keys_of, self.names = None, None, []
         self.read_keys(keys or self.own_file(KEYS))
-        self.names = []
         self.read_group(group or self.own_file(GROUP))
         self.desk = Desk(socket or socket_in(data), seconds)
-        self.view = View(self.desk, self.own)
+        # when the node saw entries settle, as far as its folder tells
+        self.times = TimesFile(times_path(data)) if data else None
+        self.view = View(self.desk, self.own, self.members, self.times)
 
     def own_file(self, name):
         path = os.path.join(self.folder or "", name)
@@ -77,9 +98,11 @@ class Account:
 
     def read_keys(self, path):
         if path is not None:
-            own = read_json(path).get("own")
-            if type(own) is not int or own < 0:
+            given = read_json(path)
+            own, keys = given.get("own"), given.get("keys")
+            if type(own) is not int or not isinstance(keys, list) or not 0 <= own < len(keys):
                 raise Wrong(f"{path}: it is no file of keys")
+            self.members, self.keys_of = len(keys), given.get("digest")
             if self.own not in (None, own):
                 raise Wrong(f"{path}: these are the keys of member {own}, and {self.folder} is that of {self.own}")
             self.own = own
@@ -92,7 +115,7 @@ class Account:
             return
         given = read_json(path)
         names = given.get("names") or []
-        if not isinstance(names, list) or not all(isinstance(it, str) for it in names):
+        if not isinstance(names, list) or not all(isinstance(it, str) and it.isprintable() for it in names):
             raise Wrong(f"{path}: its names are no list of names")
         parts = [given.get(it) for it in ("members", "faults", "opening")]
         if self.digest is not None and None not in parts:
@@ -102,7 +125,11 @@ class Account:
                 is_own = False
             if not is_own:
                 raise Wrong(f"{path}: {self.folder} is a member of another group")
-        self.names = names
+        members = parts[0] if type(parts[0]) is int else len(names) or self.members
+        digest = digest_in(path, given) if "public" in given else None
+        if self.members not in (None, members) or None not in (digest, self.keys_of) and digest != self.keys_of:
+            raise Wrong(f"{path}: the keys are those of another group")
+        self.names, self.members = names, members
 
     # ---- names
 

@@ -6,12 +6,15 @@ change nothing, and a payment under the same id is made once.
 
 import os
 import socket
+import struct
 import time
 
 # How long an answer may take.
 SECONDS = 20
 # How a node refuses a payment before enough of its peers were heard, and for how long it is given again.
 EARLY, PATIENCE, PAUSE = "refused 6 TooEarly", 10, 0.1
+# What the kernel tells of the process that listens: its number, its user and its group.
+CREDENTIALS = struct.Struct("3i")
 # Those whose answer has several lines: they end with `end`, or the answer is a refusal.
 OF_SEVERAL = ("STATEMENT", "ENTRIES", "WAITING")
 
@@ -36,7 +39,7 @@ class Desk:
         return self.ask_all([line])[0]
 
     def pay(self, line):
-        """The answer to a payment, which is given again while it comes too early behind its node's start."""
+        """The answer to a payment or a note, which is given again while it comes too early behind its node's start."""
         deadline = time.monotonic() + PATIENCE
         while (answer := self.ask(line)[0]) == EARLY and time.monotonic() < deadline:
             time.sleep(PAUSE)
@@ -55,14 +58,19 @@ class Desk:
         return self.exchange(lines)
 
     def dial(self):
-        self.stream = socket.socket(socket.AF_UNIX)
-        self.stream.settimeout(self.seconds)
         try:
+            self.stream = socket.socket(socket.AF_UNIX)
+            self.stream.settimeout(self.seconds)
             self.stream.connect(self.path)
         except OSError as error:
             self.close()
             raise NoAnswer(f"nobody listens at {self.path} ({error.strerror or error})") from error
-        self.lines = self.stream.makefile("r", encoding="ascii", newline="\n")
+        self.lines = self.stream.makefile("r", encoding="utf-8", newline="\n")
+
+    def process(self):
+        """The number of the process that listens, where a connection stands."""
+        known = self.stream and self.stream.getsockopt(socket.SOL_SOCKET, socket.SO_PEERCRED, CREDENTIALS.size)
+        return known and CREDENTIALS.unpack(known)[0]
 
     def exchange(self, lines):
         try:

@@ -1,22 +1,35 @@
 """A group's file: what it says, the text that its keys hang on, and the keys of its members.
 
-The file is a genesis and a file of ports with more members: `group`, 32 random bytes in hexadecimal; `public`, the
-X25519 public key of each member in hexadecimal; where wanted, `names`, and `hosts`, where each member's machine is
-found; and of a group that goes on for another, that one's digest as `former`.
+A group's file is a genesis and a file of ports at once. In lowercase hexadecimal it also has `group`, 32 random bytes,
+and `public`, each member's X25519 public key, with its Ed25519 public key for signatures behind it where that was
+handed over. It may have `names`, `hosts` and `former`. The key of members I < J is HKDF-SHA256 (RFC 5869) of the X25519
+(RFC 7748) result of one's secret and the other's public key, with the info `payd pair I J`. Its salt is the SHA-256 of
+these lines, each with a line feed: `payd group 1`; `members N`; `faults F`; `opening` and the numbers, each after a
+blank; `group` and its digits; for each member in order `public` and the digits; where there are names, for each `name`
+and it; where there is one, `former` and its digits. The group's digest is that SHA-256. A file of keys has its first 16
+digits as `digest`, beside the group's `group`; the next group's file has the whole as `former`. The fingerprint is
+twelve groups of five digits: from the SHA-512 of the lines, five bytes each as a big-endian number, modulo 100,000.
 """
 
+import contextlib
 import hashlib
 import json
 import re
 import struct
 
+from usage import Failure
+
 try:
     from cryptography.hazmat.primitives import hashes, serialization
+    from cryptography.exceptions import InvalidSignature
+    from cryptography.hazmat.primitives.asymmetric.ed25519 import Ed25519PrivateKey, Ed25519PublicKey
     from cryptography.hazmat.primitives.asymmetric.x25519 import X25519PrivateKey, X25519PublicKey
     from cryptography.hazmat.primitives.kdf.hkdf import HKDF
 except ImportError:
     hashes = None
 
+# What a group's file, a genesis and an export say alike.
+GENESIS = "members", "faults", "opening"
 MOST_MEMBERS = 128
 GREATEST_TOTAL = 2**63 - 1
 GREATEST_PORT = 2**16 - 1
@@ -32,10 +45,6 @@ NAME = re.compile("[A-Za-z](?:[ ._-]?[A-Za-z0-9]){0,31}")
 HOST = re.compile("[A-Za-z0-9](?:[A-Za-z0-9.-]{0,251}[A-Za-z0-9])?(?: [A-Za-z0-9+/]{43}=)?")
 
 
-class Failure(Exception):
-    """Why nothing was written."""
-
-
 # ---- keys
 
 
@@ -46,6 +55,11 @@ def need_cryptography():
 
 def is_key(text):
     return isinstance(text, str) and re.fullmatch(f"[0-9a-f]{{{2 * KEY_BYTES}}}", text) is not None
+
+
+def is_handed(text):
+    """Whether a member may hand this over: a public key, or with the one for signatures behind it."""
+    return is_key(text) or isinstance(text, str) and is_key(text[: 2 * KEY_BYTES]) and is_key(text[2 * KEY_BYTES :])
 
 
 def public_of(secret):
@@ -68,6 +82,27 @@ def derived(shared, salt, info):
     """A key of 32 bytes: HKDF with SHA-256, RFC 5869."""
     need_cryptography()
     return HKDF(algorithm=hashes.SHA256(), length=KEY_BYTES, salt=salt, info=info).derive(shared)
+
+
+def signing_key_of(secret):
+    """The key by which whoever has this secret signs: Ed25519 of RFC 8032, derived of it."""
+    return Ed25519PrivateKey.from_private_bytes(derived(secret, None, b"payd sign"))
+
+
+def is_signed(signature, public, text):
+    """Whether this is a signature of the text under the public half of a key for signatures."""
+    need_cryptography()
+    try:
+        Ed25519PublicKey.from_public_bytes(public).verify(signature, text)
+    except (InvalidSignature, ValueError):
+        return False
+    return True
+
+
+def handed_over(secret):
+    """What a member hands over, in hexadecimal: its public key, and behind it the one for its signatures."""
+    raw = serialization.Encoding.Raw, serialization.PublicFormat.Raw
+    return (public_of(secret) + signing_key_of(secret).public_key().public_bytes(*raw)).hex()
 
 
 # ---- the file
@@ -95,7 +130,7 @@ def genesis_digest(members, faults, opening):
 class Group:
     """What a group's file says, checked."""
 
-    def __init__(self, given):
+    def __init__(self, given, has_cryptography=True):
         try:
             self.members, self.faults, self.opening = given["members"], given["faults"], given["opening"]
             self.ports, self.group, self.public = given["ports"], given["group"], given["public"]
@@ -104,13 +139,18 @@ class Group:
             raise Failure("it isn't an object with members, faults, opening, ports, group and public") from error
         self.check_genesis()
         self.check_lists()
-        self.check_public()
+        self.check_list("public", self.public, is_handed, f"{KEY_BYTES} bytes in hexadecimal, in small letters")
+        self.check_differ([it[: 2 * KEY_BYTES] for it in self.public], "one public key")
+        # (a member that has none has its number in place of it)
+        self.check_differ([it[2 * KEY_BYTES :] or own for own, it in enumerate(self.public)], "one key for signatures")
+        if has_cryptography:
+            self.check_public()
 
     def check_genesis(self):
         if not is_count(self.members, MOST_MEMBERS) or self.members == 0:
             raise Failure(f"a group has 1 to {MOST_MEMBERS} members")
         if not is_count(self.faults, MOST_MEMBERS) or 3 * self.faults >= self.members:
-            raise Failure("faults has to be fewer than a third of the members")
+            raise Failure(f"faults has to be fewer than a third of the members: {(self.members - 1) // 3} at most")
         self.check_list("opening", self.opening, lambda it: is_count(it, GREATEST_TOTAL), "a balance")
         if sum(self.opening) > GREATEST_TOTAL:
             raise Failure(f"the openings come to more than {GREATEST_TOTAL}")
@@ -128,10 +168,8 @@ class Group:
                 raise Failure(f"{name} has to be {KEY_BYTES} bytes in hexadecimal, in small letters")
 
     def check_public(self):
-        self.check_list("public", self.public, is_key, f"{KEY_BYTES} bytes in hexadecimal, in small letters")
-        self.check_differ(self.public, "one public key")
-        for member, public in enumerate(self.public):
-            if shared_by(bytes([1] * KEY_BYTES), bytes.fromhex(public)) is None:
+        for member in range(self.members):
+            if shared_by(bytes([1] * KEY_BYTES), self.handed(member)[0]) is None:
                 raise Failure(f"the public key of member {member} is none: anyone would know this member's keys")
 
     def check_differ(self, given, what):
@@ -145,6 +183,11 @@ class Group:
         for member, it in enumerate(given):
             if not fits(it):
                 raise Failure(f"{name}: that of member {member} isn't {what}")
+
+    def handed(self, member):
+        """A member's public key, and the one for its signatures, which is empty where the file has none."""
+        text = bytes.fromhex(self.public[member])
+        return text[:KEY_BYTES], text[KEY_BYTES:]
 
     def called(self, member):
         return f"member {member}" if self.names is None else f"member {member} {self.names[member]}"
@@ -184,14 +227,14 @@ class Group:
 
     def own(self, secret):
         """The number of the member whose secret this is."""
-        public = public_of(secret).hex()
-        if public not in self.public:
+        public, every = public_of(secret), [self.handed(it)[0] for it in range(self.members)]
+        if public not in every:
             raise Failure("the secret's public key is none of the group's")
-        return self.public.index(public)
+        return every.index(public)
 
     def key(self, secret, own, peer):
         """The key of two members, as either has it."""
-        shared = shared_by(secret, bytes.fromhex(self.public[peer]))
+        shared = shared_by(secret, self.handed(peer)[0])
         one, other = sorted([own, peer])
         return derived(shared, bytes.fromhex(self.digest()), f"payd pair {one} {other}".encode("ascii"))
 
@@ -199,4 +242,93 @@ class Group:
         """The file of keys of the member whose secret this is."""
         own = self.own(secret)
         keys = ["" if peer == own else self.key(secret, own, peer).hex() for peer in range(self.members)]
-        return json.dumps({"own": own, "keys": keys, "digest": self.digest()[:DIGITS_OF_KEYS]}) + "\n"
+        parts = {"own": own, "keys": keys, "group": self.group, "digest": self.digest()[:DIGITS_OF_KEYS]}
+        return json.dumps(parts) + "\n"
+
+
+class Genesis(Group):
+    """A group of which there is no more than a genesis."""
+
+    def __init__(self, given):
+        try:
+            self.members, self.faults, self.opening = (given[it] for it in GENESIS)
+        except (KeyError, TypeError) as error:
+            raise Failure("it is no group's file, and no genesis") from error
+        self.names = None
+        self.check_genesis()
+
+    def digest(self):
+        return self.genesis_digest()
+
+
+# ---- files
+
+
+@contextlib.contextmanager
+def about(name):
+    """Failures say which file they are about."""
+    try:
+        yield
+    except OSError as error:
+        raise Failure(f"{name}: {error.strerror}") from error
+    except (Failure, ValueError, RecursionError) as error:
+        raise Failure(f"{name}: {error}") from error
+
+
+def read_secret(name):
+    with about(name):
+        with open(name, encoding="ascii") as file:
+            text = file.read().strip()
+        if not is_key(text):
+            raise Failure("it is no secret that 'new' wrote")
+        return bytes.fromhex(text)
+
+
+def object_of(pairs):
+    """A JSON object, which names nothing twice: of two readers each might take another."""
+    parts = dict(pairs)
+    if len(parts) != len(pairs):
+        raise Failure("an object in it names something twice")
+    return parts
+
+
+def object_in(text):
+    return json.loads(text, object_pairs_hook=object_of)
+
+
+def read_group(name, has_cryptography=True):
+    with about(name):
+        with open(name, encoding="utf-8") as file:
+            text = file.read()
+        if is_key(text.strip()):
+            raise Failure("it is a member's secret, and no group's file: 'public' prints the public key of it")
+        return Group(object_in(text), has_cryptography)
+
+
+def read_object(name):
+    with open(name, encoding="utf-8") as file:
+        given = object_in(file.read())
+    if not isinstance(given, dict):
+        raise Failure("it is no object")
+    return given
+
+
+def read_members(name):
+    """A group, by its file or by a genesis."""
+    with about(name):
+        given = read_object(name)
+        return Group(given, has_cryptography=False) if "public" in given else Genesis(given)
+
+
+def read_keys(name, group):
+    """A member's number, and its key with each other one; zeros at its own place."""
+    with about(name):
+        given = read_object(name)
+        own, keys = given.get("own"), given.get("keys")
+        if not isinstance(keys, list) or len(keys) != group.members or type(own) is not int or not 0 <= own < len(keys):
+            raise Failure("it is no file of keys of this group")
+        if given.get("digest") not in (None, group.digest()[:DIGITS_OF_KEYS]):
+            raise Failure("these are the keys of another group")
+        if not all(isinstance(it, str) and is_key(it.lower()) for at, it in enumerate(keys) if at != own):
+            raise Failure(f"a key in it isn't {KEY_BYTES} bytes in hexadecimal")
+        return own, [bytes(KEY_BYTES) if at == own else bytes.fromhex(it) for at, it in enumerate(keys)]

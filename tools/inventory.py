@@ -9,6 +9,8 @@ TOP = os.path.dirname(os.path.dirname(os.path.realpath(__file__)))
 
 FUNCTION = re.compile(r"( *)(pub |pub\([a-z]+\) )?(?:const )?fn (\w+)")
 CLAUSE = re.compile(r" *(ensures|requires)\*? (\w+ )?\{")
+# What a comment right above a function says of it: promises, each with the clauses that carry it, or all.
+MARK = re.compile(r" *// promise: (.*)")
 
 
 @dataclass
@@ -29,6 +31,8 @@ class Function:
     of_trait: str = ""
     asks: list = field(default_factory=list)
     ensures: list = field(default_factory=list)
+    # The promises that it carries, each with the names of the clauses meant, or none for all.
+    marks: list = field(default_factory=list)
 
     def path(self):
         """As the prover names it, but for the crate."""
@@ -167,7 +171,24 @@ def functions_of(text, module):
         function = Function(module, inside.owner, inside.trait, named[3], is_public, is_test, is_law, inside.of_trait)
         if not line.rstrip().endswith(("{", "{}", ";", "}")):
             read_clauses(lines[at + 1 :], function)
+        function.marks = marks_above(lines, at)
         yield function
+
+
+def marks_above(lines, at):
+    """What the comments right above a line say of it."""
+    first = at
+    while first > 0 and MARK.match(lines[first - 1]):
+        first -= 1
+    return [it for line in lines[first:at] for it in marks_of(line)]
+
+
+def marks_of(line):
+    """The promises that a line names, each with the clauses that it names of it."""
+    said = MARK.fullmatch(line)
+    for one in said[1].split("; ") if said else []:
+        promise, _, clauses = one.rstrip(")").partition(" (")
+        yield promise, clauses.split(", ") if clauses else []
 
 
 # ---- mutants, crates

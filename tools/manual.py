@@ -16,14 +16,22 @@ def escaped(text):
     return "\n".join(f"\\&{line}" if line[:1] in ".'" else line for line in lines)
 
 
-def of_commands(version, about, helps):
-    """The page of the program, and of each of its commands and tools."""
-    parts = [f'.TH PAYD 1 "" "payd {version}"', ".SH NAME", "payd \\- a payment ledger without consensus", ".SH USAGE"]
-    parts += [".nf", escaped(about.strip()), ".fi"]
+def of_commands(version, about, helps, read):
+    """The page of the program, and of each of its commands and tools; of the documents as they are read."""
+    parts = [f'.TH PAYD 1 "" "payd {version}"', ".SH NAME", "payd \\- a payment ledger without consensus"]
+    parts += [".SH SYNOPSIS", ".nf", *(escaped(it) for text in helps.values() for it in usage_in(text)), ".fi"]
+    parts += [".SH DESCRIPTION", ".nf", escaped(about.strip()), ".fi"]
     for command, text in helps.items():
         parts += [f".SH {escaped(command.upper())}", ".nf", escaped(text.strip()), ".fi"]
-    parts += [".SH SEE ALSO", ".BR payd (5)"]
+    statuses = read("COMMANDS.md").partition("The exit status is:\n\n")[2].partition("\n\n")[0]
+    parts += [".SH EXIT STATUS", *roff(statuses), ".SH SEE ALSO", ".BR payd (5)"]
     return "\n".join(parts) + "\n"
+
+
+def usage_in(text):
+    """The lines by which a command or a tool is called, of what it says of itself."""
+    lines = text[text.lower().index("usage: ") :].partition("\n\n")[0].split("\n")
+    return [it[len("usage: ") :] for it in lines]
 
 
 def of_files(version, read):
@@ -38,8 +46,9 @@ def of_files(version, read):
 
 
 def section(text, head):
-    """What stands below a heading of the second level."""
-    return re.split(r"^## .*$", text.partition(f"\n## {head}\n")[2], maxsplit=1, flags=re.MULTILINE)[0]
+    """What stands below a heading of the second level, without comments."""
+    text = re.split(r"^## .*$", text.partition(f"\n## {head}\n")[2], maxsplit=1, flags=re.MULTILINE)[0]
+    return re.sub(r"^<!--.*-->\n", "", text, flags=re.MULTILINE)
 
 
 def roff(text):

@@ -1,7 +1,7 @@
-"""Orders that a member's folder keeps, each with the one line that is ever given for it.
+"""Orders that a member's folder keeps, each with the one line that is ever given for it, and its note's id and text.
 
 An order is written, and on the disk, before its line is given. So whoever comes back to it gives the same line, under
-the same id, and it is paid once.
+the same id, and it is paid once; and its note is said once.
 """
 
 import hashlib
@@ -9,10 +9,13 @@ import json
 import os
 import secrets
 import tempfile
+from collections import namedtuple
 
 from desk_view import Wrong
 
 FOLDER = "orders"
+# The line of an order, and its note, id and text, or None.
+Kept = namedtuple("Kept", "line note")
 
 
 def draw_id():
@@ -27,24 +30,26 @@ class Orders:
         return os.path.join(self.folder, hashlib.sha256(order.encode()).hexdigest())
 
     def find(self, order):
-        """The line of an order, or None where it isn't kept."""
+        """What is kept of an order, or None where it isn't."""
         try:
             with open(self.path_of(order), encoding="ascii") as file:
-                line = json.load(file)["line"]
+                given = json.load(file)
+            kept = Kept(given["line"], given.get("note"))
         except FileNotFoundError:
             return None
-        except (ValueError, KeyError, TypeError) as error:
+        except (ValueError, KeyError, TypeError, AttributeError) as error:
             raise Wrong(f"{self.path_of(order)}: it is no order") from error
         # (whoever wrote it may have been killed before the disk had it)
         self.sync()
-        return line
+        return kept
 
-    def keep(self, order, to, amount):
-        """The line of an order, which is kept from now on unless somebody else has kept it meanwhile."""
+    def keep(self, order, to, amount, note):
+        """What is kept of an order, this from now on unless somebody else has kept it meanwhile."""
         os.makedirs(self.folder, mode=0o700, exist_ok=True)
         part, name = tempfile.mkstemp(dir=self.folder, prefix=".part")
         with os.fdopen(part, "w", encoding="ascii") as file:
-            json.dump({"order": order, "line": f"PAY {draw_id()} {to} {amount}"}, file)
+            said = {} if note is None else {"note": [str(draw_id()), note]}
+            json.dump({"order": order, "line": f"PAY {draw_id()} {to} {amount}", **said}, file)
             file.flush()
             os.fsync(file.fileno())
         try:

@@ -13,6 +13,8 @@ let answered = null;
 // What is being agreed to by a second click, and whether a form is under way.
 let agreed = "";
 let isAsking = false;
+// What is said of the payment that is followed, beside how far it is.
+let again = "";
 
 // ---- asking
 
@@ -62,6 +64,9 @@ async function keepLooking() {
 
 const nameOf = (account) => state.names[account] || `account ${account}`;
 const grouped = (digits) => String(digits).replace(/\B(?=(\d{3})+$)/g, "\u202f");
+
+// (a line may end between its groups)
+const inLines = (digits) => grouped(digits).replaceAll("\u202f", "\u2009");
 
 function put(id, text) {
   if (at(id).textContent !== text) {
@@ -113,11 +118,13 @@ function show(before) {
   }
   const own = state.account;
   put("owner", state.names[own] ? `${state.names[own]}, account ${own}` : `Account ${own}`);
+  const group = state.genesis === "" ? "" : ` · group ${state.genesis}`;
+  put("desk", `Member ${own} of ${state.front.length}${group} · ${state.desk}`);
   document.title = `${grouped(state.balance)} · ${nameOf(own)} · payd`;
-  // (in large letters a line may end between its groups)
-  put("balance", grouped(state.balance).replaceAll("\u202f", "\u2009"));
+  put("balance", inLines(state.balance));
   showFree();
   showPayees();
+  showFollowed();
   showWaiting();
   showEntries(before);
   showGroup();
@@ -147,11 +154,42 @@ function showPayees() {
   at("to").value = sessionStorage.getItem("to") ?? "";
 }
 
+// The payment that was asked for last, until it is settled.
+const STEPS = ["asked", "waiting", "settled"];
+
+function showFollowed() {
+  const it = state.followed;
+  const step = it === null ? -1 : STEPS.indexOf(it.state);
+  at("steps").hidden = step < 0;
+  [...at("steps").children].forEach((made, place) => {
+    made.className = place <= step ? "done" : "";
+    made.toggleAttribute("aria-current", place === step);
+  });
+  if (step >= 0) {
+    const what = `${grouped(it.amount)} to ${nameOf(it.to)}, seq ${it.seq} of account ${state.account}`;
+    put("followed", `${step === 2 ? `Settled: ${what}.` : `Asked: ${what}. ${whyWaits(it)}`}${again}`);
+  }
+}
+
+function whyWaits(it) {
+  const first = state.waiting[0];
+  if (it.state === "asked" || first === undefined) {
+    return "It is under way to the others.";
+  }
+  if (first.seq !== it.seq) {
+    return `It waits behind seq ${first.seq}.`;
+  }
+  return BigInt(state.short) > 0n ? `It waits for ${grouped(state.short)} more on this account.` : "It is covered.";
+}
+
+// what an entry that pays nothing says, if it is a note
+const saidBy = (it, nothing) => (it.note === null ? nothing : `note: ${it.note}`);
+
 const isBeyond = (amount) => state.total !== null && amount > BigInt(state.total);
 
 function showWaiting() {
   fill("waiting", state.waiting.map((it) => row([
-    cell(it.to === null ? "nobody: it is void" : nameOf(it.to)),
+    cell(it.to === null ? saidBy(it, "nobody: it is void") : nameOf(it.to)),
     cell(it.seq, "quiet"),
     cell(it.amount === null ? "–" : grouped(it.amount), "number"),
   ])));
@@ -177,7 +215,7 @@ function showEntries(before) {
   fill("entries", state.entries.map((it) => {
     const came = it.to === state.account;
     return row([
-      cell(it.to === null ? "to nobody: void" : came ? `from ${nameOf(it.account)}` : `to ${nameOf(it.to)}`),
+      cell(it.to === null ? saidBy(it, "to nobody: void") : came ? `from ${nameOf(it.account)}` : `to ${nameOf(it.to)}`),
       cell(`account ${it.account}, seq ${it.seq}`, "quiet"),
       cell(it.seen === null ? "earlier" : timeOf(it.seen), "quiet"),
       cell(it.amount === null ? "–" : `${came ? "+" : "\u2212"}${grouped(it.amount)}`, came ? "number came" : "number"),
@@ -198,6 +236,7 @@ function showGroup() {
   fill("accounts", state.front.map((settled, account) => row([
     cell(account, "quiet"),
     cell(state.names[account] || "–"),
+    cell(state.balances === null ? "–" : inLines(state.balances[account]), "number"),
     cell(grouped(settled), "number"),
   ], account === state.account ? "own" : "")));
   put("total", state.total === null ? "" : `The whole group owns ${grouped(state.total)}.`);
@@ -310,9 +349,9 @@ function take(form, said) {
   closeSecond();
   if (said.seq !== undefined) {
     renew();
-    const again = said.again ? " It had been asked for before, and is paid once." : "";
-    tell(`Asked: ${grouped(form.amount)} to ${nameOf(Number(form.to))}. It is seq ${said.seq} of account ` +
-      `${state.account}, by which the payee finds it.${again}`, false);
+    tell("", false);
+    again = said.again ? " It had been asked for before, and is paid once." : "";
+    showFollowed();
     at("to").focus();
   } else if (said.refused !== undefined) {
     tell(`Refused: ${said.why}`, true);
