@@ -6,8 +6,9 @@ They are written from docs/COMMANDS.md and docs/DEFINITIONS.md and share no code
 import json
 
 import audits
-from frames import ECHO, HEAD, READY, SEND, WANT, fault_at, frame, read_frame
+from frames import ECHO, HEAD, READY, SEND, WANT, fault_in_head, frame, read_frame
 from runs import GENESIS, of_file, of_keys
+from values import entries
 
 MOST_MEMBERS = 128
 GREATEST = 2**64
@@ -124,15 +125,11 @@ def frames(seeded):
 
 def frame_in_front(stream):
     """The size of the frame in front, or number and name of the fault, with the input's end after the stream."""
-    for place, byte in enumerate(stream[: HEAD.size]):
-        fault = fault_at(place, byte, stream[:place])
-        if fault:
-            return fault
     size = 2 + int.from_bytes(stream[:2], "big")
-    return size if len(stream) >= max(size, HEAD.size) else "7 Truncated"
+    return fault_in_head(stream) or (size if len(stream) >= max(size, HEAD.size) else "7 Truncated")
 
 
-def check(stream):
+def check(stream, tells_values=False):
     """Status, output and errors of `check` as member 1 of the group that it takes without a file."""
     lines, following, members = [], {}, GENESIS["members"]
     while stream:
@@ -141,9 +138,20 @@ def check(stream):
             lines.append(f"{number} fault {size}")
             break
         lines.append(f"{number} {judged(stream[:size], following, members)}")
+        if tells_values:
+            lines[-1] += value_line(stream[:size], members)
         stream = stream[size:]
     text = "".join(f"{line}\n" for line in lines)
     return (1 if stream else 0), text, ""
+
+
+def value_line(given, members):
+    """What the value of a frame pays, as a line behind the frame's own; nothing of a WANT."""
+    kind, _, _, _, (_, owner, _, value), _ = read_frame(given)
+    if kind == WANT:
+        return ""
+    told = ("void" if pair is None else f"{pair[0]} {pair[1]}" for pair in entries(value, owner, members))
+    return f"\n  pays {' '.join(told)}"
 
 
 def judged(given, following, members):

@@ -69,5 +69,5 @@ def keys(group, own, secret):
     found = []
     for peer, public in enumerate(group["public"]):
         info = f"payd pair {min(own, peer)} {max(own, peer)}".encode("ascii")
-        found.append("" if peer == own else hkdf(x25519(secret, bytes.fromhex(public)), salt, info).hex())
-    return {"own": own, "keys": found, "digest": salt.hex()[:16]}
+        found.append("" if peer == own else hkdf(x25519(secret, bytes.fromhex(public)[:32]), salt, info).hex())
+    return {"own": own, "keys": found, "group": group["group"], "digest": salt.hex()[:16]}

@@ -26,6 +26,13 @@ def four_honest(*opening):
     return world_of(1, *opening)
 
 
+def worked(name, world, commands, lines, status=0):
+    """A row: a name, the world's line, the commands, the lines that are printed, and the status. A text may have
+    several commands or lines, with '; ' between them."""
+    parts = ([it] if isinstance(it, str) else it for it in (commands, lines))
+    return name, world, *([it for text in texts for it in text.split("; ")] for texts in parts), status
+
+
 def shown(members, front, balances):
     return [f"member {it} fronts {front} balances {balances}" for it in range(members)]
 
@@ -48,171 +55,111 @@ def largest_shown(correct):
 
 # Scripts that are too long for the model, as those below.
 LONG = [
-    (
-        "largest group",
-        largest(0),
-        ["ask 0 1 5", "all", "show"],
-        ["asked 0 seq 0", "brought 32639", "converged", *largest_shown(LARGEST)],
-        0,
+    worked(
+        "largest group", largest(0),
+        "ask 0 1 5; all; show",
+        ["asked 0 seq 0; brought 32639; converged", *largest_shown(LARGEST)],
     ),
-    (
-        "largest group without its liars",
-        largest(LARGEST_FAULTS),
-        ["ask 0 1 5", "all", "show"],
-        ["asked 0 seq 0", "brought 14705", "converged", *largest_shown(LARGEST - LARGEST_FAULTS)],
-        0,
+    worked(
+        "largest group without its liars", largest(LARGEST_FAULTS),
+        "ask 0 1 5; all; show",
+        ["asked 0 seq 0; brought 14705; converged", *largest_shown(LARGEST - LARGEST_FAULTS)],
     ),
 ]
 
-# A name, the world's line, the commands, the lines that are printed, and the status.
 WORKED = [
-    (
-        "plain payment",
-        FOUR_ONE_LIAR,
-        ["ask 0 1 30", "all", "show"],
-        ["asked 0 seq 0", "brought 14", "converged", *shown(3, "1 0 0 0", "70 30 0 50")],
-        0,
+    worked(
+        "plain payment", FOUR_ONE_LIAR,
+        "ask 0 1 30; all; show",
+        ["asked 0 seq 0; brought 14; converged", *shown(3, "1 0 0 0", "70 30 0 50")],
     ),
-    (
-        "split vote stalls",
-        FOUR_ONE_LIAR,
-        [f"lie 3 0 next send 3 0 {A}", f"lie 3 1 next send 3 0 {B}", "all", "show"],
-        ["took echo", "took echo", "brought 4", "converged", *shown(3, "0 0 0 0", "100 0 0 50")],
-        0,
+    worked(
+        "split vote stalls", FOUR_ONE_LIAR,
+        f"lie 3 0 next send 3 0 {A}; lie 3 1 next send 3 0 {B}; all; show",
+        ["took echo; took echo; brought 4; converged", *shown(3, "0 0 0 0", "100 0 0 50")],
     ),
-    (
-        "split vote settles",
-        FOUR_ONE_LIAR,
+    worked(
+        "split vote settles", FOUR_ONE_LIAR,
         [
-            f"lie 3 0 next send 3 0 {A}",
-            f"lie 3 1 next send 3 0 {A}",
-            f"lie 3 2 next send 3 0 {B}",
-            f"lie 3 0 next echo 3 0 {A}",
-            f"lie 3 1 next ready 3 0 {A}",
-            "all",
-            "show",
+            f"lie 3 0 next send 3 0 {A}; lie 3 1 next send 3 0 {A}; lie 3 2 next send 3 0 {B}",
+            f"lie 3 0 next echo 3 0 {A}; lie 3 1 next ready 3 0 {A}; all; show",
         ],
-        [*["took echo"] * 3, *["took"] * 2, "brought 12", "converged", *shown(3, "0 0 0 1", "100 5 0 45")],
-        0,
+        [*["took echo"] * 3, *["took"] * 2, "brought 12; converged", *shown(3, "0 0 0 1", "100 5 0 45")],
     ),
-    (
-        "circular debts",
-        four_honest(0, 0, 0, 50),
-        ["ask 0 1 10", "ask 1 0 10", "all", "show", "ask 3 0 10", "all", "show"],
+    worked(
+        "circular debts", four_honest(0, 0, 0, 50),
+        "ask 0 1 10; ask 1 0 10; all; show; ask 3 0 10; all; show",
         [
-            "asked 0 seq 0",
-            "asked 1 seq 0",
-            "brought 54", "converged",
-            *shown(4, "0 0 0 0", "0 0 0 50"),
-            "asked 3 seq 0",
-            "brought 27", "converged",
-            *shown(4, "1 1 0 1", "10 0 0 40"),
+            "asked 0 seq 0; asked 1 seq 0; brought 54; converged", *shown(4, "0 0 0 0", "0 0 0 50"),
+            "asked 3 seq 0; brought 27; converged", *shown(4, "1 1 0 1", "10 0 0 40"),
         ],
-        0,
     ),
-    (
-        "uncovered payment waits",
-        four_honest(100, 0, 0, 50),
-        ["ask 0 1 150", "ask 0 1 10", "all", "show", "ask 3 0 50", "all", "show"],
+    worked(
+        "uncovered payment waits", four_honest(100, 0, 0, 50),
+        "ask 0 1 150; ask 0 1 10; all; show; ask 3 0 50; all; show",
         [
-            "asked 0 seq 0",
-            "asked 0 seq 1",
-            "brought 54", "converged",
-            *shown(4, "0 0 0 0", "100 0 0 50"),
-            "asked 3 seq 0",
-            "brought 27", "converged",
-            *shown(4, "1 0 0 1", "0 150 0 0"),
+            "asked 0 seq 0; asked 0 seq 1; brought 54; converged", *shown(4, "0 0 0 0", "100 0 0 50"),
+            "asked 3 seq 0; brought 27; converged", *shown(4, "1 0 0 1", "0 150 0 0"),
         ],
-        0,
     ),
-    (
-        "gaps, repeats, absences",
-        FOUR_ONE_LIAR,
-        ["ask 0 1 30", "ask 0 2 10", "bring 0 1 0", "bring 0 1 0", "bring 0 1 2", "bring 0 1 1", "bring 0 1 4"],
+    worked(
+        "gaps, repeats, absences", FOUR_ONE_LIAR,
+        "ask 0 1 30; ask 0 2 10; bring 0 1 0; bring 0 1 0; bring 0 1 2; bring 0 1 1; bring 0 1 4",
         [
-            "asked 0 seq 0",
-            "asked 0 seq 1",
-            "took echo",
-            "refused link 5 Repeat next 1",
-            "refused link 6 Gap next 1",
-            "took",
+            "asked 0 seq 0; asked 0 seq 1; took echo; refused link 5 Repeat next 1; refused link 6 Gap next 1; took",
             "absent",
         ],
-        0,
     ),
-    (
-        "a forged frame",
-        FOUR_ONE_LIAR,
-        [f"raw 1 0036010100000001{'00' * 48}", "lie 0 0 0 send 0 0 -", "lie 0 1 next send 0 0 -"],
-        ["refused link 4 BadTag", "refused link 2 UnknownSender", "forged 2"],
+    worked(
+        "a forged frame", FOUR_ONE_LIAR,
+        f"raw 1 0036010100000001{'00' * 48}; lie 0 0 0 send 0 0 -; lie 0 1 next send 0 0 -",
+        "refused link 4 BadTag; refused link 2 UnknownSender; forged 2",
         1,
     ),
-    (
-        "what a correct member said isn't forged",
-        FOUR_ONE_LIAR,
-        ["ask 0 1 30", "lie 0 1 next send 0 0 010001000000000000001e"],
-        ["asked 0 seq 0", "took echo"],
-        0,
+    worked(
+        "what a correct member said isn't forged", FOUR_ONE_LIAR,
+        "ask 0 1 30; lie 0 1 next send 0 0 010001000000000000001e",
+        "asked 0 seq 0; took echo",
     ),
     *(
-        (
-            f"a void entry of {size} bytes passes",
-            FOUR_ONE_LIAR,
+        worked(
+            f"a void entry of {size} bytes passes", FOUR_ONE_LIAR,
             [
                 *(f"lie 3 {it} next send 3 0 {'ff' * size}" for it in range(3)),
-                *(f"lie 3 {it} next send 3 1 {A}" for it in range(3)),
-                "all",
-                "show",
+                *(f"lie 3 {it} next send 3 1 {A}" for it in range(3)), "all; show",
             ],
-            [*["took echo"] * 6, "brought 24", "converged", *shown(3, "0 0 0 2", "100 5 0 45")],
-            0,
+            [*["took echo"] * 6, "brought 24; converged", *shown(3, "0 0 0 2", "100 5 0 45")],
         )
         for size in (1, 1024)
     ),
-    (
-        "one member alone",
-        ALONE,
-        ["ask 0 0 5", "show", "all"],
-        ["asked 0 seq 0", "member 0 fronts 1 balances 7", "brought 0", "converged"],
-        0,
+    worked(
+        "one member alone", ALONE,
+        "ask 0 0 5; show; all",
+        "asked 0 seq 0; member 0 fronts 1 balances 7; brought 0; converged",
     ),
-    (
-        "more than anyone has",
-        FOUR_ONE_LIAR,
-        ["ask 0 1 18446744073709551615", "ask 0 1 1", "all", "show"],
-        ["asked 0 seq 0", "asked 0 seq 1", "brought 28", "converged", *shown(3, "0 0 0 0", "100 0 0 50")],
-        0,
+    worked(
+        "more than anyone has", FOUR_ONE_LIAR,
+        "ask 0 1 18446744073709551615; ask 0 1 1; all; show",
+        ["asked 0 seq 0; asked 0 seq 1; brought 28; converged", *shown(3, "0 0 0 0", "100 0 0 50")],
     ),
-    (
-        "all that there is",
-        four_honest(9223372036854775807, 0, 0, 0),
-        ["ask 0 1 9223372036854775807", "all", "show"],
-        ["asked 0 seq 0", "brought 27", "converged", *shown(4, "1 0 0 0", "0 9223372036854775807 0 0")],
-        0,
+    worked(
+        "all that there is", four_honest(9223372036854775807, 0, 0, 0),
+        "ask 0 1 9223372036854775807; all; show",
+        ["asked 0 seq 0; brought 27; converged", *shown(4, "1 0 0 0", "0 9223372036854775807 0 0")],
     ),
-    (
-        "four payments in one",
-        FOUR_ONE_LIAR,
-        ["asks 0 1 30 2 50 1 40 2 20", "all", "show", "ask 1 0 30", "all", "show"],
+    worked(
+        "four payments in one", FOUR_ONE_LIAR,
+        "asks 0 1 30 2 50 1 40 2 20; all; show; ask 1 0 30; all; show",
         [
-            "asked 0 seq 0",
-            "brought 14",
-            "converged",
-            *shown(3, "2 0 0 0", "20 30 50 50"),
-            "asked 1 seq 0",
-            "brought 14",
-            "converged",
-            *shown(3, "3 1 0 0", "10 40 50 50"),
+            "asked 0 seq 0; brought 14; converged", *shown(3, "2 0 0 0", "20 30 50 50"),
+            "asked 1 seq 0; brought 14; converged", *shown(3, "3 1 0 0", "10 40 50 50"),
         ],
-        0,
     ),
     *(
-        (
-            f"{name} of account 3",
-            FOUR_ONE_LIAR,
-            [*(f"lie 3 {it} next send 3 0 {value}" for it in range(3)), "all", "show"],
-            [*["took echo"] * 3, "brought 12", "converged", *shown(3, front, balances)],
-            0,
+        worked(
+            f"{name} of account 3", FOUR_ONE_LIAR,
+            [*(f"lie 3 {it} next send 3 0 {value}" for it in range(3)), "all; show"],
+            [*["took echo"] * 3, "brought 12; converged", *shown(3, front, balances)],
         )
         for name, value, front, balances in (
             ("a void pair", FIVE_AND_VOID, "0 0 0 2", "100 5 0 45"),
@@ -228,79 +175,46 @@ WORKED = [
             ("of which one waits", payments([(1, 5), (1, 46), (1, 1)]).hex(), "0 0 0 1", "100 5 0 45"),
         )
     ),
-    (
-        "32 payments and a value of one",
-        FOUR_ONE_LIAR,
-        [f"asks 0 {' '.join(32 * ['1 3'])}", "asks 1 2 96", "ask 0 2 4", "all", "show"],
-        [
-            "asked 0 seq 0",
-            "asked 1 seq 0",
-            "asked 0 seq 1",
-            "brought 42",
-            "converged",
-            *shown(3, "33 1 0 0", "0 0 100 50"),
-        ],
-        0,
+    worked(
+        "32 payments and a value of one", FOUR_ONE_LIAR,
+        f"asks 0 {' '.join(32 * ['1 3'])}; asks 1 2 96; ask 0 2 4; all; show",
+        ["asked 0 seq 0; asked 1 seq 0; asked 0 seq 1; brought 42; converged", *shown(3, "33 1 0 0", "0 0 100 50")],
     ),
-    (
-        "several asked of one that lies, and of nobody",
-        FOUR_ONE_LIAR,
-        ["asks 3 1 5", "asks 4 1 5", "asks 127 65535 0 0 18446744073709551615"],
+    worked(
+        "several asked of one that lies, and of nobody", FOUR_ONE_LIAR,
+        "asks 3 1 5; asks 4 1 5; asks 127 65535 0 0 18446744073709551615",
         3 * ["ignored"],
-        0,
     ),
-    (
-        "hostile frames",
-        FOUR_ONE_LIAR,
+    worked(
+        "hostile frames", FOUR_ONE_LIAR,
         [
-            f"lie 3 0 18446744073709551615 send 3 0 {A}",
-            "raw 0 -",
-            "raw 0 05",
-            f"raw 0 0036010100000001{'00' * 49}",
-            "raw 9 -",
-            "lie 3 0 0 want 0 0 -",
-            f"lie 3 0 next send 1 0 {A}",
-            f"lie 3 0 next ready 3 65535 {A}",
+            f"lie 3 0 18446744073709551615 send 3 0 {A}; raw 0 -; raw 0 05; raw 0 0036010100000001{'00' * 49}",
+            f"raw 9 -; lie 3 0 0 want 0 0 -; lie 3 0 next send 1 0 {A}; lie 3 0 next ready 3 65535 {A}",
         ],
         [
-            "refused link 6 Gap next 0",
-            "refused frame 7 Truncated",
-            "refused frame 1 BadLength",
-            "refused frame 8 Trailing",
-            "ignored",
-            "wanted 3 0",
-            "took",
-            "took",
+            "refused link 6 Gap next 0; refused frame 7 Truncated; refused frame 1 BadLength",
+            "refused frame 8 Trailing; ignored; wanted 3 0; took; took",
         ],
-        0,
     ),
-    (
-        "READYs of liars alone",
-        SEVEN_TWO_LIARS,
-        [*(f"lie {liar} {it} next ready 5 0 {A}" for it in range(5) for liar in (5, 6)), "all", "show"],
-        [*["took"] * 10, "brought 0", "converged", *shown(5, "0 0 0 0 0 0 0", "7 0 0 0 0 9 0")],
-        0,
+    worked(
+        "READYs of liars alone", SEVEN_TWO_LIARS,
+        [*(f"lie {liar} {it} next ready 5 0 {A}" for it in range(5) for liar in (5, 6)), "all; show"],
+        [*["took"] * 10, "brought 0; converged", *shown(5, "0 0 0 0 0 0 0", "7 0 0 0 0 9 0")],
     ),
-    (
-        "one READY makes the next",
-        SEVEN_TWO_LIARS,
+    worked(
+        "one READY makes the next", SEVEN_TWO_LIARS,
         [
-            *(f"lie 5 {it} next send 5 0 {A}" for it in range(3)),
-            *(f"lie 5 {it} next send 5 0 {B}" for it in (3, 4)),
+            *(f"lie 5 {it} next send 5 0 {A}" for it in range(3)), *(f"lie 5 {it} next send 5 0 {B}" for it in (3, 4)),
             *(f"lie {liar} 0 next echo 5 0 {A}" for liar in (5, 6)),
-            *(f"lie {liar} 1 next ready 5 0 {A}" for liar in (5, 6)),
-            f"lie 5 2 next ready 5 0 {A}",
-            "all",
-            "show",
+            *(f"lie {liar} 1 next ready 5 0 {A}" for liar in (5, 6)), f"lie 5 2 next ready 5 0 {A}; all; show",
         ],
-        [*["took echo"] * 5, *["took"] * 5, "brought 40", "converged", *shown(5, "0 0 0 0 0 1 0", "7 5 0 0 0 4 0")],
-        0,
+        [*["took echo"] * 5, *["took"] * 5, "brought 40; converged", *shown(5, "0 0 0 0 0 1 0", "7 5 0 0 0 4 0")],
     ),
-    ("no such command", FOUR_ONE_LIAR, ["fly"], ["bad line 2"], 2),
-    ("an empty line", FOUR_ONE_LIAR, ["", "show"], shown(3, "0 0 0 0", "100 0 0 50"), 0),
-    ("no script", "", [], ["bad line 1"], 2),
+    worked("no such command", FOUR_ONE_LIAR, "fly", "bad line 2", 2),
+    worked("an empty line", FOUR_ONE_LIAR, "; show", shown(3, "0 0 0 0", "100 0 0 50")),
+    worked("no script", "", [], "bad line 1", 2),
     *(
-        (f"no world: {wrong}", world, ["show"], ["bad line 1"], 2)
+        worked(f"no world: {wrong}", world, "show", "bad line 1", 2)
         for wrong, world in (
             ("it ends inside", "{"),
             ("a list", "[]"),
@@ -316,46 +230,15 @@ WORKED = [
         )
     ),
     *(
-        (f"bad command: {command}", FOUR_ONE_LIAR, ["ask 0 1 30", command], ["asked 0 seq 0", "bad line 3"], 2)
+        worked(f"bad command: {command}", FOUR_ONE_LIAR, ["ask 0 1 30", command], "asked 0 seq 0; bad line 3", 2)
         for command in (
-            "ask 0 1",
-            "ask 0 1 30 ",
-            " ask 0 1 30",
-            "ask  0 1 30",
-            "ask 0 1 030",
-            "ask 0 1 +3",
-            "ask 128 1 30",
-            "ask 0 65536 30",
-            "ask 0 1 18446744073709551616",
-            "ASK 0 1 30",
-            "asks",
-            "asks 0",
-            "asks 0 ",
-            "asks 0 1",
-            "asks 0 1 ",
-            "asks 0 1 30 ",
-            "asks 0 1 30 2",
-            "asks 0 1 30 2 050",
-            "asks 0 1 30 65536 50",
-            "asks 0 1 18446744073709551616",
-            "asks 128 1 30",
-            "asks 0  1 30",
-            f"asks 0 {' '.join(33 * ['1 1'])}",
-            "ASKS 0 1 30",
-            "bring 0 1",
-            "bring 0 1 next",
-            "raw 0",
-            "raw 0 ",
-            "raw 0 0",
-            "raw 0 0g",
-            "lie 3 0 next send 3 65536 -",
-            "lie 3 0 next sent 3 0 -",
-            "lie 3 0 next want 0 0 00",
-            "lie 3 0 next want 1 0 -",
-            f"lie 3 0 next send 3 0 {'00' * 1025}",
-            "all 1",
-            "show\r",
-            "\r",
+            "ask 0 1", "ask 0 1 30 ", " ask 0 1 30", "ask  0 1 30", "ask 0 1 030", "ask 0 1 +3", "ask 128 1 30",
+            "ask 0 65536 30", "ask 0 1 18446744073709551616", "ASK 0 1 30", "asks", "asks 0", "asks 0 ", "asks 0 1",
+            "asks 0 1 ", "asks 0 1 30 ", "asks 0 1 30 2", "asks 0 1 30 2 050", "asks 0 1 30 65536 50",
+            "asks 0 1 18446744073709551616", "asks 128 1 30", "asks 0  1 30", f"asks 0 {' '.join(33 * ['1 1'])}",
+            "ASKS 0 1 30", "bring 0 1", "bring 0 1 next", "raw 0", "raw 0 ", "raw 0 0", "raw 0 0g",
+            "lie 3 0 next send 3 65536 -", "lie 3 0 next sent 3 0 -", "lie 3 0 next want 0 0 00",
+            "lie 3 0 next want 1 0 -", f"lie 3 0 next send 3 0 {'00' * 1025}", "all 1", "show\r", "\r",
             "show" + " " * 4093,
         )
     ),
