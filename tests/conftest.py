@@ -8,13 +8,14 @@ import tempfile
 
 sys.dont_write_bytecode = True
 TESTS = os.path.dirname(os.path.realpath(__file__))
-sys.path[:0] = [TESTS, *(os.path.join(TESTS, it) for it in ("models", "support", "../examples", "../tools"))]
+FOLDERS = ("models", "support", "../bench", "../examples", "../tools")
+sys.path[:0] = [TESTS, *(os.path.join(TESTS, it) for it in FOLDERS)]
 
 import pytest  # noqa: E402
 
 import damaged_logs  # noqa: E402
 import hostile  # noqa: E402
-import stand_in  # noqa: E402
+import fake_toolchain  # noqa: E402
 
 # Children take each signal as usual. Run in the background or by nohup this process ignores some, and its children
 # would too, but for those that it takes itself. (Two of them Python ignores, and gives its children as usual.)
@@ -58,6 +59,12 @@ def damage():
 
 
 @pytest.fixture
+def folder():
+    with tempfile.TemporaryDirectory() as made:
+        yield made
+
+
+@pytest.fixture
 def repository():
     with tempfile.TemporaryDirectory() as folder:
-        yield stand_in.Repository(folder)
+        yield fake_toolchain.Repository(folder)

@@ -9,28 +9,16 @@ import time
 import unittest
 
 from frames import ECHO, SEND, WANT, frame, payment, read_frame
-from nodes import Group, Node, free_ports, told_apart
+from nodes import Group, Node, judges_words_of
 from peers import connected, received
-from runs import SECONDS, key_texts, same, shows, with_files
+from runs import SECONDS, same
 
 PAIR = {"members": 2, "faults": 0, "opening": [5, 5]}
 
 
 def test_words_that_say_no_number_ahead():
-    files = {"g": PAIR, "k": {"own": 0, "keys": key_texts(0, 2)}, "p": {"ports": free_ports(2)}}
-    words = ["node", "--genesis", "g", "--keys", "k", "--ports", "p"]
-    for word in ("0", "1025", "", "00", "05", "+5", "5 ", "1.5", "1e1", "0x5", "five", "always", f"{2**64}"):
-        errors = f"payd: ahead {word}: no number from 1 to 1024\n"
-        was = with_files(files, [*words, f"--ahead={word}"], b"FRONT\n")
-        shows(was, 2, "", errors, of=f"{word!r}")
-        was = with_files({}, [*words, f"--ahead={word}"])
-        shows(was, 2, "", errors, of=f"{word!r} before the files")
-    for more in (["--ahead"], ["--ahead", "-1"], ["--ahead", "5", "--ahead", "5"]):
-        status, output, errors = with_files(files, [*words, *more], b"FRONT\n")
-        same((status, output, errors != ""), (2, "", True), f"{more}")
-    for word in ("1", "2", "1023", "1024"):
-        status, output, errors = with_files(files, [*words, "--dials", "1", "--ahead", word], b"FRONT\n")
-        same((status, output.split("\n")[0], told_apart(errors)[1]), (0, "front 0 0", ""), f"{word!r}")
+    wrong = "0", "1025", "1e1", "always"
+    judges_words_of("ahead", "no number from 1 to 1024", wrong, [], ("1", "2", "1023", "1024"))
 
 
 def wanted(ahead, frames):
@@ -86,9 +74,11 @@ def test_nodes_of_different_numbers_ahead():
 
 
 def test_a_peer_that_is_killed_and_started_anew():
-    """Member 3 asks for nothing itself: it is killed twice among 10,008 payments, and catches up."""
+    """Member 3 asks for nothing itself: it is killed twice among 10,008 payments, and catches up. It has forgotten what
+    it said by then, so others may hear that again."""
     each = 1112
     with Group([5000, 5000, 5000, 0], running=[]) as group:
+        group.liars = (3,)
         for own in range(4):
             group.start(own, options=["--dials", "always"])
         for turn in range(3):

@@ -11,7 +11,7 @@ import threading
 import audits
 from hostile import MEMORY
 from nodes import write_json
-from runs import SECONDS, of_file, payd, run, same, shows, with_files
+from runs import SECONDS, of_file, payd, same, with_files
 
 EACH = (1, 2, 4, 8)
 
@@ -64,7 +64,19 @@ def test_faults_of_files_keep_their_order():
     """A verdict comes after all files, and a fault that is found sooner after one that is named before it."""
     long = json.dumps(audits.export([7], [65536 * [""]], [65536], [7]))
     files = {"paid": audits.PAID, "forked": audits.FORKED, "text": "{", "shape": "[]", "long": long, "torn": long + "x"}
+    files["other"] = {**audits.FRESH, "opening": [0, 0, 0, 51]}
+    files.update(front={**audits.PAID, "front": [0, 0, 0, 0]}, balance={**audits.PAID, "balances": [0, 0, 0, 50]})
+    for wrong in ("forked", "other", "front", "balance"):
+        for words, line in (
+            (["paid", wrong, "shape"], of_file("export 2 BadShape", "shape")),
+            ([wrong, "paid", "text", "shape"], of_file("export 1 BadJson", "text")),
+            (["paid", wrong, "gone", "text"], "payd: file gone\n"),
+        ):
+            each_says(files, words, (2, "", line), f"{words}")
     for words, wanted in (
+        (["shape", "gone"], (2, "", of_file("export 2 BadShape", "shape"))),
+        (["gone", "shape"], (2, "", "payd: file gone\n")),
+        (["paid", "."], (2, "", "payd: file .\n")),
         (["paid", "forked", "text"], (2, "", of_file("export 1 BadJson", "text"))),
         (["paid", "text", "forked", "paid", "gone"], (2, "", of_file("export 1 BadJson", "text"))),
         (["paid", "gone", "forked", "paid", "text"], (2, "", "payd: file gone\n")),
@@ -109,11 +121,6 @@ def test_as_many_are_read_side_by_side_as_jobs_say():
         done = subprocess.run([payd(), "audit", "--jobs", "4", *pipes], capture_output=True, timeout=SECONDS)
         writer.join(SECONDS)
     same((done.returncode, done.stdout, early), (0, b"clean\n", [False]), "four, and then two")
-
-
-def test_count_of_jobs_of_an_audit_is_named():
-    for word in ("0", "9", "-1", "", "two"):
-        shows(run(["audit", f"--jobs={word}", "gone"]), 2, "", f"payd: jobs {word}: no count from 1 to 8\n", of=word)
 
 
 def written(library, exports):

@@ -3,6 +3,7 @@
 import subprocess
 
 import model
+from advices import told_plainly
 from damage import check
 from frames import SEND, frame
 from runs import SECONDS, payd, run, same
@@ -73,5 +74,5 @@ def test_each_bit_of_a_repeated_frame_turned():
             taken = [line.split(" ", 1)[1] for line in text.splitlines() if " ok " in line]
             same(taken in ([], ["ok send from 0 number 0 owner 0 seq 0 value 0"]), True, text)
             done = subprocess.run([payd(), "check"], input=stream, capture_output=True, timeout=SECONDS)
-            was = done.returncode, done.stdout.decode("ascii"), done.stderr.decode()
+            was = done.returncode, done.stdout.decode("ascii"), told_plainly(done.stderr.decode())
             same(was, (status, text, errors), f"bit {place}")

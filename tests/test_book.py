@@ -8,7 +8,7 @@ import group_books
 from audits import export
 from frames import payment
 from group_books import book
-from runs import of_file, same, shows, with_files
+from runs import same, shows
 
 
 def pays(payee, amount):
@@ -106,14 +106,6 @@ def test_genesis_and_export_of_a_book():
     shows(book(ALL, "--genesis", "--export"), 2, "", "payd: book: --genesis or --export, and not both\n", of="both")
     shows(book([ALL[0]], "--genesis"), 1, "6 few 1\n", of="no book, no genesis")
     shows(book([ALL[0]], "--export"), 1, "6 few 1\n", of="no book, no export")
-
-
-def test_faults_of_files_are_those_of_an_audit():
-    for wrong, members, fault in audits.FAULTS:
-        files = {"good": audits.PAID, "bad": audits.changed(members), "no": "{"}
-        shows(with_files(files, ["book", "good", "bad", "no"]), 2, "", of_file(f"export {fault}", "bad"), of=wrong)
-    gone = with_files({"good": ALL[0]}, ["book", "good", "none"])
-    shows(gone, 2, "", "payd: file none\n", of="a file that isn't there")
 
 
 def test_random_books_as_the_model_has_them():

@@ -5,8 +5,9 @@ import subprocess
 import threading
 import time
 
+from advices import told_plainly
 from frames import ECHO, READY, SEND, WANT, frame, payment
-from runs import EXAMPLE_GENESIS, SECONDS, TOP, example_keys, payd, run, run_byte_by_byte, run_on, same, shows
+from runs import EXAMPLE_GENESIS, SECONDS, TOP, example_keys, payd, run, run_byte_by_byte, same, shows
 
 # ---- frames
 
@@ -35,30 +36,124 @@ def judges(stream, status, lines, of="run"):
 
 # ---- what is judged
 
+# Streams of frames, each with what is said of it.
+JUDGED = (
+    (),
+    (
+        (BAD_TAG, "refused 4 BadTag"), (NOT_FOR_ME, "refused 1 NotForMe"),
+        (UNKNOWN_SENDER, "refused 2 UnknownSender"), (UNKNOWN_OWNER, "refused 3 UnknownOwner"),
+    ),
+    (
+        (frame(SEND, 0, 1, 0, value=payment(payee=1, amount=30)), "ok send from 0 number 0 owner 0 seq 0 value 11"),
+        (frame(ECHO, 2, 1, 0, seq=65535, value=bytes(1024)), "ok echo from 2 number 0 owner 0 seq 65535 value 1024"),
+        (frame(READY, 3, 1, 0, owner=3, seq=256), "ok ready from 3 number 0 owner 3 seq 256 value 0"),
+        (frame(WANT, 2, 1, 2**64 - 1), "want from 2 number 18446744073709551615"),
+        (frame(READY, 2, 1, 1, owner=1, seq=7, value=b"\xff"), "ok ready from 2 number 1 owner 1 seq 7 value 1"),
+        (frame(READY, 2, 1, 3, owner=1, seq=8), "refused 6 Gap next 2"),
+        (frame(ECHO, 2, 1, 1, owner=2, seq=1), "refused 5 Repeat next 2"),
+    ),
+    (
+        # refused frames move no front
+        (frame(SEND, 0, 1, 0, key=bytes(32)), "refused 4 BadTag"), (frame(SEND, 0, 2, 0), "refused 1 NotForMe"),
+        (frame(WANT, 0, 1, 0), "want from 0 number 0"),
+        (frame(SEND, 0, 1, 0), "ok send from 0 number 0 owner 0 seq 0 value 0"),
+    ),
+    # the first cause is named: oneself as sender, and all unknown
+    ((frame(SEND, 1, 1, 0, owner=4), "refused 2 UnknownSender"), (frame(SEND, 9, 2, 0, owner=4), "refused 1 NotForMe")),
+)
+HEAD = "003601010000000100000000000000000000"
+FAULTS = {
+    "1 BadLength": ("05", "0035", "0437", f"05{TWICE.hex()}"),
+    "2 BadVersion": ("003602",),
+    "3 BadKind": ("00360105", "00360100"),
+    "4 BadValueLength": (f"{HEAD}000000000001", "003601040000000100000000000000000000000000000001"),
+    "5 BadSeq": (f"{HEAD}00010000",),
+    "6 BadWant": ("00370104", "003601040000000100000000000000000001", "00360104000000010000000000000000000000000001"),
+    "7 Truncated": ("00", "0036", "0436", BAD_TAG[:-1].hex()),
+}
 
-def test_empty_stream():
-    shows(run([]), 0, "", of="no words")
-    shows(run(["check"]), 0, "", of="check")
+
+# Values in the list of account 3 of four, each with what it is told to pay.
+VALUES = (
+    ("01 0001 000000000000001e", "1 30"),
+    ("01 0000 ffffffffffffffff", "0 18446744073709551615"),
+    ("02 02 0001 000000000000001e 0002 0000000000000014", "1 30 2 20"),
+    ("02 02 0002 0000000000000014 0001 000000000000001e", "2 20 1 30"),
+    ("02 01 0001 0000000000000005", "1 5"),
+    # in order, among others: to the owner, of nothing, to account 4 and to account 256
+    ("02 03 0001 0000000000000005 0003 0000000000000001 0002 0000000000000007", "1 5 void 2 7"),
+    ("02 02 0001 0000000000000000 0100 0000000000000001", "void void"),
+    ("01 0003 0000000000000005", "void"),
+    ("01 0004 0000000000000005", "void"),
+    ("01 0001 0000000000000000", "void"),
+    # no payments: of another version, a byte short, a byte more, of no pairs, and empty
+    ("ff", "void"),
+    ("03 0001 0000000000000005", "void"),
+    ("01 0001 00000000000000", "void"),
+    ("01 0001 0000000000000005 00", "void"),
+    ("02 00", "void"),
+    ("02 01 0001 0000000000000005 00", "void"),
+    ("", "void"),
+)
 
 
-def test_four_refusals():
-    lines = "1 refused 4 BadTag\n2 refused 1 NotForMe\n3 refused 2 UnknownSender\n4 refused 3 UnknownOwner\n"
-    stream = BAD_TAG + NOT_FOR_ME + UNKNOWN_SENDER + UNKNOWN_OWNER
-    judges(stream, 0, lines)
-    shows(run(["check"], stream), 0, lines, of="check")
+def values_are_told(stream, status, lines, of="run"):
+    """Of values too, however many threads judge them."""
+    for words in (["check", "--values"], *([*way, "--values"] for way in WAYS if way)):
+        shows(run(words, stream), status, lines, of=f"{of}, {words}")
 
 
-def test_frame_for_another_member():
-    for own in (0, 2):
-        words = ["check", "--genesis", EXAMPLE_GENESIS, "--keys", example_keys(own)]
-        shows(run(words, frame(SEND, 0, 1, 0)), 0, "1 refused 1 NotForMe\n", of=f"at member {own}")
+def test_values_are_told_what_they_pay():
+    stream, lines = b"", ""
+    for number, (digits, pays) in enumerate(VALUES):
+        value = bytes.fromhex(digits)
+        stream += frame((SEND, ECHO, READY)[number % 3], 3, 1, number, owner=3, seq=number, value=value)
+        said = f"ok {('send', 'echo', 'ready')[number % 3]} from 3 number {number} owner 3 seq {number}"
+        lines += f"{number + 1} {said} value {len(value)}\n  pays {pays}\n"
+    values_are_told(stream, 0, lines)
+    judges(stream, 0, "".join(line for line in lines.splitlines(True) if not line.startswith(" ")))
+    # as many as are shared out to threads, of which each begins with another frame
+    count, value = 2000, bytes.fromhex("02 02 0001 000000000000001e 0002 0000000000000014")
+    stream = b"".join(frame(SEND, 0, 1, number, owner=number % 2, value=value) for number in range(count))
+    lines = "".join(
+        f"{number + 1} ok send from 0 number {number} owner {number % 2} seq 0 value 22\n"
+        f"  pays {'void' if number % 2 else '1 30'} 2 20\n"
+        for number in range(count)
+    )
+    values_are_told(stream, 0, lines, of="many frames")
 
 
-def test_last_byte_missing():
-    judges(BAD_TAG[:-1], 1, "1 fault 7 Truncated\n")
+def test_values_of_refused_frames_are_told():
+    """Behind the line that refuses them, by their owner's account; a WANT has none, nor has a fault."""
+    stream, lines, count = b"", "", 0
+    value = payment(payee=1, amount=30)
+    for given, line, pays in (
+        (frame(SEND, 0, 1, 0, value=value), "ok send from 0 number 0 owner 0 seq 0 value 11", "  pays 1 30\n"),
+        (frame(SEND, 0, 1, 0, value=value), "refused 5 Repeat next 1", "  pays 1 30\n"),
+        (frame(SEND, 0, 1, 1, value=value, key=bytes(32)), "refused 4 BadTag", "  pays 1 30\n"),
+        (frame(SEND, 0, 1, 1, owner=4, value=value), "refused 3 UnknownOwner", "  pays 1 30\n"),
+        (frame(SEND, 0, 2, 1, owner=1, value=value), "refused 1 NotForMe", "  pays void\n"),
+        (frame(READY, 0, 1, 2, value=value), "refused 6 Gap next 1", "  pays 1 30\n"),
+        (frame(WANT, 0, 1, 0), "want from 0 number 0", ""),
+        (frame(WANT, 0, 2, 0), "refused 1 NotForMe", ""),
+    ):
+        stream, count = stream + given, count + 1
+        lines += f"{count} {line}\n{pays}"
+        values_are_told(stream, 0, lines, of=line)
+    values_are_told(stream + b"\x05", 1, f"{lines}{count + 1} fault 1 BadLength\n")
 
 
-def test_fault_behind_lines():
+def test_each_frame_has_its_line():
+    shows(run(["check"]), 0, "", of="nothing")
+    for rows in JUDGED:
+        lines = "".join(f"{place} {line}\n" for place, (_, line) in enumerate(rows, 1))
+        judges(b"".join(given for given, _ in rows), 0, lines, of=lines)
+
+
+def test_each_fault_ends_the_text():
+    for fault, texts in FAULTS.items():
+        for text in texts:
+            judges(bytes.fromhex(text), 1, f"1 fault {fault}\n", of=text)
     judges(TWICE + b"\x05", 1, TAKEN_LINE + REPEAT_LINE + "3 fault 1 BadLength\n")
 
 
@@ -85,88 +180,6 @@ def test_repeated_frame_byte_by_byte():
     for size in (0, 1, 2, 24, 55, 56, 57, 80, 111, 112):
         for words in WAYS:
             shows(run_byte_by_byte(TWICE[:size], words), *lines_of_a_cut(size), of=f"the first {size} bytes, {words}")
-
-
-def test_each_kind_of_line():
-    stream = (
-        frame(SEND, 0, 1, 0, owner=0, seq=0, value=payment(payee=1, amount=30))
-        + frame(ECHO, 2, 1, 0, owner=0, seq=65535, value=bytes(1024))
-        + frame(READY, 3, 1, 0, owner=3, seq=256)
-        + frame(WANT, 2, 1, 18446744073709551615)
-        + frame(READY, 2, 1, 1, owner=1, seq=7, value=b"\xff")
-        + frame(READY, 2, 1, 3, owner=1, seq=8)
-        + frame(ECHO, 2, 1, 1, owner=2, seq=1)
-    )
-    lines = (
-        "1 ok send from 0 number 0 owner 0 seq 0 value 11\n"
-        "2 ok echo from 2 number 0 owner 0 seq 65535 value 1024\n"
-        "3 ok ready from 3 number 0 owner 3 seq 256 value 0\n"
-        "4 want from 2 number 18446744073709551615\n"
-        "5 ok ready from 2 number 1 owner 1 seq 7 value 1\n"
-        "6 refused 6 Gap next 2\n"
-        "7 refused 5 Repeat next 2\n"
-    )
-    judges(stream, 0, lines)
-
-
-def test_refused_frames_move_no_front():
-    wrong = bytearray(frame(SEND, 0, 1, 0))
-    wrong[-1] ^= 1
-    stream = bytes(wrong) + frame(SEND, 0, 2, 0) + frame(WANT, 0, 1, 0) + frame(SEND, 0, 1, 0)
-    lines = (
-        "1 refused 4 BadTag\n2 refused 1 NotForMe\n3 want from 0 number 0\n"
-        "4 ok send from 0 number 0 owner 0 seq 0 value 0\n"
-    )
-    judges(stream, 0, lines)
-
-
-def test_the_first_cause_is_named():
-    own_sender = frame(SEND, 1, 1, 0, owner=4)
-    judges(own_sender, 0, "1 refused 2 UnknownSender\n", of="oneself as sender, an owner that isn't there")
-    other_receiver = frame(SEND, 9, 2, 0, owner=4)
-    judges(other_receiver, 0, "1 refused 1 NotForMe\n", of="all unknown")
-
-
-def test_each_tagged_part_counts():
-    right = frame(SEND, 0, 1, 0, value=b"value")
-    for place, bit, part in (
-        (3, 3, "kind"),
-        (5, 2, "from"),
-        (15, 1, "number"),
-        (17, 1, "owner"),
-        (21, 1, "seq"),
-        (26, 1, "value"),
-        (40, 1, "tag"),
-    ):
-        wrong = bytearray(right)
-        wrong[place] ^= bit
-        judges(bytes(wrong), 0, "1 refused 4 BadTag\n", of=part)
-
-
-def test_each_frame_fault():
-    head = "003601010000000100000000000000000000"
-    for text, line in (
-        ("05", "1 fault 1 BadLength\n"),
-        ("0035", "1 fault 1 BadLength\n"),
-        ("0437", "1 fault 1 BadLength\n"),
-        ("003602", "1 fault 2 BadVersion\n"),
-        ("00360105", "1 fault 3 BadKind\n"),
-        ("00360100", "1 fault 3 BadKind\n"),
-        (head + "000000000001", "1 fault 4 BadValueLength\n"),
-        (head + "00010000", "1 fault 5 BadSeq\n"),
-        ("00370104", "1 fault 6 BadWant\n"),
-        ("003601040000000100000000000000000001", "1 fault 6 BadWant\n"),
-        ("00360104000000010000000000000000000000000001", "1 fault 6 BadWant\n"),
-        ("003601040000000100000000000000000000000000000001", "1 fault 4 BadValueLength\n"),
-        ("00", "1 fault 7 Truncated\n"),
-        ("0036", "1 fault 7 Truncated\n"),
-        ("0436", "1 fault 7 Truncated\n"),
-    ):
-        judges(bytes.fromhex(text), 1, line, of=text)
-
-
-def test_fault_ends_the_text():
-    judges(b"\x05" + TWICE, 1, "1 fault 1 BadLength\n")
 
 
 def test_long_stream_and_slow_reader():
@@ -196,25 +209,7 @@ def test_long_stream_and_slow_reader():
 
 # ---- devices
 
-
-def test_closed_pipe():
-    source, sink = os.pipe()
-    os.close(source)
-    stream, feed = os.pipe()
-    os.write(feed, BAD_TAG)
-    os.close(feed)
-    shows(run_on(stream, sink), 3, "", "payd: engine 3 Write\n")
-    os.close(stream)
-    os.close(sink)
-
-
-def test_full_disk():
-    with open("/dev/full", "wb") as sink:
-        stream, feed = os.pipe()
-        os.write(feed, BAD_TAG)
-        os.close(feed)
-        shows(run_on(stream, sink), 3, "", "payd: engine 3 Write\n")
-        os.close(stream)
+DESK = ["desk", "--genesis", EXAMPLE_GENESIS, "--keys", example_keys(0)]
 
 
 def test_words_refused_to_nobody():
@@ -225,7 +220,21 @@ def test_words_refused_to_nobody():
             same((done.returncode, done.stdout), (2, b""), words)
 
 
-def test_folder_as_input():
-    folder = os.open(TOP, os.O_RDONLY)
-    shows(run_on(folder, subprocess.PIPE), 3, "", "payd: engine 2 Read\n")
-    os.close(folder)
+def plain(done):
+    return told_plainly(done.stderr.decode())
+
+
+def test_devices_that_fail():
+    """A pipe that nobody reads, a full disk, and a folder as input; of a desk too."""
+    source, closed = os.pipe()
+    os.close(source)
+    with open("/dev/full", "wb") as full, open(closed, "wb") as unread:
+        for words, stream in (([], BAD_TAG), (DESK, b"FRONT\n")):
+            how = {"stderr": subprocess.PIPE, "timeout": SECONDS}
+            for sink in (full, unread):
+                done = subprocess.run([payd(), *words], input=stream, stdout=sink, **how)
+                same((done.returncode, plain(done)), (3, "payd: engine 3 Write\n"), f"{words}: {sink.name}")
+            folder = os.open(TOP, os.O_RDONLY)
+            done = subprocess.run([payd(), *words], stdin=folder, stdout=subprocess.PIPE, **how)
+            os.close(folder)
+            same((done.returncode, done.stdout, plain(done)), (3, b"", "payd: engine 2 Read\n"), f"{words}: a folder")

@@ -4,15 +4,18 @@ import os
 import signal
 import socket
 import stat
+import shutil
 import subprocess
 import tempfile
 import threading
+import time
 
 import desks
+import pytest
 from clients import Client, socket_of
 from nodes import PATIENCE, Group, Node, until
 from restarts import Folders
-from runs import payd, run, run_to_nobody, same, shows
+from runs import call, payd, run, run_to_nobody, same, shows
 
 OPENING = [100, 0, 0, 50]
 # How many clients a node answers at once, and how long nothing may come from one that waits.
@@ -70,11 +73,12 @@ def test_last_line_without_its_end():
 
 def test_clients_lines_are_those_of_a_desk():
     """The exchanges of the desk's model, which meets no peer either; and lines that are none."""
-    for rows in (desks.EXCHANGE, desks.WAITING):
+    for rows in (desks.EXCHANGE, desks.WAITING, desks.NOTES):
         with Folders(OPENING, running=[0], options=["--dials", "1"]) as group:
             client = Client(socket_of(group, 0))
-            client.write("".join(f"{line}\n" for line, _ in rows))
-            same(client.rest(), "".join(f"{answer}\n" for _, answer in rows), "the exchange at once")
+            client.stream.sendall("".join(f"{line}\n" for line, _ in rows).encode("latin-1"))
+            answers = "".join(f"{answer}\n" for _, answer in rows).encode("latin-1").decode()
+            same(client.rest(), answers, "the exchange at once")
     with Folders(OPENING, running=[0]) as group:
         client = Client(socket_of(group, 0))
         for line in (b"", b" ", b"\xff", b"FRONT\r", b"\0", b"FRONT " + 2000 * b"9", 1025 * b"9"):
@@ -86,7 +90,7 @@ def test_clients_lines_are_those_of_a_desk():
 
 
 def test_sixteen_clients_at_once():
-    """One more waits until another leaves."""
+    """One more waits until another leaves, or has been idle for a second: then the longest idle one makes place."""
     with Folders(OPENING) as group:
         clients = [Client(socket_of(group, 0)) for _ in range(MOST_CLIENTS)]
         for client in clients:
@@ -95,11 +99,13 @@ def test_sixteen_clients_at_once():
         for client in late:
             client.write("BALANCE 0\n")
         same([client.is_silent(WAITS) for client in late], [True] * 3, "whether those that are late wait")
-        same(clients[3].ask("BALANCE 3"), "balance 3 50", "one that was there before")
-        for client, leaves in zip(late, clients):
-            leaves.close()
-            same(client.line(), "balance 0 100", "one that was late")
-        for client in (*clients[3:], *late):
+        clients[0].close()
+        same(late[0].line(), "balance 0 100", "one for which another left")
+        same(clients[1].ask("BALANCE 3"), "balance 3 50", "the one that was idle longest till then")
+        for client, gone in zip(late[1:], clients[2:]):
+            same(client.line(), "balance 0 100", "one for which another made place")
+            same(gone.is_ended(), True, "the one that was idle longest")
+        for client in (clients[1], *clients[4:], *late):
             same(client.ask("FRONT"), "front 0 0 0 0", "all that are left")
 
 
@@ -258,8 +264,7 @@ def test_socket_with_a_long_name():
 def test_node_that_stays_is_asked_on_its_socket():
     with Folders(OPENING, running=[]) as group:
         node = group.start(0, options=["--stay"])
-        node.child.stdin.close()
-        node.child.stdin = None
+        node.end_input()
         until(lambda: os.path.exists(socket_of(group, 0)), True, of="the socket")
         client = Client(socket_of(group, 0))
         same(client.ask("PAY 1 1 30"), "asked 1 seq 0", "a client")
@@ -296,8 +301,6 @@ def test_sent_lines_are_answered():
         shows(send(group, 0, "FLY"), 1, "refused 1 BadLine\n", "payd: refused line 1: 1 BadLine\n", of="no command")
         path = socket_of(group, 0)
         shows(run(["send", "--socket", path, "FRONT"]), 0, "front 1 0 0 0\n", of="by the socket")
-        # several lines in one word are several lines
-        shows(send(group, 0, "FRONT\nBALANCE 0"), 0, "front 1 0 0 0\nbalance 0 70\n", of="a word of two lines")
         many = "".join(f"PAY {it} 1 0\n" for it in range(1000, 21_000))
         status, output, errors = send(group, 0, stream=many.encode())
         same((status, output), (1, "refused 3 ZeroOrSelf\n" * 20_000), "many lines")
@@ -318,6 +321,8 @@ def test_send_names_what_is_refused():
             ("PAY 8", "refused 1 BadLine", "8"),
             (f"PAY 9 {'1' * 2000}", "refused 1 BadLine", "9"),
             ("STATE 5 0", "refused 2 NoAccount", "line 9"),
+            ("NOTE 7 order 17", "refused 4 IdUsed", "line 10"),
+            ("NOTE 11 grüße", "asked 11 seq 1", None),
             ("PAY 10 1 0", "refused 3 ZeroOrSelf", "10"),
         ]
         output = "".join(f"{answer}\n" for _, answer, _ in rows)
@@ -346,6 +351,44 @@ def test_send_without_a_node():
         same(run(["send", *words])[:2], (2, ""), f"{words}")
 
 
+def test_send_that_nobody_answers():
+    """A line without an answer ends it once the time is over; without a line there is nothing to wait for."""
+    with tempfile.TemporaryDirectory() as folder, socket.socket(socket.AF_UNIX) as silent:
+        path = os.path.join(folder, "desk")
+        silent.bind(path)
+        silent.listen(1)
+        began = time.monotonic()
+        shows(run(["send", "--socket", path, "--timeout", "1", "FRONT"]), 3, "", "payd: no answer after 1 seconds\n")
+        same(1 <= time.monotonic() - began < 1 + PATIENCE, True, "how long it waited")
+        for word in ("0", "86401", "-1", "1s", ""):
+            said = f"payd: timeout {word}: no number of seconds from 1 to 86400\n"
+            shows(run(["send", "--socket", path, f"--timeout={word}", "FRONT"]), 2, "", said, of=f"timeout {word!r}")
+
+
+def test_line_feed_in_a_word():
+    """It would be a line of its own, and might pay."""
+    with Folders(OPENING, running=[0]) as group:
+        for line in ("PAY 1 1 5\nPAY 2 2 95", "FRONT\n", "FRONT\r", "FR\x7fONT", "\x1bFRONT"):
+            was = send(group, 0, "FRONT", line)
+            shows(was, 2, "", "payd: word 5: a control character\n", of=repr(line))
+        shows(send(group, 0, "STATE 0 0"), 0, "state 0 0 unknown\n", of="no payment was sent")
+
+
+def test_another_users_socket():
+    if os.getuid() != 0:
+        pytest.skip("only root can be another user")
+    with tempfile.TemporaryDirectory() as folder, socket.socket(socket.AF_UNIX) as barred:
+        path = os.path.join(folder, "desk")
+        os.chmod(folder, 0o755)
+        barred.bind(path)
+        barred.listen(1)
+        os.chmod(path, 0o600)
+        program = os.path.join(folder, "payd")
+        shutil.copy(payd(), program)
+        was = call([program, "send", "--socket", path, "FRONT"], user=65534)
+        shows(was, 3, "", f"payd: you may not open {path}\n")
+
+
 def stop(node):
     """Has a node stand still."""
     node.child.send_signal(signal.SIGSTOP)
@@ -367,7 +410,8 @@ def test_send_to_a_node_that_ends():
             group.kill(0)
             output, errors = child.communicate(timeout=PATIENCE)
         same((child.returncode, output), (3, b""), "the end")
-        same(errors.decode(), "payd: the node ended before it answered\n", "what is said")
+        advice = "payd: start the node, and give the lines again: an id is paid once\n"
+        same(errors.decode(), f"payd: the node ended before it answered\n{advice}", "what is said")
 
 
 def test_sent_answers_to_nobody():
@@ -375,8 +419,3 @@ def test_sent_answers_to_nobody():
         words = [payd(), "send", "--data", os.path.dirname(socket_of(group, 0)), "FRONT"]
         for status, errors in run_to_nobody(words):
             same((status, errors), (3, "payd: engine 3 Write\n"), "answers that can't be written")
-
-
-def test_help_of_send():
-    status, output, errors = run(["send", "--help"])
-    same((status, errors, "--socket" in output), (0, "", True), "help")

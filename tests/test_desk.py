@@ -9,8 +9,9 @@ import tempfile
 import threading
 
 import desks
-from runs import EXAMPLE_GENESIS, GENESIS, GENESIS_ROWS, KEYS_ROWS, SECONDS, TOP, payd
-from runs import example_keys, key_texts, of_file, of_keys, run, same, shows, with_files
+from advices import told_plainly
+from runs import EXAMPLE_GENESIS, GENESIS, SECONDS, TOP, payd, read_text, write_text
+from runs import example_keys, key_texts, of_file, run, same, shows, with_files
 
 
 def desk(text, own=0, genesis=EXAMPLE_GENESIS, keys=None):
@@ -24,27 +25,14 @@ def lines_of(rows):
 
 
 def test_desk_answers_an_exchange():
+    """The vectors have more of them, of which the model has each."""
     lines, answers = zip(*desks.EXCHANGE)
-    shows(desk(lines_of(lines)), 0, lines_of(answers))
     shows(desk(lines_of(lines)[:-1]), 0, lines_of(answers), of="the last line without its end")
     shows(desk(b""), 0, "", of="no line")
-    model = desks.Desk(0, GENESIS["opening"])
-    same([model.answer(line.encode()) for line in lines], list(answers), "the model")
-
-
-def test_several_on_one_line():
-    lines, answers = zip(*desks.SEVERAL)
-    shows(desk(lines_of(lines)), 0, lines_of(answers))
-    model = desks.Desk(0, GENESIS["opening"])
-    same([model.answer(line.encode()) for line in lines], list(answers), "the model")
-
-
-def test_what_waits_is_listed():
-    for exchange in (desks.WAITING, desks.UNCOVERED):
-        lines, answers = zip(*exchange)
-        shows(desk(lines_of(lines)), 0, lines_of(answers))
+    for exchange in (desks.EXCHANGE, desks.SEVERAL, desks.WAITING, desks.UNCOVERED, desks.NOTES):
         model = desks.Desk(0, GENESIS["opening"])
-        same([model.answer(line.encode()) for line in lines], list(answers), "the model")
+        answers = [model.answer(line.encode("latin-1")) for line, _ in exchange]
+        same(answers, [answer for _, answer in exchange], "the model")
 
 
 def test_no_more_than_a_thousand_entries_are_shown():
@@ -57,16 +45,12 @@ def test_no_more_than_a_thousand_entries_are_shown():
 
 
 def test_example_of_a_desk():
-    with open(os.path.join(TOP, "examples", "desk.txt"), encoding="ascii") as lines:
-        text = lines.read()
-    with open(os.path.join(TOP, "examples", "desk-answers.txt"), encoding="ascii") as answers:
-        shows(desk(text), 0, answers.read())
+    text = read_text(os.path.join(TOP, "examples", "desk.txt"))
+    shows(desk(text), 0, read_text(os.path.join(TOP, "examples", "desk-answers.txt")))
 
 
 def test_lines_that_are_no_command():
-    text = lines_of(["PAY 1 1 1", *desks.BAD_LINES, "PAY 1 1 1"])
-    answers = ["asked 1 seq 0", *len(desks.BAD_LINES) * [desks.BAD_LINE], "asked 1 seq 0"]
-    shows(desk(text), 0, lines_of(answers))
+    """And that are no text of a vector."""
     for raw in (b"\xff\n", b"PAY 1 1 1\xff\n", b"FRONT\r\n"):
         shows(desk(raw), 0, "refused 1 BadLine\n", of=f"{raw}")
 
@@ -98,7 +82,9 @@ def test_long_lines_of_a_desk():
 
 
 def test_desk_of_one_alone():
+    """Nobody can be paid, and notes settle at once."""
     lines = ["PAY 1 0 5", "PAY 1 1 5", "PAY 1 1 0", "BALANCE 0", "FRONT", "STATEMENT 0", "STATE 0 0", "STATE 1 0"]
+    lines += ["NOTE 1 order 17", "NOTE 1 order 17", "FRONT", "STATEMENT 0", "STATE 0 0", "ENTRIES 0 0", "WAITING 0"]
     answers = [
         desks.ZERO_OR_SELF,
         desks.NO_ACCOUNT,
@@ -108,6 +94,15 @@ def test_desk_of_one_alone():
         "end 0 balance 7",
         "state 0 0 unknown",
         desks.NO_ACCOUNT,
+        "asked 1 seq 0",
+        "asked 1 seq 0",
+        "front 1",
+        "void 0",
+        "end 0 balance 7",
+        "state 0 0 settled",
+        "entry 0 0 seq 0 note order 17",
+        "end 0 1",
+        "end 0 short 0",
     ]
     files = {"g": {"members": 1, "faults": 0, "opening": [7]}, "k": {"own": 0, "keys": [""]}}
     shows(with_files(files, ["desk", "--genesis", "g", "--keys", "k"], lines_of(lines).encode()), 0, lines_of(answers))
@@ -120,13 +115,13 @@ def test_desk_as_the_model_has_it():
         own = seeded.randrange(members)
         lines = desks.random_lines(seeded, members, 400)
         model = desks.Desk(own, opening)
-        answers = [model.answer(line.encode()) for line in lines]
+        answers = [model.answer(line.encode("latin-1")) for line in lines]
         files = {
             "g": {"members": members, "faults": (members - 1) // 3, "opening": opening},
             "k": {"own": own, "keys": key_texts(own, members)},
         }
-        was = with_files(files, ["desk", "--genesis", "g", "--keys", "k"], lines_of(lines).encode())
-        shows(was, 0, lines_of(answers), of=f"{members} members")
+        was = with_files(files, ["desk", "--genesis", "g", "--keys", "k"], lines_of(lines).encode("latin-1"))
+        shows(was, 0, lines_of(answers).encode("latin-1").decode(), of=f"{members} members")
 
 
 def test_all_numbers_of_a_desk_are_spent():
@@ -182,80 +177,35 @@ def test_answers_to_one_read_are_written_at_once():
     same(len(writes), -(-len(lines) // 4096), "writes")
 
 
-def test_faults_of_a_desks_files():
-    files = {"bad": "{", "genesis": GENESIS, "keys": {"own": 0, "keys": key_texts(0)}}
-    for genesis, keys, line in (
-        ("bad", "bad", "genesis 1 BadJson"),
-        ("none", "bad", "file none"),
-        ("genesis", "bad", "keys 1 BadJson"),
-        ("genesis", "none", "file none"),
-        ("genesis", ".", "file ."),
+def test_files_come_before_lines(folder):
+    bad = os.path.join(folder, "bad")
+    write_text(bad, "{")
+    for words, line in (
+        (["desk", "--genesis", bad, "--keys", example_keys(0)], "genesis 1 BadJson"),
+        (["desk", "--genesis", EXAMPLE_GENESIS, "--keys", bad], "keys 1 BadJson"),
+        (["check", "--genesis", bad], "genesis 1 BadJson"),
+        (["audit", bad], "export 1 BadJson"),
     ):
-        for words in (["--genesis", genesis, "--keys", keys], ["--keys", keys, "--genesis", genesis]):
-            name = genesis if line.startswith("genesis") else keys
-            errors = f"payd: {line}\n" if line.startswith("file") else of_file(line, name)
-            shows(with_files(files, ["desk", *words], b"FRONT\n"), 2, "", errors, of=f"{words}")
-    for content, fault in GENESIS_ROWS:
-        was = with_files({"g": content, "k": "{"}, ["desk", "--genesis", "g", "--keys", "k"], b"FRONT\n")
-        shows(was, 2, "", of_file(f"genesis {fault}", "g"), of=f"{content!r}")
-    for content, fault in KEYS_ROWS:
-        was = with_files({"g": GENESIS, "k": content}, ["desk", "--genesis", "g", "--keys", "k"], b"FRONT\n")
-        shows(was, 2, "", of_keys(fault, "k", content), of=f"{content!r}")
+        # nothing is written, and the input stays open
+        source, sink = os.pipe()
+        done = subprocess.run([payd(), *words], stdin=source, capture_output=True, timeout=SECONDS)
+        os.close(source)
+        os.close(sink)
+        was = done.returncode, done.stdout, told_plainly(done.stderr.decode())
+        same(was, (2, b"", of_file(line, bad)), f"{words}")
 
 
-def test_files_come_before_lines():
-    with tempfile.TemporaryDirectory() as folder:
-        bad = os.path.join(folder, "bad")
-        with open(bad, "w", encoding="ascii") as file:
-            file.write("{")
-        for words, line in (
-            (["desk", "--genesis", bad, "--keys", example_keys(0)], "genesis 1 BadJson"),
-            (["desk", "--genesis", EXAMPLE_GENESIS, "--keys", bad], "keys 1 BadJson"),
-            (["check", "--genesis", bad], "genesis 1 BadJson"),
-            (["audit", bad], "export 1 BadJson"),
-        ):
-            # nothing is written, and the input stays open
-            source, sink = os.pipe()
-            done = subprocess.run([payd(), *words], stdin=source, capture_output=True, timeout=SECONDS)
-            os.close(source)
-            os.close(sink)
-            same((done.returncode, done.stdout, done.stderr.decode()), (2, b"", of_file(line, bad)), f"{words}")
-
-
-def test_words_of_a_desk():
-    genesis, keys = ["--genesis", EXAMPLE_GENESIS], ["--keys", example_keys(0)]
-    for words in ([*genesis, *keys], [*keys, *genesis], [f"--keys={example_keys(0)}", *genesis]):
-        shows(run(["desk", *words], b"FRONT\n"), 0, "front 0 0 0 0\n", of=f"{words}")
-    for words in ([], genesis, keys, [*genesis, *keys, *keys], [*genesis, *keys, "x"], [*genesis, "--keys"]):
-        status, output, errors = run(["desk", *words], b"FRONT\n")
-        same((status, output, errors != ""), (2, "", True), f"{words}")
-    status, output, errors = run(["desk", "--help"])
-    same((status, "PAY ID TO AMOUNT" in output, errors), (0, True, ""), "help")
-
-
-def test_devices_of_a_desk():
-    words = [payd(), "desk", "--genesis", EXAMPLE_GENESIS, "--keys", example_keys(0)]
-    with open("/dev/full", "wb") as sink:
-        done = subprocess.run(words, input=b"FRONT\n", stdout=sink, stderr=subprocess.PIPE, timeout=SECONDS)
-    same((done.returncode, done.stderr), (3, b"payd: engine 3 Write\n"), "a full disk")
-    folder = os.open(TOP, os.O_RDONLY)
-    done = subprocess.run(words, stdin=folder, capture_output=True, timeout=SECONDS)
-    os.close(folder)
-    same((done.returncode, done.stdout, done.stderr), (3, b"", b"payd: engine 2 Read\n"), "a folder")
-
-
-def test_keys_that_are_made_fit():
-    with tempfile.TemporaryDirectory() as folder:
-        made = subprocess.run([os.path.join(TOP, "examples", "make-keys"), "4", folder], capture_output=True)
-        same((made.returncode, made.stdout, made.stderr), (0, b"", b""), "make-keys")
-        keys = []
-        for own in range(4):
-            name = os.path.join(folder, f"keys-{own}.json")
-            shows(desk("FRONT\n", keys=name), 0, "front 0 0 0 0\n", of=name)
-            with open(name, encoding="ascii") as file:
-                keys.append(json.load(file)["keys"])
-        same(all(keys[a][b] == keys[b][a] for a in range(4) for b in range(4)), True, "a pair shares its key")
-        same(len({key for row in keys for key in row}), 7, "each pair has its own")
+def test_keys_that_are_made_fit(folder):
+    made = subprocess.run([os.path.join(TOP, "examples", "make-keys"), "4", folder], capture_output=True)
+    same((made.returncode, made.stdout, made.stderr), (0, b"", b""), "make-keys")
+    keys = []
+    for own in range(4):
+        name = os.path.join(folder, f"keys-{own}.json")
+        shows(desk("FRONT\n", keys=name), 0, "front 0 0 0 0\n", of=name)
+        with open(name, encoding="ascii") as file:
+            keys.append(json.load(file)["keys"])
+    same(all(keys[a][b] == keys[b][a] for a in range(4) for b in range(4)), True, "a pair shares its key")
+    same(len({key for row in keys for key in row}), 7, "each pair has its own")
 
 
 def test_what_make_keys_refuses():

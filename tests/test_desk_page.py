@@ -4,31 +4,42 @@ import http.client
 import json
 import os
 import re
+import resource
+import socket
 import subprocess
-from contextlib import contextmanager
+import tempfile
+import time
+from contextlib import ExitStack, contextmanager
 from urllib.parse import urlsplit
 
 import pytest
 from browser import BROWSERS, ENTER, ESCAPE, TAB, Driver
 from nodes import PATIENCE, until, write_json
 from restarts import Folders
-from runs import SECONDS, TOP, same
+from runs import SECONDS, TOP, key_texts, same
+
+from groups import Group
 
 PAGE = os.path.join(TOP, "tools", "desk-page")
 NAMES = ["Ada", "Bo", "Cy", "Dee"]
 SPACE = "\u2009"
+# One for each of 32 connections, and the first.
+MOST_THREADS = 33
 
 
 class Served:
     """A page of one member of a group, and requests to it."""
 
-    def __init__(self, group, own, named=True):
+    def __init__(self, group, own, named=True, descriptors=1024):
         folder = group.place.name
         words = [PAGE, "--keys", f"{folder}/keys-{own}", "--data", f"{folder}/data-{own}"]
         if named:
-            write_json(folder, "names", {"names": NAMES})
+            write_json(folder, "names", {"names": NAMES[: group.members]})
             words += ["--group", f"{folder}/names"]
-        self.child = subprocess.Popen(words, stdout=subprocess.PIPE, text=True)
+        self.errors = tempfile.TemporaryFile("w+")
+        most = (resource.RLIMIT_NOFILE, (descriptors, descriptors))
+        how = {"stdout": subprocess.PIPE, "stderr": self.errors, "text": True}
+        self.child = subprocess.Popen(words, preexec_fn=lambda: resource.setrlimit(*most), **how)
         self.address = self.child.stdout.readline().strip()
         self.token = self.address.partition("token=")[2]
         self.host = urlsplit(self.address).netloc
@@ -61,10 +72,25 @@ class Served:
         status, _, text = self.request("POST", "/pay", form)
         return status, json.loads(text)
 
+    def raw(self, content):
+        """The first line that answers these bytes."""
+        with socket.create_connection(self.host.split(":"), timeout=PATIENCE) as line:
+            line.sendall(content)
+            return line.makefile("rb").readline().decode().strip()
+
+    def seconds(self):
+        """Of a processor, as far as the system has them."""
+        with open(f"/proc/{self.child.pid}/stat", encoding="ascii") as file:
+            return sum(map(int, file.read().rpartition(")")[2].split()[11:13])) / os.sysconf("SC_CLK_TCK")
+
+    def threads(self):
+        return len(os.listdir(f"/proc/{self.child.pid}/task"))
+
     def end(self):
         self.child.kill()
         self.child.wait()
         self.child.stdout.close()
+        same(os.pread(self.errors.fileno(), 65536, 0), b"", "what the page says on standard error")
 
 
 @contextmanager
@@ -116,6 +142,58 @@ def test_page_is_given_to_whom_it_belongs():
         same(page.state()["waiting"], [], "what was paid")
 
 
+def test_page_answers_what_is_no_request():
+    """And says nothing of it: the fault isn't its own."""
+    with served([100], 0) as (_, page):
+        head = f"Host: {page.host}\r\nX-Token: {page.token}\r\nOrigin: http://{page.host}\r\n".encode()
+        for line, headers, body, status in (
+            (b"GET http://[ HTTP/1.1", b"", b"", 400),
+            (b"POST http://[/pay HTTP/1.1", b"Content-Length: 2\r\n", b"{}", 400),
+            (b"POST /pay HTTP/1.1", b"Content-Length: \xb2\r\n", b"{}", 413),
+            (b"POST /pay HTTP/1.1", b"Content-Length: \xd9\xa2\r\n", b"{}", 413),
+            (b"POST /pay HTTP/1.1", b"Content-Length: " + 5000 * b"1" + b"\r\n", b"{}", 413),
+            (b"POST /pay HTTP/1.1", b"Content-Length: 1024\r\n", 1024 * b"[", 400),
+            (b"POST /pay HTTP/1.1", b"Content-Length: 1020\r\n", 204 * b'{"a":', 400),
+            (b"GET /\xff HTTP/1.1", b"", b"", 404),
+        ):
+            said = page.raw(line + b"\r\n" + head + headers + b"\r\n" + body)
+            same(said.split(" ")[1:2], [f"{status}"], f"what answers {line} with {headers[:40]}: {said}")
+        same(page.state()["balance"], "100", "what it answers then")
+
+
+def idle(page, lines):
+    """Connections of another user, to this page."""
+    for _ in range(200):
+        lines.enter_context(socket.create_connection(page.host.split(":"), timeout=PATIENCE))
+
+
+def test_page_goes_on_among_idle_connections():
+    """With descriptors for them or without: its owner is answered, and they cost next to nothing."""
+    for descriptors in (1024, 24):
+        with served([100], 0, descriptors=descriptors) as (_, page), ExitStack() as lines:
+            idle(page, lines)
+            spent = page.seconds()
+            for _ in range(10):
+                same(page.state()["balance"], "100", "what it answers")
+                same(page.threads() <= MOST_THREADS, True, f"that {page.threads()} threads are few")
+                time.sleep(0.2)
+            same(page.seconds() - spent < 0.5, True, f"that {page.seconds() - spent} seconds of two are few")
+
+
+def test_page_waits_for_descriptors():
+    """Where it has none left it tries again now and then, and goes on once there are some."""
+    with served([100], 0) as (_, page):
+        same(page.state()["balance"], "100", "what it answers")
+        used = len(os.listdir(f"/proc/{page.child.pid}/fd"))
+        resource.prlimit(page.child.pid, resource.RLIMIT_NOFILE, (used + 1, 1024))
+        with ExitStack() as lines:
+            idle(page, lines)
+            spent = page.seconds()
+            time.sleep(1)
+            same(page.seconds() - spent < 0.3, True, f"that {page.seconds() - spent} seconds of one are few")
+        same(page.state()["balance"], "100", "what it answers then")
+
+
 def test_page_loads_nothing_from_elsewhere():
     folder = os.path.join(TOP, "tools", "desk_page")
     for name in sorted(os.listdir(folder)):
@@ -150,8 +228,14 @@ def test_uncovered_forms_are_held_back():
         # all that waits counts, and not the balance alone
         same(page.pay(2, 1, 1), (200, {"needs": "uncovered", "short": "21"}), "behind what waits")
         until(lambda: page.state()["short"], "20", of="what the first is short of")
+        followed = {"seq": 0, "to": 1, "amount": "120", "state": "waiting"}
+        until(lambda: page.state()["followed"], followed, of="the payment that was asked for last")
+        same(page.state()["balances"], ["100", "0", "0", "50"], "all balances")
         group.pay(3, 1, 0, 40, 0)
         group.settle([1, 0, 0, 1], [20, 120, 0, 10])
+        state = page.state()
+        same(state["followed"], {**followed, "state": "settled"}, "the same payment")
+        same(state["balances"], ["20", "120", "0", "10"], "all balances then")
         same(page.pay(2, 1, 21)[1]["needs"], "uncovered", "one more than is left")
         same(page.pay(2, 1, 20)[1], {"seq": "1", "again": False}, "all that is left")
         same(page.pay(3, 2, 2**64 - 1, "beyond")[1]["seq"], "2", "more than the group owns, agreed to")
@@ -180,7 +264,7 @@ def test_page_tells_what_the_node_tells():
             group.settle([1100, 1, 0, 0])
             newest = pages[1].state()["entries"][0]
             same(newest.pop("seen") is not None, True, "when it was seen")
-            same(newest, {"account": 1, "entry": 0, "seq": 0, "to": 0, "amount": "7"}, "the newest")
+            same(newest, {"account": 1, "entry": 0, "seq": 0, "to": 0, "amount": "7", "note": None}, "the newest")
         finally:
             for page in pages:
                 page.end()
@@ -196,9 +280,54 @@ def test_pages_words():
         ([], 2, "--data --socket is required"),
         (["--data", "/none"], 1, "/none: there is no member here"),
         (["--socket", "y"], 1, "--keys is missing"),
+        (["--socket", "y", "--keys", f"{TOP}/examples/desk.txt"], 1, "it is no file of JSON"),
     ):
         done = subprocess.run([PAGE, *words], capture_output=True, text=True, timeout=SECONDS)
         same((done.returncode, said in done.stderr), (status, True), f"{words}: {done.stderr}")
+
+
+def test_page_begins_where_all_belongs_together():
+    """The folder, the keys and the group, and what the node answers."""
+    with served([100, 0, 0, 50], 0) as (group, page), tempfile.TemporaryDirectory() as folder:
+        place = group.place.name
+        made = {"members": 4, "faults": 1, "opening": [100, 0, 0, 50], "ports": [1, 2, 3, 4], "group": "0" * 64}
+        made["public"] = [f"{it:064x}" for it in range(4, 8)]
+        group_keys = Group({**made, "group": "1" * 64}, has_cryptography=False).digest()[:16]
+        files = {
+            "group": made,
+            "opening": {**made, "opening": [100, 0, 0, 51]},
+            "of-three": {"names": NAMES[:3]},
+            "broken": {**made, "group": "00"},
+            "foreign-keys": {"own": 0, "keys": key_texts(0, 4), "digest": group_keys},
+            "many-keys": {"own": 0, "keys": key_texts(0, 7)},
+        }
+        for name, value in files.items():
+            write_json(folder, name, value)
+        for keys, of, said in (
+            (f"{place}/keys-1", None, f"these are the keys of member 1, and {place}/data-0 is that of 0"),
+            (None, "opening", f"{place}/data-0 is a member of another group"),
+            (None, "broken", "group has to be 32 bytes in hexadecimal, in small letters"),
+            ("foreign-keys", "group", "the keys are those of another group"),
+            ("many-keys", "group", "the keys are those of another group"),
+            (f"{place}/keys-0", "of-three", "the keys are those of another group"),
+        ):
+            words = [PAGE, "--data", f"{place}/data-0"]
+            words += [it for name, value in (("--keys", keys), ("--group", of)) if value for it in (name, value)]
+            done = subprocess.run(words, cwd=folder, capture_output=True, text=True, timeout=SECONDS)
+            same((done.returncode, done.stdout, said in done.stderr), (1, "", True), f"{words}: {done.stderr}")
+        state = page.state()
+        same((state["desk"], len(state["genesis"])), (f"{place}/data-0/desk", 8), "whose desk it is")
+        words = [PAGE, "--keys", "many-keys", "--socket", f"{place}/data-0/desk"]
+        with subprocess.Popen(words, cwd=folder, stdout=subprocess.PIPE, text=True) as child:
+            try:
+                address = urlsplit(child.stdout.readline().strip())
+                line = http.client.HTTPConnection(address.netloc, timeout=PATIENCE)
+                line.request("GET", "/state", headers={"X-Token": address.query.partition("=")[2]})
+                state = json.loads(line.getresponse().read())
+                line.close()
+            finally:
+                child.kill()
+        same(state["fault"], "the node that answers is of a group of 4, and not of 7", "what is said of another's node")
 
 
 # ---- in a browser
@@ -231,7 +360,7 @@ def test_payment_settles_at_the_payees_page():
         ada.press(TAB, "B", TAB, *"30")
         shows(ada, "#hint", "Covered: 70 stay free.")
         ada.press(ENTER)
-        until(lambda: ada.text("#outcome").startswith("Asked: 30 to Bo. It is seq 0 of account 0"), True, of="it")
+        shows(ada, "#followed", "Settled: 30 to Bo, seq 0 of account 0.")
         shows(ada, "#balance", "70")
         shows(bo, "#balance", "30")
         same(ada.text("#why-waits"), "Nothing waits.", "what waits")
@@ -239,8 +368,12 @@ def test_payment_settles_at_the_payees_page():
             (row,) = tab.rows("#entries")
             same([row[0], row[1], row[3]], [who, "account 0, seq 0", amount], "the entry")
             same(re.fullmatch(r"\d\d:\d\d:\d\d", row[2]) is not None, True, f"when it was seen: {row[2]}")
-        same(ada.rows("#accounts")[0], ["0", "Ada", "1"], "the account's entries")
-        group.settle([1, 0, 0, 0], [70, 30, 0, 50])
+        same(group.nodes[0].ask("NOTE 1 seq 0 <b>17</b>"), "asked 1 seq 1", "a note")
+        until(lambda: ada.rows("#entries")[0][0], "note: seq 0 <b>17</b>", of="the note")
+        for tab in (ada, bo):
+            rows = [["0", "Ada", "70", "2"], ["1", "Bo", "30", "0"], ["2", "Cy", "0", "0"], ["3", "Dee", "50", "0"]]
+            until(lambda: tab.rows("#accounts"), rows, of="all accounts")
+        group.settle([2, 0, 0, 0], [70, 30, 0, 50])
 
 
 @in_browser
@@ -263,6 +396,12 @@ def test_uncovered_payment_wants_a_second_click():
         tab.click("#agree")
         shows(tab, "#why-waits", "The first waits for 20 more on this account.")
         same(tab.rows("#waiting"), [["Dee", "0", "120"]], "what waits")
+        asked = "Asked: 120 to Dee, seq 0 of account 0. It waits for 20 more on this account."
+        shows(tab, "#followed", asked)
+        steps = "return [...document.querySelectorAll('#steps .done')].map((it) => it.innerText)"
+        same(tab.run(steps), ["Asked", "Delivered"], "how far it is")
+        same(tab.text("#owner"), "Ada, account 0", "whose account it is")
+        same(tab.text("#desk").startswith("Member 0 of 4 · group "), True, "whose desk it is")
         same(tab.text("#free"), "What waits needs 20 more.", "what is free")
         fill(tab, "1", "1 000 000")
         shows(tab, "#hint", "Not covered, ever: the whole group owns 150.")
@@ -273,6 +412,8 @@ def test_uncovered_payment_wants_a_second_click():
         group.pay(3, 1, 0, 20, 0)
         shows(tab, "#why-waits", "Nothing waits.")
         shows(tab, "#balance", "0")
+        shows(tab, "#followed", "Settled: 120 to Dee, seq 0 of account 0.")
+        same(tab.run(steps), ["Asked", "Delivered", "Settled"], "how far it is")
         same([row[0] for row in tab.rows("#entries")], ["to Dee", "from Dee"], "what came and went")
         tab.click("#ask")
         until(lambda: tab.is_shown("#second"), True, of="the question")
@@ -297,11 +438,11 @@ def test_node_ends_and_starts_behind_the_page():
         group.start(0)
         shows(tab, "#node", "The node answers.")
         # asked for under the form's id meanwhile, as by a page whose answer was lost
-        same(page.pay(order, 1, 30)[1]["seq"], "0", "the payment")
+        until(lambda: page.pay(order, 1, 30)[1].get("seq"), "0", of="the payment, which may come too early at first")
         until(lambda: tab.run("return document.getElementById('to').value"), "1", of="the form")
         shows(tab, "#balance", "70")
         tab.click("#ask")
-        until(lambda: tab.text("#outcome").endswith("It had been asked for before, and is paid once."), True, of="it")
+        until(lambda: tab.text("#followed").endswith("It had been asked for before, and is paid once."), True, of="it")
         same(tab.run("return sessionStorage.getItem('order')"), None, "the form's id")
         group.settle([1, 0, 0, 0], [70, 30, 0, 50])
         page.end()

@@ -7,10 +7,10 @@ import subprocess
 import tempfile
 import time
 
-from frames import SEND, frame
-from nodes import PATIENCE, Group, free_ports, told_apart, until, write_json
-from peers import Strangers
-from runs import GENESIS, SECONDS, key_texts, payd, same, shows, with_files
+from frames import SEND, WANT, frame, read_frame
+from nodes import PATIENCE, Group, free_ports, judges_words_of, told_apart, until, write_member
+from peers import Strangers, received
+from runs import GENESIS, SECONDS, payd, same
 
 OPENING = GENESIS["opening"]
 
@@ -30,10 +30,7 @@ def dialing(options, wanted):
     peer.settimeout(PATIENCE)
     ports = [*free_ports(1), peer.getsockname()[1]]
     with tempfile.TemporaryDirectory() as folder, peer:
-        write_json(folder, "g", PAIR)
-        write_json(folder, "k", {"own": 0, "keys": key_texts(0, 2)})
-        write_json(folder, "p", {"ports": ports})
-        words = [payd(), "node", "--genesis", "g", "--keys", "k", "--ports", "p", *options]
+        words = [payd(), *write_member(folder, genesis=PAIR, ports=ports), *options]
         pipe = subprocess.PIPE
         with subprocess.Popen(words, cwd=folder, stdin=pipe, stdout=subprocess.DEVNULL, stderr=pipe) as child:
             try:
@@ -52,9 +49,10 @@ def said_by(child):
         raise
 
 
-def dials(peer, most, silence):
-    """When a node dialed: each connection is ended at once, until none comes for so long or so many came."""
-    peer.settimeout(PATIENCE)  # a busy machine may take long to start the node
+def dials(peer, most, silence, first=PATIENCE):
+    """When a node dialed: each connection is ended at once, until none comes for so long or so many came. The first may
+    come late: a busy machine may take long to start the node."""
+    peer.settimeout(first)
     times = []
     while len(times) < most:
         try:
@@ -76,14 +74,27 @@ def test_a_peer_is_given_up_behind_so_many_dials():
             same(len(dials(peer, most=9, silence=3)), count, f"dials of {count}")
 
 
+def has_pauses(times, least):
+    """Whether the last pauses are as long as they should be: none is shorter, but for what the peer saw too late of the
+    dial before, and none a second longer."""
+    late = 0.02
+    last = list(zip(pauses(times)[-len(least) :], least))
+    return len(last) == len(least) and all(wanted - late <= pause < wanted + 1 for pause, wanted in last)
+
+
+def shows_pauses(dialed, said, least):
+    """Whether a node dials with these pauses, in one of three tries: a busy machine may see dials too late."""
+    tries = []
+    while len(tries) < 3 and not any(has_pauses(times, least) for times in tries):
+        with dialing(ALWAYS, said) as peer:
+            tries.append(dialed(peer))
+    same(any(has_pauses(times, least) for times in tries), True, f"pauses {list(map(pauses, tries))}")
+
+
 def test_pauses_between_dials_grow():
-    with dialing(ALWAYS, []) as peer:
-        measured = pauses(dials(peer, most=11, silence=PATIENCE))
-    # a pause is never shorter than it should be, but for what the peer saw too late of the dial before: of the first
-    # two, of 10 and 20 ms, that would say nothing
-    least, late = [0.04, 0.08, 0.16, 0.32, 0.64, 1, 1, 1], 0.02
-    same([pause >= wanted - late for pause, wanted in zip(measured[2:], least)], 8 * [True], f"pauses {measured}")
-    same(max(measured) < 2, True, f"the longest of {measured}")
+    # (of the first two, of 10 and 20 ms, nothing could be said)
+    least = [0.04, 0.08, 0.16, 0.32, 0.64, 1, 1, 1]
+    shows_pauses(lambda peer: dials(peer, most=11, silence=PATIENCE), [], least)
 
 
 def test_a_thousand_dials_unless_said():
@@ -109,11 +120,47 @@ def old_frames(peer, most):
 
 
 def test_old_frames_do_not_shorten_the_pauses():
-    with dialing(ALWAYS, [(1, "met")]) as peer:
-        measured = pauses(old_frames(peer, most=8))
     # (the first pause is behind the new frame; of the two behind that one, of 10 and 20 ms, see above)
-    least, late = [0.04, 0.08, 0.16, 0.32], 0.02
-    same([pause >= wanted - late for pause, wanted in zip(measured[3:], least)], 4 * [True], f"pauses {measured}")
+    shows_pauses(lambda peer: old_frames(peer, most=8), [(1, "met")], [0.04, 0.08, 0.16, 0.32])
+
+
+# For how many seconds a connection may bring nothing, and how many more a busy machine may take.
+QUIET, LATER = 60, 20
+
+
+def number_wanted(stream):
+    """The number of the first frame that a node wants on a connection."""
+    kind, sender, receiver, number, _, _ = read_frame(received(stream))
+    same((kind, sender, receiver), (WANT, 0, 1), "what comes first on a connection")
+    return number
+
+
+def waits_for_another(peer, former):
+    """The connection that a node makes once another has brought nothing for a minute, which it ends."""
+    begun = time.monotonic()
+    peer.settimeout(QUIET + LATER)
+    stream = peer.accept()[0]
+    waited = time.monotonic() - begun
+    same(QUIET - 1 < waited, True, f"it isn't dialed anew within a minute, but after {waited} s")
+    former.settimeout(PATIENCE)
+    with contextlib.suppress(ConnectionResetError):
+        while former.recv(65536):
+            pass
+    return stream
+
+
+def test_a_quiet_connection_is_dialed_anew():
+    """As where it leads to nobody any more. It asks for the next frame that is missing, and is no dial for nothing."""
+    with dialing(["--dials", "1"], [(1, "met"), (1, "given up")]) as peer, contextlib.ExitStack() as streams:
+        first = streams.enter_context(peer.accept()[0])
+        same(number_wanted(first), 0, "what is wanted first")
+        first.sendall(frame(SEND, 1, 0, 0, 1))
+        second = streams.enter_context(waits_for_another(peer, first))
+        same(number_wanted(second), 1, "what is wanted next")
+        third = streams.enter_context(waits_for_another(peer, second))
+        same(number_wanted(third), 1, "what is wanted where nothing came")
+        third.close()
+        same(dials(peer, most=2, silence=3, first=3), [], "dials behind the one that failed")
 
 
 # ---- what is said of peers
@@ -215,17 +262,5 @@ def test_what_cannot_be_said_stops_nothing():
 
 
 def test_words_that_say_no_dials():
-    files = {"g": PAIR, "k": {"own": 0, "keys": key_texts(0, 2)}, "p": {"ports": free_ports(2)}}
-    words = ["node", "--genesis", "g", "--keys", "k", "--ports", "p"]
-    for word in ("0", "", "00", "05", "+5", "5 ", "1.5", "1e3", "0x5", "five", "Always", "always ", f"{2**64}"):
-        errors = f"payd: dials {word}: neither a count from 1 on nor always\n"
-        was = with_files(files, [*words, f"--dials={word}"], b"FRONT\n")
-        shows(was, 2, "", errors, of=f"{word!r}")
-        was = with_files({}, [*words, f"--dials={word}"])
-        shows(was, 2, "", errors, of=f"{word!r} before the files")
-    for more in (["--dials"], ["--dials", "-1"], ["--dials", "5", "--dials", "5"], ["--dials", "5", "5"]):
-        status, output, errors = with_files(files, [*words, *more], b"FRONT\n")
-        same((status, output, errors != ""), (2, "", True), f"{more}")
-    for word in ("1", "1000", "always", f"{2**64 - 1}"):
-        status, output, errors = with_files(files, [*words, "--dials", word], b"FRONT\n")
-        same((status, output.split("\n")[0], told_apart(errors)[1]), (0, "front 0 0", ""), f"{word!r}")
+    wrong, right = ("0", "1e3", "Always", "always "), ("1", "1000", "always", f"{2**64 - 1}")
+    judges_words_of("dials", "neither a count from 1 on nor always", wrong, [["5", "5"]], right)

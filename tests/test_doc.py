@@ -1,5 +1,5 @@
-"""Whether what the pages name is there: files and headings that links lead to, calls, and the clauses that carry a
-promise; and whether each script says how it is called."""
+"""Whether what the pages name is there: files and headings that links lead to, and calls; whether their made parts are
+what the sources give, and the rest is short; and whether each script says how it is called."""
 
 import itertools
 import os
@@ -10,13 +10,14 @@ from concurrent.futures import ThreadPoolExecutor
 from runs import SECONDS, TOP, same
 
 from inventory import files_below, read_crates, read_file
+from parts import by_hand, faults_of_marks, faults_of_pages, promises, remade
 
-MOST_WORDS = 900
+# Words of README.md, and of it and docs/ together.
+MOST_WORDS, MOST_BY_HAND = 900, 13_000
 
 PAGES = ["README.md", "CONTRIBUTING.md", "CHANGELOG.md"]
 PAGES += [f"docs/{it}" for it in files_below(f"{TOP}/docs", ".md")]
-# Calls, laws, types and records in backticks, and after a colon the clauses that are named of each of them.
-NAMED = re.compile(r"((?:`[\w:]+`(?:, | and )?)+): ((?:`\w+`(?: \([^)]*\))?(?:, | and )?)+)")
+PUBLIC = re.compile(r"^ *pub fn (\w+)", re.MULTILINE)
 # What may be a call, a type, a crate or a clause, on pages whose names are those of the tree.
 CALL = re.compile(r"`(\w+(?:::\w+)*)`")
 OF_NAMES = "PROMISES", "DEFINITIONS", "DECISIONS", "COMMANDS", "HEADLINE", "MAP", "GATE"
@@ -38,52 +39,6 @@ def links_of(page):
         if "://" not in link:
             path, _, heading = link.partition("#")
             yield os.path.normpath(os.path.join(os.path.dirname(page), path)) if path else page, heading
-
-
-class Clauses:
-    """What may be named as a clause, after the name of what it is a clause of."""
-
-    def __init__(self):
-        crates = read_crates()
-        self.functions = [it for crate in crates for it in crate.functions]
-        sources = "\n".join(text for crate in crates for text in texts_of(crate.name, "src", ".rt"))
-        specs = "\n".join(text for crate in crates for text in texts_of(crate.name, "specs", ".antt"))
-        # types by their other names, and the statement of each law that has one clause without a name
-        self.types = dict(re.findall(r"^pub type (\w+)\S* = (\w+)", sources, re.MULTILINE))
-        self.statements = dict(re.findall(r"^pub fn (\w+)\(\)\n    ensures { (\w+) }\n{", sources, re.MULTILINE))
-        # each definition, up to the empty line after it
-        self.definitions = dict(re.findall(r"^\w+ pub (\w+)(.*?)\n$", specs, re.MULTILINE | re.DOTALL))
-        self.records = dict(re.findall(r"^pub record (\w+)(.*?)\n$", specs, re.MULTILINE | re.DOTALL))
-
-    def fields(self, record):
-        return set(re.findall(r"^  pub (\w+) :", self.records.get(record, ""), re.MULTILINE))
-
-    def of(self, path):
-        """The clauses of a call or a law, of a law that states a record its fields; the calls of a type; or the fields
-        of a record."""
-        owner, _, name = path.rpartition("::")
-        owner = self.types.get(owner, owner)
-        called = [it for it in self.functions if it.name == name and (not owner or owner in (it.owner, it.trait))]
-        if not called:
-            return {it.name for it in self.functions if it.owner == name} | self.fields(name)
-        stated = self.definitions.get(self.statements.get(name), "").rpartition("→")[2].split()[:1]
-        return {it for one in called for it in one.asks + one.ensures}.union(*map(self.fields, stated))
-
-
-def texts_of(crate, part, ending):
-    folder = f"{TOP}/crates/{crate}/{part}"
-    return [read_file(f"{folder}/{it}") for it in files_below(folder, ending)]
-
-
-def clauses_named(page):
-    """What a page names clauses of, by its whole path, with each clause."""
-    for paths, named in NAMED.findall(read_file(f"{TOP}/{page}")):
-        owner = ""
-        for path in re.findall(r"`([\w:]+)`", paths):
-            # the calls after one are of the same type, unless they name another
-            owner = path.rpartition("::")[0] or owner
-            whole = f"{owner}::{path.rpartition('::')[2]}".removeprefix("::")
-            yield from ((whole, it) for it in re.findall(r"`(\w+)`", re.sub(r"\([^)]*\)", "", named)))
 
 
 def names_of_the_tree():
@@ -128,32 +83,54 @@ def test_links_lead_somewhere():
             same(not heading or heading in headings.get(path, []), True, f"{page}: a link to {path}#{heading}")
 
 
-def test_readme_is_short():
-    same(len(read_file(f"{TOP}/README.md").split()) <= MOST_WORDS, True, f"README.md: {MOST_WORDS} words at most")
+def words_by_hand(page):
+    """How many words of a page are kept by hand: what has a letter or a digit."""
+    return len(re.findall(r"\S*\w\S*", by_hand(read_file(f"{TOP}/{page}"))))
 
 
-def test_named_clauses_stand():
-    clauses, found = Clauses(), list(clauses_named("docs/PROMISES.md"))
-    same(len(found) >= 97, True, f"docs/PROMISES.md names clauses: {len(found)}")
-    for path, clause in found:
-        same(clause in clauses.of(path), True, f"docs/PROMISES.md: the clause {clause} of {path}")
+def test_pages_are_short():
+    words = {page: words_by_hand(page) for page in PAGES if page == "README.md" or page.startswith("docs/")}
+    same(words["README.md"] <= MOST_WORDS, True, f"README.md: {MOST_WORDS} words at most")
+    same(sum(words.values()) <= MOST_BY_HAND, True, f"{MOST_BY_HAND} words at most by hand: {words}")
 
 
-def test_wrong_clause_is_told_of():
-    """One that another call has, another type's call of that name, another law or another record."""
-    clauses = Clauses()
-    for path, right, wrong in (
-        ("Desk::line", "text", "bound"),
-        ("Reader::new", "inner", "limits"),
-        ("Member::ask", "asked", "took"),
-        ("lists_by_actions", "no_fork", "agree"),
-        ("headline", "agree", "no_fork"),
-        ("LineCutter", "push", "feed"),
-        ("KeepsCounts", "gave", "agree"),
+def test_made_parts_are_what_the_sources_give():
+    crates = read_crates()
+    same([*faults_of_marks(crates, promises()), *faults_of_pages(crates)], [], "tools/contracts --write")
+
+
+def test_contracts_of_all_are_printed():
+    """Each public function and each mutant of a crate stands in its part of what tools/contracts prints."""
+    done = subprocess.run([f"{TOP}/tools/contracts"], capture_output=True, text=True, timeout=SECONDS)
+    same((done.returncode, done.stderr), (0, ""), done.stdout[:1000])
+    found = 0
+    for crate in sorted(it for it in os.listdir(f"{TOP}/crates") if not it.endswith("_tests")):
+        folder = f"{TOP}/crates/{crate}"
+        sources = [read_file(f"{folder}/src/{it}") for it in files_below(f"{folder}/src", ".rt")]
+        wanted = {name for text in sources for name in PUBLIC.findall(text)}
+        if os.path.isdir(f"{folder}/mutants"):
+            wanted |= {it.removesuffix(".edit") for it in os.listdir(f"{folder}/mutants")}
+        named = set(re.findall(r"\w+", done.stdout.partition(f"\n## {crate}\n")[2].partition("\n## ")[0]))
+        same(sorted(wanted - named), [], f"what the page lacks of {crate}")
+        found += len(wanted)
+    same(found > 700, True, f"functions and mutants: {found}")
+
+
+def test_wrong_mark_is_told_of():
+    """A clause that is gone, one of another name, and a promise that is none."""
+    page = read_file(f"{TOP}/docs/PROMISES.md")
+    for change, fault in (
+        (lambda it: it.ensures.remove("gated"), "pay_durable: {} has no clause gated"),
+        (lambda it: it.marks.append(("nothing is won", [])), "pay_durable: {}: there is no promise nothing is won"),
+        (lambda it: setattr(it, "marks", []), "pay_durable: a promise is named above what is no function"),
     ):
-        was = right in clauses.of(path), wrong in clauses.of(path)
-        same(was, (True, False), f"whether {right} and {wrong} are clauses of {path}")
-    same(clauses.of("no_such_name"), set(), "clauses of what isn't there")
+        crates = read_crates()
+        marked = (it for crate in crates for it in crate.functions if ("nothing is lost", ["gated"]) in it.marks)
+        function = next(marked)
+        change(function)
+        same(fault.format(function.path()) in faults_of_marks(crates, promises()), True, fault)
+    function.name = "other"
+    same(remade(page, crates) == page, False, "a page of other names")
 
 
 def test_named_calls_stand():

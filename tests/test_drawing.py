@@ -6,7 +6,7 @@ import subprocess
 import tempfile
 import xml.etree.ElementTree as xml
 
-from runs import SECONDS, TOP, UNWRITTEN, run_to_nobody, same
+from runs import SECONDS, TOP, UNWRITTEN, read_text, run_to_nobody, same, write_text
 
 DRAW = os.path.join(TOP, "tools", "draw")
 EXAMPLES = os.path.join(TOP, "examples")
@@ -32,8 +32,7 @@ def drawn_lines(lines, *end):
     """The same of a script of these lines."""
     with tempfile.TemporaryDirectory() as folder:
         script = os.path.join(folder, "script")
-        with open(script, "w", encoding="ascii") as file:
-            file.write("".join(f"{line}\n" for line in lines))
+        write_text(script, "".join(f"{line}\n" for line in lines))
         return drawn(script, *end)
 
 
@@ -41,8 +40,7 @@ def test_pictures_of_the_examples():
     """An arrow for each frame that was brought, and one for each kind in the legend."""
     for name in ("circular-debts", "honest-day", "split-votes"):
         picture = drawn(os.path.join(EXAMPLES, f"{name}.txt"), *ENDS.get(name, ()))
-        with open(os.path.join(EXAMPLES, f"{name}.txt"), encoding="ascii") as script:
-            alone = len(re.findall("^(?:lie|bring) ", script.read(), re.MULTILINE))
+        alone = len(re.findall("^(?:lie|bring) ", read_text(os.path.join(EXAMPLES, f"{name}.txt")), re.MULTILINE))
         with open(os.path.join(EXAMPLES, f"{name}-answers.txt"), encoding="ascii") as answers:
             brought = sum(map(int, re.findall("^brought ([0-9]+)$", answers.read(), re.MULTILINE)))
         arrows = [it for it in picture.iter() if it.get("marker-end") == TIP]
@@ -92,15 +90,13 @@ def test_picture_of_a_run_that_ends_early():
         same(max(low) < box[3], True, f"{lines}: all words are in the picture")
 
 
-def test_pictures_to_nobody():
+def test_pictures_to_nobody(folder):
     """One line says that a picture can't be written, be it long or short."""
-    with tempfile.TemporaryDirectory() as folder:
-        short = os.path.join(folder, "short")
-        with open(short, "w", encoding="ascii") as file:
-            file.write('{"members": 1, "faults": 0, "opening": [7], "liars": []}\n')
-        for script in (short, os.path.join(EXAMPLES, "honest-day.txt")):
-            wanted = [(1, f"payd draw: {why}\n") for why in UNWRITTEN]
-            same([*run_to_nobody([DRAW, script])], wanted, f"a picture of {script} to nobody")
+    short = os.path.join(folder, "short")
+    write_text(short, '{"members": 1, "faults": 0, "opening": [7], "liars": []}\n')
+    for script in (short, os.path.join(EXAMPLES, "honest-day.txt")):
+        wanted = [(1, f"payd draw: {why}\n") for why in UNWRITTEN]
+        same([*run_to_nobody([DRAW, script])], wanted, f"a picture of {script} to nobody")
 
 
 def test_picture_of_no_script():

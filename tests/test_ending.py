@@ -2,48 +2,40 @@
 
 import os
 import subprocess
-import tempfile
 
-from nodes import free_ports, in_memory, write_json
-from runs import SECONDS, key_texts, payd, same
+from advices import told_plainly
+from nodes import in_memory, write_member
+from runs import SECONDS, payd, same
 
-WORDS = ["node", "--genesis", "g", "--keys", "k", "--ports", "p"]
+ALONE = {"members": 1, "faults": 0, "opening": [7]}
 EXPORT = '{"balances":[7],"faults":0,"front":[0],"lists":[[]],"member":0,"members":1,"opening":[7]}\n'
 WRITE = "payd: engine 3 Write\n"
 
 
-def write_files(folder):
-    """The files of a member alone."""
-    write_json(folder, "g", {"members": 1, "faults": 0, "opening": [7]})
-    write_json(folder, "k", {"own": 0, "keys": key_texts(0, 1)})
-    write_json(folder, "p", {"ports": free_ports(1)})
-
-
-def test_export_to_a_reader_that_is_gone():
-    with tempfile.TemporaryDirectory() as folder:
-        write_files(folder)
-        reader, writer = os.pipe()
-        os.close(reader)
-        with open(writer, "wb") as sink:
-            done = subprocess.run(
-                [payd(), *WORDS],
-                stdin=subprocess.DEVNULL,
-                stdout=sink,
-                stderr=subprocess.PIPE,
-                cwd=folder,
-                timeout=SECONDS,
-            )
-        was = in_memory((done.returncode, "", done.stderr.decode()))
-        same(was, (3, "", WRITE), "a closed pipe")
+def test_export_to_a_reader_that_is_gone(folder):
+    words = write_member(folder, genesis=ALONE)
+    reader, writer = os.pipe()
+    os.close(reader)
+    with open(writer, "wb") as sink:
+        done = subprocess.run(
+            [payd(), *words],
+            stdin=subprocess.DEVNULL,
+            stdout=sink,
+            stderr=subprocess.PIPE,
+            cwd=folder,
+            timeout=SECONDS,
+        )
+    was = in_memory((done.returncode, "", told_plainly(done.stderr.decode())))
+    same(was, (3, "", WRITE), "a closed pipe")
 
 
 def test_each_write_of_an_export_fails(library):
     """What was written is a prefix of the export, whichever write fails or takes nothing."""
-    write_files(library.place.name)
-    same(library.run(WORDS, b"")[0], (0, EXPORT, ""), "each write taken")
+    words = write_member(library.place.name, genesis=ALONE)
+    same(library.run(words, b"")[0], (0, EXPORT, ""), "each write taken")
     for more in ({}, {"write_takes_nothing": 1}, {"write_size": 30}, {"write_size": 1}):
         lengths = []
-        for place, (status, text, errors) in library.each(WORDS, b"", "write", **more):
+        for place, (status, text, errors) in library.each(words, b"", "write", **more):
             same((status, errors), (3, WRITE), f"write {place} {more}")
             same(EXPORT.startswith(text), True, f"write {place} {more}: {text!r} is no prefix")
             lengths.append(len(text))

@@ -3,7 +3,6 @@
 import json
 import os
 import subprocess
-import tempfile
 
 from test_check import BAD_TAG, NOT_FOR_ME, REPEAT_LINE, TAKEN_LINE, TWICE, UNKNOWN_OWNER, UNKNOWN_SENDER
 from frames import ECHO, READY, SEND, frame
@@ -73,10 +72,16 @@ def test_genesis_without_keys():
         shows(with_files({"g": many}, ["check", "--genesis", "g"], frame(READY, last, 1, 0, owner=last)), 0, line)
 
 
+# Commands that read these files, of which a node reads one more after them.
+COMMANDS = ["check"], ["desk"], ["node", "--ports", "bad"]
+KEYS = {"own": 0, "keys": key_texts(0)}
+
+
 def test_each_fault_of_a_genesis():
     for content, fault in GENESIS_ROWS:
-        was = with_files({"g": content}, ["check", "--genesis", "g"], TWICE)
-        shows(was, 2, "", of_file(f"genesis {fault}", "g"), of=f"{content!r}")
+        for words in COMMANDS:
+            was = with_files({"g": content, "bad": "{"}, [*words, "--genesis", "g", "--keys", "bad"], TWICE)
+            shows(was, 2, "", of_file(f"genesis {fault}", "g"), of=f"{words} {content!r}")
 
 
 def test_genesis_as_it_may_be_written():
@@ -92,12 +97,9 @@ def test_genesis_as_it_may_be_written():
 
 def test_each_fault_of_keys():
     for content, fault in KEYS_ROWS:
-        for files, words in (
-            ({"k": content}, ["check", "--keys", "k"]),
-            ({"k": content, "g": GENESIS}, ["check", "--keys", "k", "--genesis", "g"]),
-        ):
-            was = with_files(files, words, TWICE)
-            shows(was, 2, "", of_keys(fault, "k", content), of=f"{words} {content!r}")
+        files = {"k": content, "g": GENESIS, "bad": "{"}
+        for words in (["check"], *([*it, "--genesis", "g"] for it in COMMANDS)):
+            shows(with_files(files, [*words, "--keys", "k"], TWICE), 2, "", of_keys(fault, "k", content), of=f"{words}")
 
 
 def test_keys_are_judged_by_the_genesis():
@@ -117,27 +119,32 @@ def test_files_that_cannot_be_read():
             shows(was, 2, "", f"payd: file {name}\n", of=f"{option} {name!r}")
 
 
-def test_long_file():
-    with tempfile.TemporaryDirectory() as folder:
-        name = os.path.join(folder, "long")
-        with open(name, "wb") as file:
-            file.truncate(1073741825)
-        for option in ("--genesis", "--keys"):
-            shows(run(["check", option, name], TWICE), 2, "", f"payd: file {name}\n", of=option)
+def test_long_file(folder):
+    name = os.path.join(folder, "long")
+    with open(name, "wb") as file:
+        file.truncate(1073741825)
+    for option in ("--genesis", "--keys"):
+        shows(run(["check", option, name], TWICE), 2, "", f"payd: file {name}\n", of=option)
 
 
 def test_first_fault_of_files():
-    files = {"bad": "{", "genesis": GENESIS}
-    for genesis, keys, line in (
-        ("bad", "bad", "genesis 1 BadJson"),
-        ("bad", "none", "genesis 1 BadJson"),
-        ("none", "bad", "file none"),
-        ("genesis", "bad", "keys 1 BadJson"),
-        ("genesis", "none", "file none"),
-    ):
-        for words in (["--genesis", genesis, "--keys", keys], ["--keys", keys, "--genesis", genesis]):
-            errors = f"payd: {line}\n" if line == "file none" else of_file(line, "bad")
-            shows(with_files(files, ["check", *words], TWICE), 2, "", errors, of=f"{words}")
+    """In whatever order the options stand."""
+    files = {"bad": "{", "shape": "[]", "genesis": GENESIS, "keys": KEYS}
+    rows = [
+        ("bad", "bad", "genesis 1 BadJson"), ("bad", "none", "genesis 1 BadJson"), ("none", "bad", "file none"),
+        ("genesis", "bad", "keys 1 BadJson"), ("genesis", "shape", "keys 2 BadShape"),
+        ("genesis", "none", "file none"), ("genesis", ".", "file ."),
+    ]
+    asked = [(words, genesis, keys, line) for words in COMMANDS for genesis, keys, line in rows]
+    of_ports = ("bad", "ports 1 BadJson"), ("shape", "ports 2 BadShape"), ("none", "file none"), (".", "file .")
+    for ports, line in of_ports:
+        asked.append((["node", "--ports", ports], "genesis", "keys", line))
+    for words, genesis, keys, line in asked:
+        options = ["--genesis", genesis], ["--keys", keys], words[1:]
+        name = {"genesis": genesis, "keys": keys, "ports": words[-1]}.get(line.split()[0])
+        errors = of_file(line, name) if name else f"payd: {line}\n"
+        for given in (options, options[::-1]):
+            shows(with_files(files, [words[0], *sum(given, [])], TWICE), 2, "", errors, of=f"{words} {given}")
 
 
 def test_files_from_a_pipe():

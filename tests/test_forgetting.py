@@ -8,7 +8,7 @@ import shutil
 import time
 
 from frames import WANT, frame
-from nodes import EARLY, PATIENCE, Ended, Group, until
+from nodes import EARLY, Ended, Group, until
 from peers import connected
 from restarts import Folders, told
 from runs import run, same, shows
@@ -34,6 +34,14 @@ def copied(group, name):
     shutil.copytree(os.path.join(group.place.name, "data-0"), os.path.join(group.place.name, name), ignore=ignored)
 
 
+def refuses(node):
+    """A payment is refused as forgotten, if the node still reads it: once it noticed, it reads no more and ends."""
+    try:
+        same(node.pay("PAY 9 2 5"), LOST, "a payment by a member that has forgotten")
+    except (Ended, BrokenPipeError):
+        pass
+
+
 def ends_forgotten(node):
     status, output, errors = node.end()
     same((status, told(errors)[1]), (4, FORGOTTEN), "the end of a member that has forgotten")
@@ -57,12 +65,8 @@ def test_an_old_copy_never_pays():
     with Folders(OPENING) as group:
         paid_and_put_back(group)
         node = group.start(0)
-        deadline = time.monotonic() + PATIENCE
-        while (answer := node.ask("PAY 9 2 5")) == EARLY and time.monotonic() < deadline:
-            pass
-        same(answer, LOST, "a payment by a member that has forgotten")
-        node.child.stdin.close()
-        node.child.stdin = None
+        refuses(node)
+        node.end_input()
         same(ends_forgotten(node), "", "what it still writes")
         del group.nodes[0]
         # nobody has heard of the payment
@@ -75,7 +79,7 @@ def test_an_old_copy_tells_nothing_of_its_account():
         paid_and_put_back(group)
         node = group.start(0)
         lines = ["STATE 0 0", "ENTRIES 0 0", "WAITING 0", "PAYS 9 1 1 2 1", "FRONT"]
-        until(lambda: node.ask("PAY 9 2 5"), LOST, of="a payment")
+        refuses(node)
         try:
             node.write("".join(f"{line}\n" for line in lines))
             answers = [node.line() for _ in lines]
@@ -83,8 +87,7 @@ def test_an_old_copy_tells_nothing_of_its_account():
             answers = None
         if answers is not None:
             same(answers[:4], 4 * [LOST], "questions of the own account")
-        node.child.stdin.close()
-        node.child.stdin = None
+        node.end_input()
         ends_forgotten(node)
         del group.nodes[0]
 
@@ -93,8 +96,7 @@ def test_an_old_copy_that_stays_ends_by_itself():
     with Folders(OPENING) as group:
         paid_and_put_back(group)
         node = group.start(0, options=["--stay"])
-        node.child.stdin.close()
-        node.child.stdin = None
+        node.end_input()
         same(ends_forgotten(node), "", "what it writes")
         del group.nodes[0]
 
@@ -118,8 +120,7 @@ def test_older_copies_are_noticed_whoever_starts_with_them():
             put_back(group, "old")
             for own in killed:
                 group.start(own)
-            answer = group.nodes[0].pay("PAY 9 2 5")
-            same(answer, LOST, f"seed {seed}: a payment {more} behind")
+            refuses(group.nodes[0])
             status, _, errors = group.end(0)
             same((status, errors), (4, FORGOTTEN), f"seed {seed}: the end")
             group.settle([before + more, 0, 0, 0])
@@ -201,9 +202,8 @@ def test_more_than_may_lie_know_more():
         it.tells(1, SENT)
         it.asks(EARLY)
         it.tells(2, SENT + 1)
-        until(lambda: it.node.ask("PAY 8 2 5"), LOST, of="a payment")
-        it.node.child.stdin.close()
-        it.node.child.stdin = None
+        refuses(it.node)
+        it.node.end_input()
         ends_forgotten(it.node)
         del it.group.nodes[0]
 

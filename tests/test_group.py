@@ -4,19 +4,20 @@ import contextlib
 import hashlib
 import json
 import os
-import socket
+import re
+import shutil
 import stat
 import struct
 import subprocess
 import sys
 import tempfile
-import threading
 
 import group_model
-from frames import payment
+import pytest
+from frames import ECHO, READY, SEND, frame, payment
 from nodes import UNOPENED, Node, free_ports, until, write_json
-from peers import ended
-from runs import SECONDS, TOP, same
+from peers import Server
+from runs import SECONDS, TOP, call, of_file, payd, read_text, same, write_text
 
 import groups
 
@@ -25,8 +26,7 @@ MEMBERS = 4
 
 
 def tool(folder, *words):
-    done = subprocess.run([sys.executable, TOOL, *words], cwd=folder, capture_output=True, text=True, timeout=SECONDS)
-    return done.returncode, done.stdout, done.stderr
+    return call([sys.executable, TOOL, *words], folder=folder)
 
 
 def does(folder, *words):
@@ -36,12 +36,11 @@ def does(folder, *words):
 
 
 def put(folder, name, text):
-    with open(os.path.join(folder, name), "w", encoding="utf-8") as file:
-        file.write(text)
+    write_text(os.path.join(folder, name), text)
 
 
-@contextlib.contextmanager
-def set_up():
+@pytest.fixture
+def folder():
     """A folder with the secrets of four members, and the group's file made of what they handed over."""
     with tempfile.TemporaryDirectory() as folder:
         public = [does(folder, "new", f"{own}.secret").strip() for own in range(MEMBERS)]
@@ -52,8 +51,7 @@ def set_up():
 
 
 def read(folder, name):
-    with open(os.path.join(folder, name), encoding="ascii") as file:
-        return file.read()
+    return read_text(os.path.join(folder, name))
 
 
 def secret_of(folder, own):
@@ -98,69 +96,67 @@ def test_keys_are_derived_as_rfc_5869_says():
 # ---- what is written
 
 
-def test_each_member_derives_its_own_file_of_keys():
+def test_each_member_derives_its_own_file_of_keys(folder):
     """As the model has it, alike for both of a pair, and for each pair another key."""
-    with set_up() as folder:
-        group = json.loads(read(folder, "group.json"))
-        for own in range(MEMBERS):
-            write_keys(folder, own)
-        made = [json.loads(read(folder, f"keys-{own}")) for own in range(MEMBERS)]
-        for own in range(MEMBERS):
-            same(made[own], group_model.keys(group, own, secret_of(folder, own)), f"the keys of member {own}")
-            for peer in range(MEMBERS):
-                same(made[own]["keys"][peer], made[peer]["keys"][own], f"the key of {own} and {peer}")
-        same(len({key for it in made for key in it["keys"]}), 1 + MEMBERS * (MEMBERS - 1) // 2, "different keys")
+    group = json.loads(read(folder, "group.json"))
+    for own in range(MEMBERS):
+        write_keys(folder, own)
+    made = [json.loads(read(folder, f"keys-{own}")) for own in range(MEMBERS)]
+    for own in range(MEMBERS):
+        same(made[own], group_model.keys(group, own, secret_of(folder, own)), f"the keys of member {own}")
+        for peer in range(MEMBERS):
+            same(made[own]["keys"][peer], made[peer]["keys"][own], f"the key of {own} and {peer}")
+    same(len({key for it in made for key in it["keys"]}), 1 + MEMBERS * (MEMBERS - 1) // 2, "different keys")
 
 
-def test_a_fingerprint_is_of_all_but_ports_and_hosts():
-    with set_up() as folder:
-        group = json.loads(read(folder, "group.json"))
-        was = does(folder, "show", "group.json").splitlines()[-1]
-        same(was, f"fingerprint {group_model.fingerprint(group)}", "the fingerprint")
-        moved = {"ports": [1, 2, 3, 4], "hosts": ["a", "b.example", "c", "1.2.3.4"]}
-        put(folder, "other.json", json.dumps({**group, **moved}))
-        same(does(folder, "show", "other.json").splitlines()[-1], was, "that with other ports and hosts")
-        public = group["public"]
-        others = {
-            "faults": 0,
-            "opening": [101, 0, 0, 50],
-            "group": "0" * 64,
-            "public": [public[1], public[0], *public[2:]],
-            "names": ["Ann", "Bob", "Cy", "Di"],
-            "former": "0" * 64,
-        }
-        for name, value in others.items():
-            put(folder, "other.json", json.dumps({**group, name: value}))
-            other = does(folder, "show", "other.json").splitlines()[-1]
-            same(other != was, True, f"the fingerprint tells {name} apart")
+def test_a_fingerprint_is_of_all_but_ports_and_hosts(folder):
+    group = json.loads(read(folder, "group.json"))
+    was = does(folder, "show", "group.json").splitlines()[-1]
+    same(was, f"fingerprint {group_model.fingerprint(group)}", "the fingerprint")
+    moved = {"ports": [1, 2, 3, 4], "hosts": ["a", "b.example", "c", "1.2.3.4"]}
+    put(folder, "other.json", json.dumps({**group, **moved}))
+    same(does(folder, "show", "other.json").splitlines()[-1], was, "that with other ports and hosts")
+    public = group["public"]
+    others = {
+        "faults": 0,
+        "opening": [101, 0, 0, 50],
+        "group": "0" * 64,
+        "public": [public[1], public[0], *public[2:]],
+        "names": ["Ann", "Bob", "Cy", "Di"],
+        "former": "0" * 64,
+    }
+    swapped = [public[0][:64] + public[1][64:], public[1][:64] + public[0][64:], *public[2:]]
+    for name, value in [*others.items(), ("public", swapped)]:
+        put(folder, "other.json", json.dumps({**group, name: value}))
+        other = does(folder, "show", "other.json").splitlines()[-1]
+        same(other != was, True, f"the fingerprint tells {name} apart")
 
 
-def test_a_file_shows_who_is_in_the_group():
-    with set_up() as folder:
-        group = {**json.loads(read(folder, "group.json")), "ports": [7, 8, 9, 10], "names": ["Ann", "Bob", "Cy", "Di"]}
-        put(folder, "named.json", json.dumps(group))
-        put(folder, "named.json", json.dumps({**group, "hosts": ["a", "b", "c", "d"], "former": "1" * 64}))
-        lines = does(folder, "show", "named.json").splitlines()
-        text = group_model.canonical({**group, "former": "1" * 64}).encode("ascii")
-        digest = hashlib.sha256(struct.pack(">HH4Q", 4, 1, 100, 0, 0, 50)).hexdigest()
-        wanted = [
-            "4 members, of whom 1 may lie; 150 in all",
-            "member 0 Ann: opens with 100, port 7 at a",
-            "member 1 Bob: opens with 0, port 8 at b",
-            "member 2 Cy: opens with 0, port 9 at c",
-            "member 3 Di: opens with 50, port 10 at d",
-            "goes on for the group 1111111111111111",
-            f"digest {hashlib.sha256(text).hexdigest()[:16]}, which its files of keys have",
-            f"genesis {digest[:8]}, which a node says at its start",
-        ]
-        same(lines[:-1], wanted, "what is shown")
+def test_a_file_shows_who_is_in_the_group(folder):
+    group = {**json.loads(read(folder, "group.json")), "ports": [7, 8, 9, 10], "names": ["Ann", "Bob", "Cy", "Di"]}
+    put(folder, "named.json", json.dumps(group))
+    group["public"][3] = group["public"][3][:64]
+    put(folder, "named.json", json.dumps({**group, "hosts": ["a", "b", "c", "d"], "former": "1" * 64}))
+    lines = does(folder, "show", "named.json").splitlines()
+    text = group_model.canonical({**group, "former": "1" * 64}).encode("ascii")
+    digest = hashlib.sha256(struct.pack(">HH4Q", 4, 1, 100, 0, 0, 50)).hexdigest()
+    wanted = [
+        "4 members, of whom 1 may lie; 150 in all",
+        "member 0 Ann: opens with 100, port 7 at a",
+        "member 1 Bob: opens with 0, port 8 at b",
+        "member 2 Cy: opens with 0, port 9 at c",
+        "member 3 Di: opens with 50, port 10 at d, no key for signatures",
+        "goes on for the group 1111111111111111",
+        f"digest {hashlib.sha256(text).hexdigest()[:16]}, which its files of keys have",
+        f"genesis {digest[:8]}, which a node says at its start",
+    ]
+    same(lines[:-1], wanted, "what is shown")
 
 
-def test_secrets_and_keys_are_for_their_owner_alone():
+def test_secrets_and_keys_are_for_their_owner_alone(folder):
     """At each moment: the calls that open their files make them so. Whatever the umask, which may only take more."""
-    with set_up() as folder:
-        opened = []
-        script = f"""
+    opened = []
+    script = f"""
 import os, runpy, sys
 os.umask(0)
 was = os.open
@@ -173,26 +169,25 @@ sys.path.insert(0, {os.path.dirname(TOOL)!r})
 sys.argv[:] = sys.argv[1:]
 runpy.run_path({TOOL!r}, run_name="__main__")
 """
-        for words in (["new", "4.secret"], ["keys", "group.json", "0.secret", "keys.json"]):
-            ask = [sys.executable, "-c", script, TOOL, *words]
-            done = subprocess.run(ask, cwd=folder, capture_output=True, text=True, timeout=SECONDS)
-            opened += done.stderr.splitlines()
-            same(stat.S_IMODE(os.stat(os.path.join(folder, words[-1])).st_mode), 0o600, f"who may read {words[-1]}")
-        same(opened, ["4.secret True 0o600", "keys.json True 0o600"], "the files that are opened to be written")
+    for words in (["new", "4.secret"], ["keys", "group.json", "0.secret", "keys.json"]):
+        ask = [sys.executable, "-c", script, TOOL, *words]
+        done = subprocess.run(ask, cwd=folder, capture_output=True, text=True, timeout=SECONDS)
+        opened += done.stderr.splitlines()
+        same(stat.S_IMODE(os.stat(os.path.join(folder, words[-1])).st_mode), 0o600, f"who may read {words[-1]}")
+    same(opened, ["4.secret True 0o600", "keys.json True 0o600"], "the files that are opened to be written")
 
 
 # ---- what is refused
 
 
-def test_nothing_is_written_over():
-    with set_up() as folder:
-        was = read(folder, "0.secret")
-        same(tool(folder, "new", "0.secret"), (1, "", "payd group: 0.secret: File exists\n"), "a second secret")
-        same(read(folder, "0.secret"), was, "the first one")
-        os.symlink("away", os.path.join(folder, "keys"))
-        told = (1, "", "payd group: keys: File exists\n")
-        same(tool(folder, "keys", "group.json", "0.secret", "keys"), told, "keys where a link leads away")
-        same(tool(folder, "keys", "group.json", "0.secret")[0], 2, "keys without a file")
+def test_nothing_is_written_over(folder):
+    was = read(folder, "0.secret")
+    same(tool(folder, "new", "0.secret"), (1, "", "payd group: 0.secret: File exists\n"), "a second secret")
+    same(read(folder, "0.secret"), was, "the first one")
+    os.symlink("away", os.path.join(folder, "keys"))
+    told = (1, "", "payd group: keys: File exists\n")
+    same(tool(folder, "keys", "group.json", "0.secret", "keys"), told, "keys where a link leads away")
+    same(tool(folder, "keys", "group.json", "0.secret")[0], 2, "keys without a file")
 
 
 # Empty, no text, with what can't be seen, of another alphabet, to be taken for a number or for several words.
@@ -200,56 +195,99 @@ NO_NAMES = "", 7, "c\n", "c\u200b", "\u0430nn", "ç", " c", "c ", "c  d", "7", "
 ALIKE = ("Bob", "Bob"), ("Bob", "bob"), ("Bob", "B0b"), ("Al", "AI"), ("Al", "A1"), ("Barny", "Bamy"), ("A B", "A-B")
 
 
-def test_a_file_that_is_no_group_is_refused():
-    with set_up() as folder:
-        group = json.loads(read(folder, "group.json"))
-        public, digits = group["public"], "32 bytes in hexadecimal, in small letters"
-        members = "for each of the 4 members"
-        names, alike = "isn't a name of ASCII letters and digits", "have names that look alike"
-        hosts = "isn't a host, or one with its key for WireGuard"
-        rows = [
-            ({"members": 0}, "a group has 1 to 128 members"),
-            ({"members": True}, "a group has 1 to 128 members"),
-            ({"faults": 2}, "faults has to be fewer than a third of the members"),
-            ({"opening": [100, 0, 0]}, f"opening has to be a list with one {members}"),
-            ({"opening": [100, 0, -1, 50]}, "opening: that of member 2 isn't a balance"),
-            ({"opening": [2**63 - 1, 1, 0, 0]}, f"the openings come to more than {2**63 - 1}"),
-            ({"ports": [1, 2, 3, 65536]}, "ports: that of member 3 isn't a port"),
-            ({"names": ["a", "b", "c"]}, f"names has to be a list with one {members}"),
-            ({"ports": [1, 2, 3, 2]}, "members 1 and 3 have one port"),
-            *(({"names": ["a", "b", it, "d"]}, f"names: that of member 2 {names}") for it in NO_NAMES),
-            *(({"names": ["a", one, "c", other]}, f"members 1 and 3 {alike}") for one, other in ALIKE),
-            *(({"hosts": ["a", it, "c", "d"]}, f"hosts: that of member 1 {hosts}") for it in ("-oX=y", "a b", "::1")),
-            ({"former": "00"}, f"former has to be {digits}"),
-            ({"group": "00"}, f"group has to be {digits}"),
-            ({"public": [*public[:3], "aa"]}, f"public: that of member 3 isn't {digits}"),
-            ({"public": [*public[:3], public[1]]}, "members 1 and 3 have one public key"),
-            (
-                {"public": [*public[:3], "00" * 32]},
-                "the public key of member 3 is none: anyone would know this member's keys",
-            ),
-        ]
-        for change, why in rows:
-            put(folder, "other.json", json.dumps({**group, **change}))
-            for words in (["show", "other.json"], ["keys", "other.json", "0.secret", "keys"]):
-                same(tool(folder, *words), (1, "", f"payd group: other.json: {why}\n"), f"{words[0]} of {change}")
-        put(folder, "other.json", read(folder, "group.json").replace("{\n", '{"faults": 0,\n', 1))
-        twice = "payd group: other.json: an object in it names something twice\n"
-        same(tool(folder, "show", "other.json"), (1, "", twice), "a member that stands twice")
+def test_a_file_that_is_no_group_is_refused(folder):
+    group = json.loads(read(folder, "group.json"))
+    public, digits = group["public"], "32 bytes in hexadecimal, in small letters"
+    members = "for each of the 4 members"
+    names, alike = "isn't a name of ASCII letters and digits", "have names that look alike"
+    hosts = "isn't a host, or one with its key for WireGuard"
+    rows = [
+        ({"members": 0}, "a group has 1 to 128 members"),
+        ({"members": True}, "a group has 1 to 128 members"),
+        ({"faults": 2}, "faults has to be fewer than a third of the members: 1 at most"),
+        ({"opening": [100, 0, 0]}, f"opening has to be a list with one {members}"),
+        ({"opening": [100, 0, -1, 50]}, "opening: that of member 2 isn't a balance"),
+        ({"opening": [2**63 - 1, 1, 0, 0]}, f"the openings come to more than {2**63 - 1}"),
+        ({"ports": [1, 2, 3, 65536]}, "ports: that of member 3 isn't a port"),
+        ({"names": ["a", "b", "c"]}, f"names has to be a list with one {members}"),
+        ({"ports": [1, 2, 3, 2]}, "members 1 and 3 have one port"),
+        *(({"names": ["a", "b", it, "d"]}, f"names: that of member 2 {names}") for it in NO_NAMES),
+        *(({"names": ["a", one, "c", other]}, f"members 1 and 3 {alike}") for one, other in ALIKE),
+        *(({"hosts": ["a", it, "c", "d"]}, f"hosts: that of member 1 {hosts}") for it in ("-oX=y", "a b", "::1")),
+        ({"former": "00"}, f"former has to be {digits}"),
+        ({"group": "00"}, f"group has to be {digits}"),
+        ({"public": [*public[:3], "aa"]}, f"public: that of member 3 isn't {digits}"),
+        ({"public": [*public[:3], public[3][:-1]]}, f"public: that of member 3 isn't {digits}"),
+        ({"public": [*public[:3], public[1]]}, "members 1 and 3 have one public key"),
+        ({"public": [*public[:3], public[1][:64]]}, "members 1 and 3 have one public key"),
+        ({"public": [*public[:3], public[3][:64] + public[1][64:]]}, "members 1 and 3 have one key for signatures"),
+        (
+            {"public": [*public[:3], "00" * 32]},
+            "the public key of member 3 is none: anyone would know this member's keys",
+        ),
+    ]
+    for change, why in rows:
+        put(folder, "other.json", json.dumps({**group, **change}))
+        for words in (["show", "other.json"], ["keys", "other.json", "0.secret", "keys"]):
+            same(tool(folder, *words), (1, "", f"payd group: other.json: {why}\n"), f"{words[0]} of {change}")
+    put(folder, "other.json", read(folder, "group.json").replace("{\n", '{"faults": 0,\n', 1))
+    twice = "payd group: other.json: an object in it names something twice\n"
+    same(tool(folder, "show", "other.json"), (1, "", twice), "a member that stands twice")
 
 
-def test_a_secret_of_nobody_has_no_keys():
-    with set_up() as folder:
-        does(folder, "new", "other.secret")
-        none = "payd group: other.secret: the secret's public key is none of the group's\n"
-        same(tool(folder, "keys", "group.json", "other.secret", "keys"), (1, "", none), "the keys of another's secret")
-        no = "payd group: group.json: it is no secret that 'new' wrote\n"
-        same(tool(folder, "keys", "group.json", "group.json", "keys"), (1, "", no), "keys of what is no secret")
+def test_a_secret_tells_its_public_key_again(folder):
+    group = json.loads(read(folder, "group.json"))
+    for own in range(MEMBERS):
+        same(does(folder, "public", f"{own}.secret").strip(), group["public"][own], f"the key of member {own}")
+    what = "it is a member's secret, and no group's file: 'public' prints the public key of it"
+    same(tool(folder, "show", "0.secret"), (1, "", f"payd group: 0.secret: {what}\n"), "a secret that is shown")
+    no = "payd group: group.json: it is no secret that 'new' wrote\n"
+    same(tool(folder, "public", "group.json"), (1, "", no), "the public key of what is no secret")
+
+
+def test_the_last_opening_stands_for_all_others(folder):
+    public = json.loads(read(folder, "group.json"))["public"]
+    for given, opening in (("7,..", [7, 7, 7, 7]), ("1,2,..", [1, 2, 2, 2]), ("1,2,3,4,..", [1, 2, 3, 4])):
+        made = does(folder, "make", "--faults", "1", "--opening", given, *public)
+        same(json.loads(made)["opening"], opening, given)
+    short = "payd group: opening has to be a list with one for each of the 4 members\n"
+    for given in ("1,2", "1,2,3,4,5,.."):
+        told = tool(folder, "make", "--faults", "1", "--opening", given, *public)
+        same(told, (1, "", short), given)
+    for given in ("..", ",..", "1,..,2", "1,.."[:-1]):
+        same(tool(folder, "make", "--faults", "1", "--opening", given, *public)[0], 2, given)
+
+
+def test_what_the_guide_makes_stays_out_of_the_clone():
+    """Its secrets, keys and folders, for what git would take in with all else."""
+    words = re.findall(r"^    .*$", read_text(os.path.join(TOP, "docs", "OPERATING.md")), re.MULTILINE)
+    pattern = r".*\.(secret|tar)|keys.*\.json|member|tunnels"
+    made = {it for line in words for it in line.split() if re.fullmatch(pattern, it)}
+    wanted = {"me.secret", "keys.json", "keys-2.json", "member", "member.tar", "tunnels"}
+    same(wanted <= made, True, f"what it makes: {made}")
+    with tempfile.TemporaryDirectory() as folder:
+        shutil.copy(os.path.join(TOP, ".gitignore"), folder)
+        for name in made:
+            path = os.path.join(folder, name if "." in name else f"{name}/file")
+            os.makedirs(os.path.dirname(path), exist_ok=True)
+            with open(path, "w", encoding="ascii"):
+                pass
+        subprocess.run(["git", "init", "--quiet"], cwd=folder, check=True)
+        done = subprocess.run(["git", "status", "--porcelain"], cwd=folder, capture_output=True, text=True, check=True)
+        same(done.stdout, "?? .gitignore\n", "what git sees")
+
+
+def test_a_secret_of_nobody_has_no_keys(folder):
+    does(folder, "new", "other.secret")
+    none = "payd group: other.secret: the secret's public key is none of the group's\n"
+    same(tool(folder, "keys", "group.json", "other.secret", "keys"), (1, "", none), "the keys of another's secret")
+    no = "payd group: group.json: it is no secret that 'new' wrote\n"
+    same(tool(folder, "keys", "group.json", "group.json", "keys"), (1, "", no), "keys of what is no secret")
 
 
 # ---- the next group
 
-# What the members of the group that `set_up` makes export: 0 has paid 30 to 1, and 3 waits for 10 more. Member 2 alone
+# What the members of that group export: 0 has paid 30 to 1, and 3 waits for 10 more. Member 2 alone
 # lists a payment of 5 to itself.
 PAID, WAITS, CLAIM = (payment(payee=payee, amount=amount).hex() for payee, amount in ((1, 30), (0, 60), (2, 5)))
 SETTLED = {"members": MEMBERS, "faults": 1, "opening": [100, 0, 0, 50], "front": [1, 0, 0, 0]}
@@ -265,39 +303,37 @@ def put_exports(folder, own):
     return [f"export-{member}" for member in own]
 
 
-def test_the_next_group_opens_with_the_balances_of_the_book():
-    with set_up() as folder:
-        group = json.loads(read(folder, "group.json"))
-        status, text, errors = tool(folder, "next", "group.json", *put_exports(folder, (0, 2, 3)))
-        told = "not settled, by the old numbers: "
-        lines = ["waits account 3 entry 0 seq 0 to 0 amount 60 short 10", "beyond 1 account 3 seq 1 (export-2)"]
-        same((status, errors), (0, "".join(f"{told}{line}\n" for line in lines)), "what is told")
-        put(folder, "next.json", text)
-        after = json.loads(text)
-        former = hashlib.sha256(group_model.canonical(group).encode("ascii")).hexdigest()
-        wanted = {**group, "opening": [70, 30, 0, 50], "group": after["group"], "former": former}
-        same(after, wanted, "all but openings, `group` and `former` stays")
-        same(after["group"] != group["group"], True, "`group` is another one")
-        keys = []
-        for name in ("group.json", "next.json"):
-            write_keys(folder, 0, name)
-            keys.append(json.loads(read(folder, "keys-0"))["keys"])
-        same(set(keys[0]) & set(keys[1]), {""}, "keys that both groups have")
+def test_the_next_group_opens_with_the_balances_of_the_book(folder):
+    group = json.loads(read(folder, "group.json"))
+    status, text, errors = tool(folder, "next", "group.json", *put_exports(folder, (0, 2, 3)))
+    told = "not settled, by the old numbers: "
+    lines = ["waits account 3 entry 0 seq 0 to 0 amount 60 short 10", "beyond 1 account 3 seq 1 (export-2)"]
+    same((status, errors), (0, "".join(f"{told}{line}\n" for line in lines)), "what is told")
+    put(folder, "next.json", text)
+    after = json.loads(text)
+    former = hashlib.sha256(group_model.canonical(group).encode("ascii")).hexdigest()
+    wanted = {**group, "opening": [70, 30, 0, 50], "group": after["group"], "former": former}
+    same(after, wanted, "all but openings, `group` and `former` stays")
+    same(after["group"] != group["group"], True, "`group` is another one")
+    keys = []
+    for name in ("group.json", "next.json"):
+        write_keys(folder, 0, name)
+        keys.append(json.loads(read(folder, "keys-0"))["keys"])
+    same(set(keys[0]) & set(keys[1]), {""}, "keys that both groups have")
 
 
-def test_a_member_that_leaves_gives_its_balance_to_an_heir():
-    with set_up() as folder:
-        named = put_named(folder)
-        exports = put_exports(folder, (0, 1))
-        words = ["--leaves", "0:1", "--faults", "0", "named.json", *exports]
-        status, text, errors = tool(folder, "next", *words)
-        after = json.loads(text)
-        told = (status, after["members"], after["opening"], after["names"])
-        same(told, (0, 3, [100, 0, 50], named["names"][1:]), "who is in the next group")
-        same((after["public"], after["ports"]), (named["public"][1:], named["ports"][1:]), "of those that stay")
-        lines = ["member 0 Ann leaves: its balance goes to member 1 Bob"]
-        lines += [f"member {it} {named['names'][it]} is member {it - 1} now" for it in (1, 2, 3)]
-        same(errors.splitlines()[:4], lines, "what is told")
+def test_a_member_that_leaves_gives_its_balance_to_an_heir(folder):
+    named = put_named(folder)
+    exports = put_exports(folder, (0, 1))
+    words = ["--leaves", "0:1", "--faults", "0", "named.json", *exports]
+    status, text, errors = tool(folder, "next", *words)
+    after = json.loads(text)
+    told = (status, after["members"], after["opening"], after["names"])
+    same(told, (0, 3, [100, 0, 50], named["names"][1:]), "who is in the next group")
+    same((after["public"], after["ports"]), (named["public"][1:], named["ports"][1:]), "of those that stay")
+    lines = ["member 0 Ann leaves: its balance goes to member 1 Bob"]
+    lines += [f"member {it} {named['names'][it]} is member {it - 1} now" for it in (1, 2, 3)]
+    same(errors.splitlines()[:4], lines, "what is told")
 
 
 NAMES, HOSTS = ["Ann", "Bob", "Cy", "Di"], ["a.example", "b.example", "c.example", "d.example"]
@@ -318,126 +354,122 @@ def changes(folder):
     return [*words, "--joins", f"{flo}:Flo@f.example"], (other, eve, flo)
 
 
-def test_members_join_and_have_other_keys():
-    with set_up() as folder:
-        named, exports, (words, keys) = put_named(folder), put_exports(folder, (0, 1)), changes(folder)
-        status, text, errors = tool(folder, "next", *words, "named.json", *exports)
-        after = json.loads(text)
-        wanted = {
-            "members": 5,
-            "faults": 1,
-            "opening": [70, 30, 50, 25, 0],
-            "ports": [11000, 11001, 11004, 11002, 11005],
-            "group": after["group"],
-            "public": [named["public"][0], keys[0], named["public"][3], *keys[1:]],
-            "names": ["Ann", "Bob", "Di", "Eve", "Flo"],
-            "hosts": ["a.example", "b.example", "d.example", "e.example", "f.example"],
-            "former": hashlib.sha256(group_model.canonical(named).encode("ascii")).hexdigest(),
-        }
-        same((status, after), (0, wanted), "the next group")
-        lines = [
-            "member 2 Cy leaves: its balance goes to member 3 Di",
-            "member 1 Bob has another public key",
-            "member 3 Di is member 2 now",
-            "member 3 Eve joins: opens with 25, which it brings",
-            "member 4 Flo joins: opens with 0, which it brings",
-            "not settled, by the old numbers: waits account 3 Di entry 0 seq 0 to 0 Ann amount 60 short 10",
-        ]
-        same(errors.splitlines(), lines, "what is told")
-        put(folder, "next.json", text)
-        does(folder, "keys", "next.json", "other.secret", "keys")
-        same(json.loads(read(folder, "keys"))["own"], 1, "the number of the member with another key")
+def test_members_join_and_have_other_keys(folder):
+    named, exports, (words, keys) = put_named(folder), put_exports(folder, (0, 1)), changes(folder)
+    status, text, errors = tool(folder, "next", *words, "named.json", *exports)
+    after = json.loads(text)
+    wanted = {
+        "members": 5,
+        "faults": 1,
+        "opening": [70, 30, 50, 25, 0],
+        "ports": [11000, 11001, 11004, 11002, 11005],
+        "group": after["group"],
+        "public": [named["public"][0], keys[0], named["public"][3], *keys[1:]],
+        "names": ["Ann", "Bob", "Di", "Eve", "Flo"],
+        "hosts": ["a.example", "b.example", "d.example", "e.example", "f.example"],
+        "former": hashlib.sha256(group_model.canonical(named).encode("ascii")).hexdigest(),
+    }
+    same((status, after), (0, wanted), "the next group")
+    lines = [
+        "member 2 Cy leaves: its balance goes to member 3 Di",
+        "member 1 Bob has another public key",
+        "member 3 Di is member 2 now",
+        "member 3 Eve joins: opens with 25, which it brings",
+        "member 4 Flo joins: opens with 0, which it brings",
+        "not settled, by the old numbers: waits account 3 Di entry 0 seq 0 to 0 Ann amount 60 short 10",
+    ]
+    same(errors.splitlines(), lines, "what is told")
+    put(folder, "next.json", text)
+    does(folder, "keys", "next.json", "other.secret", "keys")
+    same(json.loads(read(folder, "keys"))["own"], 1, "the number of the member with another key")
 
 
-def test_what_is_not_settled_is_told_by_names():
-    with set_up() as folder:
-        put_named(folder)
-        _, _, errors = tool(folder, "next", "named.json", *put_exports(folder, (0, 2, 3)))
-        told = "not settled, by the old numbers: "
-        lines = ["waits account 3 Di entry 0 seq 0 to 0 Ann amount 60 short 10"]
-        lines += ["beyond 1 account 3 Di seq 1 (export-2)"]
-        same(errors, "".join(f"{told}{line}\n" for line in lines), "what is told")
+def test_what_is_not_settled_is_told_by_names(folder):
+    put_named(folder)
+    _, _, errors = tool(folder, "next", "named.json", *put_exports(folder, (0, 2, 3)))
+    told = "not settled, by the old numbers: "
+    lines = ["waits account 3 Di entry 0 seq 0 to 0 Ann amount 60 short 10"]
+    lines += ["beyond 1 account 3 Di seq 1 (export-2)"]
+    same(errors, "".join(f"{told}{line}\n" for line in lines), "what is told")
 
 
-def test_any_member_makes_the_next_group_anew():
+def test_any_member_makes_the_next_group_anew(folder):
     """With the options that were agreed nothing differs; without them, and with another file, each thing is said."""
-    with set_up() as folder:
-        put_named(folder)
-        exports, (words, _) = put_exports(folder, (0, 1)), changes(folder)
-        _, text, told = tool(folder, "next", *words, "named.json", *exports)
-        put(folder, "next.json", text)
-        print_of = does(folder, "show", "next.json").splitlines()[-1]
-        made = tool(folder, "check-next", *words, "named.json", "next.json", *exports)
-        same(made, (0, f"as the exports have it\n{print_of}\n", told), "with the options")
+    put_named(folder)
+    exports, (words, _) = put_exports(folder, (0, 1)), changes(folder)
+    _, text, told = tool(folder, "next", *words, "named.json", *exports)
+    put(folder, "next.json", text)
+    print_of = does(folder, "show", "next.json").splitlines()[-1]
+    made = tool(folder, "check-next", *words, "named.json", "next.json", *exports)
+    same(made, (0, f"as the exports have it\n{print_of}\n", told), "with the options")
+    status, lines, _ = tool(folder, "check-next", "named.json", "next.json", *exports)
+    wanted = [
+        "member 1 Bob isn't in it with its key",
+        "member 2 Cy isn't in it with its key",
+        "member 3 Di is member 2 there",
+        "member 1 Bob is in it with a new key, and opens with 30",
+        "member 3 Eve is in it with a new key, and opens with 25",
+        "member 4 Flo is in it with a new key, and opens with 0",
+    ]
+    same((status, lines.splitlines()), (1, wanted), "without the options")
+
+
+def test_a_next_group_that_is_another_is_told_of(folder):
+    named, exports = put_named(folder), put_exports(folder, (0, 1))
+    _, text, _ = tool(folder, "next", "named.json", *exports)
+    after = json.loads(text)
+    former = after.pop("former")
+    for change, wanted in (
+        (
+            {"opening": [100, 0, 0, 50]},
+            ["member 0 Ann opens with 100 in place of 70", "member 1 Bob opens with 0 in place of 30"],
+        ),
+        ({"opening": [70, 30, 0, 51]}, ["member 3 Di opens with 51 in place of 50"]),
+        ({"names": ["Ann", "Bob", "Cy", "Dee"]}, ["member 3 Di is named Dee in place of Di"]),
+        ({"ports": [1, 11001, 11003, 11004]}, ["member 0 Ann has port 1 in place of 11000"]),
+        ({"hosts": ["z", *HOSTS[1:]]}, ["member 0 Ann has host z in place of a.example"]),
+        ({"hosts": None}, [f"member {it} {NAMES[it]} has host nothing in place of {HOSTS[it]}" for it in range(4)]),
+        ({"faults": 0}, ["faults is 0 in place of 1"]),
+        ({"former": None}, [f"former is nothing in place of {former}"]),
+    ):
+        put(folder, "next.json", json.dumps({**after, "former": former, **change}))
         status, lines, _ = tool(folder, "check-next", "named.json", "next.json", *exports)
-        wanted = [
-            "member 1 Bob isn't in it with its key",
-            "member 2 Cy isn't in it with its key",
-            "member 3 Di is member 2 there",
-            "member 1 Bob is in it with a new key, and opens with 30",
-            "member 3 Eve is in it with a new key, and opens with 25",
-            "member 4 Flo is in it with a new key, and opens with 0",
-        ]
-        same((status, lines.splitlines()), (1, wanted), "without the options")
+        same((status, lines.splitlines()), (1, wanted), f"what is said of {change}")
+    put(folder, "next.json", json.dumps({**after, "former": former, "group": named["group"]}))
+    why = "payd group: next.json: its `group` is that of named.json, and has to be drawn anew\n"
+    same(tool(folder, "check-next", "named.json", "next.json", *exports), (1, "", why), "a `group` used again")
 
 
-def test_a_next_group_that_is_another_is_told_of():
-    with set_up() as folder:
-        named, exports = put_named(folder), put_exports(folder, (0, 1))
-        _, text, _ = tool(folder, "next", "named.json", *exports)
-        after = json.loads(text)
-        former = after.pop("former")
-        for change, wanted in (
-            (
-                {"opening": [100, 0, 0, 50]},
-                ["member 0 Ann opens with 100 in place of 70", "member 1 Bob opens with 0 in place of 30"],
-            ),
-            ({"opening": [70, 30, 0, 51]}, ["member 3 Di opens with 51 in place of 50"]),
-            ({"names": ["Ann", "Bob", "Cy", "Dee"]}, ["member 3 Di is named Dee in place of Di"]),
-            ({"ports": [1, 11001, 11003, 11004]}, ["member 0 Ann has port 1 in place of 11000"]),
-            ({"hosts": ["z", *HOSTS[1:]]}, ["member 0 Ann has host z in place of a.example"]),
-            ({"hosts": None}, [f"member {it} {NAMES[it]} has host nothing in place of {HOSTS[it]}" for it in range(4)]),
-            ({"faults": 0}, ["faults is 0 in place of 1"]),
-            ({"former": None}, [f"former is nothing in place of {former}"]),
-        ):
-            put(folder, "next.json", json.dumps({**after, "former": former, **change}))
-            status, lines, _ = tool(folder, "check-next", "named.json", "next.json", *exports)
-            same((status, lines.splitlines()), (1, wanted), f"what is said of {change}")
-        put(folder, "next.json", json.dumps({**after, "former": former, "group": named["group"]}))
-        why = "payd group: next.json: its `group` is that of named.json, and has to be drawn anew\n"
-        same(tool(folder, "check-next", "named.json", "next.json", *exports), (1, "", why), "a `group` used again")
-
-
-def test_no_next_group():
-    with set_up() as folder:
-        exports = put_exports(folder, (0, 1))
-        other = {**json.loads(read(folder, "group.json")), "opening": [101, 0, 0, 50]}
-        put(folder, "other.json", json.dumps(other))
-        key = does(folder, "new", "new.secret").strip()
-        for words, why in (
-            (["group.json", exports[0]], "these exports have no book: 6 few 1"),
-            (["group.json", exports[0], "gone"], "these exports have no book: payd: file gone"),
-            (["group.json", *exports, exports[0]], "these exports have no book: 5 twice 0 2 (export-0, export-0)"),
-            (["other.json", *exports], "these exports are of another group than other.json"),
-            (["--leaves", "0:4", "group.json", *exports], "there is no member 4"),
-            (["--rekeys", f"4:{key}", "group.json", *exports], "there is no member 4"),
-            (
-                ["--leaves", "0:1", "--leaves", "1:2", "group.json", *exports],
-                "member 1, who is to get the balance of member 0, leaves too",
-            ),
-            (["--leaves", "0:1", "--leaves", "0:2", "group.json", *exports], "a member leaves twice"),
-            (
-                ["--leaves", "0:1", "--rekeys", f"0:{key}", "group.json", *exports],
-                "member 0 leaves, and needs no other key",
-            ),
-            (["--leaves", "0:1", "group.json", *exports], "faults has to be fewer than a third of the members"),
-            (["--joins", other["public"][1], "group.json", *exports], "members 1 and 4 have one public key"),
-            (["--joins", f"{key}:{2**63}", "group.json", *exports], "opening: that of member 4 isn't a balance"),
-            (["--joins", f"{key}:Eve", "group.json", *exports], "a newcomer has what the group hasn't: names"),
-            (["--joins", f"{key}@e", "group.json", *exports], "a newcomer has what the group hasn't: hosts"),
-        ):
-            same(tool(folder, "next", *words), (1, "", f"payd group: {why}\n"), f"{words}")
-        same(tool(folder, "next", "--joins", f"{key}:Eve:5:6", "group.json", *exports)[0], 2, "too many parts")
+def test_no_next_group(folder):
+    exports = put_exports(folder, (0, 1))
+    other = {**json.loads(read(folder, "group.json")), "opening": [101, 0, 0, 50]}
+    put(folder, "other.json", json.dumps(other))
+    key = does(folder, "new", "new.secret").strip()
+    gone = "cannot read gone: there is no such file or folder"
+    for words, why in (
+        (["group.json", exports[0]], "these exports have no book: 6 few 1"),
+        (["group.json", exports[0], "gone"], f"these exports have no book: payd: {gone}"),
+        (["group.json", *exports, exports[0]], "these exports have no book: 5 twice 0 2 (export-0, export-0)"),
+        (["other.json", *exports], "these exports are of another group than other.json"),
+        (["--leaves", "0:4", "group.json", *exports], "there is no member 4"),
+        (["--rekeys", f"4:{key}", "group.json", *exports], "there is no member 4"),
+        (
+            ["--leaves", "0:1", "--leaves", "1:2", "group.json", *exports],
+            "member 1, who is to get the balance of member 0, leaves too",
+        ),
+        (["--leaves", "0:1", "--leaves", "0:2", "group.json", *exports], "a member leaves twice"),
+        (
+            ["--leaves", "0:1", "--rekeys", f"0:{key}", "group.json", *exports],
+            "member 0 leaves, and needs no other key",
+        ),
+        (["--leaves", "0:1", "group.json", *exports], "faults has to be fewer than a third of the members: 0 at most"),
+        (["--joins", other["public"][1], "group.json", *exports], "members 1 and 4 have one public key"),
+        (["--joins", f"{key}:{2**63}", "group.json", *exports], "opening: that of member 4 isn't a balance"),
+        (["--joins", f"{key}:Eve", "group.json", *exports], "a newcomer has what the group hasn't: names"),
+        (["--joins", f"{key}@e", "group.json", *exports], "a newcomer has what the group hasn't: hosts"),
+    ):
+        same(tool(folder, "next", *words), (1, "", f"payd group: {why}\n"), f"{words}")
+    same(tool(folder, "next", "--joins", f"{key}:Eve:5:6", "group.json", *exports)[0], 2, "too many parts")
 
 
 # ---- nodes
@@ -460,9 +492,9 @@ def write_keys(folder, own, group="group.json"):
     does(folder, "keys", group, f"{own}.secret", f"keys-{own}")
 
 
-def test_nodes_run_on_a_groups_file():
+def test_nodes_run_on_a_groups_file(folder):
     """It is their genesis and their ports."""
-    with set_up() as folder, contextlib.ExitStack() as stack:
+    with contextlib.ExitStack() as stack:
         os.symlink("group.json", os.path.join(folder, "genesis"))
         for own in range(MEMBERS):
             write_keys(folder, own)
@@ -473,14 +505,17 @@ def test_nodes_run_on_a_groups_file():
             same(node.balances(), [70, 30, 0, 50], f"the balances at {own}")
 
 
-def test_a_member_with_another_file_meets_nobody():
+def test_a_member_with_another_file_meets_nobody(folder):
     """Its file opens an account with one more, and all others settle without it."""
-    with set_up() as folder, contextlib.ExitStack() as stack:
+    with contextlib.ExitStack() as stack:
         os.symlink("group.json", os.path.join(folder, "genesis"))
         put(folder, "other.json", read(folder, "group.json").replace("[100, 0, 0, 50]", "[100, 0, 0, 51]"))
         for own in range(MEMBERS):
             write_keys(folder, own, "other.json" if own == 3 else "group.json")
-        nodes = nodes_of(stack, folder, "group.json")
+        nodes = nodes_of(stack, folder, "group.json", range(3))
+        words = ["--genesis", "other.json", "--keys", "keys-3", "--ports", "other.json"]
+        nodes[3] = Node(3, folder, command=[payd(), "node", *words])
+        stack.callback(nodes[3].kill)
         same(nodes[0].ask("PAY 1 1 30"), "asked 1 seq 0", "a payment")
         for own in range(3):
             until(nodes[own].front, [1, 0, 0, 0], of=f"the front at {own}")
@@ -488,109 +523,110 @@ def test_a_member_with_another_file_meets_nobody():
             until(lambda node=nodes[own]: dict(node.news()), told, of=f"what {own} says of its peers")
         unopened = [(peer, UNOPENED) for peer in range(3)]
         until(lambda: sorted(nodes[3].news()), unopened, of="what the other one says of its peers")
-        same(nodes[3].front(), [0, 0, 0, 0], "what it settled")
+        status, output, errors = nodes[3].stop()
+        same((status, json.loads(output)["lists"], errors), (0, [[], [], [], []], ""), "its end")
 
 
-class Tunnel:
-    """Leads from a port to another one, and records what comes back; or answers with what was recorded."""
+OTHER_GROUP = of_file("keys 6 OtherGroup", "keys-1")
 
-    def __init__(self, port, to=None, recorded=b""):
-        self.to, self.recorded, self.streams, self.left = to, bytearray(recorded), [], 0
-        self.listener = socket.create_server(("127.0.0.1", port))
-        self.threads = [threading.Thread(target=self.accept, daemon=True)]
-        self.threads[0].start()
 
-    def close(self):
-        for stream in [self.listener, *self.streams]:
-            ended(stream)
+def desk_of(folder, genesis, keys="keys-1"):
+    """Status, answers and errors of member 1's desk, by these files."""
+    return call([payd(), "desk", "--genesis", genesis, "--keys", keys], b"FRONT\n", folder=folder)
 
-    def accept(self):
+
+def test_keys_of_another_group_are_refused(folder):
+    """Also where the group's file was changed since, in all but its ports and hosts. Nothing is read behind them."""
+    group, answered = json.loads(read(folder, "group.json")), (0, "front 0 0 0 0\n", "")
+    public = group["public"]
+    named = {**group, "names": ["Ann", "Bob", "Cy", "Di"], "former": "1" * 64}
+    changes = [
+        {"faults": 0},
+        {"opening": [100, 0, 0, 51]},
+        {"group": "0" * 64},
+        {"public": [*public[:2], public[3], public[2]]},
+        {"names": ["Ann", "Bob", "Cy", "Dee"]},
+        {"former": "2" * 64},
+        *({name: None} for name in ("group", "public", "names", "former")),
+    ]
+    for name, made in (("named", named), ("plain", group)):
+        put(folder, name, json.dumps(made))
+        write_keys(folder, 1, name)
+        same(json.loads(read(folder, "keys-1")), group_model.keys(made, 1, secret_of(folder, 1)), f"keys of {name}")
+        same(desk_of(folder, name), answered, f"keys of the group {name} itself")
+        put(folder, "other", json.dumps({**made, "ports": [1, 2, 3, 4], "hosts": list("abcd"), "more": 1}, indent=1))
+        same(desk_of(folder, "other"), answered, f"{name} with other ports and hosts, and laid out otherwise")
+        for change in changes:
+            other = {it: value for it, value in {**made, **change}.items() if value is not None}
+            if other != made:
+                put(folder, "other", json.dumps(other))
+                same(desk_of(folder, "other"), (2, "", OTHER_GROUP), f"{name} with {change}")
+    words = ["--genesis", "named", "--keys", "keys-1"]
+    for more in (["check"], ["node", "--ports", "gone"], ["export", "--data", "gone"]):
+        same(call([payd(), *more, *words], folder=folder), (2, "", OTHER_GROUP), f"{more}")
+
+
+def test_keys_that_name_no_group_are_of_any(folder):
+    """As those are that no tool of this repository made."""
+    write_keys(folder, 1)
+    keys = json.loads(read(folder, "keys-1"))
+    genesis = {it: json.loads(read(folder, "group.json"))[it] for it in ("members", "faults", "opening")}
+    put(folder, "genesis", json.dumps(genesis))
+    same(desk_of(folder, "genesis"), (2, "", OTHER_GROUP), "keys that name a group, where the genesis is no group's")
+    answered, digest = (0, "front 0 0 0 0\n", ""), keys.pop("digest")
+    for given in (keys, {**keys, "digest": 7}):
+        put(folder, "keys-any", json.dumps(given))
+        for name in ("genesis", "group.json"):
+            same(desk_of(folder, name, "keys-any"), answered, f"{name} and keys with {given.get('digest')}")
+    for wrong in ("", digest[:-1], f"{digest}0", digest.upper() if digest.upper() != digest else "0" * 16):
+        put(folder, "keys-1", json.dumps({**keys, "digest": wrong}))
+        same(desk_of(folder, "group.json"), (2, "", OTHER_GROUP), f"keys with {wrong!r}")
+
+
+class Recorded(Server):
+    """Sends those who dial a member what it once sent, and counts how often they left."""
+
+    def __init__(self, port, text):
+        super().__init__(None, port, meet=self.serve)
+        self.text, self.left = text, 0
+
+    def serve(self, stream):
         with contextlib.suppress(OSError):
-            while True:
-                near, _ = self.listener.accept()
-                self.streams.append(near)
-                if self.to is None:
-                    self.answer(near)
-                    continue
-                try:
-                    far = socket.create_connection(("127.0.0.1", self.to))
-                except OSError:
-                    # (nobody listens there yet: the one that dialed dials again)
-                    ended(near)
-                    continue
-                self.streams.append(far)
-                for ends in ((near, far, False), (far, near, True)):
-                    threading.Thread(target=self.carry, args=ends, daemon=True).start()
-
-    def answer(self, stream):
-        """Sends what was recorded, and waits until the other one leaves."""
-        with contextlib.suppress(OSError):
-            stream.sendall(self.recorded)
+            stream.sendall(self.text)
             while stream.recv(65536):
                 pass
         self.left += 1
 
-    def carry(self, source, sink, is_recorded):
-        with contextlib.suppress(OSError):
-            while piece := source.recv(65536):
-                if is_recorded:
-                    self.recorded += piece
-                sink.sendall(piece)
-
-
-def frames_in(stream):
-    count = at = 0
-    while at < len(stream):
-        count, at = count + 1, at + 2 + int.from_bytes(stream[at : at + 2], "big")
-    return count
-
-
-def recorded_group(folder):
-    """What member 1 read from each of its peers, while member 0 paid it 30."""
-    with contextlib.ExitStack() as stack:
-        ports, found = json.loads(read(folder, "group.json"))["ports"], {}
-        tunneled = [port if own == 1 else it for own, (port, it) in enumerate(zip(ports, free_ports(MEMBERS)))]
-        write_json(folder, "tunneled", {"ports": tunneled})
-        for own in range(MEMBERS):
-            write_keys(folder, own)
-            if own != 1:
-                found[own] = Tunnel(tunneled[own], ports[own])
-                stack.callback(found[own].close)
-        ports_of = {1: "tunneled"}
-        nodes = {own: Node(own, folder, ports_of.get(own, "group.json")) for own in range(MEMBERS)}
-        for node in nodes.values():
-            stack.callback(node.kill)
-        same(nodes[0].ask("PAY 1 1 30"), "asked 1 seq 0", "a payment of the first group")
-        until(nodes[1].front, [1, 0, 0, 0], of="the front of member 1")
-        # (each of the three sends an ECHO and a READY; a node leaves a stream at a frame that isn't the next one)
-        until(lambda: [frames_in(it.recorded) >= 2 for it in found.values()], 3 * [True], of="whether enough came")
-        return {own: bytes(it.recorded) for own, it in found.items()}
-
 
 @contextlib.contextmanager
 def replayed(folder, recorded):
-    """Member 1 alone, whose tunnels answer with what was recorded."""
+    """Member 1 alone, whose peers send what was recorded."""
     with contextlib.ExitStack() as stack:
         ports = free_ports(MEMBERS)
         write_json(folder, "replayed", {"ports": ports})
-        tunnels = [Tunnel(ports[own], recorded=text) for own, text in recorded.items()]
-        for tunnel in tunnels:
-            stack.callback(tunnel.close)
+        peers = [stack.enter_context(Recorded(ports[peer], text)) for peer, text in recorded.items()]
         node = Node(1, folder, "replayed", ["--dials", "always"])
         stack.callback(node.kill)
-        yield node, tunnels
+        yield node, peers
 
 
-def test_what_was_recorded_of_a_group_opens_nothing_of_the_next():
+def test_what_was_recorded_of_a_group_opens_nothing_of_the_next(folder):
     """The same members, secrets and openings, and another `group`. With the first group's keys it is settled again."""
-    with set_up() as folder:
-        os.symlink("group.json", os.path.join(folder, "genesis"))
-        recorded = recorded_group(folder)
-        with replayed(folder, recorded) as (node, _):
-            until(node.front, [1, 0, 0, 0], of="the front of member 1 in a group with the same keys")
-        group = json.loads(read(folder, "group.json"))
-        put(folder, "next.json", json.dumps({**group, "group": f"{1:064x}"}))
-        write_keys(folder, 1, "next.json")
-        with replayed(folder, recorded) as (node, tunnels):
-            until(lambda: [it.left > 0 for it in tunnels], [True] * 3, of="whether the node left each tunnel")
-            same((node.front(), node.news()), ([0, 0, 0, 0], []), "what is settled of it, and met")
+    os.symlink("group.json", os.path.join(folder, "genesis"))
+    write_keys(folder, 1)
+    keys, recorded = json.loads(read(folder, "keys-1"))["keys"], {}
+    for peer in (0, 2, 3):
+        kinds = ([SEND] if peer == 0 else []) + [ECHO, READY]
+        key = bytes.fromhex(keys[peer])
+        frames = [frame(kind, peer, 1, at, value=payment(1, 30), key=key) for at, kind in enumerate(kinds)]
+        recorded[peer] = b"".join(frames)
+    with replayed(folder, recorded) as (node, _):
+        until(node.front, [1, 0, 0, 0], of="the front of member 1 in a group with the same keys")
+    group = json.loads(read(folder, "group.json"))
+    put(folder, "next.json", json.dumps({**group, "group": f"{1:064x}"}))
+    os.unlink(os.path.join(folder, "genesis"))
+    os.symlink("next.json", os.path.join(folder, "genesis"))
+    write_keys(folder, 1, "next.json")
+    with replayed(folder, recorded) as (node, peers):
+        until(lambda: [it.left > 0 for it in peers], [True] * 3, of="whether the node left each peer")
+        same((node.front(), node.news()), ([0, 0, 0, 0], []), "what is settled of it, and met")

@@ -9,15 +9,14 @@ import audits
 import desks
 from frames import SEND, frame
 from hostile import MEMORY, MOST_READS, MOST_TRIES
-from nodes import free_ports, write_json
-from runs import EXAMPLE_GENESIS, GENESIS, TOP, example_keys, key_texts, run, same
+from nodes import write_json, write_member
+from runs import EXAMPLE_GENESIS, GENESIS, TOP, example_keys, read_bytes, run, same
 from scripts import WORKED, script_of
 
 def streams():
     """Words of a command and its input."""
     files = ["--genesis", EXAMPLE_GENESIS, "--keys", example_keys(1)]
-    with open(os.path.join(TOP, "examples", "frames.bin"), "rb") as frames:
-        yield ["check", *files], frames.read()
+    yield ["check", *files], read_bytes(os.path.join(TOP, "examples", "frames.bin"))
     for name, world, commands, _, _ in WORKED:
         if name in ("plain payment", "split vote settles", "circular debts", "a forged frame", "no such command"):
             yield ["sim"], script_of(world, commands)
@@ -77,14 +76,10 @@ def test_each_growth_of_a_desk_refused(library):
 
 def test_each_growth_of_a_node_refused(library):
     """A node without peers, whose threads grow in any order: nothing but its answers, its export, and Memory."""
-    genesis = {"members": 4, "faults": 1, "opening": GENESIS["opening"]}
-    write_json(library.place.name, "g", genesis)
-    write_json(library.place.name, "k", {"own": 0, "keys": key_texts(0)})
-    write_json(library.place.name, "p", {"ports": free_ports(4)})
-    words = ["node", "--genesis", "g", "--keys", "k", "--ports", "p"]
+    words = write_member(library.place.name)
     lines = ["PAY 7 1 30", "PAY 7 1 30", "FRONT"]
     stream = "".join(f"{line}\n" for line in lines).encode()
-    ample = run_ample(library, words, stream)
+    ample = library.run(words, stream)[0]
     same(ample[0], 0, f"{ample}")
     unjudged = 0
     for place in range(1, 400):
@@ -113,19 +108,20 @@ def test_each_growth_of_a_node_refused(library):
     raise AssertionError("no end of growths")
 
 
-def run_ample(library, words, stream):
-    return library.run(words, stream)[0]
+def each_fails(library, call, fault, **more):
+    """Each of a run's calls fails, which ends it with this fault behind what was written before."""
+    for words, stream in streams():
+        ample = run(words, stream)
+        for size in ({"read_size": it} for it in (len(stream), 40)) if call == "read" else [more]:
+            # (a script or a stream may end before its input does, and a read that it doesn't make can't fail)
+            for place, was in library.each(words, stream, call, **size):
+                status, text, errors = was
+                same((status, errors), (3, f"payd: engine {fault}\n"), f"{words}, {call} {place} {size}: {was}")
+                same(ample[1].startswith(text), True, f"{words}, {call} {place}: a prefix")
 
 
 def test_each_read_fails(library):
-    for words, stream in streams():
-        ample = run(words, stream)
-        for size in (len(stream), 40):
-            # (a script or a stream may end before its input does, and a read that it doesn't make can't fail)
-            for place, was in library.each(words, stream, "read", read_size=size):
-                status, text, errors = was
-                same((status, errors), (3, "payd: engine 2 Read\n"), f"{words}, read {place}: {was}")
-                same(ample[1].startswith(text), True, f"{words}, read {place}: a prefix")
+    each_fails(library, "read", "2 Read")
 
 
 def test_an_interrupted_read_is_tried_again(library):
@@ -136,13 +132,8 @@ def test_an_interrupted_read_is_tried_again(library):
 
 
 def test_each_write_fails_or_takes_nothing(library):
-    for words, stream in streams():
-        ample = run(words, stream)
-        for more in ({}, {"write_takes_nothing": 1}, {"write_size": 30}):
-            for place, was in library.each(words, stream, "write", **more):
-                status, text, errors = was
-                same((status, errors), (3, "payd: engine 3 Write\n"), f"{words}, write {place} {more}: {was}")
-                same(ample[1].startswith(text), True, f"{words}, write {place}: a prefix")
+    for more in ({}, {"write_takes_nothing": 1}, {"write_size": 30}):
+        each_fails(library, "write", "3 Write", **more)
 
 
 def test_a_byte_at_a_time(library):

@@ -10,7 +10,7 @@ import json
 import time
 
 import audits
-from crowds import Crowd
+from many_peers import Crowd
 from frames import payment
 from hostile import MEMORY
 from nodes import PATIENCE, Ended, Node, audited, compact, free_ports, write_json

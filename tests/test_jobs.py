@@ -5,28 +5,35 @@ import random
 import subprocess
 import tempfile
 
+from advices import told_plainly
 from damage import check
-from frames import ECHO, READY, SEND, WANT, frame
-from runs import PIECE, SECONDS, TOP, is_refused, payd, run, run_within, same, shows
+from frames import ECHO, READY, SEND, WANT, frame, payment, payments
+from runs import PIECE, SECONDS, TOP, is_refused, payd, read_bytes, run, run_within, same, shows
 
 EACH = range(1, 9)
 
 
-def run_from_file(stream, jobs):
+def run_from_file(stream, jobs, *more):
     """As run, with the stream in a file, so that one read gives up to 1 MiB of it."""
     with tempfile.TemporaryFile() as file:
         file.write(stream)
         file.seek(0)
-        words = [payd(), "check", "--jobs", str(jobs)]
+        words = [payd(), "check", "--jobs", str(jobs), *more]
         done = subprocess.run(words, stdin=file, capture_output=True, timeout=SECONDS)
-    return done.returncode, done.stdout.decode("ascii"), done.stderr.decode()
+    return done.returncode, done.stdout.decode("ascii"), told_plainly(done.stderr.decode())
 
 
 def each_judges(stream, of):
     """With each number of threads the text is the model's."""
-    wanted = check(stream)
+    wanted, with_values = check(stream), check(stream, tells_values=True)
     for jobs in EACH:
         same(run_from_file(stream, jobs) == wanted, True, f"{of}, {jobs} jobs")
+        same(run_from_file(stream, jobs, "--values") == with_values, True, f"{of}, {jobs} jobs, values too")
+
+
+# Values that pay or may; an empty one stands for bytes that are drawn, as many as one of these.
+PAYMENTS = [*4 * [b""], payment(0, 7), payment(2, 0), payments([(1, 30), (2, 20)]), payments([(0, 1), (3, 5), (2, 2)])]
+SIZES = [0, 11, 1024, 1024]
 
 
 def drawn(seed, count):
@@ -42,7 +49,7 @@ def drawn(seed, count):
             stream.append(frame(WANT, sender, 1, number))
             continue
         number = max(0, number - 1) if way < 0.2 else number + 1 if way < 0.3 else number
-        value = bytes(seeded.randrange(256) for _ in range(seeded.choice([0, 11, 11, 1024])))
+        value = seeded.choice(PAYMENTS) or bytes(seeded.randrange(256) for _ in range(seeded.choice(SIZES)))
         made = frame(seeded.choice([SEND, ECHO, READY]), sender, 1, number, owner=sender, seq=7, value=value)
         if way > 0.9:
             made = made[:-1] + bytes([made[-1] ^ 1])
@@ -72,15 +79,16 @@ def test_frames_of_each_size_are_shared_out():
 
 
 def test_examples_are_the_same_with_each():
-    with open(os.path.join(TOP, "examples", "frames.bin"), "rb") as file:
-        stream = file.read()
+    stream = read_bytes(os.path.join(TOP, "examples", "frames.bin"))
     for jobs in EACH:
         same(run(["check", "--jobs", str(jobs)], stream), run([], stream), f"{jobs} jobs")
 
 
 def test_count_of_jobs_is_named():
-    for word in ("0", "9", "-1", "", "two", "1.5", "18446744073709551617"):
-        shows(run(["check", f"--jobs={word}"]), 2, "", f"payd: jobs {word}: no count from 1 to 8\n", of=f"{word!r}")
+    for words in (["check"], ["audit", "gone"]):
+        for word in ("0", "9", "-1", "", "two", "1.5", "18446744073709551617"):
+            said = f"payd: jobs {word}: no count from 1 to 8\n"
+            shows(run([*words, f"--jobs={word}"]), 2, "", said, of=f"{words} {word!r}")
 
 
 def test_refused_memory_ends_in_a_beginning():

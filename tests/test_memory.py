@@ -1,10 +1,15 @@
 """Black-box tests of runs that are refused memory."""
 
+import contextlib
 import json
 import os
 import tempfile
+import time
 
+from frames import SEND, frame
 from model import play
+from nodes import PATIENCE, Group, Node
+from peers import Server
 from runs import EXAMPLE_GENESIS, GENESIS, PIECE, example_keys, is_refused, run_within, same
 
 # More memory, and more again.
@@ -63,3 +68,42 @@ def test_refused_memory_loses_no_payment():
         if not is_refused(status, errors):
             same((status, len(answers), errors), (0, len(lines), ""), f"within {memory}")
     same((refusals > 0, len(asked)), (True, len(lines)), "some refused, and none with the most")
+
+
+class Filling(Server):
+    """A member that sends long values as fast as they are taken."""
+
+    MOST, AT_ONCE = 65536, 256
+
+    def meet(self, stream, peer, number):
+        for first in range(number, self.MOST, self.AT_ONCE):
+            some, value = range(first, first + self.AT_ONCE), bytes(1024)
+            words = {"owner": self.own, "value": value}
+            stream.sendall(b"".join(frame(SEND, self.own, peer, it, seq=it % self.MOST, **words) for it in some))
+            with contextlib.suppress(BlockingIOError):
+                stream.setblocking(False)
+                while stream.recv(65536):
+                    pass
+            stream.settimeout(60)
+
+
+def limited(group, limit):
+    """The node of member 0, which stays, behind the words that limit it."""
+    options = ["--data", "kept", "--stay", "--dials", "always"]
+    node = Node(0, group.place.name, options=options, prefix=limit)
+    node.end_input()
+    return node
+
+
+def test_memory_that_stays_refused_ends_a_node():
+    """It can take nothing more, perhaps not even dial anew: it says so, and ends by itself."""
+    limit = ["sh", "-c", 'ulimit -v 220000 && exec "$@"', "sh"]
+    with Group(GENESIS["opening"], running=[]) as group, Filling(1, group.ports[1]):
+        begun = time.monotonic()
+        group.nodes[0] = node = limited(group, limit)
+        status, output, errors = node.end()
+        took = time.monotonic() - begun
+        same((status, output), (3, ""), f"its end with {errors!r}")
+        same("payd: memory was refused for 5 seconds on end\n" in errors, True, f"what it says: {errors!r}")
+        same(errors.endswith("payd: engine 0 Memory\n"), True, f"how it ends: {errors!r}")
+        same(5 <= took < PATIENCE, True, f"it ended after {took} s")

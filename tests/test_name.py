@@ -18,7 +18,6 @@ SAME_IN_SEVERAL = {
     "end_of_line": "the end of a line, in crates that don't know each other",
     "if_last": "what is asked for where no word is left, in crates that don't know each other",
     "is_want": "whether a kind is a WANT, in the words of each crate's cases",
-    "payment_or_void": "an entry as words, in crates that don't know each other",
 }
 
 # Participles that are the book's terms for what a process did, and calls that give just that.

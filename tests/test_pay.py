@@ -1,9 +1,11 @@
 """Black-box tests of payd pay, payd status and payd follow, with nodes that run."""
 
+import datetime
 import fcntl
 import json
 import os
 import pty
+import re
 import select
 import signal
 import socket
@@ -15,21 +17,21 @@ from clients import Client
 from nodes import PATIENCE, Node, until, write_json
 from payers import PAY, pay, payments_are_killed
 from restarts import Folders
-from runs import SECONDS, TOP, same, shows
+from runs import SECONDS, TOP, call, payd, same, shows
+
+from times import TimesFile, text_of, times_path
 
 OPENING = [100, 0, 0, 50]
 NAMES = ["Ada", "Bo", "Cy", "2"]
+# What stands before a line of payd follow.
+MOMENT = re.compile(r"20\d\d-\d\d-\d\dT\d\d:\d\d:\d\dZ|-")
 
 
 class Named(Folders):
-    """A group whose members have its file in their folders."""
+    """A group whose file has names."""
 
-    def __enter__(self):
-        super().__enter__()
-        parts = {"members": self.members, "faults": self.faults, "opening": self.opening, "names": NAMES}
-        for own in self.nodes:
-            write_json(self.folder(own), "group.json", parts)
-        return self
+    def genesis(self):
+        return {**super().genesis(), "names": NAMES}
 
     def folder(self, own):
         return os.path.join(self.place.name, f"data-{own}")
@@ -37,8 +39,7 @@ class Named(Folders):
 
 def tool(name, folder, *words):
     words = [os.path.join(TOP, "tools", name), "--data", folder, *words]
-    done = subprocess.run(words, stdin=subprocess.DEVNULL, capture_output=True, text=True, timeout=SECONDS)
-    return done.returncode, done.stdout, done.stderr
+    return call(words)
 
 
 # ---- paying
@@ -58,6 +59,31 @@ def test_payment_by_name_settles():
             shows(pay(folder, "--yes", "--order", "a b", *words), 1, "", said, of="another payment for the order")
         same(pay(folder, "--yes", "Bo", "1")[0], 0, "a payment without an order")
         group.settle([2, 0, 0, 0], [69, 31, 0, 50])
+
+
+def test_payment_with_a_note():
+    """Behind the payment, once, and kept with the order."""
+    with Named(OPENING) as group:
+        folder, words = group.folder(0), ("--yes", "--order", "17")
+        said = "settled: 30 to Bo, order 17, seq 0, note seq 1\n"
+        shows(pay(folder, *words, "--note", "order 17: grüße", "Bo", "30"), 0, said)
+        again = "payd pay: order 17 was given before: it is one payment\n"
+        for more in ((), ("--note", "order 17: grüße")):
+            same(pay(folder, *words, *more, "Bo", "30"), (0, said, again), f"the order again: {more}")
+        why = "payd pay: order 17 has another note: order 17: grüße\n"
+        shows(pay(folder, *words, "--note", "order 18", "Bo", "30"), 1, "", why, of="another note")
+        same(pay(folder, "--yes", "--order", "18", "Bo", "1")[1], "settled: 1 to Bo, order 18, seq 2\n", "no note")
+        why = "payd pay: order 18 has no note\n"
+        shows(pay(folder, "--yes", "--order", "18", "--note", "x", "Bo", "1"), 1, "", why, of="a note later")
+        told = {"order": "19", "to": 1, "amount": 2, "seq": 3, "state": "settled", "again": False, "note": 4}
+        note = 989 * "x"
+        words = ("--json", "--yes", "--order", "19", "--note", note, "Bo", "2")
+        same(json.loads(pay(folder, *words)[1]), told, "a long one, for a script")
+        group.settle([5, 0, 0, 0], [67, 33, 0, 50])
+        lines = ["out 0 to 1 30", "void 1", "out 2 to 1 1", "out 3 to 1 2", "void 4", "end 0 balance 67"]
+        same(group.nodes[2].statement(0), lines, "what another member tells")
+        notes = [bytes.fromhex(it) for it in json.loads(group.stop()[2])["lists"][0][1::3]]
+        same(notes, [b"\x03" + it.encode() for it in ("seq 0 order 17: grüße", f"seq 3 {note}")], "what is said")
 
 
 def test_two_calls_for_one_order_pay_once():
@@ -113,6 +139,10 @@ def test_words_of_a_payment():
             (["--yes", "4", "1"], "4: there is no such account"),
             (["--yes", "2", "1"], "2: accounts 2 and 3 may be meant"),
             (["--yes", "--order", "a\nb", "Bo", "1"], "an order is a text that can be printed"),
+            (["--yes", "--note", "", "Bo", "1"], "a note is a text of at most 989 bytes in UTF-8"),
+            (["--yes", "--note", 990 * "x", "Bo", "1"], "a note is a text of at most 989 bytes in UTF-8"),
+            (["--yes", "--note", "a\tb", "Bo", "1"], "without control characters"),
+            (["--yes", "--note", b"\xff", "Bo", "1"], "a note is a text of at most 989 bytes in UTF-8"),
             (["Bo", "1"], "there is no terminal to ask at: --yes pays without"),
             (["--yes", "--keys", f"{group.place.name}/keys-1", "Bo", "1"], "that of 0"),
             (["--yes", "--group", f"{TOP}/vectors/none", "Bo", "1"], "No such file or directory"),
@@ -224,11 +254,12 @@ def orders_in(folder):
 
 
 class Between(threading.Thread):
-    """A socket before a node's, where a payment's answer is lost: which orders were kept when its line came."""
+    """A socket before a node's, where the answer to a line of this name is lost: which orders were kept when that of a
+    payment came."""
 
-    def __init__(self, folder):
+    def __init__(self, folder, lost):
         super().__init__(daemon=True)
-        self.folder, self.path, self.seen = folder, os.path.join(folder, "between"), None
+        self.folder, self.path, self.lost, self.seen = folder, os.path.join(folder, "between"), lost, None
         self.listens = socket.socket(socket.AF_UNIX)
         self.listens.bind(self.path)
         self.listens.listen()
@@ -240,6 +271,7 @@ class Between(threading.Thread):
                 answer = node.ask(line[:-1])
                 if line.startswith("PAY "):
                     self.seen = line[:-1] in orders_in(self.folder)
+                if line.startswith(f"{self.lost} "):
                     break
                 client.sendall(f"{answer}\n".encode())
         node.close()
@@ -249,13 +281,24 @@ def test_order_is_kept_before_the_node_is_asked():
     """So it is paid once, though the answer is lost."""
     with Named(OPENING) as group:
         folder, words = group.folder(0), ["--yes", "--order", "x", "Bo", "30"]
-        between = Between(folder)
+        between = Between(folder, "PAY")
         between.start()
         status, output, errors = pay(folder, "--socket", between.path, *words)
         same((status, output, "--order x goes on with it, and pays once" in errors), (3, "", True), errors)
         same(between.seen, True, "whether the order was kept before")
         same(pay(folder, *words)[:2], (0, "settled: 30 to Bo, order x, seq 0\n"), "the order again")
         group.settle([1, 0, 0, 0], [70, 30, 0, 50])
+
+
+def test_note_whose_answer_is_lost_is_said_once():
+    with Named(OPENING) as group:
+        folder, words = group.folder(0), ["--yes", "--order", "x", "--note", "two cups", "Bo", "30"]
+        between = Between(folder, "NOTE")
+        between.start()
+        status, output, errors = pay(folder, "--socket", between.path, *words)
+        same((status, output, "--order x goes on with it, and pays once" in errors), (3, "", True), errors)
+        same(pay(folder, *words)[:2], (0, "settled: 30 to Bo, order x, seq 0, note seq 1\n"), "the order again")
+        group.settle([2, 0, 0, 0], [70, 30, 0, 50])
 
 
 def test_payments_that_are_killed_pay_once():
@@ -270,6 +313,7 @@ def first_line(folder):
 
 
 def test_status_at_a_glance():
+    begun = now()
     with Named(OPENING) as group:
         folder = group.folder(0)
         until(lambda: first_line(folder), "well", of="a member that meets all")
@@ -279,11 +323,22 @@ def test_status_at_a_glance():
         lines = output.splitlines()
         same(lines[1].startswith("member 0 Ada of 4, genesis "), True, output)
         wanted = ["balance 70, free 70", "waiting 0", "values left 65535 of 65536", "peers met 3, lost 0"]
-        same(lines[2:6], wanted, output)
+        same([*lines[2:4], *lines[5:7]], wanted, output)
+        names = enumerate(NAMES[1:], 1)
+        for line, (own, name) in zip(lines[7:10], names):
+            same(re.fullmatch(rf"  peer {own} {name}: met, heard \d+ seconds ago", line) is not None, True, output)
+        said = re.compile(r"settled 1, the last by 20\d\d-\d\d-\d\dT\d\d:\d\d:\d\dZ")
+        until(lambda: bool(said.fullmatch(tool("status", folder)[1].splitlines()[4])), True, of="when it settled")
         told = json.loads(tool("status", folder, "--json")[1])
         parts = {"well": True, "attention": [], "member": 0, "name": "Ada", "balance": 70, "free": 70, "waiting": []}
         same({name: told[name] for name in parts}, parts, "the same for a script")
-        same(told["log_bytes"] >= 148 and told["values_left"] == 65535, True, f"{told}")
+        same((told["settled"], told["last_settled"]), (1, in_words(group, 0)), "when it settled")
+        same(told["log_bytes"] >= 148 and (told["values_used"], told["values_left"]) == (1, 65535), True, f"{told}")
+        same((told["version"], begun <= told["began"] <= now()), ("0.1.0", True), "the node")
+        kind = os.path.basename(payd())
+        same(told["proved"], {"proved": True, "compiled": False}.get(kind), f"whether {kind} is proved")
+        proof = {True: ", proved", False: ", not proved", None: ""}[told["proved"]]
+        same(f"running since {told['began']}, version 0.1.0{proof}" in lines, True, output)
         group.kill(1)
         until(lambda: first_line(folder), "attention: 2 of 3 peers are met", of="a member that lost a peer")
         same(tool("status", folder)[0], 1, "its status")
@@ -294,12 +349,79 @@ def test_status_at_a_glance():
         same("start the node\nmember 0 Ada, genesis " in output, True, output)
 
 
+def test_a_folder_that_others_may_write_is_refused():
+    """Its desk might be another's, whatever tool asks it."""
+    with Named(OPENING, running=[0]) as group:
+        folder = group.folder(0)
+        for mode in (0o720, 0o702, 0o777):
+            os.chmod(folder, mode)
+            said = f"{folder}: others may write in it: chmod go-w {folder}\n"
+            shows(pay(folder, "--yes", "Bo", "30"), 2, "", f"payd pay: {said}", of=f"a payment at {mode:o}")
+            shows(tool("status", folder), 2, "", f"payd status: {said}", of=f"the status at {mode:o}")
+            shows(tool("follow", folder), 2, "", f"payd follow: {said}", of=f"payments at {mode:o}")
+            shows(tool("desk-page", folder), 1, "", f"payd desk-page: {said}", of=f"the page at {mode:o}")
+        os.chmod(folder, 0o755)
+        same(tool("status", folder)[0], 1, "the status where others may read")
+        same(group.nodes[0].lines_of("WAITING 0"), ["end 0 short 0"], "what was asked for")
+
+
 # ---- following
+
+
+def in_words(group, account, index=0):
+    """When this entry settled, by the file of member 0."""
+    return text_of(TimesFile(times_path(group.folder(0))).known().when(account, index))
 
 
 def follow(group, own, *words):
     command = [os.path.join(TOP, "tools", "follow"), "--data", group.folder(own), *words]
     return Node(own, group.place.name, command=command)
+
+
+def now():
+    return text_of(datetime.datetime.now(datetime.timezone.utc))
+
+
+def line_of(follower, wanted, of):
+    """The time that stands before the next line, which is the wanted one."""
+    moment, _, line = follower.line().partition(" ")
+    same((line, bool(MOMENT.fullmatch(moment))), (wanted, True), of)
+    return moment
+
+
+def test_notes_are_followed():
+    with Named(OPENING) as group:
+        same(group.nodes[0].ask("NOTE 1 für 17 €\u202e"), "asked 1 seq 0", "a note")
+        group.settle([1, 0, 0, 0])
+        followers = [follow(group, own, "--from", "0", *words) for own, words in ((0, []), (1, ["--all", "--json"]))]
+        try:
+            line_of(followers[0], "Ada said: für 17 €\\u202e, seq 0 entry 0", "a line, in which nothing hides")
+            told = json.loads(followers[1].line())
+            same((told["to"], told["amount"], told["note"]), (None, None, "für 17 €\u202e"), "the same for a script")
+        finally:
+            for it in followers:
+                it.kill()
+
+
+def test_follow_has_the_times_of_the_nodes_file():
+    with Named(OPENING) as group:
+        for seq in range(2):
+            group.pay(0, seq, 1, 1, seq)
+            group.settle([seq + 1, 0, 0, 0])
+            until(lambda: in_words(group, 0, seq) is not None, True, of="the time")
+        follower = follow(group, 0, "--from", "0")
+        try:
+            for seq in range(2):
+                moment = line_of(follower, f"Ada paid 1 to Bo, seq {seq} entry {seq}", "a line")
+                same(moment, in_words(group, 0, seq), "its time")
+        finally:
+            follower.kill()
+        os.unlink(times_path(group.folder(0)))
+        follower = follow(group, 0, "--from", "0", "--json")
+        try:
+            same(json.loads(follower.line())["time"], None, "the time that no file tells")
+        finally:
+            follower.kill()
 
 
 def test_payments_are_followed_behind_a_restart():
@@ -309,8 +431,9 @@ def test_payments_are_followed_behind_a_restart():
         followers = [follow(group, 1, *it) for it in (["--from", "0"], ["--from", "0,0,0,0", "--all", "--json"])]
         own, every = followers
         try:
-            same(own.line(), "Ada paid 30 to Bo, seq 0 entry 0", "what was there")
-            first = {"account": 0, "entry": 0, "seq": 0, "to": 1, "amount": 30}
+            moment = line_of(own, "Ada paid 30 to Bo, seq 0 entry 0", "what was there")
+            first = {"account": 0, "entry": 0, "seq": 0, "to": 1, "amount": 30, "note": None}
+            first["time"] = None if moment == "-" else moment
             same(json.loads(every.line()), first, "the same for a script")
             group.kill(1)
             for it in followers:
@@ -321,12 +444,15 @@ def test_payments_are_followed_behind_a_restart():
             group.start(1)
             group.pay(1, 1, 2, 4, 0)
             group.settle([1, 1, 0, 1])
-            same(own.line(), "Bo paid 4 to Cy, seq 0 entry 0", "what came behind the restart")
+            begun = now()
+            line_of(own, "Bo paid 4 to Cy, seq 0 entry 0", "what came behind the restart")
             group.pay(1, 2, 2, 1, 1)
-            same(own.line(), "Bo paid 1 to Cy, seq 1 entry 1", "what came then")
+            moment = line_of(own, "Bo paid 1 to Cy, seq 1 entry 1", "what came then")
+            same(begun <= moment <= now(), True, f"when it came: {moment} behind {begun}")
             lines = [json.loads(every.line()) for _ in range(3)]
-            parts = (1, 0, 2, 4), (1, 1, 2, 1), (3, 0, 0, 5)
-            wanted = [{"account": it[0], "entry": it[1], "seq": it[1], "to": it[2], "amount": it[3]} for it in parts]
+            same([it.pop("time") is not None for it in lines], [True] * 3, "whether they have times")
+            parts = (1, 0, 0, 2, 4, None), (1, 1, 1, 2, 1, None), (3, 0, 0, 0, 5, None)
+            wanted = [dict(zip(("account", "entry", "seq", "to", "amount", "note"), it)) for it in parts]
             same(sorted(lines, key=lambda it: (it["account"], it["entry"])), wanted, "all that came")
             own.child.send_signal(signal.SIGINT)
             same(own.end(), (0, "", ""), "the end of one")
@@ -335,7 +461,7 @@ def test_payments_are_followed_behind_a_restart():
                 it.kill()
         again = follow(group, 1, "--from", "1,0,0,0", "--all")
         try:
-            same(again.line(), "Bo paid 4 to Cy, seq 0 entry 0", "from where another stopped")
+            line_of(again, "Bo paid 4 to Cy, seq 0 entry 0", "from where another stopped")
         finally:
             again.kill()
         for words in ("1,2", "x", "-1"):

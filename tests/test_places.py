@@ -1,20 +1,39 @@
 """Black-box tests of places: which of the connections that others dialed stand at a node, and which are given up."""
 
+import contextlib
+import select
+import threading
+import time
+
 from frames import WANT, frame
-from nodes import UNOPENED, Group, until, write_json
-from peers import GREATEST, Strangers, has_ended, received
+from nodes import UNOPENED, Group, free_ports, until
+from peers import Replays, Strangers, connected, has_ended, received
+from relay import Relayed, relays_at
 from runs import same
 
-# How many connections stand at a node at once, and how many of them are of one peer.
+# How many connections stand at a node at once.
 MOST_CONNECTIONS = 256
-MOST_OF_A_PEER = 2
 
 OPENING = [1000, 1000, 1000, 0]
+# How many seconds each byte takes by a tunnel, and how many replays come in one.
+DELAY = 0.03
+REPLAYS = 100
 
 
 def ended(streams):
     """The places in a list of those that were ended."""
     return [place for place, stream in enumerate(streams) if has_ended(stream)]
+
+
+def has_closed(stream):
+    """Whether the other ended a connection, whatever it sent before."""
+    try:
+        while select.select([stream], [], [], 0)[0]:
+            if not stream.recv(4096):
+                return True
+    except ConnectionResetError:
+        return True
+    return False
 
 
 def answered(strangers, stream, number):
@@ -29,28 +48,41 @@ def paid_node(group):
     return group.nodes[0]
 
 
-def paid_rounds(group, count, first=0):
-    """Each node pays the next one 1, so often, and all settles at all of them."""
-    running = sorted(group.nodes)
-    for seq in range(first, first + count):
-        for place, own in enumerate(running):
-            group.pay(own, seq, payee=running[(place + 1) % len(running)], amount=1, seq=seq)
-    group.settle([first + count if own in running else 0 for own in range(group.members)], group.opening)
-
-
-def test_a_third_connection_of_a_peer_ends_its_oldest():
+def test_no_old_want_ends_a_current_connection():
+    """However many come: of those that play one back the oldest go. One of a number that is new ends none at once."""
+    count = 400
     with Group(OPENING, running=[0]) as group, Strangers(3, 0, group.ports[0]) as strangers:
         paid_node(group)
-        first, second = strangers.dial(), strangers.dial()
-        for stream in (first, second):
-            same(answered(strangers, stream, 0), True, "one of two")
-        first.sendall(strangers.want(GREATEST))
-        third = strangers.dial()
-        same(ended([first, second]), [], "who ended before a WANT of the third")
-        same(answered(strangers, third, 0), True, "the third")
-        until(lambda: ended([first]), [0], of="the first is ended as it waits")
-        for stream in (second, third):
-            same(answered(strangers, stream, 1), True, "those that stand")
+        current = strangers.dial()
+        same(answered(strangers, current, 0), True, "the first")
+        for _ in range(count):
+            strangers.say(strangers.want(0))
+        others, left = strangers.streams[1:], count - (MOST_CONNECTIONS - 1)
+        until(lambda: sum(map(has_closed, others)), left, of="how many are ended of those that play back")
+        same(answered(strangers, current, 1), True, "the first, afterwards")
+        group.stop()
+
+
+# For how many seconds a connection may ask for nothing new, and how many more a busy machine may take.
+QUIET, LATER = 120, 40
+
+
+def test_quiet_connections_are_given_up_for_others_of_their_peers():
+    """A peer that hears nothing for a minute dials anew, and the node can't see that the former connection is over. The
+    current one stays, and the last of the others; so of those that are nobody's."""
+    with Group(OPENING, running=[0]) as group, Strangers(3, 0, group.ports[0]) as strangers:
+        paid_node(group)
+        begun = time.monotonic()
+        for _ in range(4):
+            same(answered(strangers, strangers.dial(), 0), True, "a WANT")
+        for _ in range(3):
+            strangers.dial()
+        while len(ended(strangers.streams)) < 4 and time.monotonic() < begun + QUIET + LATER:
+            time.sleep(1)
+        took = time.monotonic() - begun
+        same((ended(strangers.streams), took > QUIET), ([1, 2, 4, 5], True), f"who is ended, after {took} s")
+        same(answered(strangers, strangers.streams[0], 1), True, "the current one, afterwards")
+        same(answered(strangers, strangers.streams[3], 1), True, "the other one, afterwards")
         group.stop()
 
 
@@ -59,27 +91,41 @@ def test_frames_that_do_not_open_are_told_of_once():
     with Group(OPENING, running=[0]) as group, Strangers(3, 0, group.ports[0]) as strangers:
         node = paid_node(group)
         stream = strangers.dial()
-        for text in (strangers.want(0, key=32 * b"x"), strangers.want(1, key=32 * b"y"), frame(WANT, 2, 1, 0)):
-            stream.sendall(text)
-        same(answered(strangers, stream, 0), True, "a WANT that opens")
-        same(answered(strangers, strangers.dial(), 1), True, "another connection")
-        strangers.dial().sendall(strangers.want(0, key=32 * b"x"))
-        until(lambda: [it for it in node.news() if it[0] == 3], [(3, UNOPENED), (3, "met")], of="what is said of 3")
+        stream.sendall(frame(WANT, 2, 1, 0))
+        same(answered(strangers, stream, 0), True, "a WANT that opens, behind one for another")
+        for key in (32 * b"x", 32 * b"y"):
+            stream = strangers.dial()
+            stream.sendall(strangers.want(0))
+            stream.sendall(strangers.want(1, key=key) + strangers.want(1))
+            same(received(stream) is not None, True, "what comes before a wrong tag")
+            same(received(stream), None, "what comes behind it")
+        until(lambda: [it for it in node.news() if it[0] == 3], [(3, "met"), (3, UNOPENED)], of="what is said of 3")
         group.stop()
         same([it for it in node.news() if it[0] != 3 and it[1] == UNOPENED], [], "what is said of the others")
         same(node.news().count((3, UNOPENED)), 1, "how often")
 
 
-def test_members_of_two_groups_say_so():
-    """Each of two nodes with other keys for the pair says it of the other, and neither meets it."""
-    with Group(OPENING[:2], running=[], options=["--dials", "always"]) as group:
-        write_json(group.place.name, "keys-1", {"own": 1, "keys": [64 * "a", ""]})
-        for own in range(2):
-            group.start(own)
-        for own in range(2):
-            until(lambda own=own: group.nodes[own].news(), [(1 - own, UNOPENED)], of=f"what {own} says")
-        for own in range(2):
-            same(group.nodes.pop(own).stop()[0], 0, f"the end of {own}")
+def test_wrong_tags_cost_little():
+    """Four strangers send nothing else for two seconds: each is ended at its first, so no processor is busy with it."""
+    with Group(OPENING, running=[0]) as group, Strangers(3, 0, group.ports[0]) as strangers:
+        text, until_then = 500 * strangers.want(0, key=bytes(32)), time.monotonic() + 2
+        threads = [threading.Thread(target=sent_for_long, args=(strangers.dial(), text, until_then)) for _ in range(4)]
+        used = -group.nodes[0].processor_seconds()
+        for thread in threads:
+            thread.start()
+        for thread in threads:
+            thread.join()
+        used += group.nodes[0].processor_seconds()
+        same((used < 0.5, used), (True, used), "whether that many seconds of a processor are few")
+        same(ended(strangers.streams), list(range(4)), "who is ended")
+        group.stop()
+
+
+def sent_for_long(stream, text, until_then):
+    """Sends a text over and over as long as somebody takes it."""
+    with contextlib.suppress(OSError):
+        while time.monotonic() < until_then:
+            stream.sendall(text)
 
 
 def test_a_peer_dials_again_and_again():
@@ -99,7 +145,7 @@ def test_a_peer_dials_again_and_again():
 
 
 def test_strangers_make_place_first():
-    """Those of whom no WANT opened go, the oldest first; a peer keeps its two however many come."""
+    """Those of whom no WANT opened go, the oldest first; a peer keeps its current one and another."""
     count = 400
     with Group(OPENING, running=[0]) as group, Strangers(3, 0, group.ports[0]) as strangers:
         paid_node(group)
@@ -107,46 +153,84 @@ def test_strangers_make_place_first():
         for stream in peers:
             same(answered(strangers, stream, 0), True, "a peer")
         others = [strangers.dial() for _ in range(count)]
-        left = count - (MOST_CONNECTIONS - MOST_OF_A_PEER)
+        left = count - (MOST_CONNECTIONS - len(peers))
         until(lambda: ended(others), list(range(left)), of="the oldest strangers are ended")
         for stream in peers:
             same(answered(strangers, stream, 1), True, "a peer, afterwards")
-        # one of them turns out to be a peer's, and counts as that
+        # one of them turns out to be that peer's: then two wait of it, of which the older goes
         same(answered(strangers, others[-1], 0), True, "one that was a stranger")
-        until(lambda: ended(peers), [0], of="the peer's oldest is ended")
+        strangers.dial()
+        until(lambda: ended(peers), [1], of="the older one is ended that isn't current")
+        group.stop()
+
+
+@contextlib.contextmanager
+def beside_all():
+    """A group of which member 3 lies, and its connections to each of the others."""
+    with contextlib.ExitStack() as stack, Group(OPENING, running=[0, 1, 2]) as group:
+        liars = [stack.enter_context(Strangers(3, own, group.ports[own])) for own in group.nodes]
+        group.pay_around(range(1), paying=3)
+        yield group, liars
         group.stop()
 
 
 def test_a_liar_that_waits_120_times():
-    """All but two of its connections are ended at each node, and the others settle and stop as ever."""
-    with Group(OPENING, running=[0, 1, 2]) as group:
-        liars = [Strangers(3, own, group.ports[own]) for own in group.nodes]
-        try:
-            paid_rounds(group, 1)
-            for liar in liars:
-                liar.wait_for_ever(120)
-            for liar in liars:
-                until(lambda one=liar: len(ended(one.streams)), 118, of=f"those that node {liar.peer} gave up")
-            paid_rounds(group, 20, first=1)
-            group.stop()
-        finally:
-            for liar in liars:
-                liar.__exit__()
+    """All stand, for nobody else needs their places, and the others settle and stop as ever."""
+    with beside_all() as (group, liars):
+        for liar in liars:
+            liar.wait_for_ever(120)
+        group.pay_around(range(1, 21), paying=3)
+        for liar in liars:
+            same(ended(liar.streams), [], f"those that node {liar.peer} gave up")
 
 
 def test_strangers_120_times():
-    """They send nothing, half a WANT, or one that doesn't open: they keep their places, and nobody waits for them."""
-    with Group(OPENING, running=[0, 1, 2]) as group:
-        strangers = [Strangers(3, own, group.ports[own]) for own in group.nodes]
-        try:
-            paid_rounds(group, 1)
-            for one in strangers:
-                for place in range(120):
-                    one.say((b"", one.want(0)[:20], one.want(0, key=bytes(32)))[place % 3])
-            paid_rounds(group, 20, first=1)
-            for one in strangers:
-                same(ended(one.streams), [], f"whom node {one.peer} ended")
-            group.stop()
-        finally:
-            for one in strangers:
-                one.__exit__()
+    """They send nothing or half a WANT, and keep their places, and nobody waits for them; or one that doesn't open."""
+    with beside_all() as (group, strangers):
+        for one in strangers:
+            for place in range(120):
+                one.say((b"", one.want(0)[:20], one.want(0, key=bytes(32)))[place % 3])
+        group.pay_around(range(1, 21), paying=3)
+        for one in strangers:
+            until(lambda it=one: ended(it.streams), list(range(2, 120, 3)), of=f"whom node {one.peer} ended")
+
+
+# ---- WANTs that are played back
+
+
+class Tunneled(Relayed, Group):
+    """A group whose members dial each other by tunnels in which each byte takes a while."""
+
+    def __init__(self):
+        ports = free_ports(len(OPENING))
+        super().__init__(OPENING, ports=ports)
+        self.relays = relays_at(free_ports(len(OPENING)), ports, DELAY)
+
+
+def test_replays_lose_no_payment():
+    """Of the first WANTs of each peer, at each node: payments that are asked for one after the other settle."""
+    count = 15
+    with contextlib.ExitStack() as stack, Tunneled() as group:
+        for own, port in enumerate(group.ports):
+            texts = [frame(WANT, peer, own, number) for number in range(4) for peer in range(4) if peer != own]
+            replays = stack.enter_context(Replays(texts, port, REPLAYS))
+        # (long enough that all places are taken)
+        until(lambda: replays.count > 1.2 * MOST_CONNECTIONS, True, of="whether enough came")
+        for seq in range(count):
+            group.pay(0, seq, payee=1, amount=1, seq=seq)
+            until(lambda: group.nodes[0].front()[0], seq + 1, of="payments that have settled")
+        group.settle([count, 0, 0, 0])
+        group.stop()
+
+
+def test_a_peer_gets_through_replays():
+    """Of its own WANTs: each time that it dials anew, by a tunnel, it has two frames, one after the other."""
+    with Group(OPENING, running=[0]) as group:
+        paid_node(group)
+        [tunnel] = relays_at(free_ports(1), group.ports[:1], DELAY)
+        strangers = Strangers(3, 0, tunnel)
+        with Replays([strangers.want(number) for number in (0, 1)], group.ports[0], REPLAYS):
+            for again in range(100):
+                with connected(tunnel) as stream:
+                    same([answered(strangers, stream, number) for number in (0, 1)], [True, True], f"time {again}")
+        group.stop()

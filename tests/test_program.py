@@ -8,7 +8,7 @@ import tempfile
 from test_check import BAD_TAG, TWICE
 from completions import Command, commands_of
 from nodes import free_ports, write_json
-from runs import SECONDS, TOP, heard, in_gate, payd, run, same
+from runs import SECONDS, TOP, call, heard, in_gate, payd, read_bytes, read_text, run, same
 
 # ---- words
 
@@ -18,6 +18,11 @@ def test_help_is_printed():
         status, output, errors = run(words)
         same((status, errors), (0, ""), f"{words}")
         same("check" in output, True, f"{words}: speaks of check")
+
+
+def test_help_calls_the_program_by_its_name():
+    status, output, _ = call([os.path.join(TOP, "payd"), "--help"])
+    same((status, "\nUsage: payd [COMMAND]\n" in output), (0, True), output)
 
 
 def test_help_names_the_options_that_there_are():
@@ -36,6 +41,31 @@ def test_unknown_words_are_refused():
         same(errors != "", True, f"{words}: standard error has a word")
 
 
+# Words that nothing takes, with what is said of them first, and with what it says to do.
+MISTAKES = (
+    (["chekc"], "unrecognized subcommand 'chekc'", "  tip: a similar subcommand exists: 'check'"),
+    (["node", "--nonsense"], "unexpected argument '--nonsense' found", None),
+    (["check", "--valuse"], "unexpected argument '--valuse' found", "  tip: a similar argument exists: '--values'"),
+    (["check", "a", "b"], "unexpected argument 'a' found", None),
+    (["desk", "--keys", "k"], "the following required arguments were not provided:", "  --genesis <FILE>"),
+    (["audit"], "the following required arguments were not provided:", "  <FILE>..."),
+    (["check", "--jobs"], "a value is required for '--jobs <COUNT>' but none was supplied", None),
+    (["check", "--values=1"], "unexpected value '1' for '--values' found; no more were expected", None),
+)
+
+
+def test_mistakes_say_what_is_right():
+    """In lines of the program's own, the wrong word first, and last where there is help."""
+    for words, said, tip in MISTAKES:
+        status, output, errors = run(words)
+        same((status, output), (2, ""), words)
+        lines = errors.splitlines()
+        same([line for line in lines if not line.startswith("payd: ")], [], f"{words}: other lines")
+        same(lines[0], f"payd: {said}", f"{words}: what is wrong")
+        same(tip is None or f"payd: {tip}" in lines, True, f"{words}: {lines}")
+        same(lines[-1], "payd: For more information, try '--help'.", f"{words}: where there is help")
+
+
 # ---- what README shows
 
 
@@ -48,8 +78,7 @@ def shown_commands(text):
 
 
 def test_readme_shows_what_is_printed():
-    with open(os.path.join(TOP, "README.md"), encoding="utf-8") as readme:
-        commands = list(shown_commands(readme.read()))
+    commands = list(shown_commands(read_text(os.path.join(TOP, "README.md"))))
     same(len(commands) >= 3, True, "README has its examples")
     with tempfile.TemporaryDirectory() as folder:
         # the ports that the example names may be somebody else's here
@@ -67,16 +96,14 @@ def test_readme_shows_what_is_printed():
 
 def test_example_stream_is_encoded():
     encoded = subprocess.run([os.path.join(TOP, "examples", "make-frames")], capture_output=True, check=True)
-    with open(os.path.join(TOP, "examples", "frames.bin"), "rb") as stream:
-        same(stream.read(), encoded.stdout, "examples/frames.bin")
+    same(read_bytes(os.path.join(TOP, "examples", "frames.bin")), encoded.stdout, "examples/frames.bin")
 
 
 # ---- how it is run
 
 
 def test_any_folder_to_run_in():
-    done = subprocess.run([payd()], input=BAD_TAG, capture_output=True, cwd="/", timeout=SECONDS)
-    same((done.returncode, done.stdout, done.stderr), (0, b"1 refused 4 BadTag\n", b""), "run in /")
+    same(call([payd()], BAD_TAG, folder="/"), (0, "1 refused 4 BadTag\n", ""), "run in /")
 
 
 def test_not_utf8_words():

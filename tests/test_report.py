@@ -5,7 +5,6 @@ import json
 import os
 import random
 import re
-import subprocess
 import tempfile
 import xml.etree.ElementTree as xml
 
@@ -13,29 +12,30 @@ import audits
 import group_books
 from audits import FORKED, FRESH, PAID, PAID_ON, TWO_ENTRIES, WORKED
 from frames import payment, payments
-from runs import SECONDS, TOP, UNWRITTEN, run_to_nobody, same
+from test_books import group_of
+from runs import TOP, UNWRITTEN, call, run_to_nobody, same, write_text
 from values import numbered_entries
 
 REPORT = os.path.join(TOP, "tools", "report")
 MOST_BYTES = 2_000_000
 
 
-def report(exports, *words):
-    """Status, page and errors of a report about these exports, each in a file 0.json, 1.json .."""
+def report(exports, *words, files=None):
+    """Status, page and errors of a report about these exports, each in a file 0.json, 1.json .., beside other files."""
     with tempfile.TemporaryDirectory() as folder:
+        for name, text in (files or {}).items():
+            write_text(os.path.join(folder, name), text)
         names = [f"{place}.json" for place, _ in enumerate(exports)]
         for name, given in zip(names, exports):
-            with open(os.path.join(folder, name), "w", encoding="utf-8") as file:
-                file.write(given if isinstance(given, str) else json.dumps(given))
-        done = subprocess.run([REPORT, *words, *names], capture_output=True, text=True, cwd=folder, timeout=SECONDS)
-    return done.returncode, done.stdout, done.stderr
+            write_text(os.path.join(folder, name), given if isinstance(given, str) else json.dumps(given))
+        return call([REPORT, *words, *names], folder=folder)
 
 
 class Page:
     """A page that is well-formed and loads nothing."""
 
-    def __init__(self, exports):
-        status, text, errors = report(exports)
+    def __init__(self, exports, *words, files=None):
+        status, text, errors = report(exports, *words, files=files)
         same((status, errors), (0, ""), f"a report of {exports}"[:200])
         same(re.findall(r"\b(?:src|href|url|import|https?)\b", text), [], "what the page loads")
         same(text.startswith("<!DOCTYPE html>\n<html lang=\"en\">"), True, "a page of HTML")
@@ -143,34 +143,77 @@ def test_claims_of_single_exports():
     same(page.said("h1"), ["Audit: clean"], "the audit")
     same(any("may be made up all the same" in it for it in page.said("p")), True, "what clean means")
     agrees(page, PAID)
-    same(page.rows("claims"), [(2, "2.json", 3, 1, "45 to account 1", "none", 1)], "what export 2 adds")
+    claim = (2, "2.json", 3, 1, "45 to account 1", "none", 1, "only member 3")
+    same(page.rows("claims"), [claim], "what export 2 adds")
     same(any("what at least 2 of the exports have" in it for it in page.said("p")), True, "what is shown")
     page = Page([PAID, FRESH])
     agrees(page, FRESH)
-    same(page.rows("claims"), [(0, "0.json", 3, 0, "5 to account 0", "none", 0)], "what one of two has")
+    claim = (0, "0.json", 3, 0, "5 to account 0", "none", 0, "only member 0")
+    same(page.rows("claims"), [claim], "what one of two has")
+
+
+FORK = "show different payments as number 0 of"
+WHY = ": one of their nodes lied or its folder was copied, or more than 1 of all members lied."
 
 
 def test_both_payments_of_a_fork():
     page = Page([PAID, FORKED, {**PAID, "member": 3}])
-    meaning = (
-        "Exports 0 (0.json) and 1 (1.json) have different payments of account 3 at seq 0: export 0 pays 5 to account 0"
-        " (2 exports), export 1 5 to account 1 (1 export)."
+    same(page.said("p")[0], f"Members 0 and 2 {FORK} account 3{WHY} 5 to account 0: members 0 and 3; 5 to account 1:"
+                            " member 2.", "both payments")
+    alone = Page([FORKED, {**PAID, "member": 2}]).said("p")[0]
+    same(alone.startswith(f"Member 2 shows {FORK[len('show '):]} account 3"), True, f"two exports of one: {alone}")
+    claim = (1, "1.json", 3, 0, "5 to account 1", "5 to account 0", 0, "only member 2")
+    same(page.rows("claims"), [claim], "what export 1 has")
+
+
+NAMES = ("Ann", "Bob", "Cy", "Dee")
+GROUP = {"group": json.dumps(group_of(PAID, *NAMES)), "times": "2026-03-01T10:00:00Z 0 0 0 1\n"}
+
+
+def test_pages_by_names():
+    """And with times: of a fork, and of claims."""
+    words = "--group", "group", "--times", "times"
+    page = Page([PAID, FORKED, {**PAID, "member": 3}], *words, files=GROUP)
+    sides = "5 to Ann: members 0 Ann and 3 Dee; 5 to Bob: member 2 Cy."
+    same(page.said("p")[0], f"Members 0 Ann and 2 Cy {FORK} Dee's account{WHY} {sides}", "both payments")
+    same([it[0] for it in page.rows("accounts")], ["0 Ann", "1 Bob", "2 Cy", "3 Dee"], "the accounts")
+    same(page.rows("entries"), [(1, "3 Dee", 0, 0, "0 Ann", 5, "2026-03-01T10:00:00Z")], "the entries")
+    claim = (1, "1.json", "3 Dee", 0, "5 to Bob", "5 to Ann", 0, "only member 2 Cy")
+    same((page.rows("claims"), page.rows("pairs")), ([claim], [("3 Dee", "0 Ann", 1, 5)]), "claims and pairs")
+    same(page.said("figcaption")[3], "Dee: 50 to 45, at most 50", "a curve")
+    two = {"group": json.dumps(group_of(WORKED, "A", "B"))}
+    page = Page([WORKED, {**WORKED, "member": 1}], "--group", "group", files=two)
+    same(page.rows("waiting"), [("1 B", 1, 1, 11, "0 A", 4, 7, 0, "none is listed")], "what waits")
+    wrong = {**PAID, "front": [0, 0, 0, 0], "balances": [5, 0, 0, 44], "member": 1}
+    other = {**PAID, "opening": [1, 0, 0, 50], "balances": [6, 0, 0, 45], "member": 2}
+    why = "the export was changed, or made by a wrong program."
+    same(
+        Page([FRESH, wrong, other], *words, files=GROUP).said("p")[:3],
+        [
+            "Member 2 shows an export of another group than export 0.",
+            f"Member 1 Bob says that 0 entries of Dee's account are settled, and its own lists say 1: {why}",
+            f"Member 1 Bob says that Dee's account has 44, and its own lists say 45: {why}",
+        ],
+        "each thing that is wrong",
     )
-    same(meaning in page.said("p"), True, "both payments")
-    same(page.rows("claims"), [(1, "1.json", 3, 0, "5 to account 1", "5 to account 0", 0)], "what export 1 has")
+    for words, why in (
+        (["--group", "group"], "0.json: it is of another group than group"),
+        (["--times", "times"], "times: it is of another group"),
+    ):
+        same(report([WORKED], *words, files=GROUP), (1, "", f"payd report: {why}\n"), f"{words}")
 
 
 def test_pages_without_a_book():
     for exports, why in (
-        ([PAID], "There is no book of the group: there are no more exports, 1, than members may lie."),
-        ([PAID, PAID], "There is no book of the group: exports 0 (0.json) and 1 (1.json) are of one member."),
+        ([PAID], "there are no more exports, 1, than members may lie. Only member 0 says all this."),
+        ([PAID, PAID], "exports 0 (0.json) and 1 (1.json) are of one member. Only member 0 says all this."),
         (
             [PAID, {**PAID, "member": 1}, FORKED, {**FORKED, "member": 3}],
-            "two payments of account 3 at seq 0 are each in more exports than members may lie.",
+            "at seq 0 are each in more exports than members may lie. Only member 0 says all this.",
         ),
     ):
         page = Page(exports)
-        same(any(it.endswith(why) for it in page.said("p")), True, why)
+        same(any(why in it for it in page.said("p")), True, why)
         same(page.rows("claims"), [], "claims")
 
 
@@ -208,24 +251,25 @@ def test_large_pages():
         same(any("are drawn" in it for it in page.said("figcaption")), drawn is not None, "sampled")
 
 
-def test_pages_to_nobody():
+def test_pages_to_nobody(folder):
     """One line says that a page can't be written, be it long or short."""
-    with tempfile.TemporaryDirectory() as folder:
-        for name, lists in (("short", [[]]), ("long", [200 * [payment(payee=0, amount=1).hex()]])):
-            file = os.path.join(folder, name)
-            with open(file, "w", encoding="ascii") as text:
-                json.dump(audits.export([7], lists, [len(lists[0])], [7]), text)
-            wanted = [(1, f"payd report: {why}\n") for why in UNWRITTEN]
-            same([*run_to_nobody([REPORT, file])], wanted, f"a {name} page to nobody")
+    for name, lists in (("short", [[]]), ("long", [200 * [payment(payee=0, amount=1).hex()]])):
+        file = os.path.join(folder, name)
+        with open(file, "w", encoding="ascii") as text:
+            json.dump(audits.export([7], lists, [len(lists[0])], [7]), text)
+        wanted = [(1, f"payd report: {why}\n") for why in UNWRITTEN]
+        same([*run_to_nobody([REPORT, file])], wanted, f"a {name} page to nobody")
 
 
 def test_no_page():
-    for exports, fault in (
-        ([PAID, "{"], "export 1 BadJson"),
-        ([{**PAID, "front": []}], "export 2 BadShape"),
+    for exports, fault, advice in (
+        ([PAID, "{"], "export 1 BadJson", "it isn't JSON: it may be cut, so take the export once more"),
+        ([{**PAID, "front": []}], "export 2 BadShape", "it is no export, or an account's list is too long"),
     ):
         status, text, errors = report(exports)
-        same((status, text, errors), (1, "", f"payd report: payd: {fault} in {len(exports) - 1}.json\n"), f"{exports}")
-    same(report([], "gone"), (1, "", "payd report: payd: file gone\n"), "no file")
+        said = f"payd report: payd: {fault} in {len(exports) - 1}.json: {advice}\n"
+        same((status, text, errors), (1, "", said), f"{exports}")
+    said = "payd report: payd: cannot read gone: there is no such file or folder\n"
+    same(report([], "gone"), (1, "", said), "no file")
     status, text, errors = report([])
     same((status, text, "usage: payd report" in errors), (2, "", True), "no words")

@@ -14,16 +14,19 @@ import struct
 import subprocess
 from collections import Counter
 
+from advices import told_plainly
 from frames import SEND, frame, payment
-from damaged_logs import OPENING, bits, cuts, export, made_folder, read
-from logs import FIRST, HEADER_LEN, QUERY, Log
-from nodes import EARLY, IN_MEMORY, export_text, free_ports, new_words, started, until, write_json
+from damaged_logs import OPENING, bits, cuts, export, made_folder
+from logs import HEADER_LEN, QUERY, Log
+from nodes import EARLY, IN_MEMORY, export_text, free_ports, new_words, started, until, write_json, write_member
 from ordering import Order, OutOfOrder, noted
 from peers import Liar, Strangers, connected, received
 from restarts import NEW, Folders, killed_and_started_again, told
-from runs import GENESIS, SECONDS, key_texts, payd, same, shows, with_files
+from runs import GENESIS, SECONDS, key_texts, payd, read_bytes, same, shows, with_files
 
 FRESH = [[], [], [], []]
+# what a folder has after a clean end
+ENDED = ["ended", "group.json", "keys.json", "log"]
 DISK, HELD = "payd: log 1 Disk\n", "payd: log 2 Held\n"
 CHANGED = "payd: log 6 Changed\npayd: the log ended cleanly and isn't whole any more: put that very log back, and "
 CHANGED += "never an older one\n"
@@ -52,9 +55,7 @@ def test_members_of_seven_are_killed():
 def test_a_member_goes_on_where_it_was():
     """Its own payments, those of others, and what the export says; a line given again has its old answer."""
     with Folders(OPENING) as group:
-        group.pay(0, 7, payee=1, amount=30, seq=0)
-        group.pay(3, 7, payee=0, amount=20, seq=0)
-        group.settle([1, 0, 0, 1], [90, 30, 0, 30])
+        group.pay_twice()
         for own in range(4):
             group.kill(own)
         for own in range(4):
@@ -126,7 +127,7 @@ def node_on(place, own, folder, text=b"", flags=None, **how):
     words += new_words(place, words) if flags is None else flags
     how = {"input": text, "cwd": place, "capture_output": True, "timeout": SECONDS, **how}
     done = subprocess.run([payd(), "node", *words], **how)
-    return done.returncode, done.stdout.decode("ascii"), started(done.stderr.decode())
+    return done.returncode, done.stdout.decode("ascii"), started(told_plainly(done.stderr.decode()))
 
 
 def test_one_node_has_a_folder():
@@ -162,7 +163,7 @@ def test_folders_of_others():
             made = made_folder(place, "made", content)
             shows(export(place, 0, "made"), 2, "", f"payd: log 3 Foreign {name}\n", of=f"a file of {content[:9]!r}")
             shows(node_on(place, 0, "made"), 2, "", f"payd: log 3 Foreign {name}\n", of=f"a node on {content[:9]!r}")
-            same(read(made), content, "the file")
+            same(read_bytes(made), content, "the file")
         shows(node_on(place, 0, "genesis"), 4, "", DISK, of="a file in place of a folder")
 
 
@@ -179,9 +180,9 @@ def test_a_member_is_made_by_word():
         text = export_text(0, OPENING, FRESH, [0, 0, 0, 0], OPENING)
         shows(node_on(place, 0, "made", b"PAY 7 1 30\n", flags=["--new"]), 0, f"asked 7 seq 0\n{text}", NEW)
         log = os.path.join(place, "made", "log")
-        before = read(log)
+        before = read_bytes(log)
         shows(node_on(place, 0, "made", flags=["--new"]), 2, "", EXISTS, of="a folder that has a log")
-        same((read(log), sorted(os.listdir(os.path.dirname(log)))), (before, ["ended", "log"]), "it")
+        same((read_bytes(log), sorted(os.listdir(os.path.dirname(log)))), (before, ENDED), "it")
         os.remove(log)
         shows(node_on(place, 0, "made", flags=["--new"]), 2, "", EXISTS, of="a folder that had one")
         shows(node_on(place, 0, "made", flags=[]), 2, "", MISSING, of="it, without the word")
@@ -207,7 +208,7 @@ def test_an_export_changes_nothing():
         os.chmod(os.path.dirname(log), 0o500)
         said = f"payd: log: {len(torn) - len(before)} bytes at its end are no part of it\n"
         shows(export(place, 0, "torn"), 0, text, said, of="an export of a torn log that may only be read")
-        same((read(log), os.listdir(os.path.dirname(log))), (torn, ["log"]), "what is left")
+        same((read_bytes(log), os.listdir(os.path.dirname(log))), (torn, ["log"]), "what is left")
 
 
 def test_an_old_copy_of_a_folder_is_refused():
@@ -223,9 +224,9 @@ def test_an_old_copy_of_a_folder_is_refused():
         group.start(0)
         until(group.nodes[0].front, [1, 0, 0, 0], of="the front by an old copy")
         group.kill(0)
-        before = read(os.path.join(folder, "log"))
+        before = read_bytes(os.path.join(folder, "log"))
         shows(node_on(group.place.name, 0, "data-0"), 4, "", FORGOTTEN)
-        same(read(os.path.join(folder, "log")), before, "the log")
+        same(read_bytes(os.path.join(folder, "log")), before, "the log")
 
 
 def test_a_torn_end_is_kept():
@@ -244,8 +245,8 @@ def test_a_torn_end_is_kept():
             same((status, output), (0, f"asked 7 seq 0\n{text}"), "the member")
             same(told(errors)[1], f"payd: log: {len(torn)} bytes dropped, kept in log.dropped\n", "what is said")
             lost += torn
-            same(read(os.path.join(folder, "log.dropped")), lost, "what is kept")
-            same(read(os.path.join(folder, "log")), whole, "the log")
+            same(read_bytes(os.path.join(folder, "log.dropped")), lost, "what is kept")
+            same(read_bytes(os.path.join(folder, "log")), whole, "the log")
             # (as a kill leaves it)
             os.remove(os.path.join(folder, "ended"))
 
@@ -256,7 +257,7 @@ def test_a_log_that_ended_cleanly_stays_whole():
         place = group.place.name
         same(node_on(place, 0, "clean", LINES)[0], 0, "the end")
         folder = os.path.join(place, "clean")
-        log, ended = (read(os.path.join(folder, name)) for name in ("log", "ended"))
+        log, ended = (read_bytes(os.path.join(folder, name)) for name in ("log", "ended"))
         same(ended, b"%d\n" % len(log), "the mark of the end")
         last = Log(GENESIS, 0).ends(log)[-2]
         turned = bytearray(log)
@@ -266,9 +267,15 @@ def test_a_log_that_ended_cleanly_stays_whole():
                 changed.write(file)
             shows(node_on(place, 0, "clean"), 2, "", CHANGED, of=of)
             shows(export(place, 0, "clean"), 2, "", CHANGED, of=f"an export of it, with {of}")
-            same((read(changed.name), sorted(os.listdir(folder))), (file, ["ended", "log"]), of)
+            same((read_bytes(changed.name), sorted(os.listdir(folder))), (file, ENDED), of)
         with open(os.path.join(folder, "log"), "wb") as back:
             back.write(log)
+        for mark in (b"", b"x\n", b"-1\n", b"%d x\n" % len(log), b"\xff\n"):
+            with open(os.path.join(folder, "ended"), "wb") as garbled:
+                garbled.write(mark)
+            shows(node_on(place, 0, "clean"), 2, "", CHANGED, of=f"a mark {mark}")
+        with open(os.path.join(folder, "ended"), "wb") as back:
+            back.write(ended)
         again = node_on(place, 0, "clean", LINES)
         same((again[0], again[1].startswith(ANSWERS)), (0, True), "the log put back")
 
@@ -286,8 +293,8 @@ def test_killed_while_the_folder_is_made():
                     file.write(content)
             was = node_on(group.place.name, 0, folder)
             shows(was, 0, export_text(0, OPENING, FRESH, [0, 0, 0, 0], OPENING), NEW, of=f"{files}")
-            same(read(os.path.join(group.place.name, folder, "log")), header, "the new log")
-            same(sorted(os.listdir(os.path.join(group.place.name, folder))), ["ended", "log"], "what is in the folder")
+            same(read_bytes(os.path.join(group.place.name, folder, "log")), header, "the new log")
+            same(sorted(os.listdir(os.path.join(group.place.name, folder))), ENDED, "what is in the folder")
 
 
 # ---- damage
@@ -340,32 +347,11 @@ def test_a_record_of_another_program(damage):
         file = damage.file + damage.log.chunk(len(damage.file) - HEADER_LEN, payload)
         path = made_folder(damage.place, "illegal", file)
         shows(export(damage.place, 0, "illegal"), 2, "", f"payd: log 5 Illegal {count}\n", of=of)
-        same(read(path), file, f"{of}: the log")
+        same(read_bytes(path), file, f"{of}: the log")
     twice = b"\x01" + bytes(2) + struct.pack(">QIH", 7, 2, 11) + payment(1, 1)
     made_folder(damage.place, "twice", damage.file + damage.log.chunk(len(damage.file) - HEADER_LEN, twice))
     was = node_on(damage.place, 0, "twice")
     shows(was, 2, "", f"payd: log 5 Illegal {count + 1}\n", of="an id that two payments have")
-
-
-def test_a_log_of_the_first_version_is_written_anew():
-    """That of a member that met its peers, as a program wrote it that knew no other version."""
-    hexed = os.path.join(os.path.dirname(__file__), "logs", "first-version.hex")
-    first = bytes.fromhex(read(hexed).decode("ascii"))
-    log = Log(GENESIS, 0)
-    payloads, end = log.payloads(first)
-    same((log.version(first), end), (FIRST, len(first)), "the log")
-    with Folders(OPENING, running=[]) as group:
-        made_folder(group.place.name, "data-0", first)
-        was = export(group.place.name, 0)
-        lists = [[payment(1, 30).hex()], [], [], [payment(0, 20).hex()]]
-        same(was, (0, export_text(0, OPENING, lists, [1, 0, 0, 1], [90, 30, 0, 30]), ""), "the export of it")
-        same(group.log(0), first, "the log behind an export")
-        group.start(0)
-        same(group.nodes[0].ask("STATE 3 0"), "state 3 0 settled", "a payment in it")
-        group.kill(0)
-        written = log.file(payloads)
-        same(group.log(0)[: len(written)], written, "the log written anew")
-        same(export(group.place.name, 0), was, "the export of that")
 
 
 def test_a_torn_chunk_of_marks(damage):
@@ -390,8 +376,9 @@ def with_room(size):
 
 
 def without_figures(errors):
-    """What a node says on standard error, except that it can't write its figures either."""
-    return re.sub(r"^payd: \S+/status\.prom can't be written\n", "", errors, flags=re.MULTILINE)
+    """What a node says on standard error, except that it can't write what stands beside its log either."""
+    names = r"(?:status\.prom|times|group\.json|keys\.json)"
+    return re.sub(rf"^payd: \S+/{names} can't be written\n", "", errors, flags=re.MULTILINE)
 
 
 LINES = b"".join(b"PAY %d 1 %d\n" % (order, order + 1) for order in range(12))
@@ -409,7 +396,7 @@ def test_a_full_disk_that_gets_room_again():
         place = group.place.name
         wanted = ANSWERS + export_text(0, OPENING, FRESH, [0, 0, 0, 0], OPENING)
         shows(node_on(place, 0, "ample", LINES), 0, wanted, NEW, of="room for all")
-        whole = len(read(os.path.join(place, "ample", "log")))
+        whole = len(read_bytes(os.path.join(place, "ample", "log")))
         for size in sorted({0, 1, 74, 75, 76, *range(80, whole + 40, 23)}):
             made = os.path.join(place, f"room-{size}")
             status, output, errors = node_on(place, 0, f"room-{size}", LINES, preexec_fn=with_room(size))
@@ -419,7 +406,7 @@ def test_a_full_disk_that_gets_room_again():
             elif status != 0:
                 same((status, without_figures(errors)), (4, NEW + DISK + UNWRITTEN), of)
                 same(ANSWERS.startswith(output) and output[-1:] in ("", "\n"), True, of)
-            kept = Log(GENESIS, 0).member(read(os.path.join(made, "log")))[1] if size >= HEADER_LEN else []
+            kept = Log(GENESIS, 0).member(read_bytes(os.path.join(made, "log")))[1] if size >= HEADER_LEN else []
             same(kept[: output.count("\n")], list(range(min(output.count("\n"), 12))), f"{of}: what was answered")
             # (asked for the other way round, so that what isn't kept gets another number)
             back = b"".join(reversed(LINES.splitlines(keepends=True)))
@@ -443,7 +430,7 @@ def test_nothing_leaves_that_is_not_kept():
             stream = strangers.dial()
             stream.sendall(strangers.want(0))
             output, errors = child.communicate(b"PAY 7 1 30\n", timeout=SECONDS)
-            news = told(without_figures(errors.decode()))[1].splitlines()
+            news = told(without_figures(told_plainly(errors.decode())))[1].splitlines()
             same((child.returncode, output), (4, b""), f"a node without room: {errors}")
             same([line for line in news if "peer" not in line], ["payd: log 1 Disk", "payd: engine 3 Write"], "it says")
             same(received(stream), None, "what a peer was told")
@@ -460,18 +447,10 @@ def is_there(port):
     return True
 
 
-def words_in(library):
-    """The words of a node whose files stand beside the library, up to its folder."""
-    write_json(library.place.name, "genesis", GENESIS)
-    write_json(library.place.name, "keys", {"own": 0, "keys": key_texts(0)})
-    write_json(library.place.name, "ports", {"ports": free_ports(4)})
-    return ["node", "--genesis", "genesis", "--keys", "keys", "--ports", "ports", "--data"]
-
-
 def with_a_fault(library, name, least=3, **more):
     """A run for each call of this kind, each with one failed: what was answered is kept, once the node is started
     again, and each id is asked for once. (Some three lines are read at once.)"""
-    words = words_in(library)
+    words = [*write_member(library.place.name), "--data"]
     text = export_text(0, OPENING, FRESH, [0, 0, 0, 0], OPENING)
     kinds = Counter()
     for place in range(1, 1000):
@@ -500,10 +479,10 @@ def with_a_fault(library, name, least=3, **more):
         library.refused[f"node --data {name}"] += 1
 
 
-def at_a_second_start(library, name):
+def at_a_second_start(library, name, least=1):
     """The same in a folder that a kill left, with a torn end: it has what was answered before, however its start fails;
     each start writes the log anew."""
-    words = words_in(library)
+    words = [*write_member(library.place.name), "--data"]
     killed, torn = os.path.join(library.place.name, f"{name}-killed"), b"plog"
     same(library.run([*words, killed, "--new"], LINES)[0][0], 0, "the first start")
     os.remove(os.path.join(killed, "ended"))
@@ -516,7 +495,7 @@ def at_a_second_start(library, name):
         was, was_refused = library.run([*words, folder], LINES + b"PAY 12 1 1\n", **{name: place, "read_size": 40})
         of = f"{name} {place} of a second start: {was}"
         if not was_refused:
-            same((was[0], place > 1), (0, True), of)
+            same((was[0], place > least), (0, True), of)
             return
         status, output, errors = was
         said = told(errors)[1].removeprefix(f"payd: log: {len(torn)} bytes dropped, kept in log.dropped\n")
@@ -531,7 +510,7 @@ def at_a_second_start(library, name):
 
 
 def test_each_sync_fails(library):
-    with_a_fault(library, "sync")
+    with_a_fault(library, "sync", least=9)
 
 
 def test_each_renaming_of_a_log_fails(library):
@@ -540,8 +519,10 @@ def test_each_renaming_of_a_log_fails(library):
 
 def test_each_call_of_a_second_start_fails(library):
     """The writes of the copy too, by which it doesn't yet have the log's name."""
-    for name in ("sync", "placed", "filed", "rename"):
+    for name in ("placed", "filed", "rename"):
         at_a_second_start(library, name)
+    # (no fewer syncs than a start and an end have)
+    at_a_second_start(library, "sync", least=6)
 
 
 def test_each_write_of_a_log_fails(library):
@@ -552,7 +533,7 @@ def test_each_write_of_a_log_fails(library):
 def test_each_growth_of_a_kept_node_refused(library):
     """In a folder that is there, and in new ones: nothing but its answers, its export and what says that memory was
     refused. Where that ended it, it has all that it answered once it is started again."""
-    words = words_in(library)
+    words = [*write_member(library.place.name), "--data"]
     lines = LINES.splitlines(keepends=True)[:3]
     wanted = ANSWERS.splitlines()[:3]
     same(library.run([*words, "kept", "--new"], b"".join(lines))[0][0], 0, "ample memory")
@@ -599,7 +580,7 @@ def judged_runs(library, **more):
             group.pay(3, run, payee=0, amount=5, seq=run)
             group.settle([5 * run + 5, 0, 0, run + 1])
             group.kill(0)
-            left += Order(folder, Log(GENESIS, 0), group.log(0)).judge(noted(read(notes))).left
+            left += Order(folder, Log(GENESIS, 0), group.log(0)).judge(noted(read_bytes(notes))).left
     return left
 
 

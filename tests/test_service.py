@@ -8,28 +8,32 @@ import signal
 import subprocess
 import tempfile
 
-from nodes import PATIENCE, export_text, free_ports, started, until, write_json
+from nodes import PATIENCE, Group, Node, export_text, free_ports, started, until, write_json
 import pytest
-from runs import SECONDS, TOP, key_texts, payd, same
+from runs import SECONDS, TOP, key_texts, payd, read_text, same, write_text
 
-UNIT = "payd-node.service"
+UNIT = "payd@.service"
 COMMAND = re.compile("^(ExecStart)=(.*)$", re.MULTILINE)
 
 
 def unit():
-    with open(os.path.join(TOP, "examples", UNIT), encoding="ascii") as file:
-        return file.read()
+    return read_text(os.path.join(TOP, "examples", UNIT))
+
+
+def analyzed(text, *words):
+    """Status and errors of what the service manager makes of a unit of this text."""
+    with tempfile.TemporaryDirectory() as folder:
+        path = os.path.join(folder, UNIT)
+        write_text(path, text)
+        done = subprocess.run(["systemd-analyze", *words, path], capture_output=True, text=True, timeout=SECONDS)
+    return done.returncode, done.stderr
 
 
 def complaints(text):
-    """What the service manager's verifier says of a unit of this text."""
-    with tempfile.TemporaryDirectory() as folder:
-        path = os.path.join(folder, UNIT)
-        with open(path, "w", encoding="ascii") as file:
-            file.write(text)
-        done = subprocess.run(["systemd-analyze", "verify", path], capture_output=True, text=True, timeout=SECONDS)
+    """What the verifier says of a unit of this text."""
+    status, errors = analyzed(text, "verify")
     # (it looks at what the unit stands on too, whose faults aren't this one's)
-    return done.returncode, [line for line in done.stderr.splitlines() if UNIT in line]
+    return status, [line for line in errors.splitlines() if UNIT.partition("@")[0] in line]
 
 
 @pytest.mark.needs("systemd-analyze")
@@ -43,22 +47,62 @@ def test_service_manager_takes_the_unit():
         same((text.count(right), len(complaints(text.replace(right, wrong))[1])), (1, 1), f"{wrong} is complained of")
 
 
-def test_commands_of_the_unit_run_a_node():
+@pytest.mark.needs("systemd-analyze")
+def test_service_is_little_exposed():
+    """Under 2.0 of the service manager's 10.0, and not so without its bounds."""
+    for text, exposed in ((unit(), 0), (re.sub("(?m)^(Protect|Restrict|SystemCall).*\n", "", unit()), 1)):
+        status, errors = analyzed(text, "security", "--offline=true", "--threshold=19")
+        same((status, errors), (exposed, ""), "how it is exposed")
+
+
+def calls_of(name):
+    """The system's calls in one of the service manager's sets."""
+    words = ["systemd-analyze", "syscall-filter", name]
+    lines = subprocess.run(words, capture_output=True, text=True, check=True).stdout.splitlines()[1:]
+    named = {line.split()[0] for line in lines if not line.strip().startswith("#")}
+    return {call for it in named for call in (calls_of(it) if it.startswith("@") else {it})}
+
+
+@pytest.mark.needs("strace")
+@pytest.mark.needs("systemd-analyze")
+def test_nodes_calls_are_those_of_its_service():
+    """While it begins, pays and ends, and begins again; and it opens no other sockets than those that it may."""
+    allowed, *denied = re.findall("^SystemCallFilter=(.*)$", unit(), re.MULTILINE)
+    allowed = set().union(*map(calls_of, allowed.split()))
+    allowed -= set().union(*(calls_of(it) for line in denied for it in line.strip("~").split()))
+    families = re.search("^RestrictAddressFamilies=(.*)$", unit(), re.MULTILINE)[1].split()
+    with Group([100, 0], running=[1]) as group:
+        for turn in range(2):
+            name = os.path.join(group.place.name, f"calls-{turn}")
+            options = ["--data", "data-0", "--dials", "always"]
+            node = Node(0, group.place.name, options=options, prefix=["strace", "-f", "-qq", "-o", name])
+            group.nodes[0] = node
+            group.pay(0, turn, 1, 30, turn)
+            group.settle([1 + turn, 0], [70 - 30 * turn, 30 + 30 * turn])
+            same(node.stop()[0], 0, "its end")
+            del group.nodes[0]
+            text = read_text(name)
+            calls = set(re.findall(r"^\d+ +(\w+)\(", text, re.MULTILINE))
+            same({"fdatasync", "socket"} <= calls, True, f"calls of a node: {sorted(calls)}")
+            same(calls - allowed, set(), "calls that its service may not make")
+            same(set(re.findall(r"socket\((\w+)", text)) - {*families}, set(), "sockets that its service may not open")
+
+
+def test_commands_of_the_unit_run_a_node(folder):
     """In another folder, and with the program that stands here; it is asked as the unit's own words say. Killed and run
     again, as the service manager does, it goes on."""
-    with tempfile.TemporaryDirectory() as folder:
-        write_json(folder, "group.json", {"members": 1, "faults": 0, "opening": [7], "ports": free_ports(1)})
-        write_json(folder, "keys.json", {"own": 0, "keys": key_texts(0, 1)})
-        moved = unit().replace("/usr/local/bin/payd", payd()).replace("/var/lib/payd", folder)
-        [command] = [shlex.split(words) for _, words in COMMAND.findall(moved)]
-        told = re.search("^# payd (send --data .* FRONT)$", moved, re.MULTILINE)[1]
-        asks = [payd(), *shlex.split(told)]
-        for flags, said in ((["--new"], "new"), ([], "0 entries of 0 payments, started again")):
-            errors = ended_after(asks, [*command, *flags], folder)
-            same(started(errors), f"payd: log: {said}\n", f"what the node says in {errors!r}")
-        words = [payd(), "export", "--genesis", "group.json", "--keys", "keys.json", "--data", "member"]
-        done = subprocess.run(words, cwd=folder, capture_output=True, text=True, check=True, timeout=SECONDS)
-        same(done.stdout, export_text(0, [7], [[]], [0], [7]), "its export")
+    write_json(folder, "group.json", {"members": 1, "faults": 0, "opening": [7], "ports": free_ports(1)})
+    write_json(folder, "keys.json", {"own": 0, "keys": key_texts(0, 1)})
+    moved = unit().replace("/usr/local/bin/payd", payd()).replace("/var/lib/payd/NAME", folder)
+    [command] = [shlex.split(words) for _, words in COMMAND.findall(moved)]
+    told = re.search("^# payd (send --data .* FRONT)$", moved, re.MULTILINE)[1]
+    asks = [payd(), *shlex.split(told)]
+    for flags, said in ((["--new"], "new"), ([], "0 entries of 0 payments, started again")):
+        errors = ended_after(asks, [*command, *flags], folder)
+        same(started(errors), f"payd: log: {said}\n", f"what the node says in {errors!r}")
+    words = [payd(), "export", "--genesis", "group.json", "--keys", "keys.json", "--data", "member"]
+    done = subprocess.run(words, cwd=folder, capture_output=True, text=True, check=True, timeout=SECONDS)
+    same(done.stdout, export_text(0, [7], [[]], [0], [7]), "its export")
 
 
 def ended_after(asks, command, folder):

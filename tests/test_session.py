@@ -70,7 +70,7 @@ class Session:
 
 
 def test_sessions_are_had():
-    for row in vectors("sessions", 17):
+    for row in vectors("sessions", 18):
         with ExitStack() as stack:
             session = Session(row, stack)
             for step in row["steps"]:

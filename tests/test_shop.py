@@ -5,6 +5,7 @@ import os
 import subprocess
 
 from nodes import until
+from payers import pay
 from restarts import Folders
 from runs import SECONDS, TOP, same
 from shops import Shop, shop_is_killed
@@ -35,6 +36,29 @@ def test_shop_waits_for_its_node():
         finally:
             errors = shop.end()
         same(errors.count("it is asked again\n"), 1, f"what it says of its node: {errors!r}")
+
+
+def test_shop_takes_orders_from_notes_alone():
+    """Of the right account; other notes, and those of orders that aren't there, are none."""
+    with Folders([100, 0, 0, 50]) as group:
+        shop, folder = Shop(group.place.name), os.path.join(group.place.name, "data-0")
+        try:
+            for number, amount in ((1, 30), (2, 20)):
+                same(shop.ask(f"order 0 {amount}"), f"order {number}", "an order")
+            same(shop.ask("order 3 5"), "order 3", "an order of another customer")
+            group.pay(3, 7, 1, 5, 0)
+            others = "seq 0 order 1", "order 3", "seq 0 order 3 ", "Seq 0 order 3", "seq x order 3", "seq 0 order 4"
+            for order, text in enumerate(others):
+                group.nodes[3].ask(f"NOTE {order} {text}")
+            for order, amount in ((1, "30"), (2, "25")):
+                same(pay(folder, "--yes", "--note", f"order {order}", "1", amount)[0], 0, "a payment with its note")
+            until(lambda: shop.ask("show 1"), "order 1 paid seq 0 kept", of="the first order")
+            until(lambda: shop.ask("show 2"), "order 2 open seq 2 back 0", of="one that is paid too much for")
+            same(shop.ask("show 3"), "order 3 open", "that of nobody's note")
+            group.nodes[3].ask("NOTE 9 seq 0 order 3")
+            until(lambda: shop.ask("show 3"), "order 3 paid seq 0 kept", of="the order of another customer")
+        finally:
+            shop.end()
 
 
 def test_shop_refuses_what_it_cant_take():

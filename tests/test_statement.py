@@ -1,11 +1,12 @@
 """Black-box tests of `statement`: against the model, against running nodes, and its words and faults."""
 
+import contextlib
 import random
 
 import audits
 from audits import FORKED, PAID, TWO_ENTRIES, changed, statement
 from nodes import Group
-from runs import of_file, run, same, shows, with_files
+from runs import same, shows, with_files
 
 
 def statement_of(given, *words):
@@ -49,13 +50,20 @@ def test_statements_rest_on_lists_alone():
         shows(statement_of(changed(members), "3"), 0, "out 0 to 0 5\nend 3 balance 45\n", of=f"{members}")
 
 
-def test_a_nodes_own_statements():
-    """What a node answered is what its export says after its end."""
+@contextlib.contextmanager
+def paid():
+    """A group that has settled payments of all kinds, but for one that waits."""
     with Group([100, 0, 0, 50]) as group:
         for own, order, payee, amount in ((0, 1, 1, 30), (3, 1, 0, 20), (0, 2, 2, 15), (1, 1, 3, 5), (2, 1, 0, 500)):
             group.pay(own, order, payee, amount, seq=order - 1)
         same(group.nodes[3].ask("PAYS 2 1 4 2 6"), "asked 2 seq 1", "several payments")
         group.settle([2, 1, 0, 3], [75, 29, 21, 25])
+        yield group
+
+
+def test_a_nodes_own_statements():
+    """What a node answered is what its export says after its end."""
+    with paid() as group:
         answers = {own: [node.statement(account) for account in range(4)] for own, node in group.nodes.items()}
         exports = group.stop()
     for own, export in exports.items():
@@ -64,11 +72,7 @@ def test_a_nodes_own_statements():
 
 def test_a_nodes_entries_and_what_waits():
     """All members tell the same of each account, from whatever entry on."""
-    with Group([100, 0, 0, 50]) as group:
-        for own, order, payee, amount in ((0, 1, 1, 30), (3, 1, 0, 20), (0, 2, 2, 15), (1, 1, 3, 5), (2, 1, 0, 500)):
-            group.pay(own, order, payee, amount, seq=order - 1)
-        same(group.nodes[3].ask("PAYS 2 1 4 2 6"), "asked 2 seq 1", "several payments")
-        group.settle([2, 1, 0, 3], [75, 29, 21, 25])
+    with paid() as group:
         for line, wanted in (
             ("ENTRIES 0 0", ["entry 0 0 seq 0 to 1 30", "entry 0 1 seq 1 to 2 15", "end 0 2"]),
             ("ENTRIES 3 0", ["entry 3 0 seq 0 to 0 20", "entry 3 1 seq 1 to 1 4", "entry 3 2 seq 1 to 2 6", "end 3 3"]),
@@ -84,11 +88,27 @@ def test_a_nodes_entries_and_what_waits():
         group.stop()
 
 
-def test_faults_of_a_statements_export():
-    for wrong, members, fault in audits.FAULTS:
-        shows(statement_of(changed(members), "0"), 2, "", of_file(f"export {fault}", "export"), of=wrong)
-    shows(statement_of("{"), 2, "", of_file("export 1 BadJson", "export"), of="no JSON")
-    shows(with_files({}, ["statement", "gone", "x"]), 2, "", "payd: file gone\n", of="no file")
+def test_notes_of_nodes_are_void_entries():
+    """At all members, who see their texts; what is paid behind them settles. Behind what waits a note waits too."""
+    with Group([100, 0, 0, 50]) as group:
+        for seq, text in enumerate(("order 17", "seq 0 grüße")):
+            same(group.nodes[0].ask(f"NOTE {seq} {text}"), f"asked {seq} seq {seq}", "a note")
+        group.pay(0, 2, 1, 30, seq=2)
+        group.pay(3, 1, 0, 500, seq=0)
+        same(group.nodes[3].ask("NOTE 2 \u20ac"), "asked 2 seq 1", "a note behind what waits")
+        group.settle([3, 0, 0, 0], [70, 30, 0, 50])
+        notes = ["entry 0 0 seq 0 note order 17", "entry 0 1 seq 1 note seq 0 grüße"]
+        entries = [*notes, "entry 0 2 seq 2 to 1 30", "end 0 3"]
+        for own, node in group.nodes.items():
+            same(node.lines_of("ENTRIES 0 0"), entries, f"the entries at node {own}")
+            same(node.statement(0), ["void 0", "void 1", "out 2 to 1 30", "end 0 balance 70"], f"what node {own} tells")
+        waits = ["waiting 3 0 seq 0 to 0 500", "waiting 3 1 seq 1 note \u20ac", "end 3 short 450"]
+        same(group.nodes[3].lines_of("WAITING 3"), waits, "what waits")
+        same(group.nodes[0].ask("NOTE 1 seq 0 grüße"), "asked 1 seq 1", "a note again")
+        exports = group.stop()
+    for own, export in exports.items():
+        said = [bytes.fromhex(value) for value in export["lists"][0][:2]]
+        same(said, [b"\x03order 17", "\x03seq 0 grüße".encode()], f"the values at node {own}")
 
 
 def test_words_that_name_no_account():
@@ -101,8 +121,6 @@ def test_words_of_a_statement():
     same(statement_of(PAID, "0", "1")[:2], (2, ""), "a word too many")
     same(statement_of(PAID, "-3")[:2], (2, ""), "an option that there isn't")
     shows(with_files({"--x": PAID}, ["statement", "--", "--x", "1"]), 0, "end 1 balance 0\n", of="a name behind --")
-    status, output, errors = run(["statement", "--help"])
-    same((status, errors, "STATEMENT" in output), (0, "", True), "help")
 
 
 def test_long_statements():

@@ -7,10 +7,10 @@ import shutil
 import subprocess
 
 import pytest
-from runs import SECONDS, TOP, same
+from runs import SECONDS, TOP, read_text, same
 
 OF_TESTS = (f"tests/{it}" for it in ("fallback", "models", "mutants", "support"))
-FOLDERS = (".", "bench", "examples", "tests", *OF_TESTS, "tools")
+FOLDERS = (".", "bench", "examples", "tests", *OF_TESTS, "tools", "vectors")
 LONGEST = 120
 LINTERS = "ruff", "pyflakes3", "pyflakes"
 
@@ -25,7 +25,7 @@ OF_PROGRAM = ("examples/", "payd-prove", "tests/models/", "tests/support/runs.py
 
 def is_python(path):
     with open(path, "rb") as file:
-        return path.endswith(".py") or file.readline().startswith(b"#!/usr/bin/env python3")
+        return path.endswith(".py") or b"python3" in file.readline()
 
 
 def python_files():
@@ -36,8 +36,7 @@ def python_files():
 
 def faults_of(path):
     """The lines of a file that break a rule which needs no linter."""
-    with open(path, encoding="utf-8") as file:
-        text = file.read()
+    text = read_text(path)
     for number, line in enumerate(text.splitlines(), 1):
         if len(line) > LONGEST or line != line.rstrip() or "\t" in line:
             yield f"{os.path.relpath(path, TOP)}:{number}"
@@ -51,8 +50,7 @@ def test_lines_keep_their_length():
 
 def test_oldest_python_reads_all_files():
     for path in python_files():
-        with open(path, encoding="utf-8") as file:
-            text, name = file.read(), os.path.relpath(path, TOP)
+        text, name = read_text(path), os.path.relpath(path, TOP)
         try:
             ast.parse(text, feature_version=OLDEST)
         except SyntaxError as error:
@@ -89,3 +87,48 @@ def long_lines():
 
 def test_lines_of_rattle_keep_their_length():
     same(sorted(long_lines()), [], f"lines longer than {LONGEST_OF_RATTLE}")
+
+
+# The most parameters of a definition in specs/: one that has more relates things that want a name of their own.
+MOST_PARAMETERS = 7
+# A definition in one line: its name, its parameters, if it is a type, and its type.
+DEFINITION = re.compile(
+    r"(?m)^(?:pub )?(?:(?:record|data) (\w+)(.*?) where\b|(?:abbrev |unfoldable )?(?:pub )?(\w+)( : .*))"
+)
+BINDER = re.compile(r"[({]([\w ]+) : ")
+
+
+def cut_outside(text, mark):
+    """The parts of a text between the marks that stand in no brackets."""
+    depth, parts = 0, [""]
+    for letter in text:
+        depth += (letter in "({[") - (letter in ")}]")
+        if letter == mark and depth == 0:
+            parts.append("")
+        else:
+            parts[-1] += letter
+    return parts
+
+
+def count_parameters(part):
+    """How many parameters stand before an arrow: those that `(a b : T) {S : U}` names in round brackets, or one."""
+    groups = [it.strip() for it in cut_outside(re.sub(r"(?<=[)}]) (?=[({])", "\0", part), "\0") if it.strip()]
+    named = [BINDER.match(it) for it in groups]
+    return sum(len(it[1].split()) for it in named if it[0][0] == "(") if all(named) else 1
+
+
+def definitions():
+    """The definitions of specs/, each with how many parameters it has, without those in braces."""
+    for folder, inner, files in os.walk(os.path.join(TOP, "crates")):
+        inner[:] = [it for it in inner if it != "out"]
+        for file in sorted(files) if os.path.basename(folder) == "specs" else ():
+            text = re.sub(r" *--.*", "", read_text(os.path.join(folder, file)))
+            for of_type, head, other, whole in DEFINITION.findall(re.sub(r"\n +", " ", text)):
+                named, *answered = cut_outside(head or whole, ":")
+                takes = cut_outside(":".join(answered), "→")[:-1]
+                yield of_type or other, sum(map(count_parameters, [named, *takes]))
+
+
+def test_definitions_have_few_parameters():
+    more = {name: count for name, count in definitions() if count > MOST_PARAMETERS}
+    same(more, {}, f"definitions with more than {MOST_PARAMETERS} parameters")

@@ -9,7 +9,7 @@ from runs import TOP, key_texts, of_file, run, same, with_files
 
 import groups
 
-TOOL = os.path.join(TOP, "tools", "make-vectors")
+TOOL = os.path.join(TOP, "vectors", "make")
 
 
 def vectors(name, least=100):
@@ -40,6 +40,7 @@ def test_vectors_of_the_desk():
         lines, answers = zip(*row["exchange"])
         stream = "".join(f"{line}\n" for line in lines).encode("latin-1")
         words = ["desk", "--genesis", "genesis", "--keys", "keys"]
+        answers = [it.encode("latin-1").decode() for it in answers]
         shown(row, with_files({"genesis": row["genesis"], "keys": keys}, words, stream), 0, answers)
 
 
@@ -67,4 +68,4 @@ def test_vectors_are_those_of_the_models():
     loader.exec_module(tool)
     for name in tool.VECTORS:
         with open(os.path.join(TOP, "vectors", f"{name}.json"), encoding="ascii") as file:
-            same(file.read() == tool.text_of(name), True, f"vectors/{name}.json is what tools/make-vectors writes")
+            same(file.read() == tool.text_of(name), True, f"vectors/{name}.json is what vectors/make writes")

@@ -51,6 +51,10 @@ class Client:
         finally:
             self.stream.settimeout(PATIENCE)
 
+    def is_ended(self):
+        """Whether the node ended the connection, and nothing comes before that."""
+        return self.stream.recv(1) == b""
+
     def close(self):
         self.stream.close()
 

@@ -3,12 +3,11 @@
 import contextlib
 import os
 import shutil
-import subprocess
 
 from logs import Fault, Log
 from nodes import export_text
 from restarts import Folders
-from runs import GENESIS, SECONDS, payd, same
+from runs import GENESIS, call, payd, read_bytes, same
 
 OPENING = GENESIS["opening"]
 
@@ -23,16 +22,10 @@ def made_folder(place, name, log):
     return file.name
 
 
-def read(path):
-    with open(path, "rb") as file:
-        return file.read()
-
-
 def export(place, own, folder=None, genesis="genesis", keys=None):
     """What the program does that is to write the export of a folder."""
     words = ["--genesis", genesis, "--keys", keys or f"keys-{own}", "--data", folder or f"data-{own}"]
-    done = subprocess.run([payd(), "export", *words], cwd=place, capture_output=True, timeout=SECONDS)
-    return done.returncode, done.stdout.decode("ascii"), done.stderr.decode()
+    return call([payd(), "export", *words], folder=place)
 
 
 class Damaged:
@@ -64,15 +57,13 @@ class Damaged:
         """The folder's export is that which the model has, and the log is left as it was."""
         path = made_folder(self.place, "damaged", file)
         same(export(self.place, 0, "damaged"), self.export_of(file), of)
-        same((read(path), os.listdir(os.path.dirname(path))), (file, ["log"]), f"{of}: what is left")
+        same((read_bytes(path), os.listdir(os.path.dirname(path))), (file, ["log"]), f"{of}: what is left")
 
 
 @contextlib.contextmanager
 def damage_of_a_log():
     with Folders(OPENING) as group:
-        group.pay(0, 7, payee=1, amount=30, seq=0)
-        group.pay(3, 7, payee=0, amount=20, seq=0)
-        group.settle([1, 0, 0, 1], [90, 30, 0, 30])
+        group.pay_twice()
         for line in ("PAYS 9 1 1 2 2", "STATE 0 0", "BALANCE 3", "FRONT"):
             group.nodes[0].ask(line)
         for own in list(group.nodes):

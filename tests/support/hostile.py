@@ -9,6 +9,7 @@ import subprocess
 import tempfile
 from collections import Counter
 
+from advices import told_plainly
 from nodes import IN_MEMORY, started
 from runs import SECONDS, payd, same
 
@@ -58,7 +59,7 @@ class Hostile:
             file.write(stream)
             file.seek(0)
             done = subprocess.run([payd(), *words], stdin=file, env={**os.environ, **self.given(**wanted)}, **how)
-        errors = started(done.stderr.decode()).removeprefix(IN_MEMORY)
+        errors = told_plainly(started(done.stderr.decode()).removeprefix(IN_MEMORY))
         return (done.returncode, done.stdout.decode("ascii"), errors), self.was_refused()
 
     def each(self, words, stream, name, **more):

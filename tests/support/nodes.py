@@ -13,7 +13,8 @@ import subprocess
 import tempfile
 import time
 
-from runs import key_texts, payd, same, with_files
+from advices import told_plainly
+from runs import GENESIS, key_texts, payd, same, shows, with_files
 
 PATIENCE = 60
 PAUSE = 0.01
@@ -62,6 +63,7 @@ EARLY = "refused 6 TooEarly"
 # what it says of its peers on standard error
 UNOPENED = "sends frames that don't open: another key or another group"
 NEWS = re.compile(rf"payd: peer (\d+) (met|lost|given up|{UNOPENED})\n")
+LIES = re.compile(r"payd: peer (\d+) lied: ([^;\n]*); nothing more is read from it\n")
 
 
 def started(errors):
@@ -69,11 +71,25 @@ def started(errors):
     return START.sub("", errors, count=1)
 
 
+def news_in(errors):
+    """What standard error says of peers."""
+    return [(int(peer), word) for peer, word in NEWS.findall(errors)]
+
+
+def lies_in(errors):
+    """What it says of their lies: nothing of a correct member."""
+    return [(int(peer), lie) for peer, lie in LIES.findall(errors)]
+
+
+def without_lies(errors, liars):
+    """What standard error says but of the lies of these peers."""
+    return LIES.sub(lambda it: "" if int(it[1]) in liars else it[0], errors)
+
+
 def told_apart(errors):
-    """What standard error says of peers, and all else that is there but who the node is, and that a member is in memory
-    alone."""
-    said = started(errors).removeprefix(IN_MEMORY)
-    return [(int(peer), word) for peer, word in NEWS.findall(said)], NEWS.sub("", said)
+    """The same, and all else that is there but who the node is, that a member is in memory alone, and what to do about
+    faults."""
+    return news_in(errors), NEWS.sub("", told_plainly(started(errors).removeprefix(IN_MEMORY)))
 
 
 def in_memory(was):
@@ -89,6 +105,33 @@ def in_memory(was):
 def write_json(folder, name, value):
     with open(os.path.join(folder, name), "w", encoding="ascii") as file:
         json.dump(value, file)
+
+
+def write_member(folder, own=0, genesis=GENESIS, ports=None):
+    """Writes the files of a member with the test keys; the words of a node that name them."""
+    write_json(folder, "genesis", genesis)
+    write_json(folder, "keys", {"own": own, "keys": key_texts(own, genesis["members"])})
+    write_json(folder, "ports", {"ports": ports or free_ports(genesis["members"])})
+    return ["node", "--genesis", "genesis", "--keys", "keys", "--ports", "ports"]
+
+
+def judges_words_of(option, why, wrong, more, right):
+    """A node of two refuses these words of an option, before it reads its files, and several, and takes others."""
+    pair = {"members": 2, "faults": 0, "opening": [5, 5]}
+    files = {"g": pair, "k": {"own": 0, "keys": key_texts(0, 2)}, "p": {"ports": free_ports(2)}}
+    words = ["node", "--genesis", "g", "--keys", "k", "--ports", "p"]
+    for word in (*wrong, "", "00", "05", "+5", "5 ", "1.5", "0x5", "five", f"{2**64}"):
+        for given in (files, {}):
+            was = with_files(given, [*words, f"--{option}={word}"], b"FRONT\n")
+            shows(was, 2, "", f"payd: {option} {word}: {why}\n", of=f"{word!r}")
+    for several in (*more, [], ["-1"], ["5", f"--{option}", "5"]):
+        status, output, errors = with_files(files, [*words, f"--{option}", *several], b"FRONT\n")
+        same((status, output, errors != ""), (2, "", True), f"{several}")
+    for word in right:
+        # (a second word of one option is refused, so dials that are judged come alone)
+        dials = [] if option == "dials" else ["--dials", "1"]
+        status, output, errors = with_files(files, [*words, *dials, f"--{option}", word], b"FRONT\n")
+        same((status, output.split("\n")[0], told_apart(errors)[1]), (0, "front 0 0", ""), f"{word!r}")
 
 
 class Ended(AssertionError):
@@ -130,7 +173,7 @@ class Node:
                 raise Ended(f"node {self.own} ended with {self.said!r} behind {self.held!r}")
             self.held += piece
         line, _, self.held = self.held.partition(b"\n")
-        return line.decode("ascii")
+        return line.decode()
 
     def ask(self, line):
         """The answer to a line that has one line of it."""
@@ -170,28 +213,46 @@ class Node:
     def threads(self):
         return self.status("Threads")
 
+    def processor_seconds(self):
+        """How long processors have worked for it so far."""
+        with open(f"/proc/{self.child.pid}/stat", encoding="ascii") as file:
+            words = file.read().rpartition(")")[2].split()
+        return (int(words[11]) + int(words[12])) / os.sysconf("SC_CLK_TCK")
+
     def open_files(self):
         return len(os.listdir(f"/proc/{self.child.pid}/fd"))
 
     def news(self):
-        """What standard error said of peers so far."""
+        """What standard error said of peers so far, but of their lies."""
+        self.hear()
+        return news_in(self.said.decode())
+
+    def lies(self):
+        """What it said of their lies so far."""
+        self.hear()
+        return lies_in(self.said.decode())
+
+    def hear(self):
+        """Takes what standard error said so far."""
         while not self.child.stderr.closed and select.select([self.child.stderr], [], [], 0)[0]:
             piece = os.read(self.child.stderr.fileno(), 65536)
             if piece == b"":
                 break
             self.said += piece
-        return told_apart(self.said.decode())[0]
 
     def end(self):
         """Waits for the node's end: its status, what it still wrote, and its errors, without what it says of peers."""
         output, errors = self.child.communicate(timeout=PATIENCE)
         self.said += errors
-        return self.child.returncode, (self.held + output).decode("ascii"), told_apart(self.said.decode())[1]
+        return self.child.returncode, (self.held + output).decode(), told_apart(self.said.decode())[1]
+
+    def end_input(self):
+        self.child.stdin.close()
+        self.child.stdin = None
 
     def stop(self):
         """Ends the input, and waits for the node's end."""
-        self.child.stdin.close()
-        self.child.stdin = None
+        self.end_input()
         return self.end()
 
     def kill(self):
@@ -206,8 +267,11 @@ class Node:
 class Group:
     """A folder with the files of a group with the test keys, and those of its members that run.
 
-    After its `with` no process is left, however it ends.
+    After its `with` no process is left, however it ends. Of members that aren't among the liars no node may say in the
+    end that they lied.
     """
+
+    liars = ()
 
     def __init__(self, opening, running=None, ports=None, options=()):
         self.members = len(opening)
@@ -220,8 +284,7 @@ class Group:
 
     def __enter__(self):
         self.place = tempfile.TemporaryDirectory()
-        genesis = {"members": self.members, "faults": self.faults, "opening": self.opening}
-        write_json(self.place.name, "genesis", genesis)
+        write_json(self.place.name, "genesis", self.genesis())
         write_json(self.place.name, "ports", {"ports": self.ports})
         for own in range(self.members):
             write_json(self.place.name, f"keys-{own}", {"own": own, "keys": key_texts(own, self.members)})
@@ -241,6 +304,9 @@ class Group:
             node.kill()
         self.place.cleanup()
 
+    def genesis(self):
+        return {"members": self.members, "faults": self.faults, "opening": self.opening}
+
     def start(self, own, ports="ports", options=()):
         self.nodes[own] = Node(own, self.place.name, ports, [*self.options, *options])
         return self.nodes[own]
@@ -251,6 +317,12 @@ class Group:
     def pay(self, own, order, payee, amount, seq):
         same(self.nodes[own].pay(f"PAY {order} {payee} {amount}"), f"asked {order} seq {seq}", f"payment by {own}")
 
+    def pay_twice(self):
+        """Members 0 and 3 of four that open with 100, 0, 0 and 50 pay 30 and 20, and all that run have settled it."""
+        self.pay(0, 7, payee=1, amount=30, seq=0)
+        self.pay(3, 7, payee=0, amount=20, seq=0)
+        self.settle([1, 0, 0, 1], [90, 30, 0, 30])
+
     def settle(self, front, balances=None):
         """Waits until all that run have settled just this."""
         for own, node in self.nodes.items():
@@ -258,13 +330,27 @@ class Group:
             if balances is not None:
                 same(node.balances(), balances, f"the balances at {own}")
 
+    def pay_around(self, orders, at_once=500, paying=None):
+        """Has the members below `paying`, or all, pay 1 to the next of them under these ids, which are the seqs; the
+        seconds until all has settled at those that run. So many of each member are under way at once."""
+        paying, begun = paying or self.members, time.monotonic()
+        for first in range(orders.start, orders.stop, at_once):
+            some = range(first, min(orders.stop, first + at_once))
+            for own in range(paying):
+                self.nodes[own].write("".join(f"PAY {it} {(own + 1) % paying} 1\n" for it in some))
+            for own in range(paying):
+                for it in some:
+                    same(self.nodes[own].line(), f"asked {it} seq {it}", f"payment {it} by {own}")
+            self.settle(paying * [some.stop] + (self.members - paying) * [0])
+        return time.monotonic() - begun
+
     def stop(self):
         """Stops all that run, and audits their exports, which are handed back."""
         exports = {}
         for own in list(self.nodes):
             # (a node that fails to stop is still among those that are killed)
             status, output, errors = self.nodes[own].stop()
-            same((status, errors), (0, ""), f"the end of node {own}")
+            same((status, without_lies(errors, self.liars)), (0, ""), f"the end of node {own}")
             exports[own] = json.loads(output)
             same(output, f"{compact(exports[own])}\n", f"the export of node {own}")
             same(exports[own]["member"], own, f"whose export node {own} writes")

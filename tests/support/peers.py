@@ -3,6 +3,8 @@
 They share no code with the crates. None outlives its `with`.
 """
 
+import collections
+import contextlib
 import random
 import select
 import socket
@@ -63,11 +65,12 @@ def poured(stream, text):
 
 
 class Server:
-    """Listens on a port, and hands each connection with the WANT that came first on it to `meet`."""
+    """Listens on a port, and hands each connection with the WANT that came first on it to `meet`, which is given or a
+    method."""
 
-    def __init__(self, own, port, meet):
+    def __init__(self, own, port, meet=None):
         self.own = own
-        self.meet = meet
+        self.meet = meet or self.meet
         self.streams = []
         self.threads = []
         self.is_over = threading.Event()
@@ -128,7 +131,7 @@ def ended(stream):
     stream.close()
 
 
-class Liar:
+class Liar(Server):
     """A member that tells each of the others another story, and another one on each connection.
 
     A story is a list of bodies, from which WANTs are answered. After the end of a story the connection ends, after
@@ -136,18 +139,10 @@ class Liar:
     """
 
     def __init__(self, own, port, stories):
-        self.own = own
+        super().__init__(own, port)
         self.stories = stories
         self.turns = {peer: 0 for peer in stories}
         self.heard = set()
-        self.server = Server(own, port, self.meet)
-
-    def __enter__(self):
-        self.server.__enter__()
-        return self
-
-    def __exit__(self, *_):
-        self.server.__exit__()
 
     def meet(self, stream, peer, number):
         stories = self.stories[peer]
@@ -168,14 +163,10 @@ class Liar:
         return self.heard == set(self.stories)
 
 
-class Cuts:
-    """Carries all that comes on some ports to others and back, and cuts each connection somewhere."""
+class Running:
+    """What a thread of its own does until the end of its `with`."""
 
-    def __init__(self, seeded, routes):
-        self.seeded = seeded
-        self.routes = {socket.create_server(("127.0.0.1", port)): target for port, target in routes.items()}
-        self.others = {}
-        self.left = {}
+    def __init__(self):
         self.count = 0
         self.is_over = threading.Event()
         self.thread = threading.Thread(target=self.run, daemon=True)
@@ -187,6 +178,20 @@ class Cuts:
     def __exit__(self, *_):
         self.is_over.set()
         self.thread.join(SECONDS)
+
+
+class Cuts(Running):
+    """Carries all that comes on some ports to others and back, and cuts each connection somewhere."""
+
+    def __init__(self, seeded, routes):
+        super().__init__()
+        self.seeded = seeded
+        self.routes = {socket.create_server(("127.0.0.1", port)): target for port, target in routes.items()}
+        self.others = {}
+        self.left = {}
+
+    def __exit__(self, *_):
+        super().__exit__()
         for stream in [*self.routes, *self.others]:
             stream.close()
 
@@ -257,8 +262,8 @@ def wrong_tags(stream, own, peer):
 
 
 def out_of_turn(stream, own, peer):
-    for number in (1, 7, GREATEST):
-        stream.sendall(frame(SEND, own, peer, number, owner=own, seq=9))
+    for seq, number in enumerate((1, 7, GREATEST), 10):
+        stream.sendall(frame(SEND, own, peer, number, owner=own, seq=seq))
 
 
 def wants_in_place_of_frames(stream, own, peer):
@@ -303,22 +308,14 @@ HOSTILE = (
 )
 
 
-class Hostile:
+class Hostile(Server):
     """A member that answers the first connection of each other with the first of these ways, and so on; with the
     last one for good."""
 
     def __init__(self, own, port, ways=HOSTILE):
-        self.own = own
+        super().__init__(own, port)
         self.ways = ways
         self.met = {}
-        self.server = Server(own, port, self.meet)
-
-    def __enter__(self):
-        self.server.__enter__()
-        return self
-
-    def __exit__(self, *_):
-        self.server.__exit__()
 
     def meet(self, stream, peer, _):
         turn = self.met.get(peer, 0)
@@ -395,3 +392,31 @@ class Strangers:
             poured(self.dial(), count * self.want(0))
         except (BrokenPipeError, ConnectionResetError):
             pass
+
+
+class Replays(Running):
+    """Connections to a node by somebody without a key, who plays back what was recorded: so many a second, one text on
+    each in turn, held open as long as the node lets them."""
+
+    # more than stand at a node at once
+    MOST = 300
+
+    def __init__(self, texts, port, a_second):
+        super().__init__()
+        self.texts = texts
+        self.port = port
+        self.pause = 1 / a_second
+
+    def run(self):
+        streams, due = collections.deque(), time.monotonic()
+        while not self.is_over.wait(max(0, due - time.monotonic())):
+            due += self.pause
+            # (a node may end one, or end itself)
+            with contextlib.suppress(OSError):
+                streams.append(connected(self.port))
+                streams[-1].sendall(self.texts[self.count % len(self.texts)])
+            self.count += 1
+            if len(streams) > self.MOST:
+                streams.popleft().close()
+        for stream in streams:
+            stream.close()

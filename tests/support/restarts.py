@@ -10,8 +10,8 @@ import threading
 import time
 
 from frames import payment, payments
-from nodes import Ended, Group, Node, audited, started
-from runs import same
+from nodes import Ended, Group, Node, audited, started, without_lies
+from runs import read_bytes, same
 from values import pairs_in
 
 NEW = "payd: log: new\n"
@@ -30,6 +30,8 @@ MANY = 500
 class Folders(Group):
     """A group whose members live in folders."""
 
+    was_killed = False
+
     def start(self, own, ports="ports", options=(), given=()):
         options = ["--data", f"data-{own}", "--dials", "always", *options]
         node = Node(own, self.place.name, ports, options, given=given)
@@ -37,9 +39,12 @@ class Folders(Group):
         self.nodes[own] = node
         return node
 
+    def kill(self, own):
+        self.was_killed = True
+        super().kill(own)
+
     def log(self, own):
-        with open(os.path.join(self.place.name, f"data-{own}", "log"), "rb") as file:
-            return file.read()
+        return read_bytes(os.path.join(self.place.name, f"data-{own}", "log"))
 
     def end(self, own):
         """Ends the input of a node; its status, its export and its errors without what it says of its log."""
@@ -52,9 +57,14 @@ class Folders(Group):
         exports = {}
         for own in list(self.nodes):
             status, exports[own], errors = self.end(own)
-            same((status, errors), (0, ""), f"the end of node {own}")
+            errors = DROPPED.sub("", errors) if self.was_killed else errors
+            same((status, without_lies(errors, self.liars)), (0, ""), f"the end of node {own}")
         audited([json.loads(text) for text in exports.values()])
         return exports
+
+
+# A kill in the midst of a write leaves bytes that are no chunk.
+DROPPED = re.compile(r"payd: log: [0-9]+ bytes dropped, kept in log\.dropped\n")
 
 
 def told(errors):
@@ -111,7 +121,7 @@ class Owner(threading.Thread):
             return True
         except (Ended, BrokenPipeError):
             status, _, errors = node.end()
-            same((status, told(errors)[1]), (-signal.SIGKILL, ""), f"the end of node {self.own}")
+            same((status, DROPPED.sub("", told(errors)[1])), (-signal.SIGKILL, ""), f"the end of node {self.own}")
             return False
 
     def judge_start(self, node):
@@ -175,7 +185,7 @@ def kill(group, owns):
     nodes = [group.nodes[own] for own in owns if own in group.nodes]
     running = [node for node in nodes if not node.is_killed]
     for node in running:
-        node.is_killed = True
+        node.is_killed = group.was_killed = True
         node.child.send_signal(signal.SIGKILL)
     return len(running)
 

@@ -14,6 +14,8 @@ import time
 TOP = os.path.dirname(os.path.dirname(os.path.dirname(os.path.realpath(__file__))))
 sys.path[:0] = [os.path.join(TOP, "examples"), os.path.join(TOP, "tools")]
 
+from advices import told_plainly  # noqa: E402
+
 import building  # noqa: E402
 from frames import test_key  # noqa: E402
 
@@ -58,13 +60,18 @@ def run_to_nobody(words):
     for sink in (closed, os.open("/dev/full", os.O_WRONLY)):
         done = subprocess.run(words, stdout=sink, stderr=subprocess.PIPE, env=BUFFERED, timeout=SECONDS)
         os.close(sink)
-        yield done.returncode, done.stderr.decode()
+        yield done.returncode, told_plainly(done.stderr.decode())
+
+
+def call(words, stream=b"", folder=None, **how):
+    """Status, standard output and standard error of a command."""
+    done = subprocess.run(words, input=stream, capture_output=True, cwd=folder, timeout=SECONDS, **how)
+    return done.returncode, done.stdout.decode(), told_plainly(done.stderr.decode())
 
 
 def run(words, stream=b""):
     """Status, standard output and standard error of a run."""
-    done = subprocess.run([payd(), *words], input=stream, capture_output=True, timeout=SECONDS)
-    return done.returncode, done.stdout.decode("ascii"), done.stderr.decode()
+    return call([payd(), *words], stream)
 
 
 def run_within(memory, words, stream=b""):
@@ -73,14 +80,7 @@ def run_within(memory, words, stream=b""):
     def limit():
         resource.setrlimit(resource.RLIMIT_AS, (memory, memory))
 
-    done = subprocess.run([payd(), *words], input=stream, capture_output=True, preexec_fn=limit, timeout=SECONDS)
-    return done.returncode, done.stdout.decode("ascii"), done.stderr.decode()
-
-
-def run_on(stdin, stdout):
-    """Status, standard output (where it is a pipe) and standard error of a run on open files."""
-    done = subprocess.run([payd()], stdin=stdin, stdout=stdout, stderr=subprocess.PIPE, timeout=SECONDS)
-    return done.returncode, (done.stdout or b"").decode("ascii"), done.stderr.decode()
+    return call([payd(), *words], stream, preexec_fn=limit)
 
 
 def run_byte_by_byte(stream, words=()):
@@ -97,7 +97,7 @@ def run_byte_by_byte(stream, words=()):
         output, errors = child.communicate()
     finally:
         watchdog.cancel()
-    return child.returncode, output.decode("ascii"), errors.decode()
+    return child.returncode, output.decode("ascii"), told_plainly(errors.decode())
 
 
 def same(was, wanted, of):
@@ -115,6 +115,21 @@ def is_refused(status, errors):
 
 
 # ---- files
+
+
+def read_text(path):
+    with open(path, encoding="utf-8") as file:
+        return file.read()
+
+
+def read_bytes(path):
+    with open(path, "rb") as file:
+        return file.read()
+
+
+def write_text(path, text):
+    with open(path, "w", encoding="utf-8") as file:
+        file.write(text)
 
 
 def of_file(line, name, member=None):
@@ -153,72 +168,44 @@ def with_files(files, words, stream=b""):
                 content = json.dumps(content)
             with open(os.path.join(folder, name), "wb") as file:
                 file.write(content.encode() if isinstance(content, str) else content)
-        done = subprocess.run([payd(), *words], input=stream, capture_output=True, cwd=folder, timeout=SECONDS)
-    return done.returncode, done.stdout.decode("ascii"), done.stderr.decode()
+        return call([payd(), *words], stream, folder=folder)
 
 
+def genesis_of(members, faults, opening):
+    return {"members": members, "faults": faults, "opening": opening}
+
+
+RIGHT = '{"members":4,"faults":1,"opening":[100,0,0,50]}'
 # Genesis files that have a fault, and the fault.
-GENESIS_ROWS = (
-    ("", "1 BadJson"),
-    ("{", "1 BadJson"),
-    ('{"members":4,"faults":1,"opening":[100,0,0,50]}x', "1 BadJson"),
-    ('\ufeff{"members":4,"faults":1,"opening":[100,0,0,50]}', "1 BadJson"),
-    (b'{"members":4,"faults":1,"opening":[100,0,0,50],"x":"\xff"}', "1 BadJson"),
-    ('{"members":4,"faults":1,"opening":[100,0,0,50],"x":"\\ud800"}', "1 BadJson"),
-    ('{"members":4,"faults":1,"opening":[100,0,0,50],"x":' + 200 * "[" + 200 * "]" + "}", "1 BadJson"),
-    ('{"members":4,"faults":1,"opening":[100,0,0,1e999]}', "1 BadJson"),
-    ("[]", "2 BadShape"),
-    ("null", "2 BadShape"),
-    ({"faults": 1, "opening": [100, 0, 0, 50]}, "2 BadShape"),
-    ({"members": 4, "opening": [100, 0, 0, 50]}, "2 BadShape"),
-    ({"members": 4, "faults": 1}, "2 BadShape"),
-    ({"members": "4", "faults": 1, "opening": []}, "2 BadShape"),
-    ({"members": 4, "faults": None, "opening": []}, "2 BadShape"),
-    ({"members": 4, "faults": 1, "opening": 100}, "2 BadShape"),
-    ({"members": 129, "faults": 1, "opening": ["100"]}, "2 BadShape"),
-    ('{"members":4.0,"faults":1,"opening":[]}', "2 BadShape"),
-    ('{"members":4e0,"faults":1,"opening":[]}', "2 BadShape"),
-    ('{"members":4,"faults":-0,"opening":[]}', "2 BadShape"),
-    ('{"members":4,"faults":-1,"opening":[]}', "2 BadShape"),
-    ('{"members":18446744073709551616,"faults":1,"opening":[]}', "2 BadShape"),
-    ('{"members":4,"faults":1,"opening":[100,0,0,18446744073709551616]}', "2 BadShape"),
-    ({"members": 0, "faults": 0, "opening": []}, "3 BadCount"),
-    ({"members": 129, "faults": 43, "opening": []}, "3 BadCount"),
-    ({"members": 2**64 - 1, "faults": 0, "opening": [1]}, "3 BadCount"),
-    ({"members": 65540, "faults": 1, "opening": [1, 2, 3, 4]}, "3 BadCount"),
-    ({"members": 3, "faults": 1, "opening": []}, "4 BadFaults"),
-    ({"members": 65, "faults": 22, "opening": []}, "4 BadFaults"),
-    ({"members": 128, "faults": 43, "opening": []}, "4 BadFaults"),
-    ({"members": 4, "faults": 2**64 - 1, "opening": [0, 0, 0, 0]}, "4 BadFaults"),
-    ({"members": 4, "faults": 1, "opening": 3 * [2**64 - 1]}, "5 BadOpening"),
-    ({"members": 4, "faults": 1, "opening": 5 * [0]}, "5 BadOpening"),
-    ({"members": 128, "faults": 42, "opening": 127 * [0]}, "5 BadOpening"),
-    ({"members": 4, "faults": 1, "opening": [2**63 - 1, 1, 0, 0]}, "6 BadTotal"),
-    ({"members": 2, "faults": 0, "opening": [2**63, 2**63]}, "6 BadTotal"),
-)
+GENESIS_ROWS = [
+    *((text, "1 BadJson") for text in ("", "{", f"{RIGHT}x", f"\ufeff{RIGHT}", RIGHT.replace("50", "1e999"))),
+    *((f'{RIGHT[:-1]},"x":{it}}}', "1 BadJson") for it in ('"\\ud800"', 200 * "[" + 200 * "]")),
+    (RIGHT[:-1].encode() + b',"x":"\xff"}', "1 BadJson"),
+    *((text, "2 BadShape") for text in ("[]", "null", RIGHT.replace("50", "18446744073709551616"))),
+    *(({it: value for it, value in GENESIS.items() if it != name}, "2 BadShape") for name in GENESIS),
+    *((genesis_of(*it), "2 BadShape") for it in (("4", 1, []), (4, None, []), (4, 1, 100), (129, 1, ["100"]))),
+    *((f'{{"members":{it},"faults":1,"opening":[]}}', "2 BadShape") for it in ("4.0", "4e0", "18446744073709551616")),
+    *((f'{{"members":4,"faults":{it},"opening":[]}}', "2 BadShape") for it in ("-0", "-1")),
+    *((genesis_of(*it), "3 BadCount") for it in ((0, 0, []), (129, 43, []), (2**64 - 1, 0, [1]), (65540, 1, 4 * [1]))),
+    *((genesis_of(*it), "4 BadFaults") for it in ((3, 1, []), (65, 22, []), (128, 43, []), (4, 2**64 - 1, 4 * [0]))),
+    *((genesis_of(*it), "5 BadOpening") for it in ((4, 1, 3 * [2**64 - 1]), (4, 1, 5 * [0]), (128, 42, 127 * [0]))),
+    *((genesis_of(*it), "6 BadTotal") for it in ((4, 1, [2**63 - 1, 1, 0, 0]), (2, 0, [2**63, 2**63]))),
+]
 
 # The same of keys, for the desk of a member of four.
 KEY = "0123456789abcdefABCDEF" + 42 * "0"
 
-KEYS_ROWS = (
-    ("", "1 BadJson"),
-    ('{"own":1,"keys":["","","",""]', "1 BadJson"),
-    ({"keys": []}, "2 BadShape"),
-    ({"own": 1}, "2 BadShape"),
-    ({"own": "1", "keys": []}, "2 BadShape"),
-    ({"own": 1, "keys": KEY}, "2 BadShape"),
+KEYS_ROWS = [
+    *((text, "1 BadJson") for text in ("", '{"own":1,"keys":["","","",""]')),
+    *(({"own": 1, "keys": it}, "2 BadShape") for it in (KEY, [KEY, None, KEY, KEY])),
+    *((it, "2 BadShape") for it in ({"keys": []}, {"own": 1}, {"own": "1", "keys": []})),
     ({"own": 9, "keys": [KEY, "", KEY, 7]}, "2 BadShape"),
-    ({"own": 1, "keys": [KEY, None, KEY, KEY]}, "2 BadShape"),
-    ({"own": 4, "keys": []}, "3 BadOwn"),
-    ({"own": 65537, "keys": [KEY, "", KEY, KEY]}, "3 BadOwn"),
-    ({"own": 1, "keys": ["x", "x", "x"]}, "4 BadKeyCount"),
-    ({"own": 1, "keys": [KEY, "", KEY, KEY, KEY]}, "4 BadKeyCount"),
-    ({"own": 1, "keys": [KEY, KEY, KEY, KEY]}, "5 BadKey"),
-    ({"own": 1, "keys": [KEY, "x", KEY, KEY]}, "5 BadKey"),
-    ({"own": 1, "keys": ["", "", KEY, KEY]}, "5 BadKey"),
-    ({"own": 1, "keys": [KEY, "", KEY[:-1], KEY]}, "5 BadKey"),
-    ({"own": 1, "keys": [KEY, "", KEY, KEY + "00"]}, "5 BadKey"),
-    ({"own": 1, "keys": [KEY, "", KEY, KEY[:-1] + "g"]}, "5 BadKey"),
-    ({"own": 1, "keys": [KEY, "", KEY, " " + KEY[1:]]}, "5 BadKey"),
-    ({"own": 1, "keys": [KEY, "", KEY, "\uff11" + KEY[1:]]}, "5 BadKey"),
-)
+    *((it, "3 BadOwn") for it in ({"own": 4, "keys": []}, {"own": 65537, "keys": [KEY, "", KEY, KEY]})),
+    *(({"own": 1, "keys": it}, "4 BadKeyCount") for it in (["x", "x", "x"], [KEY, "", KEY, KEY, KEY])),
+    *(({"own": 1, "keys": [KEY, it, KEY, KEY]}, "5 BadKey") for it in (KEY, "x")),
+    *(({"own": 1, "keys": it}, "5 BadKey") for it in (["", "", KEY, KEY], [KEY, "", KEY[:-1], KEY])),
+    *(
+        ({"own": 1, "keys": [KEY, "", KEY, it]}, "5 BadKey")
+        for it in (f"{KEY}00", f"{KEY[:-1]}g", f" {KEY[1:]}", f"\uff11{KEY[1:]}")
+    ),
+]

@@ -86,6 +86,10 @@ class Day:
         kind = "PAYS" if words.count(" ") > 1 else "PAY"
         return int(self.group.nodes[customer].ask(f"{kind} {self.ids} {words}").split(" ")[3])
 
+    def note(self, customer, text):
+        self.ids += 1
+        return self.group.nodes[customer].ask(f"NOTE {self.ids} {text}")
+
     def sell(self):
         """An order with its payments, one of which may be the right one, and its end."""
         customer, price = self.seeded.choice(CUSTOMERS), self.seeded.randrange(2, 1000)
@@ -94,7 +98,10 @@ class Day:
         for words, came in self.seeded.sample(self.ways(customer, price), self.seeded.choice((1, 1, 1, 2))):
             seq = self.pay(customer, words)
             paid[seq] = came
-            same(self.shop.ask(f"paid {number} {seq}"), f"noted {number} {seq}", "what the shop noted")
+            if self.seeded.random() < 0.5:
+                self.note(customer, f"seq {seq} order {number}")
+            else:
+                same(self.shop.ask(f"paid {number} {seq}"), f"noted {number} {seq}", "what the shop noted")
         is_cancelled = self.seeded.random() < 0.2
         if is_cancelled:
             same(self.shop.ask(f"cancel {number}"), f"cancelled {number}", "what the shop cancelled")
@@ -126,6 +133,7 @@ class Day:
         """Waits until nothing is awaited or owed; each payment is kept, or was given back once."""
         taken, backs = 0, []
         for number, customer, price, paid, is_cancelled in self.orders:
+            until(lambda: sorted(self.told(number)[1]), sorted(paid), of=f"the payments of order {number}")
             until(lambda: {"awaited", "owed"} & {it for it, _ in self.told(number)[1].values()}, set(), of="payments")
             state, payments = self.told(number)
             kept = [seq for seq, (state, _) in payments.items() if state == "kept"]
@@ -136,7 +144,6 @@ class Day:
             for seq, (state, back) in payments.items():
                 same(state, "kept" if seq in kept else "back" if paid[seq] else "nothing", f"the payment {seq}")
                 backs += [(back, customer, paid[seq])] if state == "back" else []
-            same(sorted(payments), sorted(paid), f"the payments of order {number}")
             taken += price * is_paid
         self.judge_money(taken, sorted(backs))
 

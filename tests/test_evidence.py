@@ -1,0 +1,208 @@
+"""Black-box tests of payd evidence: what a liar said to running nodes is found in their logs, and checked with the keys
+of its receiver, of the liar and of others. The frames are those of examples/frames.py."""
+
+import hashlib
+import json
+import os
+import struct
+
+import group_model
+from frames import ECHO, READY, SEND, WANT, frame, payment
+from nodes import until, write_json
+from peers import Liar
+from restarts import Folders
+from runs import EXAMPLE_GENESIS, GENESIS, TOP, call, example_keys, key_texts, read_bytes, read_text, same, write_text
+
+A, B, C = payment(payee=0, amount=5), payment(payee=1, amount=5), payment(payee=2, amount=7)
+PAYS_A, PAYS_B, PAYS_C = f"5 to member 0 ({A.hex()})", f"5 to member 1 ({B.hex()})", f"7 to member 2 ({C.hex()})"
+DIGEST = hashlib.sha256(struct.pack(">HH4Q", 4, 1, *GENESIS["opening"])).hexdigest()
+# What would come behind a lie.
+REST = [(READY, 1, seq, B) for seq in range(9)]
+# What member 3 tells each of the others: member 0 two values by SENDs, and members 0 and 1 two by READYs.
+TOLD = {
+    0: [[(SEND, 3, 0, A), (ECHO, 3, 0, A), (READY, 0, 7, B), (SEND, 3, 0, B), *REST]],
+    1: [[(SEND, 3, 0, A), (READY, 3, 1, A), (READY, 0, 7, C), (ECHO, 1, 7, B)]],
+    2: [[(ECHO, 2, 7, A), (ECHO, 2, 8, B), (READY, 2, 7, B)]],
+}
+LIE = f"member 3 voted SEND under number 0 of its own account: member 0 heard {PAYS_A}; member 0 heard {PAYS_B}"
+FORK = "member 3 voted READY under number 7 of the account of member 0: "
+FORK += f"member 0 heard {PAYS_B}; member 1 heard {PAYS_C}"
+CLAIM = "To member {} this is a claim of member {}, who can make such tags too."
+WHY = "member 3 lied, its folder was copied, or somebody else has their key"
+RECEIVER = f"The tags are right. This shows member 0: {WHY}. To everybody else it is a claim."
+ACCUSED = "The tags are right: member 3 sent this, or member 0 made it up."
+NO_VOTE = "written: frame 1: it is no vote of a member to another\n"
+NOTHING = "nobody lied here\n"
+
+
+def evidence(folder, *words):
+    return call([os.path.join(TOP, "tools", "evidence"), *words], folder=folder)
+
+
+def sealed(receiver, *places):
+    """Frames of those that member 3 tells a member."""
+    told = [(it, *TOLD[receiver][0][it]) for it in places]
+    return [frame(kind, 3, receiver, it, owner, seq, value).hex() for it, kind, owner, seq, value in told]
+
+
+def write_frames(folder, *frames):
+    write_json(folder, "written", {"group": DIGEST, "frames": [{"frame": it} for it in frames]})
+
+
+def check(folder, own, *names, group=EXAMPLE_GENESIS, keys=None):
+    return evidence(folder, "--check", *names, "--group", group, "--keys", keys or example_keys(own))
+
+
+def test_lies_to_running_nodes_are_found_and_checked():
+    with Folders(GENESIS["opening"], running=[0, 1, 2]) as group, Liar(3, group.ports[3], TOLD):
+        place = group.place.name
+
+        def write(own, *words):
+            """Status and parts of the evidence of a member's log, which has all that came before an answer."""
+            group.nodes[own].front()
+            status, output, errors = evidence(place, "--data", f"data-{own}", *words)
+            same(errors, "", f"errors of {own}")
+            write_text(os.path.join(place, f"by-{own}"), output)
+            parts = json.loads(output)
+            return status, parts["receiver"], parts["accused"], [it["frame"] for it in parts["frames"]]
+
+        of_lies = sealed(0, 0, 3)
+        until(lambda: write(0), (1, 0, [3], of_lies), of="the lies to member 0")
+        parts = json.loads(read_text(os.path.join(place, "by-0")))
+        same((parts["group"], parts["findings"]), (DIGEST, [LIE]), "what is said of them")
+        for own, status, said in ((0, 0, RECEIVER), (3, 0, ACCUSED), (1, 1, CLAIM.format(1, 0))):
+            same(check(place, own, "by-0"), (status, f"{LIE}. {said}\n", ""), f"what member {own} says")
+        same(write(1), (0, 1, [], []), "what member 1 has alone")
+        fork = "--account", "0", "--number", "7"
+        until(lambda: write(1, *fork), (0, 1, [], sealed(1, 2)), of="a vote of a fork")
+        same(write(0, *fork), (1, 0, [3], sealed(0, 0, 3, 2)), "a vote of a fork beside a lie")
+        same(write(2), (0, 2, [], []), "member 2, to which nobody lied")
+        of_two = ACCUSED.replace("member 0", "member 0 and member 1")
+        lines = f"{LIE}. {ACCUSED}\n{FORK}. {of_two}\n"
+        same(check(place, 3, "by-0", "by-1"), (0, lines, ""), "votes that two members took")
+        group.pay(0, 1, payee=1, amount=30, seq=0)
+        group.settle([1, 0, 0, 0])
+        same(write(0), (1, 0, [3], of_lies), "the lies, once more has settled")
+        reads_whole_records(place, (1, read_text(os.path.join(place, "by-0")), ""))
+
+
+def reads_whole_records(place, wanted):
+    """A torn end is left out; a chunk that doesn't fit before another and another member's log are refused."""
+    text = read_bytes(os.path.join(place, "data-0", "log"))
+    for name, content, why in (
+        ("damaged", text[:140] + bytes([text[140] ^ 1]) + text[141:], "log 4 Damaged 0"),
+        ("other", read_bytes(os.path.join(place, "data-1", "log")), "log 3 Foreign Member"),
+        ("torn", text + text[75:120], None),
+    ):
+        os.mkdir(os.path.join(place, name))
+        with open(os.path.join(place, name, "log"), "wb") as file:
+            file.write(content)
+        was = evidence(place, "--data", name, "--group", EXAMPLE_GENESIS, "--keys", example_keys(0))
+        same(was, (2, "", f"payd evidence: {name}/log: {why}\n") if why else wanted, name)
+
+
+def test_changed_frames_are_refused(folder):
+    """With a bit turned, by each who has the key."""
+    good, other = map(bytes.fromhex, sealed(0, 0, 3))
+    for place in range(0, len(good), 4):
+        bit = 1 << place // 4 % 8
+        changed = good[:place] + bytes([good[place] ^ bit]) + good[place + 1 :]
+        write_frames(folder, changed.hex(), other.hex())
+        for own in (0, 3):
+            status, output, errors = check(folder, own, "written")
+            same((status, "are right" in output, errors), (1, False, ""), f"bit {bit} of byte {place}: {output}")
+    write_frames(folder, *sealed(0, 0), frame(SEND, 3, 0, 3, 3, 0, B, key=bytes(32)).hex())
+    why = "written: frame 1: its tag isn't by the key of member 3 and member 0\n"
+    same(check(folder, 0, "written"), (1, why, ""), "a tag by another key")
+    same(check(folder, 2, "written"), (1, f"{LIE}. {CLAIM.format(2, 0)}\n", ""), "who can't check it")
+
+
+def test_votes_that_two_members_took_show_each_its_own(folder):
+    by_1 = RECEIVER.replace("member 0", "member 1")[:-1] + ", and to member 1 so is what member 0 heard."
+    for own, status, said, *took in (
+        (0, 1, [CLAIM.format(0, 1)], (0, 0, A), (1, 0, B)),
+        (2, 1, [CLAIM.format(2, "0 and member 1")], (0, 0, A), (1, 0, B)),
+        (1, 0, [by_1], (0, 0, A), (1, 0, A), (1, 0, B)),
+        (0, 1, [CLAIM.format(0, 1)], (0, 0, A), (1, 0, A), (1, 0, B)),
+        (0, 1, [RECEIVER, CLAIM.format(0, 1)], (0, 0, A), (0, 0, B), (1, 1, A), (1, 1, B)),
+    ):
+        write_frames(folder, *(frame(READY, 3, it, 7, 3, seq, value).hex() for it, seq, value in took))
+        found, output, errors = check(folder, own, "written")
+        lines = [it.partition("). ")[2] for it in output.splitlines()]
+        same((found, lines, errors), (status, said, ""), f"what {took} show member {own}")
+
+
+def test_repeats_and_payments_of_another_are_lies(folder):
+    of_0, of_2 = ("member 3 voted {} of the account of member 0: ", "member 3 voted {} of the account of member 2: ")
+    again = of_0.format("ECHO under number 7") + f"member 0 heard {PAYS_B}; member 0 heard {PAYS_B}"
+    payment_of_2 = of_2.format("SEND under number 4") + f"member 0 heard {PAYS_B}"
+    for lie, *votes in (
+        (again, *((ECHO, 3, 0, number, 0, 7, B) for number in (5, 8, 9))),
+        (payment_of_2, (SEND, 3, 0, 5, 2, 4, B)),
+    ):
+        write_frames(folder, *(frame(*it).hex() for it in votes))
+        for own, status, said in ((0, 0, RECEIVER), (3, 0, ACCUSED), (1, 1, CLAIM.format(1, 0))):
+            same(check(folder, own, "written"), (status, f"{lie}. {said}\n", ""), f"what member {own} says of {lie}")
+
+
+def test_votes_that_are_no_lies_are_no_evidence(folder):
+    echo = ECHO, 3, 0, 0, 3, 0, A
+    apart = ((ECHO, 3, 0, 1, 3, 1, B), (ECHO, 3, 0, 1, 2, 0, B), (READY, 3, 0, 1, 3, 0, B), (SEND, 3, 0, 1, 3, 0, B))
+    others = echo, (ECHO, 2, 0, 0, 3, 0, B), (ECHO, 3, 1, 9, 3, 0, A)
+    no_votes = (WANT, 3, 0, 1, 0, 0, b""), (SEND, 3, 0, 1, 4, 0, B), (SEND, 4, 0, 1, 3, 0, B), (SEND, 0, 0, 1, 3, 0, B)
+    for rows, said in ((apart, NOTHING), (others, NOTHING), (no_votes, NO_VOTE)):
+        for other in rows:
+            write_frames(folder, frame(*echo).hex(), frame(*other).hex())
+            same(check(folder, 0, "written"), (1, said, ""), f"{other} beside an ECHO")
+    write_frames(folder)
+    same(check(folder, 0, "written"), (1, NOTHING, ""), "no frames")
+    words = "--data", folder, "--group", EXAMPLE_GENESIS, "--keys", example_keys(0)
+    for more, why in (
+        ("--account=4 --number=0", "there is no number 0 of account 4\n"),
+        ("--account=3 --number=65536", "there is no number 65536 of account 3\n"),
+        ("--account=3", "error: --account and --number go together\n"),
+        ("--check written", "error: argument --check: not allowed with argument --data\n"),
+    ):
+        status, output, errors = evidence(folder, *words, *more.split())
+        same((status, output, errors[-len(why) :]), (2, "", why), more)
+
+
+def test_group_by_its_file_has_names(folder):
+    """And evidence and keys of another group are refused."""
+    tool = os.path.join(TOP, "tools", "group")
+    public = [call([tool, "new", f"{own}.secret"], folder=folder)[1].strip() for own in range(4)]
+    for name in ("group", "other"):
+        words = "make", "--faults", "1", "--opening", "9,0,0,0", "--names", "Ann,Bob,Cy,Dee"
+        write_json(folder, name, json.loads(call([tool, *words, *public], folder=folder)[1]))
+    for own in (0, 3):
+        same(call([tool, "keys", "group", f"{own}.secret", f"keys-{own}"], folder=folder)[0], 0, "keys")
+    key = bytes.fromhex(json.loads(read_text(os.path.join(folder, "keys-0")))["keys"][3])
+    lies = [{"frame": frame(ECHO, 3, 0, at, 2, 9, it, key=key).hex()} for at, it in enumerate((A, b""))]
+    for name in ("group", "other"):
+        text = group_model.canonical(json.loads(read_text(os.path.join(folder, name))))
+        write_json(folder, f"by-{name}", {"group": hashlib.sha256(text.encode()).hexdigest(), "frames": lies})
+    lie = "member 3 Dee voted ECHO under number 9 of the account of member 2 Cy: "
+    lie += f"member 0 Ann heard 5 to member 0 Ann ({A.hex()}); member 0 Ann heard nothing (empty). "
+    lie += "The tags are right: member 3 Dee sent this, or member 0 Ann made it up.\n"
+    same(check(folder, 3, "by-group", group="group", keys="keys-3"), (0, lie, ""), "what Dee says")
+    for group, why in (("group", "by-other: it is of"), ("other", "keys-3: these are the keys of")):
+        was = check(folder, 3, "by-other", group=group, keys="keys-3")
+        same(was, (2, "", f"payd evidence: {why} another group\n"), f"another group than {group}")
+
+
+def test_wrong_files_are_named(folder):
+    texts = key_texts(0)
+    for option, given, why in (
+        ("keys", [], "it is no object"),
+        ("keys", {"own": 0, "keys": texts[:3]}, "it is no file of keys of this group"),
+        ("keys", {"own": 4, "keys": texts}, "it is no file of keys of this group"),
+        ("keys", {"own": 0, "keys": [*texts[:3], texts[3][:-2]]}, "a key in it isn't 32 bytes in hexadecimal"),
+        ("group", {"members": 129, "faults": 0, "opening": [0] * 129}, "a group has 1 to 128 members"),
+        ("group", {"frames": []}, "it is no group's file, and no genesis"),
+        ("check", {"group": DIGEST, "frames": 7}, "it is no evidence"),
+        ("check", {"group": DIGEST, "frames": [{"frame": "0g"}]}, "it is no evidence"),
+    ):
+        write_json(folder, "wrong", given)
+        words = {"check": "none", "group": EXAMPLE_GENESIS, "keys": example_keys(0), option: "wrong"}
+        was = evidence(folder, *(f"--{name}={word}" for name, word in words.items()))
+        same(was, (2, "", f"payd evidence: wrong: {why}\n"), f"{option} of {given}")
