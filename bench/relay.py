@@ -7,6 +7,8 @@ place, and passes each connection on to the peer's machine, where the peer's own
 """
 
 import asyncio
+import json
+import os
 import sys
 import threading
 
@@ -17,6 +19,16 @@ PIECE = 65_536
 
 def address(member):
     return ADDRESS.format(member + 1)
+
+
+class Relayed:
+    """A group of which each member dials the others by way of relays."""
+
+    def start(self, own, ports="ports", options=()):
+        dialed = [self.ports[it] if it == own else self.relays[it] for it in range(self.members)]
+        with open(os.path.join(self.place.name, f"ports-{own}"), "w", encoding="ascii") as file:
+            json.dump({"ports": dialed}, file)
+        return super().start(own, f"ports-{own}", options)
 
 
 async def pass_on(reader, writer, seconds):
