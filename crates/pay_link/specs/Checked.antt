@@ -1,14 +1,29 @@
 -- A frame that was opened and is kept, with the key that it was opened under.
 use Rattle.std.specs.Prelude.{◌≡◌, ◌≢◌, ◌<◌, ℕ, List, length}
-use Rattle.pay_frame.specs.Frame.{FrameFields, IsFrame, frame_bytes}
+use Rattle.pay_frame.specs.Frame.{BodyFields, FrameFields, IsFrame, frame_bytes}
 use Rattle.pay_frame.specs.declared.kind.Kind.TheVariants.{Want}
+use Rattle.pay_hmac.specs.Mac.{mac}
 use Rattle.pay_link.specs.Keys.{IsPeer, KeyFields, key_for}
 use Rattle.pay_link.specs.Opening.{IsTagged, OpenedFields}
+use Rattle.pay_link.specs.Sealing.{tagged_bytes}
 
 -- a frame, and the key that its receiver shares with its sender
 pub record CheckedFields : Type 0 where
   pub frame : FrameFields
   pub key : List ℕ
+
+-- the frame of these parts with the tag that is right under a key, and that key
+abbrev pub checked_parts : ℕ → ℕ → ℕ → BodyFields → List ℕ → CheckedFields
+checked_parts from to number body key = record {
+  frame = record {
+    from = from;
+    to = to;
+    number = number;
+    body = body;
+    tag = mac key (tagged_bytes from to number body);
+  };
+  key = key;
+}
 
 -- within a frame's limits, rightly tagged under that key, and no WANT
 pub record IsChecked (c : CheckedFields) : Type 0 where
@@ -19,6 +34,19 @@ pub record IsChecked (c : CheckedFields) : Type 0 where
 -- what is kept of an opened frame
 abbrev pub checked_fields : OpenedFields → CheckedFields
 checked_fields o = record { frame = o.frame; key = o.key }
+
+-- the frame that a peer seals for the member with these keys
+abbrev pub checked_from : KeyFields → ℕ → ℕ → BodyFields → CheckedFields
+checked_from k from number body = record {
+  frame = record {
+    from = from;
+    to = k.own;
+    number = number;
+    body = body;
+    tag = mac (key_for k from) (tagged_bytes from k.own number body);
+  };
+  key = key_for k from;
+}
 
 -- the bytes of the frame, its tag included
 abbrev pub bytes_of : CheckedFields → List ℕ

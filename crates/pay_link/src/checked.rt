@@ -1,9 +1,10 @@
-ghost use Rattle.std.specs.Prelude.{◌≡◌, ◌↔◌, IfOk, IsTrue};
-ghost use Rattle.pay_link.specs.Checked.{IsChecked, IsFor};
+ghost use Rattle.std.specs.Prelude.{◌≡◌, ◌≢◌, ◌↔◌, IfOk, IsTrue};
+ghost use Rattle.pay_link.specs.Checked.{IsChecked, IsFor, checked_from};
+ghost use Rattle.pay_link.specs.Keys.{IsPeer};
 
 use crate::checked_parts::CheckedParts;
 use crate::keys::Keys;
-use pay_frame::{Body, TAG_LEN};
+use pay_frame::{Body, Kind, TAG_LEN};
 use std::alloc::{AllocError, Global};
 use std::marker::Model;
 use std::sync::Arc;
@@ -14,8 +15,8 @@ use std::sync::Arc;
 /// A frame by itself that was opened, with the key that it was opened under. Copies share it.
 ///
 /// Its type keeps that the frame is within its limits, that its tag is right under that key, and
-/// that it is no WANT. Only `Opened::own`, `seal_checked` and `copy` make one. Like `Keys` it has
-/// no `Debug`, so that no line of a log shows the key.
+/// that it is no WANT. Only `Opened::own`, `seal_checked`, `from_peer` and `copy` make one. Like
+/// `Keys` it has no `Debug`, so that no line of a log shows the key.
 #[derive(Drop)]
 pub struct Checked {
     parts: Arc<CheckedParts, Global>,
@@ -36,6 +37,27 @@ impl Checked {
     {
         let parts = Arc::new(alloc, parts)?;
         Ok(Checked { parts })
+    }
+
+    /// The frame of a peer with this number and body, as that peer seals it for the member with
+    /// these keys. Its tag follows from the rest.
+    // promise: owned frames
+    pub fn from_peer(
+        alloc: Global,
+        keys: &Keys,
+        from: u16,
+        number: u64,
+        body: Body,
+    ) -> Result<Checked, AllocError>
+        requires peer { IsPeer keys.now from }
+        requires kind { body.kind ≢ Kind.Want }
+        ensures value { IfOk result (λ checked.
+            checked ≡ checked_from keys.now from number body) }
+        ensures limits { IfOk result IsChecked }
+    {
+        let key = keys.share(from)?;
+        let parts = CheckedParts::new(from, keys.own(), number, body, key);
+        Checked::new(alloc, parts)
     }
 
     /// Who sent it.
@@ -67,9 +89,10 @@ impl Checked {
         self.parts.body()
     }
 
+    /// Its tag, which isn't kept but computed.
     // promise: owned frames
-    pub fn tag(&self) -> &[u8; TAG_LEN]
-        ensures value { result.now ≡ self.now.frame.tag }
+    pub fn tag(&self) -> [u8; TAG_LEN]
+        ensures value { result ≡ self.now.frame.tag }
         ensures limits { IsChecked self.now }
     {
         self.parts.tag()

@@ -10,6 +10,8 @@ use crate::genesis::Genesis;
 use crate::hexadecimal::key_in;
 use crate::json::{number_at, texts_at, value_in};
 use crate::keys_fault::KeysFault;
+use crate::lent_key::LentKey;
+use crate::shared_key::SharedKey;
 use pay_frame::{Bytes, MOST_MEMBERS};
 use std::alloc::{AllocError, Global};
 use std::marker::Model;
@@ -22,7 +24,7 @@ pub(crate) const NO_KEY: [u8; 32] = [0; 32];
 #[derive(Drop)]
 pub struct Keys {
     own: u16,
-    keys: Vec<[u8; 32]>,
+    keys: Vec<SharedKey>,
 }
 
 impl Model for Keys {
@@ -56,6 +58,7 @@ impl Keys {
         let own = place_in(genesis, own, keys.len())?;
         let mut keys = Vec::from_slice(alloc, keys)?;
         keys[usize::from(own)] = NO_KEY;
+        let keys = share_each(alloc, keys.as_slice())?;
         Ok(Keys { own, keys })
     }
 
@@ -79,15 +82,17 @@ impl Keys {
         };
         let own = place_in(genesis, own, texts.len())?;
         let keys = keys_of_texts(alloc, own, texts.as_slice())?;
+        let keys = share_each(alloc, keys.as_slice())?;
         Ok(Keys { own, keys })
     }
 
     /// The keys of a member, its own place among them.
-    pub(crate) fn of_parts(own: u16, keys: Vec<[u8; 32]>) -> Keys
-        requires { IsKeys (record { own = own; keys = keys.items }) }
-        ensures { result ≡ record { own = own; keys = keys.items } }
+    pub(crate) fn of_parts(alloc: Global, own: u16, keys: &[[u8; 32]]) -> Result<Keys, AllocError>
+        requires { IsKeys (record { own = own; keys = keys.now }) }
+        ensures { IfOk result (λ kept. kept ≡ record { own = own; keys = keys.now }) }
     {
-        Keys { own, keys }
+        let keys = share_each(alloc, keys)?;
+        Ok(Keys { own, keys })
     }
 
     /// The member whose keys they are.
@@ -118,7 +123,23 @@ impl Keys {
         requires { IsPeer self.now peer }
         ensures { result.now ≡ key_for self.now peer }
     {
-        &self.keys[usize::from(peer)]
+        self.keys[usize::from(peer)].bytes()
+    }
+
+    /// The same, taken without memory.
+    pub(crate) fn lend(&self, peer: u16) -> LentKey
+        requires { IsPeer self.now peer }
+        ensures { result ≡ key_for self.now peer }
+    {
+        LentKey::of(&self.keys[usize::from(peer)])
+    }
+
+    /// The same, shared with the one kept here.
+    pub(crate) fn share(&self, peer: u16) -> Result<SharedKey, AllocError>
+        requires { IsPeer self.now peer }
+        ensures { IfOk result (λ key. key ≡ key_for self.now peer) }
+    {
+        self.keys[usize::from(peer)].copy()
     }
 
     /// Bytes that take no memory.
@@ -139,7 +160,7 @@ impl Keys {
     pub fn copy(&self, alloc: Global) -> Result<Keys, AllocError>
         ensures { IfOk result (λ copy. copy ≡ self.now) }
     {
-        let keys = Vec::from_slice(alloc, self.keys.as_slice())?;
+        let keys = copy_each(alloc, self.keys.as_slice())?;
         Ok(Keys {
             own: self.own,
             keys,
@@ -147,14 +168,24 @@ impl Keys {
     }
 }
 
-fn are_same(a: &[[u8; 32]], b: &[[u8; 32]]) -> bool
+fn copy_each(alloc: Global, keys: &[SharedKey]) -> Result<Vec<SharedKey>, AllocError>
+    ensures { IfOk result (λ copies. copies.items ≡ keys.now) }
+{
+    let mut copies = Vec::with_capacity(alloc, keys.len())?;
+    for key in keys {
+        copies.push(key.copy()?)?;
+    }
+    Ok(copies)
+}
+
+fn are_same(a: &[SharedKey], b: &[SharedKey]) -> bool
     ensures { IsTrue result ↔ (a.now ≡ b.now) }
 {
     if a.len() != b.len() {
         return false;
     }
     for k in 0..a.len() {
-        if !is_same_key(&a[k], &b[k]) {
+        if !is_same_key(a[k].bytes(), b[k].bytes()) {
             return false;
         }
     }
@@ -165,6 +196,17 @@ fn is_same_key(a: &[u8; 32], b: &[u8; 32]) -> bool
     ensures { IsTrue result ↔ (a.now ≡ b.now) }
 {
     a == b
+}
+
+// Each key, to be shared by its copies.
+fn share_each(alloc: Global, keys: &[[u8; 32]]) -> Result<Vec<SharedKey>, AllocError>
+    ensures { IfOk result (λ shared. shared.items ≡ keys.now) }
+{
+    let mut shared = Vec::with_capacity(alloc, keys.len())?;
+    for key in keys {
+        shared.push(SharedKey::new(alloc, key)?)?;
+    }
+    Ok(shared)
 }
 
 /// The place of a member, where there is a key for each member of the genesis.

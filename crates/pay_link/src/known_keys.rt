@@ -20,7 +20,8 @@ pub fn test_keys(alloc: Global, genesis: &Genesis, own: u16) -> Result<Keys, All
     for place in 0..members {
         keys.push(test_key(own, place))?;
     }
-    Ok(Keys::of_parts(own, keys))
+    let kept = Keys::of_parts(alloc, own, keys.as_slice())?;
+    Ok(kept)
 }
 
 fn test_key(own: u16, place: u16) -> [u8; 32]

@@ -5,6 +5,7 @@ ghost use Rattle.pay_frame.specs.Frame.{BodyFields, FrameFields, IsFrame};
 ghost use Rattle.pay_frame.specs.OneFrame.{IsOneFrame};
 ghost use Rattle.pay_link.specs.Json.{Data, value_in};
 ghost use Rattle.pay_link.specs.Checked.{CheckedFields, IsChecked, IsFor, bytes_of, checked_fields};
+ghost use Rattle.pay_link.specs.Checked.{checked_from};
 ghost use Rattle.pay_link.specs.Files.{IsLeastBad, KeysSaid, SaysKeys, genesis_in, genesis_said};
 ghost use Rattle.pay_link.specs.Files.{keys_in_file, keys_judged, keys_said};
 ghost use Rattle.pay_link.specs.Fronts.{turn};
@@ -145,6 +146,16 @@ pub fn owned_opens_again()
         → (judgement k c.frame ≡ Ok (opened_fields k c.frame))
         × (checked_fields (opened_fields k c.frame) ≡ c) }
     ensures one_frame { (c : CheckedFields) → IsChecked c → IsOneFrame (bytes_of c) c.frame }
+{}
+
+/// A frame that is for a member is what its peer seals for it with that number and body; and what a
+/// peer seals about a member's broadcast is for that member.
+// promise: owned frames
+pub fn sealed_by_peer()
+    ensures kept { (k : KeyFields) (c : CheckedFields) → IsChecked c → IsFor k c
+        → c ≡ checked_from k c.frame.from c.frame.number c.frame.body }
+    ensures for_me { (k : KeyFields) (from number : ℕ) (body : BodyFields) → IsPeer k from
+        → body.owner < length k.keys → IsFor k (checked_from k from number body) }
 {}
 
 /// What one of two members seals for the other opens there, where both have one key for each other.

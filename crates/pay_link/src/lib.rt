@@ -25,10 +25,12 @@ mod keys;
 mod keys_fault;
 mod known_keys;
 pub mod laws;
+mod lent_key;
 mod limits;
 mod link_fault;
 mod opened;
 mod sealing;
+mod shared_key;
 
 pub use checked::Checked;
 pub use fronts::{Fronts, turn};

@@ -7,8 +7,9 @@ ghost use Rattle.pay_link.specs.Opening.{IsOpened, judgement, right_tag};
 use crate::checked::Checked;
 use crate::checked_parts::CheckedParts;
 use crate::keys::Keys;
+use crate::lent_key::LentKey;
 use crate::link_fault::LinkFault;
-use pay_frame::{Body, Bytes, FrameRef, Kind, TAG_LEN};
+use pay_frame::{Body, Bytes, FrameRef, Kind};
 use pay_hmac::Tagger;
 use std::alloc::{AllocError, Global};
 use std::marker::Model;
@@ -22,7 +23,7 @@ use std::marker::Model;
 #[derive(Drop)]
 pub struct Opened<'a> {
     frame: FrameRef<'a>,
-    key: [u8; 32],
+    key: LentKey,
     members: u16,
 }
 
@@ -50,24 +51,17 @@ impl<'a> Opened<'a> {
 
     /// The frame by itself, with its key. The value is copied. A WANT is answered at once and never
     /// kept.
+    #[tactic(auto, using(crate::proofs::Owned::parts_of_opened))]
     // promise: owned frames
     pub fn own(&self, alloc: Global) -> Result<Checked, AllocError>
         requires { self.now.frame.body.kind ≢ Kind.Want }
         ensures { IfOk result (λ checked. checked ≡ checked_fields self.now) }
     {
         let frame = &self.frame;
-        let mut tag = [0; TAG_LEN];
-        tag.copy_from_slice(frame.tag());
         let value = Bytes::from_slice(alloc, frame.value())?;
         let body = Body::new(frame.kind(), frame.owner(), frame.seq(), value);
-        let parts = CheckedParts {
-            from: frame.from(),
-            to: frame.to(),
-            number: frame.number(),
-            body,
-            tag,
-            key: self.key,
-        };
+        let key = self.key.share(alloc)?;
+        let parts = CheckedParts::new(frame.from(), frame.to(), frame.number(), body, key);
         Checked::new(alloc, parts)
     }
 }
@@ -90,13 +84,12 @@ pub fn open<'a, T: Tagger>(t: &T, keys: &Keys, frame: FrameRef<'a>) -> Result<Op
     if frame.owner() >= keys.members() {
         return Err(LinkFault::UnknownOwner);
     }
-    let key = keys.key(from);
-    if !is_tagged(t, key, &frame) {
+    if !is_tagged(t, keys.key(from), &frame) {
         return Err(LinkFault::BadTag);
     }
     Ok(Opened {
         frame,
-        key: *key,
+        key: keys.lend(from),
         members: keys.members(),
     })
 }

@@ -12,6 +12,7 @@ use crate::keys::Keys;
 use crate::limits::WANT_LEN;
 use pay_frame::{Body, HEAD_LEN, Kind, TAG_LEN, head_into, write};
 use pay_hmac::Tagger;
+use pay_hmac::laws::tag_length;
 use std::alloc::{AllocError, Global};
 
 // term: seal: to encode a frame for a peer, with its tag
@@ -37,11 +38,10 @@ pub fn seal<T: Tagger>(
 /// The same frame by itself, with the key that it was sealed under.
 ///
 /// At the peer, where that has the same key for the sender, its bytes open, and what is owned there
-/// is this very frame. So handing it on within one process takes one tag.
+/// is this very frame. So handing it on within one process takes no tag.
 // promise: sealing
-pub fn seal_checked<T: Tagger>(
+pub fn seal_checked(
     alloc: Global,
-    t: &T,
     keys: &Keys,
     to: u16,
     number: u64,
@@ -61,7 +61,7 @@ pub fn seal_checked<T: Tagger>(
         × (judgement k checked.frame ≡ Ok (opened_fields k checked.frame))
         × (checked_fields (opened_fields k checked.frame) ≡ checked)) }
 {
-    let checked = checked_for(alloc, t, keys, to, number, body)?;
+    let checked = checked_for(alloc, keys, to, number, body)?;
     Ok(checked)
 }
 
@@ -105,9 +105,8 @@ fn tag_for<T: Tagger>(t: &T, keys: &Keys, to: u16, number: u64, body: &Body) -> 
 }
 
 // A frame to a peer by itself, with the key that is shared with that peer.
-fn checked_for<T: Tagger>(
+fn checked_for(
     alloc: Global,
-    t: &T,
     keys: &Keys,
     to: u16,
     number: u64,
@@ -120,15 +119,12 @@ fn checked_for<T: Tagger>(
     ensures frame { IsFrame (sealed_frame keys.now to number body.now) }
     ensures limits { IfOk result IsChecked }
 {
-    let tag = tag_for(t, keys, to, number, body);
+    tag_length();
+    // a body's limits, on which the proof stands: the call does nothing
+    body.value();
+    let from = keys.own();
     let body = body.copy(alloc)?;
-    let parts = CheckedParts {
-        from: keys.own(),
-        to,
-        number,
-        body,
-        tag,
-        key: *keys.key(to),
-    };
+    let key = keys.share(to)?;
+    let parts = CheckedParts::new(from, to, number, body, key);
     Checked::new(alloc, parts)
 }

@@ -35,6 +35,5 @@ fn is_same_frame(a: &Checked, b: &Checked) -> bool
         && a.to() == b.to()
         && a.number() == b.number()
         && is_same_body(a.body(), b.body())
-        && a.tag() == b.tag()
         && a.key() == b.key()
 }

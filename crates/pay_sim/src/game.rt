@@ -306,7 +306,7 @@ impl<I: Instance + Drop, B: Settle + Drop> Game<I, B> {
         world_by_events();
         what_is_forged();
         if self.made < MOST_EVENTS {
-            match self.world.pass(alloc, &self.tagger, from, to, number) {
+            match self.world.pass(alloc, from, to, number) {
                 Ok(reply) => {
                     self.made += 1;
                     Ok(reply)

@@ -259,10 +259,9 @@ impl<I: Instance + Drop, B: Settle + Drop> World<I, B> {
     ///
     /// A frame that was sent is never refused, and memory only where the other takes it.
     // promise: passing on
-    pub fn pass<T: Tagger>(
+    pub fn pass(
         &mut self,
         alloc: Global,
-        tagger: &T,
         from: u16,
         to: u16,
         number: u64,
@@ -280,17 +279,16 @@ impl<I: Instance + Drop, B: Settle + Drop> World<I, B> {
         ensures prefix { (i : ℕ) → IsPrefix (history_in self.old i) (history_in self.new i) }
         ensures err { OnErr result (self.new ≡ self.old) }
     {
-        let reply = self.hand_on(alloc, tagger, from, to, number)?;
+        let reply = self.hand_on(alloc, from, to, number)?;
         let answered = self.answered.saturating_add(1);
         self.answered = answered;
         Ok(reply)
     }
 
     // Passes a frame on, and doesn't count it.
-    fn hand_on<T: Tagger>(
+    fn hand_on(
         &mut self,
         alloc: Global,
-        tagger: &T,
         from: u16,
         to: u16,
         number: u64,
@@ -312,7 +310,7 @@ impl<I: Instance + Drop, B: Settle + Drop> World<I, B> {
         if let Some(reply) = self.out_of_turn(from, to, number) {
             return Ok(reply);
         }
-        let checked = self.seal_sent(alloc, tagger, from, to, number)?;
+        let checked = self.seal_sent(alloc, from, to, number)?;
         pass_place(&mut self.members[usize::from(to)], alloc, checked)
     }
 
@@ -343,10 +341,9 @@ impl<I: Instance + Drop, B: Settle + Drop> World<I, B> {
     }
 
     // The frame at a place of all that a correct member sent, sealed for another.
-    fn seal_sent<T: Tagger>(
+    fn seal_sent(
         &self,
         alloc: Global,
-        tagger: &T,
         from: u16,
         to: u16,
         number: u64,
@@ -361,7 +358,7 @@ impl<I: Instance + Drop, B: Settle + Drop> World<I, B> {
         forged_is_told();
         let giver = self.member(from).unwrap();
         let body = giver.sent(number).unwrap();
-        let checked = seal_checked(alloc, tagger, giver.keys(), to, number, body)?;
+        let checked = seal_checked(alloc, giver.keys(), to, number, body)?;
         Ok(checked)
     }
 

@@ -20,4 +20,4 @@ of_parts-requires c =
 pub returns-clause-genesis : goal.returns-clause-genesis
 returns-clause-genesis c =
     let long : length c.loop-place.keys.items ≡ c.loop-place.place = length-filled _ _ _ c.loop-place.invariant in
-    rw c.of_parts.ensures (omega (arith, long, c.members-members.ensures.value))
+    rw c.in_ok-kept.ensures (omega (arith, long, c.members-members.ensures.value))

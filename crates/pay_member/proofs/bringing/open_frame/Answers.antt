@@ -26,8 +26,8 @@ returns-in-Want-clause-peer g c =
     let from = c.from.ensures.value ∙ ap (λ (x : FrameFields). x.from) (c.frame-frame.ensures.value ∙ opened_frame c.judgement_opens.ensures k f c.in_ok-opened.opened c.in_ok-opened.ensures) in
     (subst (IsPeer k) (sym from) (opened_from_peer c.judgement_opens.ensures k f c.in_ok-opened.opened c.in_ok-opened.ensures), from)
 
-pub returns-in-Send : goal.returns-in-Send
-returns-in-Send g c =
+pub returns : goal.returns
+returns g c =
     let k = c.args.keys.now in
     let f = fields_of c.args.frame in
     let o = c.in_ok-opened.opened in
