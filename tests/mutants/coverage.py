@@ -22,6 +22,8 @@ WITHOUT_OTHER_BODY = {
     "pay_link::opened::Opened::frame",
     "pay_log::log::Log::into_device",
     "pay_log::sink::Payloads::new",
+    "pay_member::asked_value::AskedValue::bytes",
+    "pay_member::asked_value::AskedValue::into_bytes",
     "pay_member::member::Member::genesis",
     "pay_member::member::Member::keys",
     "pay_net::start::NodeStart::fresh",

@@ -8,7 +8,7 @@ use pay_book::PlainBook;
 use pay_echo::PlainInstance;
 use pay_frame::Bytes;
 use pay_link::{Genesis, Keys, test_keys};
-use pay_member::{Event, HistoryEntry, Member, Reply};
+use pay_member::{AskedValue, Event, HistoryEntry, Member, Reply};
 use std::alloc::Global;
 use std::test::Fail;
 
@@ -20,7 +20,7 @@ fn history_of(alloc: Global, seq: u32) -> Result<Vec<HistoryEntry>, Fail> {
     let mut history = Vec::new(alloc);
     history.push(HistoryEntry {
         stamp: 3,
-        event: Event::Ask(Bytes::from_slice(alloc, VALUE)?),
+        event: Event::Ask(AskedValue::new(alloc, Bytes::from_slice(alloc, VALUE)?)?),
         reply: Reply::Asked(seq),
     })?;
     Ok(history)

@@ -2,7 +2,7 @@ ghost use Rattle.std.specs.Prelude.{◌≡◌, IfOk};
 ghost use Rattle.pay_frame.specs.Stream.{IsBytes};
 ghost use Rattle.pay_member.specs.Legal.{IsStorable};
 
-use pay_frame::Bytes;
+use crate::asked_value::AskedValue;
 use pay_link::Checked;
 use std::alloc::{AllocError, Global};
 
@@ -11,7 +11,7 @@ use std::alloc::{AllocError, Global};
 #[derive(Drop)]
 pub enum Event {
     /// Its owner asks it to broadcast this value.
-    Ask(Bytes),
+    Ask(AskedValue),
     /// A frame of another member came.
     Taken(Checked),
     /// Someone asks for the state of this account.
@@ -39,7 +39,7 @@ impl Event {
 }
 
 /// A law: what is asked for is bytes.
-pub(crate) fn asked_is_kept(value: &Bytes)
+pub(crate) fn asked_is_kept(value: &AskedValue)
     ensures { IsStorable (Event.Ask value.now) }
 {
     slice_is_bytes(value.as_slice());

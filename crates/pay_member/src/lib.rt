@@ -11,6 +11,7 @@
 #![tactic(auto)]
 
 mod ask_fault;
+mod asked_value;
 mod bringing;
 mod brought;
 mod entry;
@@ -37,6 +38,7 @@ mod told;
 mod took;
 
 pub use ask_fault::AskFault;
+pub use asked_value::AskedValue;
 pub use bringing::open_frame;
 pub use brought::Brought;
 pub use entry::HistoryEntry;

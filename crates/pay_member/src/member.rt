@@ -31,6 +31,7 @@ ghost use Rattle.pay_member.specs.Bringing.{with_brought, with_taken, with_want}
 ghost use Rattle.pay_member.specs.Serving.{after_frame, want_of};
 
 use crate::ask_fault::AskFault;
+use crate::asked_value::AskedValue;
 use crate::bringing::open_frame;
 use crate::brought::Brought;
 use crate::entry::HistoryEntry;
@@ -145,6 +146,7 @@ impl<I: Instance + Drop, B: Settle + Drop> Member<I, B> {
             return Err(AskFault::Spent);
         }
         self.history.reserve(1)?;
+        let value = AskedValue::new(alloc, value)?;
         let own = self.keys.own();
         self.ledger
             .apply(alloc, EventRef::Ask(value.as_slice()), own, own)?;
@@ -455,7 +457,7 @@ impl<I: Instance + Drop, B: Settle + Drop> Member<I, B> {
         ensures err { OnErr result (self.new ≡ self.old) }
     {
         match event {
-            Event::Ask(value) => Ok(Reply::Asked(self.ask(alloc, stamp, value)?)),
+            Event::Ask(value) => Ok(Reply::Asked(self.ask(alloc, stamp, value.into_bytes())?)),
             Event::Taken(checked) => Ok(Reply::Took(self.take(alloc, stamp, checked)?)),
             Event::Query(account) => Ok(Reply::Told(self.query(alloc, stamp, account)?)),
         }

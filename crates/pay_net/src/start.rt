@@ -157,7 +157,7 @@ fn keep_entry(
     ensures { OnOk result (KeepsEntry ids.now entry.now.event kept.old kept.new) }
 {
     match &entry.event {
-        Event::Ask(value) => keep_next(alloc, kept, value, ids),
+        Event::Ask(value) => keep_next(alloc, kept, value.bytes(), ids),
         Event::Taken(_) | Event::Query(_) => Ok(()),
     }
 }

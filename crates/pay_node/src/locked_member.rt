@@ -14,7 +14,9 @@ use crate::standing::Standing;
 use pay_channel::laws::taken_in_order;
 use pay_frame::Bytes;
 use pay_link::Checked;
-use pay_member::{AskFault, Event, MemberFault, QueryFault, Reply, TakeFault, Told, Took};
+use pay_member::{
+    AskFault, AskedValue, Event, MemberFault, QueryFault, Reply, TakeFault, Told, Took,
+};
 use std::alloc::Global;
 use std::marker::{Model, PhantomData};
 
@@ -138,7 +140,7 @@ impl<S: Beginning> LockedMember<S> {
         seat: &mut Seat,
         standing: Standing,
         value: Bytes,
-        copy: Bytes,
+        copy: AskedValue,
     ) -> Result<u32, HandInFault>
         requires copy { copy ≡ value }
         ensures own { WentOn S.beginning self.old }

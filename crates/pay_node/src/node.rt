@@ -43,8 +43,8 @@ use pay_link::{Checked, Keys, LinkFault, Opened};
 use pay_member::laws::events_in_order;
 use pay_member::question::{AllFronts, SentFrom, StateOf, StatementOf};
 use pay_member::{
-    Brought, Incoming, Lie, Outcome, PaymentState, QueryFault, Question, Received, TakeFault, Told,
-    Took, open_frame,
+    AskedValue, Brought, Incoming, Lie, Outcome, PaymentState, QueryFault, Question, Received,
+    TakeFault, Told, Took, open_frame,
 };
 use std::alloc::{AllocError, Global};
 use std::marker::Model;
@@ -244,7 +244,7 @@ impl<S: Beginning> Node<S> {
             → HasAsked self.now seat.old seat.new value result }
         ensures memory { result ≡ Err (HandInFault.Ask Memory) → seat.new ≡ seat.old }
     {
-        let copy = value.copy(alloc)?;
+        let copy = AskedValue::new(alloc, value.copy(alloc)?)?;
         seat.make_room(alloc)?;
         let standing = self.standing(rt);
         let mut locked = self.member.lock(rt);
