@@ -10,7 +10,7 @@ use Rattle.std.proofs.lemmas.Nat.{from_be_bytes-to_be_bytes_4, be_bytes_4}
 use Rattle.std.proofs.lemmas.Slice.Eq.{bytes_eq-Decides}
 use Rattle.pay_hmac.specs.Mac.{mac, length-mac}
 use Rattle.pay_log.specs.declared.key.Format.{Format}
-use Rattle.pay_log.specs.declared.key.Format.TheVariants.{First, Second}
+use Rattle.pay_log.specs.declared.key.Format.TheVariants.{First, Second, Third}
 use Rattle.pay_log.specs.declared.limits.TheConstants.{MOST_PAYLOAD}
 use Rattle.pay_log.specs.Chunks.{BeginsWith, chunk_body, sum_of, chunk_of, chunk_head, length_at, number_of_four, IsHead, IsHeadless, IsShort, IsEnd}
 use Rattle.pay_log.specs.Keys.{LogKeyFields, bytes_beside, front_in, front_len, front_len_in, front_of, head_len, place_bytes, secret_mark}
@@ -18,12 +18,16 @@ use Rattle.pay_log.specs.Keys.{LogKeyFields, bytes_beside, front_in, front_len, 
 pub mark_long : (key : List ℕ) → length (secret_mark key) ≡ 8
 mark_long key = length-take-le 8 (mac key (codes "payd log mark")) (omega (arith, length-mac key (codes "payd log mark")))
 
-front_in_long : (format : Format) (key : List ℕ) (place : ℕ) → length (front_in format key place) ≡ front_len_in format
-front_in_long First key place = refl
-front_in_long Second key place = omega (arith, length-append (secret_mark key) (place_bytes place), mark_long key, eight_long place)
+secret_long : (key : List ℕ) (place : ℕ) → length (secret_mark key ++ place_bytes place) ≡ 16
+secret_long key place = omega (arith, length-append (secret_mark key) (place_bytes place), mark_long key, eight_long place)
   where
     eight_long : (place : ℕ) → length (place_bytes place) ≡ 8
     eight_long place = refl
+
+front_in_long : (format : Format) (key : List ℕ) (place : ℕ) → length (front_in format key place) ≡ front_len_in format
+front_in_long First key place = refl
+front_in_long Second key place = secret_long key place
+front_in_long Third key place = secret_long key place
 
 pub front_long : (key : LogKeyFields) (place : ℕ) → length (front_of key place) ≡ front_len key
 front_long key place = front_in_long key.format key.bytes place
@@ -56,17 +60,18 @@ from_front key place p rest =
     spread key place p rest ∙ append_assoc (front_of key place) (to_be_bytes w32 (length p)) (p ++ (sum_of key place p ++ rest))
 
 from_front_in :
-    (format : Format) (key : List ℕ) (place : ℕ) (after : List ℕ) → format ≡ Second
+    (format : Format) (key : List ℕ) (place : ℕ) (after : List ℕ) → format ≢ First
     → front_in format key place ++ after ≡ secret_mark key ++ (place_bytes place ++ after)
-from_front_in format key place after second =
-    ap (λ (f : Format). front_in f key place ++ after) second ∙ append_assoc (secret_mark key) (place_bytes place) after
+from_front_in First key place after later = absurd (later refl)
+from_front_in Second key place after later = append_assoc (secret_mark key) (place_bytes place) after
+from_front_in Third key place after later = append_assoc (secret_mark key) (place_bytes place) after
 
--- of the second format: the mark, the place and all else
+-- of the later formats: the mark, the place and all else
 pub from_mark :
-    (key : LogKeyFields) (place : ℕ) (p rest : List ℕ) → key.format ≡ Second
+    (key : LogKeyFields) (place : ℕ) (p rest : List ℕ) → key.format ≢ First
     → chunk_of key place p ++ rest ≡ secret_mark key.bytes ++ (place_bytes place ++ (to_be_bytes w32 (length p) ++ (p ++ (sum_of key place p ++ rest))))
-from_mark key place p rest second =
-    from_front key place p rest ∙ from_front_in key.format key.bytes place (to_be_bytes w32 (length p) ++ (p ++ (sum_of key place p ++ rest))) second
+from_mark key place p rest later =
+    from_front key place p rest ∙ from_front_in key.format key.bytes place (to_be_bytes w32 (length p) ++ (p ++ (sum_of key place p ++ rest))) later
 
 short_fits : (n : ℕ) → n ≤ MOST_PAYLOAD → n < 2 ^ 32
 short_fits n short = omega arith

@@ -3,7 +3,7 @@ use Rattle.std.proofs.Common.{◌≡◌, ℕ, ◌+◌, List, ◌++◌, length, g
 use Rattle.std.proofs.lemmas.List.{drop-drop}
 use Rattle.pay_log.specs.declared.header.Header.{Header}
 use Rattle.pay_log.specs.declared.key.Format.{Format}
-use Rattle.pay_log.specs.declared.key.Format.TheVariants.{First, Second}
+use Rattle.pay_log.specs.declared.key.Format.TheVariants.{First, Second, Third}
 use Rattle.pay_log.specs.declared.limits.TheConstants.{HEADER_LEN}
 use Rattle.pay_log.specs.Chunks.{IsEnd, chunks_of}
 use Rattle.pay_log.specs.Damage.{HasChunkIn, IsDamaged}
@@ -75,15 +75,20 @@ found_damaged takes key header file old new n len count at has = record {
       (subst (λ (p : ℕ). HasChunkIn key p (drop (n + len) file)) at.place has);
 }
 
--- no file is a log in both formats
+-- no file is a log in two formats
 pub one_format :
     (key : List ℕ) (header : Header) (file : List ℕ) (f g : Format) (ps qs : List (List ℕ))
     → IsLog (key_of_format key f) (header_bytes f header) file ps → IsLog (key_of_format key g) (header_bytes g header) file qs → f ≡ g
 unfolding log_bytes
 one_format key header file First First ps qs p q = refl
 one_format key header file First Second ps qs p q = absurd (omega (arith, ap (λ (l : List ℕ). get_or l 8 0) (sym p.is ∙ q.is)))
+one_format key header file First Third ps qs p q = absurd (omega (arith, ap (λ (l : List ℕ). get_or l 8 0) (sym p.is ∙ q.is)))
 one_format key header file Second First ps qs p q = absurd (omega (arith, ap (λ (l : List ℕ). get_or l 8 0) (sym p.is ∙ q.is)))
 one_format key header file Second Second ps qs p q = refl
+one_format key header file Second Third ps qs p q = absurd (omega (arith, ap (λ (l : List ℕ). get_or l 8 0) (sym p.is ∙ q.is)))
+one_format key header file Third First ps qs p q = absurd (omega (arith, ap (λ (l : List ℕ). get_or l 8 0) (sym p.is ∙ q.is)))
+one_format key header file Third Second ps qs p q = absurd (omega (arith, ap (λ (l : List ℕ). get_or l 8 0) (sym p.is ∙ q.is)))
+one_format key header file Third Third ps qs p q = refl
 
 -- a log that was read is not damaged
 pub read_sound :

@@ -4,8 +4,8 @@ use Rattle.std.proofs.Math.Seq.{take-add}
 use Rattle.std.specs.Int.{w16, to_be_bytes}
 use Rattle.pay_log.specs.declared.header.Header.{Header}
 use Rattle.pay_log.specs.declared.key.Format.{Format}
-use Rattle.pay_log.specs.declared.key.Format.TheVariants.{First, Second}
-use Rattle.pay_log.specs.Headers.{header_bytes, magic, version}
+use Rattle.pay_log.specs.declared.key.Format.TheVariants.{First, Second, Third}
+use Rattle.pay_log.specs.Headers.{fingerprint, header_bytes, magic, version}
 
 -- the parts before the keys
 pub before_keys :
@@ -35,16 +35,23 @@ from_parts format f genesis number keys long before e =
 version_long : (format : Format) → length (version format) ≡ 1
 version_long First = refl
 version_long Second = refl
+version_long Third = refl
 
-pub header_length : (format : Format) (h : Header) → length h.genesis ≡ 32 → length h.keys ≡ 32 → length (header_bytes format h) ≡ 75
-header_length format h long_g long_k =
+fingerprint_long : (format : Format) (h : Header) → length h.former_keys ≡ 32 → length h.keys ≡ 32 → length (fingerprint format h) ≡ 32
+fingerprint_long First h long_f long_k = long_f
+fingerprint_long Second h long_f long_k = long_f
+fingerprint_long Third h long_f long_k = long_k
+
+pub header_length :
+    (format : Format) (h : Header) → length h.genesis ≡ 32 → length h.former_keys ≡ 32 → length h.keys ≡ 32 → length (header_bytes format h) ≡ 75
+header_length format h long_g long_f long_k =
     omega (
       arith,
       long_g,
-      long_k,
+      fingerprint_long format h long_f long_k,
       version_long format,
       length-append magic (version format),
       length-append (magic ++ version format) h.genesis,
       length-append (magic ++ version format ++ h.genesis) (to_be_bytes w16 h.member),
-      length-append (magic ++ version format ++ h.genesis ++ to_be_bytes w16 h.member) h.keys,
+      length-append (magic ++ version format ++ h.genesis ++ to_be_bytes w16 h.member) (fingerprint format h),
     )

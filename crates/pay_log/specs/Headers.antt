@@ -4,7 +4,7 @@ use Rattle.std.specs.Prelude.{◌≡◌, ◌≢◌, ◌⊎◌, ◌<◌, ℕ, Lis
 use Rattle.std.specs.Int.{w16, to_be_bytes}
 use Rattle.pay_log.specs.declared.header.Header.{Header}
 use Rattle.pay_log.specs.declared.key.Format.{Format}
-use Rattle.pay_log.specs.declared.key.Format.TheVariants.{First, Second}
+use Rattle.pay_log.specs.declared.key.Format.TheVariants.{First, Second, Third}
 use Rattle.pay_log.specs.declared.limits.TheConstants.{HEADER_LEN}
 use Rattle.pay_log.specs.declared.mismatch.Mismatch.{Mismatch}
 use Rattle.pay_log.specs.declared.mismatch.Mismatch.TheVariants.{NoLog, Version, Genesis, Member}
@@ -14,15 +14,24 @@ use Rattle.pay_log.specs.declared.mismatch.Mismatch.TheVariants.{Keys}
 abbrev pub magic : List ℕ
 magic = 112 ∷ 97 ∷ 121 ∷ 100 ∷ 32 ∷ 108 ∷ 111 ∷ 103 ∷ []
 
+-- the version of a format, in two bits unlike the others: no bit that turns makes one of another
 abbrev pub version : Format → List ℕ
 version First = 1 ∷ []
 version Second = 2 ∷ []
+version Third = 4 ∷ []
+
+-- The fingerprint of the member's keys. That of the third format isn't the one of the others, so a
+-- version that was changed on the disk doesn't fit it.
+abbrev pub fingerprint : Format → Header → List ℕ
+fingerprint First h = h.former_keys
+fingerprint Second h = h.former_keys
+fingerprint Third h = h.keys
 
 abbrev pub header_bytes : Format → Header → List ℕ
 header_bytes format h =
-    magic ++ version format ++ h.genesis ++ to_be_bytes w16 h.member ++ h.keys
+    magic ++ version format ++ h.genesis ++ to_be_bytes w16 h.member ++ fingerprint format h
 
--- What begins a file isn't the header of a log in either format.
+-- What begins a file isn't the header of a log in any format.
 abbrev pub IsForeignHeader : Header → List ℕ → Mismatch → Type 0
 IsForeignHeader h file NoLog = (length file < HEADER_LEN) ⊎ (take 8 file ≢ magic)
 IsForeignHeader h file Version =
@@ -36,4 +45,4 @@ IsForeignHeader h file Member =
 IsForeignHeader h file Keys =
     (format : Format)
     × (take 43 file ≡ magic ++ version format ++ h.genesis ++ to_be_bytes w16 h.member)
-    × (take 32 (drop 43 file) ≢ h.keys)
+    × (take 32 (drop 43 file) ≢ fingerprint format h)

@@ -3,7 +3,7 @@ use Rattle.std.specs.Prelude.{ℕ, ◌+◌, List, [], ◌∷◌, ◌++◌, take,
 use Rattle.std.specs.Int.{w64, to_be_bytes}
 use Rattle.pay_hmac.specs.Mac.{mac}
 use Rattle.pay_log.specs.declared.key.Format.{Format}
-use Rattle.pay_log.specs.declared.key.Format.TheVariants.{First, Second}
+use Rattle.pay_log.specs.declared.key.Format.TheVariants.{First, Second, Third}
 
 pub record LogKeyFields : Type 0 where
   pub format : Format
@@ -25,6 +25,7 @@ place_bytes place = to_be_bytes w64 place
 abbrev pub front_in : Format → List ℕ → ℕ → List ℕ
 front_in First key place = open_mark
 front_in Second key place = secret_mark key ++ place_bytes place
+front_in Third key place = secret_mark key ++ place_bytes place
 
 abbrev pub front_of : LogKeyFields → ℕ → List ℕ
 front_of key place = front_in key.format key.bytes place
@@ -33,6 +34,7 @@ front_of key place = front_in key.format key.bytes place
 abbrev pub front_len_in : Format → ℕ
 front_len_in First = 4
 front_len_in Second = 16
+front_len_in Third = 16
 
 abbrev pub front_len : LogKeyFields → ℕ
 front_len key = front_len_in key.format

@@ -8,4 +8,5 @@ pub mod Logs
 pub mod Damage
 pub mod Sinks
 pub mod Recovery
+pub mod Ended
 pub mod Laws

@@ -5,11 +5,14 @@
 //! after a failed write may never have reached the disk. The new file gets the log's name once all
 //! of it is on the disk.
 
+ghost use Rattle.std.specs.Prelude.{◌≡◌, ◌≢◌, ◌<◌, ◌^◌, ℕ, IfOk};
+ghost use Rattle.pay_log.specs.Ended.{ended_text};
+
 use crate::device::Device;
 use crate::fault::LogFault;
 use crate::file::LogFile;
 use crate::limits::HEADER_LEN;
-use std::alloc::Global;
+use std::alloc::{AllocError, Global};
 use std::fs::{DirBuilder, File, OpenOptions, TryLockError};
 use std::io::{ErrorKind, Write};
 use std::os::unix::fs::{DirBuilderExt, MetadataExt, OpenOptionsExt};
@@ -333,22 +336,42 @@ fn read_ended<R: Files<File = File>>(
     match open_file(rt, alloc, path, ENDED, false) {
         Ok(file) => {
             let bytes = LogFile::new(file, MOST_ENDED as u64).read(alloc, 0, MOST_ENDED)?;
-            number_in(&bytes)
+            Ok(Some(length_in(alloc, &bytes)?))
         }
         Err(LogFault::Missing) => Ok(None),
         Err(fault) => Err(fault),
     }
 }
 
-// The number in the text of a clean end.
-fn number_in(bytes: &[u8]) -> Result<Option<u64>, LogFault> {
-    match str::from_utf8(bytes) {
-        Ok(text) => match text.trim_end().parse() {
-            Ok(len) => Ok(Some(len)),
-            Err(_) => Err(LogFault::Changed),
-        },
-        Err(_) => Err(LogFault::Changed),
+// The length in the text of a clean end.
+fn length_in(alloc: Global, bytes: &[u8]) -> Result<u64, LogFault>
+    ensures exact { IfOk result (λ len. bytes.now ≡ ended_text len) }
+    ensures changed { result ≡ Err LogFault.Changed → (len : ℕ) → len < 2 ^ 64
+        → bytes.now ≢ ended_text len }
+{
+    let Ok(text) = str::from_utf8(bytes) else {
+        return Err(LogFault::Changed);
+    };
+    let Some(number) = text.strip_suffix('\n') else {
+        return Err(LogFault::Changed);
+    };
+    let Ok(len) = number.parse() else {
+        return Err(LogFault::Changed);
+    };
+    // also a number with a plus or zeros before it is read
+    let exact = ended_text(alloc, len)?;
+    if exact.as_bytes() == bytes {
+        Ok(len)
+    } else {
+        Err(LogFault::Changed)
     }
+}
+
+// The text of a clean end.
+fn ended_text(alloc: Global, len: u64) -> Result<String, AllocError>
+    ensures { IfOk result (λ text. text.bytes.items ≡ ended_text len) }
+{
+    format!(in alloc; "{len}\n")
 }
 
 fn write_ended<R: Files<File = File>>(
@@ -358,7 +381,7 @@ fn write_ended<R: Files<File = File>>(
     len: u64,
 ) -> Result<(), LogFault> {
     let name = format!(in alloc; "{path}/{NEW_ENDED}")?;
-    let text = format!(in alloc; "{len}\n")?;
+    let text = ended_text(alloc, len)?;
     let mut options = File::options();
     options.write(true).truncate(true);
     write_file(rt, &mut options, name.as_str(), text.as_bytes()).map_err(fault_of)

@@ -2,7 +2,7 @@
 
 ghost use Rattle.std.specs.Prelude.{◌≡◌, ◌≢◌, ◌↔◌, ◌+◌, ◌≤◌, IfErr, IfOk, IfSome, IfNone, IsTrue};
 ghost use Rattle.std.specs.Prelude.{drop, length, take};
-ghost use Rattle.pay_log.specs.Headers.{header_bytes, version, IsForeignHeader};
+ghost use Rattle.pay_log.specs.Headers.{fingerprint, header_bytes, version, IsForeignHeader};
 ghost use Rattle.pay_log.specs.declared.key.Format.{Format};
 
 use crate::key::Format;
@@ -13,8 +13,8 @@ use std::alloc::{AllocError, Global};
 /// The first eight bytes of a log.
 const MAGIC: [u8; 8] = *b"payd log";
 
-/// The version of the first format, and of the one that is written.
-const VERSIONS: (u8, u8) = (1, 2);
+/// The versions of the first format, of the second and of the third, which is written.
+const VERSIONS: (u8, u8, u8) = (1, 2, 4);
 
 /// Whose log a file is.
 #[derive(Clone, Copy, Debug, PartialEq, Eq)]
@@ -23,18 +23,20 @@ pub struct Header {
     pub genesis: [u8; 32],
     /// The member's number.
     pub member: u16,
-    /// The fingerprint of the member's keys.
+    /// The fingerprint of the member's keys in the format that is written.
     pub keys: [u8; 32],
+    /// The one in the formats before it.
+    pub former_keys: [u8; 32],
 }
 
 impl Header {
     /// Its 75 bytes, of the format that is written.
     pub fn encode(&self, alloc: Global) -> Result<Vec<u8>, AllocError>
-        ensures { IfOk result (λ bytes. bytes.items ≡ header_bytes Format.Second self.now) }
+        ensures { IfOk result (λ bytes. bytes.items ≡ header_bytes Format.Third self.now) }
     {
         let mut bytes = Vec::with_capacity(alloc, HEADER_LEN)?;
         bytes.extend_from_slice(&MAGIC)?;
-        bytes.push(VERSIONS.1)?;
+        bytes.push(VERSIONS.2)?;
         bytes.extend_from_slice(&self.genesis)?;
         bytes.extend_from_slice(&self.member.to_be_bytes())?;
         bytes.extend_from_slice(&self.keys)?;
@@ -62,10 +64,20 @@ impl Header {
         if !is_at(front, 41, &self.member.to_be_bytes()) {
             return Err(Mismatch::Member);
         }
-        if !is_at(front, 43, &self.keys) {
+        if !is_at(front, 43, self.fingerprint(format)) {
             return Err(Mismatch::Keys);
         }
         Ok(format)
+    }
+
+    // The fingerprint of the member's keys in a format.
+    fn fingerprint(&self, format: Format) -> &[u8; 32]
+        ensures { result.now ≡ fingerprint format self.now }
+    {
+        match format {
+            Format::First | Format::Second => &self.former_keys,
+            Format::Third => &self.keys,
+        }
     }
 }
 
@@ -81,6 +93,9 @@ fn format_at(bytes: &[u8]) -> Option<Format>
     }
     if is_at(bytes, 8, &[VERSIONS.1]) {
         return Some(Format::Second);
+    }
+    if is_at(bytes, 8, &[VERSIONS.2]) {
+        return Some(Format::Third);
     }
     None
 }

@@ -18,15 +18,18 @@ pub enum Format {
     First,
     /// Each chunk begins with a mark that nobody makes without the key, and with its place.
     Second,
+    /// Its chunks are as in the second. Its payloads may be of kinds that a program which writes
+    /// the second doesn't know. This one is written.
+    Third,
 }
 
 /// What each chunk of the first format begins with.
 const OPEN_MARK: [u8; 4] = *b"plog";
 
-/// What the mark of the second format is made of, in two parts.
+/// What the mark of the later formats is made of, in two parts.
 const MARK_TEXT: (&[u8], &[u8]) = (b"payd log", b" mark");
 
-/// How many bytes the mark of the second format has.
+/// How many bytes the mark of the later formats has.
 const MARK_LEN: usize = 8;
 
 /// How many bytes a place has.
@@ -86,7 +89,7 @@ impl LogKey {
     {
         match self.format {
             Format::First => OPEN_MARK.len(),
-            Format::Second => MARK_LEN + PLACE_LEN,
+            Format::Second | Format::Third => MARK_LEN + PLACE_LEN,
         }
     }
 
@@ -96,7 +99,7 @@ impl LogKey {
     {
         match self.format {
             Format::First => bytes.extend_from_slice(&OPEN_MARK)?,
-            Format::Second => {
+            Format::Second | Format::Third => {
                 bytes.extend_from_slice(self.mark())?;
                 bytes.extend_from_slice(&place.to_be_bytes())?;
             }
@@ -111,7 +114,7 @@ impl LogKey {
     {
         match self.format {
             Format::First => begins_with(bytes, &OPEN_MARK),
-            Format::Second => self.has_mark(bytes) && has_place(bytes, place),
+            Format::Second | Format::Third => self.has_mark(bytes) && has_place(bytes, place),
         }
     }
 
@@ -126,7 +129,7 @@ impl LogKey {
     {
         match self.format {
             Format::First => Some(place),
-            Format::Second => self.place_in(bytes),
+            Format::Second | Format::Third => self.place_in(bytes),
         }
     }
 

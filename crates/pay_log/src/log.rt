@@ -48,8 +48,8 @@ impl<D: Device + Drop> Log<D> {
         header: &Header,
     ) -> Result<Log<D>, DeviceFault>
         ensures created { IfOk result (λ log. D.is_known device → D.seen device ≡ [] →
-            IsSynced D.is_known D.seen D.may_leave log (header_bytes Format.Second header.now) []) }
-        ensures key { IfOk result (λ log. log.key ≡ key_of_format key.now Format.Second) }
+            IsSynced D.is_known D.seen D.may_leave log (header_bytes Format.Third header.now) []) }
+        ensures key { IfOk result (λ log. log.key ≡ key_of_format key.now Format.Third) }
     {
         let mut log = Log::begin(alloc, device, key, header)?;
         log.device.sync()?;
@@ -64,8 +64,8 @@ impl<D: Device + Drop> Log<D> {
         header: &Header,
     ) -> Result<Log<D>, DeviceFault>
         ensures begun { IfOk result (λ log. D.is_known device → D.seen device ≡ [] →
-            IsBegun D.is_known D.seen log (header_bytes Format.Second header.now)) }
-        ensures key { IfOk result (λ log. log.key ≡ key_of_format key.now Format.Second) }
+            IsBegun D.is_known D.seen log (header_bytes Format.Third header.now)) }
+        ensures key { IfOk result (λ log. log.key ≡ key_of_format key.now Format.Third) }
         ensures place { IfOk result (λ log. log.place ≡ 0) }
         ensures works { IfOk result (λ log. log.has_failed ≡ false) }
     {
@@ -74,7 +74,7 @@ impl<D: Device + Drop> Log<D> {
         device.append(&bytes)?;
         Ok(Log {
             device,
-            key: LogKey::new(Format::Second, *key),
+            key: LogKey::new(Format::Third, *key),
             place: 0,
             has_failed: false,
         })
@@ -183,10 +183,10 @@ pub fn recover<D: Device + Drop, S: Sink + Drop>(
     ensures recovered { IfOk result (λ r. D.is_known old.old → D.is_known new → D.seen new ≡ [] →
         IsRecovered
         (record { is_known = D.is_known; seen = D.seen; may_leave = D.may_leave })
-        S.takes Format.Second header.now (D.seen old.old) sink r) }
+        S.takes Format.Third header.now (D.seen old.old) sink r) }
     ensures undamaged { IfOk result (λ _. D.is_known old.old → (count : ℕ)
         → IsDamagedLog key.now header.now (D.seen old.old) count → ⊥) }
-    ensures key { IfOk result (λ r. r.log.key ≡ key_of_format key.now Format.Second) }
+    ensures key { IfOk result (λ r. r.log.key ≡ key_of_format key.now Format.Third) }
     ensures fault { IfErr result IsReadFault }
     ensures foreign { (part : Mismatch) → result ≡ Err (LogFault.Foreign part)
         → D.is_known old.old

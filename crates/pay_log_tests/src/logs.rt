@@ -24,6 +24,7 @@ const HEADER: Header = Header {
     genesis: [1; 32],
     member: 2,
     keys: [3; 32],
+    former_keys: [4; 32],
 };
 
 /// What is appended, each in one chunk: of 57, 52 and 61 bytes after the header's 75.

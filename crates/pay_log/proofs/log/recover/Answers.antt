@@ -4,7 +4,7 @@ use Rattle.pay_log.specs.Headers.{header_bytes}
 use Rattle.pay_log.specs.Keys.{LogKeyFields}
 use Rattle.pay_log.specs.Logs.{IsLog, log_bytes}
 use Rattle.pay_log.specs.Recovery.{key_of_format}
-use Rattle.pay_log.specs.declared.key.Format.TheVariants.{Second}
+use Rattle.pay_log.specs.declared.key.Format.TheVariants.{Third}
 use Rattle.pay_log.proofs.Copied.{all_grown, all_taken}
 use Rattle.pay_log.proofs.Found.{read_sound}
 use Rattle.pay_log.proofs.log.recover.Goals as goal
@@ -49,7 +49,7 @@ returns-clause-recovered g c known known_new empty =
     let file : List ℕ = g.D.Device.seen c.args.old.now in
     let begun = c.in_ok-log.ensures.begun known_new empty in
     let grown = all_grown g.D.Device.is_known g.D.Device.seen g.S.Sink.takes _ c.read_log.new.sink read.ps read.taken in
-    let key : log_1.key ≡ key_of_format c.args.key.now Second = grown.key ∙ c.in_ok-log.ensures.key in
+    let key : log_1.key ≡ key_of_format c.args.key.now Third = grown.key ∙ c.in_ok-log.ensures.key in
     let bytes : c.args.key.now ≡ log_1.key.bytes = sym (ap (λ (k : LogKeyFields). k.bytes) key) in
     let known_1 = grown.known begun.known in
     record {

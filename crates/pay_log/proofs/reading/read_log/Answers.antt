@@ -24,7 +24,7 @@ returns-then-branch-clause-damaged g c count said known =
     let Read : LogKeyFields → List ℕ → Type 0 = λ k l. HasRead g.S.Sink.takes k (drop 75 l) c.args.sink.now c.read_chunks.new.sink len c.in_ok-len.field-0.count in
     let read = subst (λ (l : List ℕ). Read key l) same_1.seen_same (subst (λ (k : LogKeyFields). Read k (g.D.Device.seen c.judge_header.new.device)) c.new-key.ensures (c.in_ok-len.ensures.read same_1.known)) in
     let at = found g.S.Sink.takes key header file c.args.sink.now c.read_chunks.new.sink 75 len c.in_ok-len.field-0.count
-    (header_length format c.args.header.now (search rules) (search rules)) (c.in_ok-format.ensures.same known) read in
+    (header_length format c.args.header.now (search rules) (search rules) (search rules)) (c.in_ok-format.ensures.same known) read in
     let More : LogKeyFields → List ℕ → Type 0 = λ k l. IsTrue c.in_ok-has_more.field-0 ↔ HasChunkIn k len (drop (75 + len) l) in
     let more : IsTrue c.in_ok-has_more.field-0 ↔ HasChunkIn key len (drop (75 + len) file) =
     subst (λ (l : List ℕ). More key l) (same_2.seen_same ∙ same_1.seen_same)
@@ -49,7 +49,7 @@ returns-clause-read g c known =
     let Read : LogKeyFields → List ℕ → Type 0 = λ k l. HasRead g.S.Sink.takes k (drop 75 l) c.args.sink.now c.read_chunks.new.sink len c.in_ok-len.field-0.count in
     let read = subst (λ (l : List ℕ). Read key l) same_1.seen_same (subst (λ (k : LogKeyFields). Read k (g.D.Device.seen c.judge_header.new.device)) c.new-key.ensures (c.in_ok-len.ensures.read same_1.known)) in
     let at = found g.S.Sink.takes key header file c.args.sink.now c.read_chunks.new.sink 75 len c.in_ok-len.field-0.count
-    (header_length format c.args.header.now (search rules) (search rules)) (c.in_ok-format.ensures.same known) read in
+    (header_length format c.args.header.now (search rules) (search rules) (search rules)) (c.in_ok-format.ensures.same known) read in
     let More : LogKeyFields → List ℕ → Type 0 = λ k l. IsTrue c.in_ok-has_more.field-0 ↔ HasChunkIn k len (drop (75 + len) l) in
     let more : IsTrue c.in_ok-has_more.field-0 ↔ HasChunkIn key len (drop (75 + len) file) =
     subst (λ (l : List ℕ). More key l) (same_2.seen_same ∙ same_1.seen_same)

@@ -1,13 +1,13 @@
-use Rattle.std.proofs.Common.{◌≡◌, ◌++◌, ◌∙◌, rules, length}
+use Rattle.std.proofs.Common.{◌≢◌, ◌++◌, ◌∙◌, rules, length}
 use Rattle.std.specs.Int.{w32, to_be_bytes}
 use Rattle.pay_log.specs.Chunks.{sum_of}
-use Rattle.pay_log.specs.declared.key.Format.TheVariants.{Second}
+use Rattle.pay_log.specs.declared.key.Format.TheVariants.{First}
 use Rattle.pay_log.proofs.Chunks.{from_mark}
 use Rattle.pay_log.proofs.key.LogKey.made_for.Goals as goal
 
 pub returns-in-Second-clause-only : goal.returns-in-Second-clause-only
 returns-in-Second-clause-only c p made_for short within own begins =
     let key = c.args.self.now in
-    let second : key.format ≡ Second = search rules in
+    let later : key.format ≢ First = λ first. search (rules, first) in
     c.place_in.ensures made_for (to_be_bytes w32 (length p) ++ (p ++ (sum_of key made_for p ++ begins.rest))) within
-    (begins.is ∙ from_mark key made_for p begins.rest second)
+    (begins.is ∙ from_mark key made_for p begins.rest later)
