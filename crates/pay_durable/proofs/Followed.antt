@@ -7,7 +7,7 @@ use Rattle.std.proofs.lemmas.Grind.{flat_map-append}
 use Rattle.std.proofs.lemmas.List.{map-append, length-take-le, length-drop, drop_all, take_all, take_more, drop_more, get_or-drop}
 use Rattle.std.proofs.Math.Logic.{∥∥₁_map}
 use Rattle.pay_log.specs.declared.header.Header.{Header}
-use Rattle.pay_log.specs.declared.key.Format.TheVariants.{Second}
+use Rattle.pay_log.specs.declared.key.Format.TheVariants.{Third}
 use Rattle.pay_log.specs.declared.log.Log.{Log}
 use Rattle.pay_log.specs.Device.{Storage}
 use Rattle.pay_log.specs.Headers.{header_bytes}
@@ -148,7 +148,7 @@ module _ {D : Type 0} (is_known : D → Type 0) (seen : D → List ℕ) (may_lea
   pub has_at_least :
       (log : Log D) (count entries : ℕ) (pending : List ℕ)
       → ∥ (AllKnown is_known → IsFollowingSome is_known seen may_leave log pending count) ∥₁
-      → (pending ≡ []) × (entries ≤ count) → HasAtLeast is_known seen may_leave entries
+      → (pending ≡ []) × (entries ≤ count) → HasAtLeast (AreDurable is_known seen may_leave) entries
   has_at_least log count entries pending follows told = record {
     count = count;
     enough = told.1;
@@ -156,7 +156,7 @@ module _ {D : Type 0} (is_known : D → Type 0) (seen : D → List ℕ) (may_lea
   }
 
   pub kept_already :
-      (node : NodeFields) (entries : ℕ) → HasEntries node entries → HasAtLeast is_known seen may_leave entries
+      (node : NodeFields) (entries : ℕ) → HasEntries node entries → HasAtLeast (AreDurable is_known seen may_leave) entries
       → IsHistoryKept is_known seen may_leave node
   kept_already node entries has found = record {
     member = has.member;
@@ -220,7 +220,7 @@ resumed_follows storage k header file resumed log new count is counted r = subst
   entries = resumed.member.history;
   counted = sym counted;
   follows = record {
-    header = header_bytes Second header;
+    header = header_bytes Third header;
     ps = r.ps;
     settled = r.settled;
     logged = r.was.records.logged;

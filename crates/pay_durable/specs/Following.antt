@@ -1,6 +1,6 @@
 -- A log that follows a member's history.
 use Rattle.std.specs.Prelude.{◌≡◌, ◌≢◌, ℕ, ◌+◌, ◌-◌, ◌≤◌, List, [], ◌∷◌, ◌++◌, length, map, take}
-use Rattle.std.specs.Prelude.{drop, slice_index_or}
+use Rattle.std.specs.Prelude.{drop, false, slice_index_or}
 use Rattle.std.specs.List.{flat_map}
 use Rattle.pay_log.specs.declared.log.Log.{Log}
 use Rattle.pay_log.specs.Logs.{IsSynced}
@@ -34,7 +34,7 @@ id_under ids (Took t) = 0
 id_under ids (Told t) = 0
 
 abbrev pub with_id : List ℕ → HistoryEntry → LoggedFields
-with_id ids e = record { entry = e; id = id_under ids e.reply }
+with_id ids e = record { entry = e; id = id_under ids e.reply; whole = false }
 
 -- the records of some entries
 abbrev pub records_of : List ℕ → List HistoryEntry → List ℕ

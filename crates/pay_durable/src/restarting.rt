@@ -54,9 +54,9 @@ pub fn begin<D: Device + Drop>(
     ensures pending { IfOk result (λ r. r.following.pending.items ≡ []) }
     ensures log { IfOk result (λ r. D.is_known device →
         IsSynced D.is_known D.seen D.may_leave r.following.log
-        (header_bytes Format.Second (header_of genesis.now keys.now)) []) }
+        (header_bytes Format.Third (header_of genesis.now keys.now)) []) }
     ensures key { IfOk result (λ r.
-        r.following.log.key ≡ key_of_format (log_key_of keys.now) Format.Second) }
+        r.following.log.key ≡ key_of_format (log_key_of keys.now) Format.Third) }
 {
     let key = log_key(alloc, keys)?;
     let header = log_header(alloc, genesis, keys)?;
@@ -91,7 +91,7 @@ pub fn restart<D: Device + Drop, T: Tagger>(
     ensures count { IfOk result (λ r. r.following.count ≡ length r.member.history) }
     ensures pending { IfOk result (λ r. r.following.pending.items ≡ []) }
     ensures key { IfOk result (λ r.
-        r.following.log.key ≡ key_of_format (log_key_of keys.now) Format.Second) }
+        r.following.log.key ≡ key_of_format (log_key_of keys.now) Format.Third) }
     ensures resumed { IfOk result (λ r. D.is_known old.old → D.is_known new →
         IsResumed
         (record { is_known = D.is_known; seen = D.seen; may_leave = D.may_leave })

@@ -20,7 +20,11 @@ const ID: u64 = 7;
 const ASK: &str = "0100030000000000000007000000000003616263";
 
 /// That of the frame that member 0 sent, which was echoed.
-const FRAME: &str =
+const COMPACT: &str =
+    "04000401000000000000000000000000000001000000000000000b010001000000000000001e";
+
+/// The same with all bytes of the frame.
+const WHOLE: &str =
     "020004010000000000410101000000010000000000000000000000000000000b010001000000000000001e9888b9a5c22950ec29a47418b007b031883ea7bb3dd6a937b2ca073fb102952a";
 
 /// That of a query: account 0 has 100, and nothing is listed there.
@@ -41,14 +45,14 @@ const ROWS: &[Row] = &[
         opening: &[100, 0, 0, 50],
         own: 1,
         key: "5268806d6f884adbc7aa73a1042eed8384bbe8a235b9645cd88851a4f879ccef",
-        header: "70617964206c6f670240b2192d016df4e14893a0c63697d1a2d811ce48aef0476fdf912986f7560cdd000187c97eb9b455eec45cca114b7317c1abe5bcbb9d6f8a73a647ea7c53904e5ab7",
+        header: "70617964206c6f670440b2192d016df4e14893a0c63697d1a2d811ce48aef0476fdf912986f7560cdd00019d4e878722561e8a8072ff99fa78c7dda442dc3cadc45182a5fc6255c8e70679",
     },
     Row {
         faults: 0,
         opening: &[7],
         own: 0,
         key: "ea0a50c6cfd3eb3838f90aeeed34df7cac232b8c51b3720d5c91e2e0b369a713",
-        header: "70617964206c6f67022e5ebca3efeda7a5312dafbe9183d263dd2c40d3066b7b8a676fff3202ee4bb900003b07a4ce17eb7bf0b95cef0fe69157af8e0b3a7e18fc1b3584e6f745c50e2139",
+        header: "70617964206c6f67042e5ebca3efeda7a5312dafbe9183d263dd2c40d3066b7b8a676fff3202ee4bb90000f275fc91d78a18141e3a6639ff30bc9bdc1cd716144522a74f125c9535dfc4bc",
     },
 ];
 
@@ -91,7 +95,7 @@ fn has_room(entry: &HistoryEntry) -> bool
     ensures { IsTrue result → FitsRecord entry.now.event }
 {
     match &entry.event {
-        Event::Ask(value) => value.len() <= usize::from(GREATEST_VALUE),
+        Event::Ask(value) => value.as_slice().len() <= usize::from(GREATEST_VALUE),
         Event::Taken(_) | Event::Query(_) => true,
     }
 }
@@ -121,38 +125,36 @@ fn read_again(
     }
 }
 
-/// Whether the member's entry at a place has this record, which another member takes for none
-/// exactly if it is a frame's.
-fn is_read(
-    alloc: Global,
-    member: &Tried,
-    another: &Tried,
-    place: usize,
-    record: &str,
-) -> Result<bool, Fail> {
+/// Whether the member's entry at a place has this record, of which it is read.
+fn is_read(alloc: Global, member: &Tried, place: usize, record: &str) -> Result<bool, Fail> {
     let Some(entry) = member.history().get(place) else {
         return Ok(false);
     };
     let id = if place == 0 { ID } else { 0 };
     let written = record_of(alloc, entry, id)?;
     let again = read_again(alloc, member, record)??;
-    let is_foreign = read_again(alloc, another, record)?.is_err();
-    Ok(written.as_str() == record && again.as_str() == record && is_foreign == (place == 1))
+    Ok(written.as_str() == record && again.as_str() == record)
 }
 
 /// Whether each record is read by the member that wrote it.
-fn are_read(alloc: Global, member: &Tried, another: &Tried) -> Result<bool, Fail> {
-    let ask = is_read(alloc, member, another, 0, ASK)?;
-    let frame = is_read(alloc, member, another, 1, FRAME)?;
-    let query = is_read(alloc, member, another, 2, QUERY)?;
+fn are_read(alloc: Global, member: &Tried) -> Result<bool, Fail> {
+    let ask = is_read(alloc, member, 0, ASK)?;
+    let frame = is_read(alloc, member, 1, COMPACT)?;
+    let query = is_read(alloc, member, 2, QUERY)?;
     Ok(ask && frame && query)
 }
 
-/// The same of a member and another one that are made here.
-fn are_all_read(alloc: Global) -> Result<bool, Fail> {
+/// Whether a whole frame's record is read by its receiver, and is none to another member.
+fn is_read_whole(alloc: Global, member: &Tried) -> Result<bool, Fail> {
     let another = fresh(alloc, 2)?;
+    let is_foreign = read_again(alloc, &another, WHOLE)?.is_err();
+    Ok(read_again(alloc, member, WHOLE)??.as_str() == COMPACT && is_foreign)
+}
+
+/// Both of a member that is made here.
+fn are_all_read(alloc: Global) -> Result<bool, Fail> {
     let member = asked_and_brought(alloc)?;
-    are_read(alloc, &member, &another)
+    Ok(are_read(alloc, &member)? && is_read_whole(alloc, &member)?)
 }
 
 #[test]

@@ -3,6 +3,7 @@ pub mod Fronts
 pub mod Inside
 pub mod Stands
 pub mod Opened
+pub mod Compact
 pub mod OneRecord
 pub mod Sizes
 pub mod Legal

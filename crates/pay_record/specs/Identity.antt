@@ -30,5 +30,6 @@ header_of g k =
     record {
       genesis = sha256 (genesis_bytes g);
       member = k.own;
-      keys = mac (log_key_of k) (codes "payd log keys");
+      keys = mac (log_key_of k) (codes "payd log keys 4");
+      former_keys = mac (log_key_of k) (codes "payd log keys");
     }

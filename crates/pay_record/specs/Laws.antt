@@ -1,6 +1,6 @@
 -- What holds of records, as statements. Each is proved as a public law.
 use Rattle.std.specs.List.{All, flat_map}
-use Rattle.std.specs.Prelude.{◌≡◌, ◌⊎◌, ℕ, List, ◌∷◌, ◌++◌, length, Result, Ok, Err}
+use Rattle.std.specs.Prelude.{◌≡◌, ◌⊎◌, ℕ, List, ◌∷◌, ◌++◌, length, false, Result, Ok, Err}
 use Rattle.pay_link.specs.Genesis.{GenesisFields, IsGenesis}
 use Rattle.pay_link.specs.Keys.{KeyFields}
 use Rattle.pay_member.specs.declared.entry.HistoryEntry.{HistoryEntry}
@@ -40,11 +40,12 @@ OneList =
     → All (IsLoggable k) other
     → flat_map record_of one ≡ flat_map record_of other → one ≡ other
 
--- Each entry of a history that a member can have tells all of itself to that member.
+-- Each entry of a history that a member can have tells all of itself to that member, its frame
+-- compact.
 abbrev pub LegalIsLoggable : Type 0
 LegalIsLoggable =
     (g : GenesisFields) (k : KeyFields) (before : List HistoryEntry) (e : HistoryEntry)
     (after : List HistoryEntry)
     (id : ℕ) → IsGenesis g → Legal g k (before ++ e ∷ after)
-    → IsTyped (record { entry = e; id = id })
-    → IsLoggable k (record { entry = e; id = id })
+    → IsTyped (record { entry = e; id = id; whole = false })
+    → IsLoggable k (record { entry = e; id = id; whole = false })

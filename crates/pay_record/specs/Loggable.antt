@@ -1,7 +1,9 @@
 -- Entries whose records tell all of them to the member that has these keys.
 use Rattle.std.specs.Prelude.{◌≡◌, ◌≤◌, ◌<◌, ◌^◌, ℕ, List, ◌++◌, length, ⊤, Result, Ok, Err}
+use Rattle.std.specs.Prelude.{◌≢◌, Bool, false}
 use Rattle.pay_frame.specs.declared.limits.TheConstants.{GREATEST_VALUE}
-use Rattle.pay_frame.specs.Frame.{frame_bytes}
+use Rattle.pay_frame.specs.declared.kind.Kind.TheVariants.{Want}
+use Rattle.pay_frame.specs.Frame.{BodyFields, IsBody}
 use Rattle.pay_link.specs.Checked.{CheckedFields, IsChecked, IsFor}
 use Rattle.pay_link.specs.Keys.{KeyFields}
 use Rattle.pay_member.specs.declared.entry.HistoryEntry.{HistoryEntry}
@@ -12,7 +14,7 @@ use Rattle.pay_member.specs.declared.reply.Reply.TheVariants.{Asked, Took, Told}
 use Rattle.pay_record.specs.Resuming.{LoggedFields, RecordForm}
 use Rattle.pay_record.specs.declared.records.RecordFault.{RecordFault}
 use Rattle.pay_record.specs.declared.records.RecordFault.TheVariants.{Memory, NoRecord}
-use Rattle.pay_record.specs.Records.{record_of}
+use Rattle.pay_record.specs.Records.{body_bytes, frame_part, record_of}
 
 -- its value has a length that a record has room for
 abbrev pub FitsRecord : Event → Type 0
@@ -45,10 +47,17 @@ FitsReply (Query a) id (Took t) = ⊥
 FitsReply (Query a) id (Told t) =
     (id ≡ 0) × (t.balance < 2 ^ 64) × (t.front < 2 ^ 32) × (t.listed < 2 ^ 32)
 
+-- nothing but a frame stands whole
+abbrev pub FitsForm : Event → Bool → Type 0
+FitsForm (Ask v) whole = whole ≡ false
+FitsForm (Taken c) whole = ⊤
+FitsForm (Query a) whole = whole ≡ false
+
 pub record IsLoggable (k : KeyFields) (l : LoggedFields) : Type 0 where
   pub stamp : l.entry.stamp < 2 ^ 16
   pub event : FitsEvent k l.entry.event
   pub reply : FitsReply l.entry.event l.id l.entry.reply
+  pub form : FitsForm l.entry.event l.whole
 
 -- how the entries of that member stand in its log
 abbrev pub entry_form : KeyFields → RecordForm
@@ -80,21 +89,37 @@ pub record StandsIn (k : KeyFields) (bytes : List ℕ) (l : LoggedFields) : Type
 -- length, or that none stands there. Refused memory tells nothing.
 abbrev pub IsReadAs : KeyFields → List ℕ → Result (HistoryEntry × ℕ × ℕ) RecordFault → Type 0
 IsReadAs k bytes (Ok (entry, id, len)) =
-    StandsIn k bytes (record { entry = entry; id = id })
-    × (len ≡ length (record_of (record { entry = entry; id = id })))
+    (whole : Bool) × StandsIn k bytes (record { entry = entry; id = id; whole = whole })
+    × (len ≡ length (record_of (record { entry = entry; id = id; whole = whole })))
 IsReadAs k bytes (Err NoRecord) = (l : LoggedFields) → StandsIn k bytes l → ⊥
 IsReadAs k bytes (Err Memory) = ⊤
 
--- A frame that is for the member and rightly tagged stands at the front.
-pub record FrameStandsIn (k : KeyFields) (bytes : List ℕ) (c : CheckedFields) : Type 0 where
+-- A frame that is for the member and rightly tagged stands at the front, whole or compact.
+pub record FrameStandsIn (k : KeyFields) (whole : Bool) (bytes : List ℕ) (c : CheckedFields)
+    : Type 0 where
   pub checked : IsChecked c
   pub mine : IsFor k c
   pub rest : List ℕ
-  pub is : bytes ≡ frame_bytes c.frame ++ rest
+  pub is : bytes ≡ frame_part whole c.frame ++ rest
 
 -- the same of such a frame alone
-abbrev pub IsFrameRead : KeyFields → List ℕ → Result (CheckedFields × ℕ) RecordFault → Type 0
-IsFrameRead k bytes (Ok (c, size)) =
-    FrameStandsIn k bytes c × (size ≡ length (frame_bytes c.frame))
-IsFrameRead k bytes (Err NoRecord) = (c : CheckedFields) → FrameStandsIn k bytes c → ⊥
-IsFrameRead k bytes (Err Memory) = ⊤
+abbrev pub IsFrameRead :
+    KeyFields → Bool → List ℕ → Result (CheckedFields × ℕ) RecordFault → Type 0
+IsFrameRead k whole bytes (Ok (c, size)) =
+    FrameStandsIn k whole bytes c × (size ≡ length (frame_part whole c.frame))
+IsFrameRead k whole bytes (Err NoRecord) =
+    (c : CheckedFields) → FrameStandsIn k whole bytes c → ⊥
+IsFrameRead k whole bytes (Err Memory) = ⊤
+
+-- A body within a frame's limits, of no WANT, stands at the front.
+pub record BodyStandsIn (bytes : List ℕ) (b : BodyFields) : Type 0 where
+  pub limits : IsBody b
+  pub kind : b.kind ≢ Want
+  pub rest : List ℕ
+  pub is : bytes ≡ body_bytes b ++ rest
+
+-- the same of such a body
+abbrev pub IsBodyRead : List ℕ → Result (BodyFields × ℕ) RecordFault → Type 0
+IsBodyRead bytes (Ok (b, size)) = BodyStandsIn bytes b × (size ≡ length (body_bytes b))
+IsBodyRead bytes (Err NoRecord) = (b : BodyFields) → BodyStandsIn bytes b → ⊥
+IsBodyRead bytes (Err Memory) = ⊤

@@ -1,6 +1,6 @@
 -- What a member has taken once records were handed to it, and the ids of its asks.
 use Rattle.std.specs.Prelude.{◌≡◌, ◌⊎◌, ℕ, ◌+◌, List, [], ◌∷◌, ◌++◌, length, map, take, drop}
-use Rattle.std.specs.Prelude.{Option, Some, None}
+use Rattle.std.specs.Prelude.{Bool, Option, Some, None}
 use Rattle.std.specs.List.{All, filter_map, flat_map}
 use Rattle.pay_member.specs.declared.event.Event.{Event}
 use Rattle.pay_member.specs.declared.event.Event.TheVariants.{Ask, Taken, Query}
@@ -10,7 +10,7 @@ use Rattle.pay_member.specs.Events.{events}
 use Rattle.pay_member.specs.Legal.{IsOwed}
 use Rattle.pay_log.specs.declared.header.Header.{Header}
 use Rattle.pay_log.specs.declared.key.Format.{Format}
-use Rattle.pay_log.specs.declared.key.Format.TheVariants.{Second}
+use Rattle.pay_log.specs.declared.key.Format.TheVariants.{Third}
 use Rattle.pay_log.specs.declared.limits.TheConstants.{HEADER_LEN}
 use Rattle.pay_log.specs.declared.log.Log.{Log}
 use Rattle.pay_log.specs.Chunks.{BeginsWith, chunks_of}
@@ -19,15 +19,25 @@ use Rattle.pay_log.specs.Headers.{header_bytes}
 use Rattle.pay_log.specs.Logs.{IsLog, IsSynced, log_bytes}
 use Rattle.pay_log.specs.Recovery.{key_of_format}
 
--- an entry as it stands in a log: with the id under which its owner asked for it, if it is an ask
+-- An entry as it stands in a log: with the id under which its owner asked for it, if it is an ask,
+-- and whether it is a frame of which all bytes stand there.
 pub record LoggedFields : Type 0 where
   pub entry : HistoryEntry
   pub id : ℕ
+  pub whole : Bool
 
 -- How entries stand in a log: the bytes of an entry's record, and whether these tell all of it.
 pub record RecordForm : Type 1 where
   pub record_of : LoggedFields → List ℕ
   pub is_loggable : LoggedFields → Type 0
+
+-- A record that tells all of an entry, with that id, is the first so many bytes.
+pub record HasRecord (form : RecordForm) (bytes : List ℕ) (entry : HistoryEntry) (id len : ℕ)
+    : Type 0 where
+  pub whole : Bool
+  pub loggable : form.is_loggable (record { entry = entry; id = id; whole = whole })
+  pub is : bytes
+      ≡ form.record_of (record { entry = entry; id = id; whole = whole }) ++ drop len bytes
 
 abbrev pub id_by : Event → ℕ → Option ℕ
 id_by (Ask v) id = Some id
@@ -109,7 +119,7 @@ pub record IsResumed {D : Type 0} (storage : Storage D) (form : RecordForm) (hea
   pub was : IsLogOf form log.key.bytes header file r ps
   pub settled :
       IsSynced storage.is_known storage.seen storage.may_leave log
-      (header_bytes Second header) ps
+      (header_bytes Third header) ps
 
 -- In a log, after payloads that a member took, one stands whose record of this number isn't what
 -- the member has there.

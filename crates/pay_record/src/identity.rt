@@ -15,7 +15,10 @@ use std::alloc::{AllocError, Global};
 const KEY_TEXT: &[u8] = b"payd log 1";
 
 /// What a header's fingerprint of the keys is the tag of.
-const FINGERPRINT_TEXT: &[u8] = b"payd log keys";
+const FINGERPRINT_TEXT: &[u8] = b"payd log keys 4";
+
+/// The same in the formats before the one that is written.
+const FORMER_TEXT: &[u8] = b"payd log keys";
 
 /// The key of a member's log. Nobody else can make it: it is of all keys that the member has.
 pub fn log_key(alloc: Global, keys: &Keys) -> Result<[u8; 32], AllocError>
@@ -35,6 +38,7 @@ pub fn log_header(alloc: Global, genesis: &Genesis, keys: &Keys) -> Result<Heade
         genesis: Sha256::digest(bytes.as_slice()),
         member: keys.own(),
         keys: mac(&key, FINGERPRINT_TEXT),
+        former_keys: mac(&key, FORMER_TEXT),
     })
 }
 

@@ -1,8 +1,9 @@
 //! What holds of records. The functions do nothing: their contracts are the laws.
 
 ghost use Rattle.std.specs.Prelude.{◌≡◌};
-ghost use Rattle.pay_record.specs.Examples.{ask_bytes, ask_example, frame_example};
-ghost use Rattle.pay_record.specs.Examples.{frame_example_bytes, query_bytes, query_example};
+ghost use Rattle.pay_record.specs.Examples.{ask_bytes, ask_example, compact_example};
+ghost use Rattle.pay_record.specs.Examples.{compact_example_bytes, query_bytes, query_example};
+ghost use Rattle.pay_record.specs.Examples.{whole_example, whole_example_bytes};
 ghost use Rattle.pay_record.specs.Records.{record_of};
 ghost use Rattle.pay_record.specs.Laws.{LegalHasRoom, LegalIsLoggable, OneList, OneRecord};
 ghost use Rattle.pay_record.specs.Laws.{WrittenIsRead};
@@ -61,6 +62,7 @@ pub fn legal_entries_have_room()
 #[tactic(auto, unfolding(crate::specs::Records::record_of))]
 pub fn worked_records()
     ensures ask { record_of ask_example ≡ ask_bytes }
-    ensures frame { record_of frame_example ≡ frame_example_bytes }
+    ensures whole { record_of whole_example ≡ whole_example_bytes }
+    ensures compact { record_of compact_example ≡ compact_example_bytes }
     ensures query { record_of query_example ≡ query_bytes }
 {}

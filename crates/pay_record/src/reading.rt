@@ -1,26 +1,28 @@
 //! Records as they are read.
 
-ghost use Rattle.std.specs.Prelude.{◌≡◌, ◌++◌, ◌∷◌, ◌+◌, ◌≤◌, ◌<◌, ◌⊎◌, ⊤, IfOk, IfSome, IfNone};
+ghost use Rattle.std.specs.Prelude.{◌≡◌, ◌≢◌, ◌++◌, ◌∷◌, ◌+◌, ◌≤◌, ◌<◌, ◌⊎◌, ⊤, IfOk, IfSome};
+ghost use Rattle.std.specs.Prelude.{IfNone, false, true};
 ghost use Rattle.std.specs.Prelude.{length, drop};
 ghost use Rattle.std.specs.Prelude.{◌↔◌, IsTrue};
 ghost use Rattle.std.specs.Int.{w16, to_be_bytes};
-ghost use Rattle.pay_frame.specs.Frame.{FrameFields, frame_bytes};
+ghost use Rattle.pay_frame.specs.Frame.{FrameFields, code_of, frame_bytes};
 ghost use Rattle.pay_frame.specs.Lent.{fields_of};
 ghost use Rattle.pay_frame.specs.Reading.{HasFrame};
 ghost use Rattle.pay_link.specs.Checked.{CheckedFields, IsChecked, IsFor};
 ghost use Rattle.pay_link.specs.Keys.{KeyFields};
 ghost use Rattle.pay_log.specs.Chunks.{BeginsWith};
-ghost use Rattle.pay_record.specs.Loggable.{IsFrameRead, IsLoggable, IsReadAs, entry_form};
-ghost use Rattle.pay_record.specs.Records.{known_bits, record_of};
-ghost use Rattle.pay_record.specs.Resuming.{LoggedFields};
+ghost use Rattle.pay_record.specs.Loggable.{IsBodyRead, IsFrameRead, IsLoggable, IsReadAs};
+ghost use Rattle.pay_record.specs.Loggable.{entry_form};
+ghost use Rattle.pay_record.specs.Records.{frame_code, known_bits, record_of};
+ghost use Rattle.pay_record.specs.Resuming.{HasRecord, LoggedFields};
 
-use crate::limits::{ASK, FRAME, QUERY};
+use crate::limits::{ASK, COMPACT, FRAME, QUERY};
 use crate::numbers::{eight, four, one, two};
 use crate::records::{RecordFault, Records};
-use pay_frame::{Bytes, FrameRef, GREATEST_VALUE, Kind, one_front, one_reading, read};
+use pay_frame::{Body, Bytes, FrameRef, GREATEST_VALUE, Kind, SEQS, one_front, one_reading, read};
 use pay_hmac::Tagger;
 use pay_link::{Checked, Keys, laws, open};
-use pay_member::{Event, HistoryEntry, Reply, Told, Took};
+use pay_member::{AskedValue, Event, HistoryEntry, Reply, Told, Took};
 use std::alloc::Global;
 
 /// How many bytes of an ask's record stand before its value.
@@ -28,6 +30,12 @@ const ASK_LEN: usize = 17;
 
 /// How many bytes of a frame's record stand before the frame.
 const FRAME_LEN: usize = 8;
+
+/// How many bytes of a compact frame stand before its body.
+const ADDRESS_LEN: usize = 10;
+
+/// How many bytes of a compact frame's body stand before its value.
+const BODY_LEN: usize = 9;
 
 /// How many bytes a query's record has.
 const QUERY_LEN: usize = 21;
@@ -53,10 +61,8 @@ impl<T: Tagger> Records for EntryRecords<'_, T> {
 
     fn read(&self, alloc: Global, bytes: &[u8]) -> Result<(HistoryEntry, u64, usize), RecordFault>
         ensures room { IfOk result (λ r. (0 < r.2) × (r.2 ≤ length bytes.now)) }
-        ensures record { IfOk result (λ r. bytes.now
-            ≡ record_of (record { entry = r.0; id = r.1 }) ++ drop r.2 bytes.now) }
-        ensures loggable { IfOk result (λ r.
-            IsLoggable self.now.keys.now (record { entry = r.0; id = r.1 })) }
+        ensures record { IfOk result (λ r.
+            HasRecord (entry_form self.now.keys.now) bytes.now r.0 r.1 r.2) }
         ensures none { result ≡ Err RecordFault.NoRecord → (l : LoggedFields)
             → IsLoggable self.now.keys.now l → BeginsWith bytes.now (record_of l) → ⊥ }
         ensures read { IsReadAs self.now.keys.now bytes.now result }
@@ -82,8 +88,9 @@ fn read_record<T: Tagger>(
     };
     match code {
         ASK => read_ask(alloc, keys, stamp, fields),
-        FRAME => read_frame(alloc, tagger, keys, stamp, fields),
+        FRAME => read_frame(alloc, tagger, keys, true, stamp, fields),
         QUERY => read_query(keys, stamp, fields),
+        COMPACT => read_frame(alloc, tagger, keys, false, stamp, fields),
         _ => Err(RecordFault::NoRecord),
     }
 }
@@ -112,7 +119,7 @@ fn read_ask(
     };
     let entry = HistoryEntry {
         stamp,
-        event: Event::Ask(value),
+        event: Event::Ask(AskedValue::new(alloc, value)?),
         reply: Reply::Asked(seq),
     };
     Ok((entry, id, ASK_LEN + usize::from(len)))
@@ -134,15 +141,17 @@ fn value_in_front(alloc: Global, len: u16, bytes: &[u8]) -> Result<Bytes, Record
     }
 }
 
-// The record of a frame, of which these are the bytes after its stamp.
+// The record of a frame, whole or compact, of which these are the bytes after its stamp.
 fn read_frame<T: Tagger>(
     alloc: Global,
     tagger: &T,
     keys: &Keys,
+    is_whole: bool,
     stamp: u16,
     fields: &[u8],
 ) -> Result<(HistoryEntry, u64, usize), RecordFault>
-    ensures { IsReadAs keys.now ((FRAME ∷ to_be_bytes w16 stamp) ++ fields.now) result }
+    ensures { IsReadAs keys.now
+        ((frame_code is_whole ∷ to_be_bytes w16 stamp) ++ fields.now) result }
 {
     let Some((bits, rest)) = one(fields) else {
         return Err(RecordFault::NoRecord);
@@ -153,7 +162,7 @@ fn read_frame<T: Tagger>(
     let Some(took) = took_of(bits, settled) else {
         return Err(RecordFault::NoRecord);
     };
-    let (checked, size) = match frame_in_front(alloc, tagger, keys, rest) {
+    let (checked, size) = match frame_in_front(alloc, tagger, keys, is_whole, rest) {
         Ok(found) => found,
         Err(fault) => return Err(fault),
     };
@@ -181,14 +190,31 @@ fn took_of(bits: u8, settled: u32) -> Option<Took>
     })
 }
 
-// The frame in front that opens for the member, and how many bytes it has.
+// The frame in front, whole or compact, and how many bytes it has there.
 fn frame_in_front<T: Tagger>(
+    alloc: Global,
+    tagger: &T,
+    keys: &Keys,
+    is_whole: bool,
+    bytes: &[u8],
+) -> Result<(Checked, usize), RecordFault>
+    ensures { IsFrameRead keys.now is_whole bytes.now result }
+{
+    if is_whole {
+        whole_in_front(alloc, tagger, keys, bytes)
+    } else {
+        compact_in_front(alloc, keys, bytes)
+    }
+}
+
+// The frame in front that opens for the member, and how many bytes it has.
+fn whole_in_front<T: Tagger>(
     alloc: Global,
     tagger: &T,
     keys: &Keys,
     bytes: &[u8],
 ) -> Result<(Checked, usize), RecordFault>
-    ensures { IsFrameRead keys.now bytes.now result }
+    ensures { IsFrameRead keys.now true bytes.now result }
 {
     one_front();
     laws::judgement_opens();
@@ -225,6 +251,77 @@ fn is_want(kind: Kind) -> bool
     match kind {
         Kind::Send | Kind::Echo | Kind::Ready => false,
         Kind::Want => true,
+    }
+}
+
+// The compact frame in front, and how many bytes it has.
+fn compact_in_front(
+    alloc: Global,
+    keys: &Keys,
+    bytes: &[u8],
+) -> Result<(Checked, usize), RecordFault>
+    ensures { IsFrameRead keys.now false bytes.now result }
+{
+    let Some((from, rest)) = two(bytes) else {
+        return Err(RecordFault::NoRecord);
+    };
+    let Some((number, rest)) = eight(rest) else {
+        return Err(RecordFault::NoRecord);
+    };
+    let (body, size) = match body_in_front(alloc, rest) {
+        Ok(found) => found,
+        Err(fault) => return Err(fault),
+    };
+    if !keys.is_peer(from) {
+        return Err(RecordFault::NoRecord);
+    }
+    if body.owner() >= keys.members() {
+        return Err(RecordFault::NoRecord);
+    }
+    let checked = Checked::from_peer(alloc, keys, from, number, body)?;
+    Ok((checked, ADDRESS_LEN + size))
+}
+
+// The body in front, which is no WANT's, and how many bytes it has.
+fn body_in_front(alloc: Global, bytes: &[u8]) -> Result<(Body, usize), RecordFault>
+    ensures { IsBodyRead bytes.now result }
+{
+    let Some((code, rest)) = one(bytes) else {
+        return Err(RecordFault::NoRecord);
+    };
+    let Some((owner, rest)) = two(rest) else {
+        return Err(RecordFault::NoRecord);
+    };
+    let Some((seq, rest)) = four(rest) else {
+        return Err(RecordFault::NoRecord);
+    };
+    let Some((len, rest)) = two(rest) else {
+        return Err(RecordFault::NoRecord);
+    };
+    let Some(kind) = vote_of(code) else {
+        return Err(RecordFault::NoRecord);
+    };
+    if seq >= SEQS {
+        return Err(RecordFault::NoRecord);
+    }
+    let value = match value_in_front(alloc, len, rest) {
+        Ok(value) => value,
+        Err(fault) => return Err(fault),
+    };
+    let body = Body::new(kind, owner, seq, value);
+    Ok((body, BODY_LEN + usize::from(len)))
+}
+
+// The kind that this byte stands for, if that is of a vote.
+fn vote_of(code: u8) -> Option<Kind>
+    ensures some { IfSome result (λ kind. (code_of kind ≡ code) × (kind ≢ Kind.Want)) }
+    ensures none { IfNone result ((kind : Kind) → kind ≢ Kind.Want → code_of kind ≡ code → ⊥) }
+{
+    match code {
+        1 => Some(Kind::Send),
+        2 => Some(Kind::Echo),
+        3 => Some(Kind::Ready),
+        _ => None,
     }
 }
 

@@ -1,6 +1,6 @@
-ghost use Rattle.std.specs.Prelude.{◌≡◌, ◌++◌, ◌≤◌, ◌<◌, IfOk, length, drop};
+ghost use Rattle.std.specs.Prelude.{◌≡◌, ◌≤◌, ◌<◌, IfOk, length};
 ghost use Rattle.pay_log.specs.Chunks.{BeginsWith};
-ghost use Rattle.pay_record.specs.Resuming.{LoggedFields, RecordForm};
+ghost use Rattle.pay_record.specs.Resuming.{HasRecord, LoggedFields, RecordForm};
 
 use pay_member::HistoryEntry;
 use std::alloc::{AllocError, AllocFailed, Global};
@@ -47,11 +47,7 @@ pub trait Records {
     // promise: records (record)
     fn read(&self, alloc: Global, bytes: &[u8]) -> Result<(HistoryEntry, u64, usize), RecordFault>
         ensures room { IfOk result (λ r. (0 < r.2) × (r.2 ≤ length bytes.now)) }
-        ensures record { IfOk result (λ r. bytes.now
-            ≡ (form self.now).record_of (record { entry = r.0; id = r.1 })
-            ++ drop r.2 bytes.now) }
-        ensures loggable { IfOk result (λ r.
-            (form self.now).is_loggable (record { entry = r.0; id = r.1 })) }
+        ensures record { IfOk result (λ r. HasRecord (form self.now) bytes.now r.0 r.1 r.2) }
         ensures none { result ≡ Err RecordFault.NoRecord → (l : LoggedFields)
             → (form self.now).is_loggable l
             → BeginsWith bytes.now ((form self.now).record_of l) → ⊥ };

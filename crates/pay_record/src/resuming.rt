@@ -69,7 +69,7 @@ pub fn resume<D: Device + Drop, I: Instance + Drop, B: Settle + Drop, R: Records
     ensures keys { IfOk result (λ r. r.0.member.keys ≡ member.keys) }
     ensures records { IfOk result (λ r. (ps : List (List ℕ))
         × IsOfRecords (R.form records.now) r.0.member r.0.ids.items ps) }
-    ensures log { IfOk result (λ r. r.1.key ≡ key_of_format key.now Format.Second) }
+    ensures log { IfOk result (λ r. r.1.key ≡ key_of_format key.now Format.Third) }
     ensures resumed { IfOk result (λ r. D.is_known old.old → D.is_known new → D.seen new ≡ [] →
         IsResumed
         (record { is_known = D.is_known; seen = D.seen; may_leave = D.may_leave })

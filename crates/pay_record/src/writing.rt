@@ -1,16 +1,15 @@
 //! Records as they are written.
 
 ghost use Rattle.std.specs.Prelude.{◌≡◌, ◌+◌, ◌++◌, OnErr, OnOk, IfOk};
-ghost use Rattle.std.specs.Prelude.{◌≤◌, length};
+ghost use Rattle.std.specs.Prelude.{◌≤◌, false, length};
 ghost use Rattle.std.specs.Int.{w16, to_be_bytes};
 ghost use Rattle.pay_frame.specs.declared.limits.TheConstants.{GREATEST_VALUE};
-ghost use Rattle.pay_frame.specs.Frame.{frame_bytes};
 ghost use Rattle.pay_record.specs.Loggable.{FitsRecord, IsWithinLimits};
-ghost use Rattle.pay_record.specs.Records.{kind_code, record_fields, known_bits, record_of};
-ghost use Rattle.pay_record.specs.Records.{reply_bytes};
+ghost use Rattle.pay_record.specs.Records.{body_bytes, compact_bytes, kind_code, known_bits};
+ghost use Rattle.pay_record.specs.Records.{record_fields, record_of, reply_bytes};
 
-use crate::limits::{ASK, FRAME, MOST_RECORD, QUERY};
-use pay_frame::{HEAD_LEN, head_into};
+use crate::limits::{ASK, COMPACT, MOST_RECORD, QUERY};
+use pay_frame::Body;
 use pay_link::Checked;
 use pay_member::{Event, HistoryEntry, Reply, Told, Took};
 use std::alloc::{AllocError, Global};
@@ -25,7 +24,7 @@ pub fn push_record(
 ) -> Result<(), AllocError>
     requires { FitsRecord entry.now.event }
     ensures appended { OnOk result (out.new.items
-        ≡ out.old.items ++ record_of (record { entry = entry.now; id = id })) }
+        ≡ out.old.items ++ record_of (record { entry = entry.now; id = id; whole = false })) }
     ensures err { OnErr result (out.new.items ≡ out.old.items) }
     ensures size { OnOk result (length out.new.items ≤ length out.old.items + MOST_RECORD) }
 {
@@ -38,7 +37,7 @@ pub fn push_record(
 fn encode(alloc: Global, entry: &HistoryEntry, id: u64) -> Result<Vec<u8>, AllocError>
     requires { FitsRecord entry.now.event }
     ensures { IfOk result (λ bytes.
-        bytes.items ≡ record_of (record { entry = entry.now; id = id })) }
+        bytes.items ≡ record_of (record { entry = entry.now; id = id; whole = false })) }
 {
     let mut out = Vec::new(alloc);
     out.push(code_of(&entry.event))?;
@@ -60,18 +59,19 @@ fn is_sound(event: &Event)
 }
 
 fn code_of(event: &Event) -> u8
-    ensures { result ≡ kind_code event.now }
+    ensures { result ≡ kind_code event.now false }
 {
     match event {
         Event::Ask(_) => ASK,
-        Event::Taken(_) => FRAME,
+        Event::Taken(_) => COMPACT,
         Event::Query(_) => QUERY,
     }
 }
 
 fn push_fields(out: &mut Vec<u8>, event: &Event, id: u64, reply: Reply) -> Result<(), AllocError>
     requires { FitsRecord event.now }
-    ensures { OnOk result (out.new.items ≡ out.old.items ++ record_fields event.now id reply) }
+    ensures { OnOk result (out.new.items
+        ≡ out.old.items ++ record_fields event.now id false reply) }
 {
     match event {
         Event::Ask(value) => {
@@ -131,18 +131,18 @@ fn push_value(out: &mut Vec<u8>, value: &[u8]) -> Result<(), AllocError>
 }
 
 fn push_frame(out: &mut Vec<u8>, checked: &Checked) -> Result<(), AllocError>
-    ensures { OnOk result (out.new.items ≡ out.old.items ++ frame_bytes checked.now.frame) }
+    ensures { OnOk result (out.new.items ≡ out.old.items ++ compact_bytes checked.now.frame) }
 {
-    let mut head = [0; HEAD_LEN];
-    let body = checked.body();
-    head_into(
-        &mut head,
-        checked.from(),
-        checked.to(),
-        checked.number(),
-        body,
-    );
-    out.extend_from_slice(&head)?;
-    out.extend_from_slice(body.value())?;
-    out.extend_from_slice(checked.tag())
+    out.extend_from_slice(&checked.from().to_be_bytes())?;
+    out.extend_from_slice(&checked.number().to_be_bytes())?;
+    push_body(out, checked.body())
+}
+
+fn push_body(out: &mut Vec<u8>, body: &Body) -> Result<(), AllocError>
+    ensures { OnOk result (out.new.items ≡ out.old.items ++ body_bytes body.now) }
+{
+    out.push(body.kind().code())?;
+    out.extend_from_slice(&body.owner().to_be_bytes())?;
+    out.extend_from_slice(&body.seq().to_be_bytes())?;
+    push_value(out, body.value())
 }

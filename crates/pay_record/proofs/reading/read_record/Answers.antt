@@ -18,5 +18,5 @@ returns-in_default-code g c l stands =
     let stamp = c.in-Some-two.stamp in
     let is : c.args.bytes.now ≡ (code ∷ to_be_bytes w16 stamp) ++ c.in-Some-two.fields.now =
     c.in-Some.ensures.some ∙ ap (λ (x : List ℕ). code ∷ x) c.in-Some-two.ensures.some in
-    other_code c.args.keys.now code stamp c.in-Some-two.fields.now (λ e. omega (arith, e)) (λ e. omega (arith, e)) (λ e. omega (arith, e)) l
+    other_code c.args.keys.now code stamp c.in-Some-two.fields.now (λ e. omega (arith, e)) (λ e. omega (arith, e)) (λ e. omega (arith, e)) (λ e. omega (arith, e)) l
     (subst (λ (f : List ℕ). StandsIn c.args.keys.now f l) is stands)

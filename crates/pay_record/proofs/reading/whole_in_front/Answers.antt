@@ -7,7 +7,7 @@ use Rattle.pay_link.specs.Opening.{OpenedFields}
 use Rattle.pay_link.specs.Checked.{CheckedFields}
 use Rattle.pay_record.specs.Loggable.{FrameStandsIn}
 use Rattle.pay_record.proofs.Opened.{no_front, no_opening, no_want, opened_stands}
-use Rattle.pay_record.proofs.reading.frame_in_front.Goals as goal
+use Rattle.pay_record.proofs.reading.whole_in_front.Goals as goal
 
 pub returns-in_default : goal.returns-in_default
 returns-in_default g c = no_front c.args.keys.now c.args.bytes.now c.in_default.ensures.none
@@ -37,7 +37,7 @@ returns-in_ok-own-in-Ok g c =
     let judged = sym c.open.ensures ∙ c.in-Ok.is in
     let same = ((c.judgement_opens.ensures c.args.keys.now f c.in-Ok.opened).0 judged).1 in
     let kept = c.owned_opens_again.ensures.kept c.args.keys.now f c.in-Ok.opened has.is (λ want. not_true c.is_want.result (c.is_want.ensures.1 (c.kind.ensures.value ∙ want)) c.if-is_want.false) judged in (
-      subst (λ (x : CheckedFields). FrameStandsIn c.args.keys.now c.args.bytes.now x) (sym c.in_ok-own-in-Ok.ensures)
+      subst (λ (x : CheckedFields). FrameStandsIn c.args.keys.now true c.args.bytes.now x) (sym c.in_ok-own-in-Ok.ensures)
           (opened_stands c.args.keys.now c.args.bytes.now f c.in-Ok.opened has same kept),
       c.in-Some.ensures.some.1
           ∙ ap (λ (o : OpenedFields). length (frame_bytes o.frame)) (sym same)
