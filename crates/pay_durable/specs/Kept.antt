@@ -40,10 +40,8 @@ AreDurable {D = D} is_known seen may_leave entries =
     AllKnown is_known
     → ∥ ((log : Log D) × IsFollowingSome is_known seen may_leave log [] entries) ∥₁
 
--- A settled log has so many entries or more.
-pub record HasAtLeast {D : Type 0} (is_known : D → Type 0) (seen : D → List ℕ)
-    (may_leave : D → List ℕ → Type 0)
-    (entries : ℕ) : Type 0 where
+-- It is said of so many entries or more that they are on the disk.
+pub record HasAtLeast (has : ℕ → Type 0) (entries : ℕ) : Type 0 where
   pub count : ℕ
   pub enough : entries ≤ count
-  pub durable : AreDurable is_known seen may_leave count
+  pub durable : has count

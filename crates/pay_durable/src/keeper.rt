@@ -1,4 +1,5 @@
-ghost use Rattle.std.specs.Prelude.{◌≡◌, IfSome, IsTrue, ℕ, None};
+ghost use Rattle.std.specs.Prelude.{◌≡◌, IfSome, IsTrue, OnErr, ℕ, None};
+ghost use Rattle.pay_durable.specs.Kept.{HasAtLeast};
 ghost use Rattle.pay_node.specs.Nodes.{NodeFields};
 
 use pay_node::{Beginning, Node};
@@ -18,6 +19,11 @@ pub trait Keeper {
     /// `false` where that failed: from then on nothing leaves the node.
     fn keep<R: Wait, S: Beginning>(&self, rt: &R, node: &Node<S>) -> bool
         ensures { IsTrue result → kept self.now node.now };
+
+    /// Whether at least so many entries of the history are on the disk, if it keeps them there.
+    // promise: node's end
+    fn has_entries<R: Wait>(&self, rt: &R, entries: usize) -> bool
+        ensures { IsTrue result → HasAtLeast (has self.now) entries };
 
     /// Takes the id of the owner's next payment, before the node is asked for it: its value will
     /// have this number, if it gets one.
@@ -45,7 +51,16 @@ impl Keeper for Unkept {
         true
     }
 
-    fn order<R: Wait>(&self, _rt: &R, _seq: u32, _id: u64) -> Result<(), AllocError> {
+    fn has_entries<R: Wait>(&self, _rt: &R, entries: usize) -> bool
+        ensures kept { IsTrue result → HasAtLeast (λ _. Unit {0}) entries }
+        ensures always { IsTrue result }
+    {
+        true
+    }
+
+    fn order<R: Wait>(&self, _rt: &R, _seq: u32, _id: u64) -> Result<(), AllocError>
+        ensures { OnErr result ⊥ }
+    {
         Ok(())
     }
 

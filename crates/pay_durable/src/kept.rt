@@ -54,6 +54,10 @@ impl<D: Device + Drop> Keeper for Kept<D> {
         keep_entries(rt, self.alloc, node, &self.ids, entries, &mut *guard)
     }
 
+    fn has_entries<R: Wait>(&self, rt: &R, entries: usize) -> bool {
+        has_entries(&*self.following.lock(rt), entries)
+    }
+
     // Before the ask, so whoever gathers an ask finds its id. An order that was refused is
     // overwritten by the next one.
     fn order<R: Wait>(&self, rt: &R, seq: u32, id: u64) -> Result<(), AllocError> {
@@ -124,7 +128,8 @@ where
 
 // Whether a log has so many entries on the disk, and nothing waits behind them.
 fn has_entries<D: Device + Drop>(slot: &Option<Following<D>>, entries: usize) -> bool
-    ensures durable { IsTrue result → HasAtLeast D.is_known D.seen D.may_leave entries }
+    ensures durable { IsTrue result →
+        HasAtLeast (AreDurable D.is_known D.seen D.may_leave) entries }
     ensures there { IfSome slot.now (λ f.
         (f.pending.items ≡ []) → entries ≤ f.count → IsTrue result) }
 {

@@ -402,6 +402,10 @@ impl Keeper for Refusing {
         true
     }
 
+    fn has_entries<R: Wait>(&self, _rt: &R, _entries: usize) -> bool {
+        true
+    }
+
     fn order<R: Wait>(&self, _rt: &R, _seq: u32, _id: u64) -> Result<(), AllocError> {
         Err(AllocError)
     }

@@ -1,6 +1,7 @@
 -- How a node ended, by what closing found.
-use Rattle.std.proofs.Common.{◌≡◌, inl, inr, ℕ, List, Option, Some, None, Result, Ok, Err, IfOk, ap, sym, subst}
+use Rattle.std.proofs.Common.{◌≡◌, inl, inr, ℕ, List, Option, Some, None, Result, Ok, Err, IfOk, ap, length, sym, subst}
 use Rattle.std.specs.Prelude.{IfErr, IsErrOf, MatchResult}
+use Rattle.pay_durable.specs.Kept.{HasAtLeast}
 use Rattle.pay_io.specs.Counts.{KeepsCounts, counts_of, no_other_faults}
 use Rattle.pay_io.specs.declared.stream_fault.StreamFault.{StreamFault}
 use Rattle.pay_io.specs.declared.stream_fault.StreamFault.TheVariants as stream
@@ -8,7 +9,7 @@ use Rattle.pay_member.specs.Legal.{Legal}
 use Rattle.pay_member.specs.Member.{MemberFields}
 use Rattle.pay_node.specs.declared.close_fault.CloseFault.{CloseFault}
 use Rattle.pay_node.specs.declared.close_fault.CloseFault.TheVariants as close
-use Rattle.pay_node.specs.Closing.{AllCounted, AllReconciled, IsCount, IsCloseFault}
+use Rattle.pay_node.specs.Closing.{AllCounted, AllReconciled, IsCloseFault}
 use Rattle.pay_node.specs.Nodes.{IsOwn, NodeFields, StoppedFields, base_of}
 use Rattle.pay_node.specs.Seats.{SeatFields}
 use Rattle.pay_net.specs.declared.node_fault.NodeFault.{NodeFault}
@@ -20,17 +21,17 @@ use Rattle.pay_net.proofs.Desks.{right_at_end}
 
 -- by what closing found
 pub closes_so :
-    (s : StoppedFields) (seats : List SeatFields) (found : Result MemberFields (CloseFault × StoppedFields)) (uncounted : Option ℕ)
+    (s : StoppedFields) (seats : List SeatFields) (found : Result MemberFields (CloseFault × StoppedFields))
     → IfOk found (λ m. m ≡ s.member) → IfOk found (λ _. AllReconciled s.member (base_of s.node) s.node.seats seats)
     → IfErr found (λ back. IsCloseFault s.node s.member seats back.0) → IfErr found (λ back. back.1 ≡ s)
-    → IsCount s.member (base_of s.node) s.node.seats seats uncounted → HasClosed s seats (ended_by found uncounted)
-closes_so s seats (Ok m) uncounted is settled fault back count =
+    → HasClosed s seats (ended_by found)
+closes_so s seats (Ok m) is settled fault back =
     (is, subst (λ (x : MemberFields). AllReconciled x (base_of s.node) s.node.seats seats) (sym is) settled)
-closes_so s seats (Err (close.Mismatch stamp, again)) uncounted is settled fault back count = inl fault
-closes_so s seats (Err (close.Memory, again)) None is settled fault back count =
+closes_so s seats (Err (close.Mismatch stamp, again)) is settled fault back = inl fault
+closes_so s seats (Err (close.Memory None, again)) is settled fault back =
     let same : again.member ≡ s.member = ap (λ (x : StoppedFields). x.member) back in
-    (same, subst (λ (x : MemberFields). AllCounted x (base_of s.node) s.node.seats seats) (sym same) count)
-closes_so s seats (Err (close.Memory, again)) (Some stamp) is settled fault back count = inr count
+    (same, subst (λ (x : MemberFields). AllCounted x (base_of s.node) s.node.seats seats) (sym same) fault)
+closes_so s seats (Err (close.Memory (Some stamp), again)) is settled fault back = inr fault
 
 pub closed_by :
     (s : StoppedFields) (seats : List SeatFields) (r ended : Result (MemberFields × Receipts) ℕ) → r ≡ ended → HasClosed s seats ended → HasClosed s seats r
@@ -82,6 +83,18 @@ amiss_so n s seats r stamp is same legal own closed =
       legal = legal;
       amiss = subst (λ (x : Result (MemberFields × Receipts) ℕ). HasClosed s seats x) is closed;
     })
+
+same_member : (s : StoppedFields) (seats : List SeatFields) (ended : MemberFields × Receipts) → HasClosed s seats (Ok ended) → ended.0 ≡ s.member
+same_member s seats (m, Consistent) closed = closed.0
+same_member s seats (m, Unjudged) closed = closed.0
+
+-- what is said of all entries of a node that stopped, of those that are handed back
+pub whole_so :
+    (has : ℕ → Type 0) (s : StoppedFields) (seats : List SeatFields) (r : Result (MemberFields × Receipts) ℕ) (ended : MemberFields × Receipts)
+    → r ≡ Ok ended → HasClosed s seats r → HasAtLeast has (length s.member.history) → HasAtLeast has (length ended.0.history)
+whole_so has s seats r ended is closed had =
+    let same = same_member s seats ended (subst (λ (x : Result (MemberFields × Receipts) ℕ). HasClosed s seats x) is closed) in
+    subst (λ (m : MemberFields). HasAtLeast has (length m.history)) (sym same) had
 
 -- the same end, of what is the same
 pub ended_so :

@@ -184,7 +184,7 @@ IsNodeFault n start ports streams (Engine Bound) = IsDeskFault n start Bound str
 IsNodeFault n start ports streams (Engine Write) =
     IsDeskFault n start Write streams
     ⊎ ((seats : List SeatFields) × HasRun n start seats streams)
-IsNodeFault n start ports streams (Close close.Memory) = ⊥
+IsNodeFault n start ports streams (Close (close.Memory uncounted)) = ⊥
 IsNodeFault n start ports streams (Close (close.Mismatch stamp)) =
     IsMismatch n start stamp streams
 
@@ -200,14 +200,13 @@ HasEnded n start ports streams (Ok (m, Unjudged)) =
 HasEnded n start ports streams (Err fault) =
     IsNodeFault n start ports streams fault
 
--- by what closing found, and the least stamp whose entries aren't as many as its seat was told of:
--- a member, or a stamp
+-- by what closing found: a member, or a stamp
 abbrev pub ended_by :
-    Result MemberFields (CloseFault × StoppedFields) → Option ℕ → Result (MemberFields × Receipts) ℕ
-ended_by (Ok m) uncounted = Ok (m, Consistent)
-ended_by (Err (close.Mismatch stamp, stopped)) uncounted = Err stamp
-ended_by (Err (close.Memory, stopped)) None = Ok (stopped.member, Unjudged)
-ended_by (Err (close.Memory, stopped)) (Some stamp) = Err stamp
+    Result MemberFields (CloseFault × StoppedFields) → Result (MemberFields × Receipts) ℕ
+ended_by (Ok m) = Ok (m, Consistent)
+ended_by (Err (close.Mismatch stamp, stopped)) = Err stamp
+ended_by (Err (close.Memory None, stopped)) = Ok (stopped.member, Unjudged)
+ended_by (Err (close.Memory (Some stamp), stopped)) = Err stamp
 
 -- What became of a node that stopped, by these seats: its member, which agrees with them or has as
 -- many entries as they were told of, or the stamp for which it isn't closed.

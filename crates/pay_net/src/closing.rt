@@ -1,4 +1,5 @@
-ghost use Rattle.std.specs.Prelude.{◌≡◌, ℕ, IfOk, IsErrOf, List, MatchResult, Option};
+ghost use Rattle.std.specs.Prelude.{◌≡◌, ℕ, IfOk, IsErrOf, List, MatchResult, length};
+ghost use Rattle.pay_durable.specs.Kept.{HasAtLeast};
 ghost use Rattle.pay_io.specs.declared.stream_fault.StreamFault.TheVariants.{Bound, Memory, Read};
 ghost use Rattle.pay_net.specs.declared.node_fault.NodeFault.TheVariants.{Close, Engine};
 ghost use Rattle.pay_node.specs.declared.close_fault.CloseFault.TheVariants.{Mismatch};
@@ -17,7 +18,7 @@ use std::sync::Wait;
 
 /// What is left of a node whose threads ended so: its history is kept once more, and then held
 /// against its seats.
-// promise: node's end (amiss, memory, durable)
+// promise: node's end (amiss, memory, durable, whole)
 pub(crate) fn finish<R, S, K>(
     rt: &R,
     alloc: Global,
@@ -33,6 +34,8 @@ where
         → MatchResult ran (λ seats. HasRun node start seats.items streams)
         (IsNodeFault node start ports streams) → HasEnded node start ports streams result }
     ensures durable { IfOk result (λ _. K.kept keeper.now node) }
+    ensures whole { IfOk result (λ ended.
+        HasAtLeast (K.has keeper.now) (length ended.0.history)) }
     ensures read { IsErrOf result (Engine Read) → IsErrOf ran (Engine Read) }
     ensures bound { IsErrOf result (Engine Bound) → IsErrOf ran (Engine Bound) }
     ensures memory { IsErrOf result (Engine Memory) → IsErrOf ran (Engine Memory) }
@@ -43,7 +46,11 @@ where
     if !keeper.keep(rt, &node) {
         return Err(NodeFault::Engine(StreamFault::Write));
     }
-    match close_stopped(alloc, node.stop(), seats.as_slice()) {
+    let stopped = node.stop();
+    if !keeper.has_entries(rt, stopped.member().history().len()) {
+        return Err(NodeFault::Engine(StreamFault::Write));
+    }
+    match close_stopped(alloc, stopped, seats.as_slice()) {
         Ok(ended) => Ok(ended),
         Err(stamp) => Err(NodeFault::Close(CloseFault::Mismatch(stamp))),
     }
@@ -59,25 +66,22 @@ fn close_stopped<S: Beginning>(
     ensures closed { HasClosed stopped seats.now result }
     ensures own { IsOwn stopped.node stopped.member }
 {
-    let uncounted = stopped.least_uncounted(seats);
-    answer_of_close(stopped.close(alloc, seats), uncounted)
+    answer_of_close(stopped.close(alloc, seats))
 }
 
-// The same, by what closing found, and the stamp that is found without memory. A member that isn't
-// known to be wrong is handed back, judged or not.
+// The same, by what closing found. A member that isn't known to be wrong is handed back, judged or
+// not.
 // promise: node's end
 fn answer_of_close<S: Beginning>(
     found: Result<OwnMember, (CloseFault, Stopped<S>)>,
-    uncounted: Option<u16>,
 ) -> Result<(OwnMember, Receipts), u16>
-    ensures { result ≡ ended_by found uncounted }
+    ensures { result ≡ ended_by found }
 {
     match found {
         Ok(member) => Ok((member, Receipts::Consistent)),
-        Err((CloseFault::Mismatch(stamp), _)) => Err(stamp),
-        Err((CloseFault::Memory, stopped)) => match uncounted {
-            None => Ok((stopped.into_member(), Receipts::Unjudged)),
-            Some(stamp) => Err(stamp),
-        },
+        Err((CloseFault::Memory(None), stopped)) => {
+            Ok((stopped.into_member(), Receipts::Unjudged))
+        }
+        Err((CloseFault::Memory(Some(stamp)) | CloseFault::Mismatch(stamp), _)) => Err(stamp),
     }
 }

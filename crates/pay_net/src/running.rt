@@ -1,5 +1,6 @@
 ghost use Rattle.std.specs.Prelude.{◌≡◌, ◌+◌, ◌*◌, [], IfOk, List, MatchResult, is_some, length};
 ghost use Rattle.pay_desk.specs.Desk.{WritesAnswers};
+ghost use Rattle.pay_durable.specs.Kept.{HasAtLeast};
 ghost use Rattle.pay_desk.specs.Rows.{IsServed, PlacedLine, WritesRow};
 ghost use Rattle.pay_io.specs.Counts.{KeepsCounts, counts_of, no_other_faults};
 ghost use Rattle.pay_node.specs.Nodes.{AreFresh};
@@ -66,8 +67,8 @@ pub(crate) struct Running<'a, H, S: Beginning, O, K> {
 /// history leaves the node before its keeper has kept that: where it can't, writes fail, and so
 /// does the end. No clause names a keeper's refusal, so none says of the fault `Write` that a write
 /// failed.
-// promise: shared desk (ended); node's end (ended, durable, reads); nothing is lost (durable)
-// promise: ids (ended); end of a restart (ended)
+// promise: shared desk (ended); node's end (ended, durable, whole, reads); ids (ended)
+// promise: nothing is lost (durable, whole); end of a restart (ended)
 pub fn run_node<H, O, K, In, Out>(
     rt: &H,
     alloc: Global,
@@ -89,6 +90,8 @@ where
         (desk_streams (In.remaining reader.old) (In.remaining reader.new)
         (Out.contents writer) (Out.contents result.1)) result.0 }
     ensures durable { IfOk result.0 (λ _. K.kept config.now.keeper.now (node_of start)) }
+    ensures whole { IfOk result.0 (λ ended.
+        HasAtLeast (K.has config.now.keeper.now) (length ended.0.history)) }
     ensures reads { CountsReads In.call_count In.failure_count In.remaining
         reader.old reader.new result.0 }
 {
@@ -126,6 +129,8 @@ where
             (Out.contents writer) (Out.contents result.1)) result.0 }
         ensures durable { IfOk result.0
             (λ _. K.kept self.now.config.now.keeper.now (node_of start)) }
+        ensures whole { IfOk result.0 (λ ended.
+            HasAtLeast (K.has self.now.config.now.keeper.now) (length ended.0.history)) }
         ensures reads { CountsReads In.call_count In.failure_count In.remaining
             reader.old reader.new result.0 }
     {

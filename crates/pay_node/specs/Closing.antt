@@ -1,5 +1,5 @@
 -- When all seats of a node agree with its member's history.
-use Rattle.std.specs.Prelude.{◌≡◌, ◌≢◌, ⊤, ℕ, ◌<◌, ◌≤◌, ◌==◌, ◌&&◌, nat_le, nat_lt, Bool, true}
+use Rattle.std.specs.Prelude.{◌≡◌, ◌≢◌, ℕ, ◌<◌, ◌≤◌, ◌==◌, ◌&&◌, nat_le, nat_lt, Bool, true}
 use Rattle.std.specs.Prelude.{false, if◌then◌else◌, List, [], ◌∷◌, Option, Some, None}
 use Rattle.std.specs.List.{All, filter}
 use Rattle.pay_member.specs.Member.{MemberFields}
@@ -81,9 +81,9 @@ IsCount m base count seats found =
     IsVerdictBy (λ s. IsCounted m base s seats) m base count seats found
 
 -- Why a node isn't closed: this stamp is the least that isn't reconciled. Where memory was refused,
--- nothing is known of the receipts.
+-- nothing is known of the receipts, but whether all entries are counted.
 abbrev pub IsCloseFault : NodeFields → MemberFields → List SeatFields → CloseFault → Type 0
-IsCloseFault n m seats Memory = ⊤
+IsCloseFault n m seats (Memory uncounted) = IsCount m (base_of n) n.seats seats uncounted
 IsCloseFault n m seats (Mismatch stamp) = IsLeastWrong m (base_of n) n.seats seats stamp
 
 -- ---- how the judge finds it

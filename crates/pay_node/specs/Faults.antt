@@ -4,11 +4,11 @@ use Rattle.pay_node.specs.declared.close_fault.CloseFault.{CloseFault}
 use Rattle.pay_node.specs.declared.close_fault.CloseFault.TheVariants.{Memory, Mismatch}
 
 abbrev pub close_fault_number : CloseFault → ℕ
-close_fault_number Memory = 0
+close_fault_number (Memory uncounted) = 0
 close_fault_number (Mismatch stamp) = 1
 
 abbrev pub close_fault_name : CloseFault → List ℕ
-close_fault_name Memory = codes "Memory"
+close_fault_name (Memory uncounted) = codes "Memory"
 close_fault_name (Mismatch stamp) = codes "Mismatch"
 
 abbrev pub close_fault_words : CloseFault → List ℕ

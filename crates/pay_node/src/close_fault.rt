@@ -1,15 +1,16 @@
 ghost use Rattle.std.specs.Prelude.{◌≡◌};
 ghost use Rattle.pay_node.specs.Faults.{close_fault_name, close_fault_number};
 
-use std::alloc::AllocError;
 use std::fmt;
 use thiserror::Error;
 
 /// Why a node can't be closed.
 #[derive(Clone, Copy, Debug, PartialEq, Eq, Error)]
 pub enum CloseFault {
-    /// Memory was refused.
-    Memory,
+    /// Memory was refused, and the receipts weren't judged: with the least stamp that closing finds
+    /// without memory, if it finds one. That one is missing, doubled or not of this node, or has
+    /// another number of entries than its seat was told of.
+    Memory(Option<u16>),
     /// The seats with this stamp, the least such, and the history don't agree.
     Mismatch(u16),
 }
@@ -20,7 +21,7 @@ impl CloseFault {
         ensures value { result ≡ close_fault_number self }
     {
         match self {
-            CloseFault::Memory => 0,
+            CloseFault::Memory(_) => 0,
             CloseFault::Mismatch(_) => 1,
         }
     }
@@ -30,7 +31,7 @@ impl CloseFault {
         ensures value { result.now ≡ close_fault_name self }
     {
         match self {
-            CloseFault::Memory => "Memory",
+            CloseFault::Memory(_) => "Memory",
             CloseFault::Mismatch(_) => "Mismatch",
         }
     }
@@ -44,15 +45,5 @@ impl fmt::Display for CloseFault {
 
     fn fmt<W: fmt::Write>(&self, f: &mut fmt::Formatter<W>) -> fmt::Result {
         write!(f, "{} {}", self.number(), self.name())
-    }
-}
-
-impl From<AllocError> for CloseFault {
-    ghost use Rattle.pay_node.specs.declared.close_fault.CloseFault.TheVariants.{Memory};
-
-    ghost from_gives = { λ _ e. e ≡ Memory };
-
-    fn from(_error: AllocError) -> CloseFault {
-        CloseFault::Memory
     }
 }

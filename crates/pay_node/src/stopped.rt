@@ -1,5 +1,5 @@
 ghost use Rattle.std.specs.Prelude.{◌≡◌, IfErr, IfOk};
-ghost use Rattle.pay_node.specs.Closing.{AllReconciled, IsCount, IsCloseFault};
+ghost use Rattle.pay_node.specs.Closing.{AllReconciled, IsCloseFault};
 ghost use Rattle.pay_node.specs.Nodes.{IsOwn, base_of};
 
 use crate::beginning::Beginning;
@@ -69,7 +69,8 @@ impl<S: Beginning> Stopped<S> {
     /// agree.
     ///
     /// Where they don't, the least stamp that is missing, doubled, not of this node or wrong is
-    /// named, and the node comes back as it was.
+    /// named, and the node comes back as it was. Where memory is refused, each seat's entries are
+    /// still counted.
     // promise: closing (own, closed, fault)
     pub fn close(self, alloc: Global, seats: &[Seat]) -> Result<OwnMember, (CloseFault, Stopped<S>)>
         ensures member { IfOk result (λ member. member ≡ self.member) }
@@ -83,16 +84,10 @@ impl<S: Beginning> Stopped<S> {
         match least_wrong(alloc, self.member.member(), base, self.seats, seats) {
             Ok(None) => Ok(self.member.into_member()),
             Ok(Some(stamp)) => Err((CloseFault::Mismatch(stamp), self)),
-            Err(_) => Err((CloseFault::Memory, self)),
+            Err(_) => {
+                let uncounted = least_uncounted(self.member.member(), base, self.seats, seats);
+                Err((CloseFault::Memory(uncounted), self))
+            }
         }
-    }
-
-    /// The least stamp that closing finds without memory, if it finds one: one that is missing,
-    /// doubled or not of this node, or has another number of entries than its seat was told of.
-    pub fn least_uncounted(&self, seats: &[Seat]) -> Option<u16>
-        ensures { IsCount self.now.member (base_of self.now.node) self.now.node.seats seats.now
-            result }
-    {
-        least_uncounted(self.member.member(), self.member.base(), self.seats, seats)
     }
 }

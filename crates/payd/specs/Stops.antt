@@ -30,7 +30,7 @@ abbrev pub status_of : Stop → ℕ
 status_of (Engine (engine.Frame fault)) = 1
 status_of (Close (close.Mismatch stamp)) = 1
 status_of (Engine fault) = 3
-status_of (Close close.Memory) = 3
+status_of (Close (close.Memory uncounted)) = 3
 status_of (Genesis genesis.Memory file) = 3
 status_of (Keys keys.Memory file) = 3
 status_of (Ports ports.Memory file) = 3
@@ -68,5 +68,5 @@ stop_place _ = None
 -- receipts weren't judged
 abbrev pub IsUnconcluded : Receipts → Stop → Type 0
 IsUnconcluded receipts (Engine fault) = fault ≡ engine.Write
-IsUnconcluded receipts (Close fault) = (fault ≡ close.Memory) × (receipts ≡ Unjudged)
+IsUnconcluded receipts (Close fault) = (fault ≡ close.Memory None) × (receipts ≡ Unjudged)
 IsUnconcluded receipts _ = ⊥

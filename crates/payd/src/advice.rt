@@ -264,7 +264,7 @@ fn export_advice(fault: ExportFault) -> &'static str {
 
 fn close_advice(fault: CloseFault) -> &'static str {
     match fault {
-        CloseFault::Memory =>
+        CloseFault::Memory(_) =>
             "no memory to compare the answers with the history: the export is whole",
         CloseFault::Mismatch(_) => {
             "the history contradicts what was answered: keep everything, and report it"

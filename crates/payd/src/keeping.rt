@@ -33,6 +33,10 @@ impl<H: Eprint, D: Device + Drop> Keeper for SayingKept<'_, H, D> {
         false
     }
 
+    fn has_entries<R: Wait>(&self, rt: &R, entries: usize) -> bool {
+        self.kept.has_entries(rt, entries)
+    }
+
     fn order<R: Wait>(&self, rt: &R, seq: u32, id: u64) -> Result<(), AllocError> {
         self.kept.order(rt, seq, id)
     }

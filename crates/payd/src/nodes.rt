@@ -361,7 +361,7 @@ fn conclude<'a>(rt: &impl Print, member: &OwnMember, receipts: Receipts) -> Resu
     print_export(rt, member)?;
     match receipts {
         Receipts::Consistent => Ok(()),
-        Receipts::Unjudged => Err(Stop::Close(CloseFault::Memory)),
+        Receipts::Unjudged => Err(Stop::Close(CloseFault::Memory(None))),
     }
 }
 

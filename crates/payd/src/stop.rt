@@ -204,7 +204,7 @@ impl<'a> Stop<'a> {
             | Stop::Keys(KeysFault::Memory, _)
             | Stop::Ports(PortsFault::Memory, _)
             | Stop::Export(ExportFault::Memory, _)
-            | Stop::Close(CloseFault::Memory)
+            | Stop::Close(CloseFault::Memory(_))
             | Stop::Log(LogFault::Memory | LogFault::Held)
             | Stop::Port(_)
             | Stop::Socket(..)

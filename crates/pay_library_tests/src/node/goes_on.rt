@@ -45,7 +45,7 @@ fn fault_at_closing<S: Beginning>(
 ) -> Option<Option<CloseFault>> {
     match node.close(alloc, seats) {
         Ok(_) => Some(None),
-        Err((CloseFault::Memory, _)) => None,
+        Err((CloseFault::Memory(_), _)) => None,
         Err((fault, _)) => Some(Some(fault)),
     }
 }

@@ -91,7 +91,7 @@ fn refused_at_last<S: Beginning>(
     node: Stopped<S>,
     seats: &[Seat],
 ) -> Option<(CloseFault, Stopped<S>)> {
-    if fault == CloseFault::Memory {
+    if matches!(fault, CloseFault::Memory(_)) {
         node.close(alloc, seats).err()
     } else {
         Some((fault, node))
