@@ -2,11 +2,13 @@
 of its receiver, of the liar and of others. The frames are those of examples/frames.py."""
 
 import hashlib
+import itertools
 import json
 import os
 import struct
 
 import group_model
+import logs
 from frames import ECHO, READY, SEND, WANT, frame, payment
 from nodes import until, write_json
 from peers import Liar
@@ -99,6 +101,29 @@ def reads_whole_records(place, wanted):
             file.write(content)
         was = evidence(place, "--data", name, "--group", EXAMPLE_GENESIS, "--keys", example_keys(0))
         same(was, (2, "", f"payd evidence: {name}/log: {why}\n") if why else wanted, name)
+
+
+def test_lies_in_each_kind_of_record_are_found(folder):
+    """Where a record has no tag, the frame gets the one that its sender gave it by the key of the two."""
+    keys = ["", *(bytes([it] * 32).hex() for it in (1, 2, 3))]
+    write_json(folder, "keys", {"own": 0, "keys": keys})
+    log = logs.Log(GENESIS, 0, [bytes.fromhex(it) or bytes(32) for it in keys])
+    frames = [frame(SEND, 3, 0, at, 3, 0, it, key=bytes([3] * 32)) for at, it in enumerate((A, B))]
+    whole = [b"\x02\0\0" + bytes(5) + it for it in frames]
+    heads = (bytes.fromhex(f"04 0000 00 00000000 0003 {at:016x} 01 0003 00000000 000b") for at in range(2))
+    compact = [head + it for head, it in zip(heads, (A, B))]
+    for place, (first, second) in enumerate(itertools.product((whole, compact), repeat=2)):
+        made = os.path.join(folder, f"member-{place}")
+        os.mkdir(made)
+        with open(os.path.join(made, "log"), "wb") as file:
+            file.write(log.file([first[0], second[1]]))
+        words = "--group", EXAMPLE_GENESIS, "--keys", "keys"
+        status, output, errors = evidence(folder, "--data", made, *words)
+        parts = json.loads(output)
+        found = [it["frame"] for it in parts["frames"]]
+        same((status, parts["findings"], found, errors), (1, [LIE], [it.hex() for it in frames], ""), f"log {place}")
+        write_text(os.path.join(folder, "found"), output)
+        same(evidence(folder, "--check", "found", *words), (0, f"{LIE}. {RECEIVER}\n", ""), f"the check of log {place}")
 
 
 def test_changed_frames_are_refused(folder):

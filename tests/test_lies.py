@@ -54,7 +54,7 @@ def taken(group, own):
     """The bodies that a node took of member 3, by its log, which has all that came before an answer."""
     group.nodes[own].front()
     records = logs.Log(group.genesis(), own).records(group.log(own))
-    found = [read_frame(what) for kind, _, what, *_ in records if kind == logs.FRAME]
+    found = [read_frame(what) for kind, _, what, *_ in records if kind in logs.FRAMES]
     return [it[4] for it in found if it[1] == 3]
 
 

@@ -17,7 +17,7 @@ from collections import Counter
 from advices import told_plainly
 from frames import SEND, frame, payment
 from damaged_logs import OPENING, bits, cuts, export, made_folder
-from logs import HEADER_LEN, QUERY, Log
+from logs import FIRST, HEADER_LEN, QUERY, SECOND, THIRD, Log
 from nodes import EARLY, IN_MEMORY, export_text, free_ports, new_words, started, until, write_json, write_member
 from ordering import Order, OutOfOrder, noted
 from peers import Liar, Strangers, connected, received
@@ -159,7 +159,7 @@ def test_folders_of_others():
         ):
             shows(export(place, **words), 2, "", f"payd: log 3 Foreign {name}\n", of=f"{words}")
         for content, name in ((b"", "NoLog"), (log[: HEADER_LEN - 1], "NoLog"), (b"x" + log[1:], "NoLog"),
-                              (log[:8] + b"\x03" + log[9:], "Version")):
+                              *((log[:8] + bytes([it]) + log[9:], "Version") for it in (0, 3, THIRD + 1, 255))):
             made = made_folder(place, "made", content)
             shows(export(place, 0, "made"), 2, "", f"payd: log 3 Foreign {name}\n", of=f"a file of {content[:9]!r}")
             shows(node_on(place, 0, "made"), 2, "", f"payd: log 3 Foreign {name}\n", of=f"a node on {content[:9]!r}")
@@ -316,6 +316,14 @@ def test_a_log_with_a_bit_turned(damage):
         damage.judge(file, of)
 
 
+def test_a_changed_version_makes_no_log_of_another_version(damage):
+    """In one of the first version no chunk would be found, so that all would be lost as a torn end."""
+    for version in {*range(256)} - {THIRD}:
+        made_folder(damage.place, "turned", damage.file[:8] + bytes([version]) + damage.file[9:])
+        said = "Keys" if version in (FIRST, SECOND) else "Version"
+        shows(export(damage.place, 0, "turned"), 2, "", f"payd: log 3 Foreign {said}\n", of=f"version {version}")
+
+
 def test_a_log_with_chunks_moved(damage):
     """A chunk left out, doubled, swapped with the next, or put at the end, fits nowhere."""
     chunks = [damage.file[start:end] for start, end in zip(damage.ends, damage.ends[1:])]
@@ -355,7 +363,8 @@ def test_a_record_of_another_program(damage):
 
 
 def test_a_torn_chunk_of_marks(damage):
-    """Marks that anybody can make are nothing to a log of the second version: they cost no more than other bytes."""
+    """Marks that anybody can make are nothing to a log of a later version than the first: they cost what other bytes
+    cost."""
     last = damage.log.chunk(damage.ends[-1] - HEADER_LEN, bytes(1 << 22))
     mark = b"plog" + struct.pack(">I", 1 << 21)
     torn = last[:20] + mark * (len(last) // len(mark) // 2)

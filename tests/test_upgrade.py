@@ -8,32 +8,67 @@ import sys
 import group_model
 from damaged_logs import OPENING, export, made_folder
 from frames import payment, payments
-from logs import FIRST, Log
+from logs import FIRST, SECOND, COMPACT, WHOLE, Log
 from nodes import Node, export_text, free_ports, write_json
 from restarts import Folders
-from runs import GENESIS, TOP, call, payd, read_bytes, read_text, same
+from runs import GENESIS, TOP, call, payd, read_bytes, read_text, same, shows
 
 KEPT = os.path.join(TOP, "tests", "kept")
 
 
-def test_a_log_of_the_first_version_is_written_anew():
-    """That of a member that met its peers, as a program wrote it that knew no other version."""
-    first = bytes.fromhex(read_text(os.path.join(KEPT, "first-version.hex")))
-    log = Log(GENESIS, 0)
-    payloads, end = log.payloads(first)
-    same((log.version(first), end), (FIRST, len(first)), "the log")
+# Logs of members of four that met each other, as a program wrote them that knew no later version: that of member 0 in
+# the first version, and all in the second.
+FIRST_OF_0, SECOND_OF = "first-version.hex", "second-version/log-{}.hex"
+
+
+def kept_log(name):
+    return bytes.fromhex(read_text(os.path.join(KEPT, name)))
+
+
+def test_a_log_of_an_older_version_is_written_anew():
+    lists = [[payment(1, 30).hex()], [], [], [payment(0, 20).hex()]]
+    text = export_text(0, OPENING, lists, [1, 0, 0, 1], [90, 30, 0, 30])
+    for name, version in ((FIRST_OF_0, FIRST), (SECOND_OF.format(0), SECOND)):
+        file, log = kept_log(name), Log(GENESIS, 0)
+        payloads, end = log.payloads(file)
+        same((log.version(file), end), (version, len(file)), f"the log {name}")
+        with Folders(OPENING, running=[]) as group:
+            made_folder(group.place.name, "data-0", file)
+            shows(export(group.place.name, 0), 0, text, of=f"the export of {name}")
+            same(group.log(0), file, f"{name} behind an export")
+            node = group.start(0)
+            same(node.ask("STATE 3 0"), "state 3 0 settled", f"a payment in {name}")
+            same(node.ask("PAY 7 1 30"), "asked 7 seq 0", f"a line given again, {name}")
+            same(node.ask("PAYS 9 1 1 2 2"), "asked 9 seq 1", f"one whose payments hadn't settled, {name}")
+            group.kill(0)
+            written = log.file(payloads)
+            same(group.log(0)[: len(written)], written, f"{name} written anew")
+            shows(export(group.place.name, 0), 0, text, of=f"the export of that, {name}")
+
+
+def test_members_go_on_from_logs_of_the_second_version():
+    """What was under way settles, and more behind it. The logs written anew have the old records, and new ones."""
     with Folders(OPENING, running=[]) as group:
-        made_folder(group.place.name, "data-0", first)
-        was = export(group.place.name, 0)
-        lists = [[payment(1, 30).hex()], [], [], [payment(0, 20).hex()]]
-        same(was, (0, export_text(0, OPENING, lists, [1, 0, 0, 1], [90, 30, 0, 30]), ""), "the export of it")
-        same(group.log(0), first, "the log behind an export")
-        group.start(0)
-        same(group.nodes[0].ask("STATE 3 0"), "state 3 0 settled", "a payment in it")
-        group.kill(0)
-        written = log.file(payloads)
-        same(group.log(0)[: len(written)], written, "the log written anew")
-        same(export(group.place.name, 0), was, "the export of that")
+        for own in range(4):
+            made_folder(group.place.name, f"data-{own}", kept_log(SECOND_OF.format(own)))
+            group.start(own)
+        group.settle([3, 0, 0, 1], [87, 31, 2, 30])
+        group.pay(3, 7, payee=0, amount=20, seq=0)
+        group.pay(1, 1, payee=2, amount=5, seq=0)
+        group.settle([3, 1, 0, 1], [87, 26, 7, 30])
+        lists = [[payment(1, 30), payments([(1, 1), (2, 2)])], [payment(2, 5)], [], [payment(0, 20)]]
+        lists = [[it.hex() for it in values] for values in lists]
+        exports = group.stop()
+        for own in range(4):
+            text = export_text(own, OPENING, lists, [3, 1, 0, 1], [87, 26, 7, 30])
+            same(exports[own], text, f"the export of {own}")
+            log = Log(GENESIS, own)
+            payloads, _ = log.payloads(kept_log(SECOND_OF.format(own)))
+            file, written = group.log(own), log.file(payloads)
+            same(file[: len(written)], written, f"the log of {own} written anew")
+            kinds = [it[0] for it in log.records(file)]
+            same((WHOLE in kinds, COMPACT in kinds), (True, True), f"the kinds of records of {own}")
+            shows(export(group.place.name, own), 0, text, of=f"the export of the folder of {own}")
 
 
 # ---- version 0.1.0

@@ -287,7 +287,7 @@ class Group:
         write_json(self.place.name, "genesis", self.genesis())
         write_json(self.place.name, "ports", {"ports": self.ports})
         for own in range(self.members):
-            write_json(self.place.name, f"keys-{own}", {"own": own, "keys": key_texts(own, self.members)})
+            write_json(self.place.name, f"keys-{own}", {"own": own, "keys": self.keys_of(own)})
         try:
             # all at once, for a reader doesn't dial for ever
             for own in self.running:
@@ -303,6 +303,9 @@ class Group:
         for node in self.nodes.values():
             node.kill()
         self.place.cleanup()
+
+    def keys_of(self, own):
+        return key_texts(own, self.members)
 
     def genesis(self):
         return {"members": self.members, "faults": self.faults, "opening": self.opening}

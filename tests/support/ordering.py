@@ -9,6 +9,7 @@ import re
 from collections import Counter
 
 from frames import WANT, read_frame
+from logs import ASK, QUERY
 
 ASKED = re.compile(rb"asked \d+ seq (\d+)")
 
@@ -34,10 +35,10 @@ def needs(log, file):
     payloads, _ = log.payloads(file)
     for payload, end in zip(payloads, log.ends(file)[1:]):
         for kind, *_ in log.records_in(payload):
-            if kind in (1, 2):
+            if kind != QUERY:
                 member.history.append(history[len(member.history)])
                 frames += [end] * (len(member.sent()) - len(frames))
-            if kind == 1:
+            if kind == ASK:
                 answers.append(end)
     return answers, frames
 
