@@ -1,16 +1,17 @@
 """A stand-in for the tunnels of a member on a machine of its own: each byte is passed on late.
 
-usage: bench/relay.py OWN MILLISECONDS PORT..
+usage: bench/relay.py OWN MILLISECONDS PORT.. | bench/relay.py --at PORT TARGET MILLISECONDS
 
 The member dials its peers on their PORTs of 127.0.0.1, as the file of ports says. There this relay listens in their
-place, and passes each connection on to the peer's machine, where the peer's own relay hands it to the peer.
+place, and passes each connection on to the peer's machine, where the peer's own relay hands it to the peer. With --at
+it listens on one PORT alone, before TARGET on the same machine, until its standard input ends.
 """
 
 import asyncio
 import json
 import os
+import subprocess
 import sys
-import threading
 
 ADDRESS = "10.99.0.{}"
 TUNNEL = 20_999
@@ -74,17 +75,27 @@ def relay(host, port, seconds):
     return answer
 
 
+# Those that this process started, which end with it.
+STARTED = []
+
+
 def relays_at(ports, targets, seconds):
-    """Relays at these ports of this machine, each before its target, in a thread until this process ends."""
-    loop = asyncio.new_event_loop()
-
-    async def serve():
-        for port, target in zip(ports, targets):
-            await asyncio.start_server(relay("127.0.0.1", target, seconds), "127.0.0.1", port)
-
-    loop.run_until_complete(serve())
-    threading.Thread(target=loop.run_forever, daemon=True).start()
+    """Relays at these ports of this machine, each before its target, in processes of their own: in one that polls nodes
+    they would wait for it."""
+    for port, target in zip(ports, targets):
+        words = [sys.executable, "-B", __file__, "--at", f"{port}", f"{target}", f"{1000 * seconds}"]
+        STARTED.append(subprocess.Popen(words, stdin=subprocess.PIPE, stdout=subprocess.PIPE))
+        if not STARTED[-1].stdout.readline():
+            sys.exit(f"relay: no one listens at port {port}")
     return ports
+
+
+async def at(port, target, seconds):
+    ended = asyncio.Event()
+    asyncio.get_running_loop().add_reader(sys.stdin, ended.set)
+    async with await asyncio.start_server(relay("127.0.0.1", target, seconds), "127.0.0.1", port):
+        print("open", flush=True)
+        await ended.wait()
 
 
 async def main(own, seconds, ports):
@@ -98,4 +109,6 @@ async def main(own, seconds, ports):
 if __name__ == "__main__":
     if sys.argv[1:] == ["--help"]:
         sys.exit(print(__doc__.strip()))
+    if sys.argv[1] == "--at":
+        sys.exit(asyncio.run(at(int(sys.argv[2]), int(sys.argv[3]), float(sys.argv[4]) / 1000)))
     asyncio.run(main(int(sys.argv[1]), int(sys.argv[2]) / 1000, [int(word) for word in sys.argv[3:]]))
