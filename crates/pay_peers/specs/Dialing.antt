@@ -4,6 +4,7 @@ use Rattle.std.specs.Prelude.{true, if◌then◌else◌, List, [], ◌∷◌, le
 use Rattle.std.specs.Prelude.{None}
 use Rattle.std.specs.List.{list_any}
 use Rattle.std.specs.Option.{unwrap_or}
+use Rattle.pay_link.specs.Keys.{IsPeer}
 use Rattle.pay_node.specs.Receipts.{ReceiptFields, has_entry}
 use Rattle.pay_node.specs.Nodes.{FindsLie, NodeFields}
 use Rattle.pay_peers.specs.declared.gain.Gain.{Gain}
@@ -52,13 +53,17 @@ is_spent Usual idle = nat_le 1000 idle
 is_spent (Counted count) idle = nat_le count idle
 is_spent Always idle = false
 
+-- no lie is known of a member, if it is a peer
+abbrev pub FindsNoLie : NodeFields → ℕ → Type 0
+FindsNoLie n peer = IsPeer n.keys peer → FindsLie n peer None
+
 -- Why a peer isn't dialed any more, if it isn't: it lied, or was dialed often enough.
 -- node: Peers that lie: Nothing more is read from a peer that said what no correct member says: a
 --   SEND about another's account, or a second SEND, ECHO or READY about one broadcast. It isn't
 --   dialed any more, also after a start from the folder. Its own WANTs are answered.
 abbrev pub IsLastWord : NodeFields → ℕ → Backoff → Option PeerEvent → Type 0
-IsLastWord n peer b None = is_spent b.dials b.idle ≡ false
-IsLastWord n peer b (Some GaveUp) = is_spent b.dials b.idle ≡ true
+IsLastWord n peer b None = (is_spent b.dials b.idle ≡ false) × FindsNoLie n peer
+IsLastWord n peer b (Some GaveUp) = (is_spent b.dials b.idle ≡ true) × FindsNoLie n peer
 IsLastWord n peer b (Some (Lied lie)) = FindsLie n peer (Some lie)
 IsLastWord n peer b (Some Heard) = ⊥
 IsLastWord n peer b (Some Unopened) = ⊥
