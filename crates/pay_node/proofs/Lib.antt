@@ -3,6 +3,7 @@ pub mod Fresh
 pub mod Judged
 pub mod Kept
 pub mod Latest
+pub mod Marked
 pub mod Replayed
 pub mod Replays
 pub mod Rights

@@ -1,7 +1,7 @@
 -- Bodies whose receipts are kept, so that each is fetched from a seat as often as is liked and
 -- shown on one receipt.
-use Rattle.std.specs.Prelude.{◌≡◌, ◌≢◌, ◌⊎◌, ℕ, ◌≤◌, max, List, [], ◌∷◌, ◌++◌, length, slice_get}
-use Rattle.std.specs.Prelude.{slice_index_or, Option, Some, None}
+use Rattle.std.specs.Prelude.{◌≡◌, ◌≢◌, ◌⊎◌, ℕ, ◌≤◌, ◌==◌, max, List, [], ◌∷◌, ◌++◌, length}
+use Rattle.std.specs.Prelude.{slice_get, slice_index_or, Option, Some, None, if◌then◌else◌}
 use Rattle.std.specs.List.{All}
 use Rattle.pay_frame.specs.Frame.{BodyFields}
 use Rattle.pay_member.specs.Legal.{Legal}
@@ -10,6 +10,7 @@ use Rattle.pay_member.specs.declared.reading.Reading.TheVariants as reading
 use Rattle.pay_member.specs.Questions.{Shows}
 use Rattle.pay_node.specs.declared.call.Call.{Call}
 use Rattle.pay_node.specs.declared.call.Call.TheVariants.{Read}
+use Rattle.pay_node.specs.declared.marks.TheConstants.{NO_PLACE}
 use Rattle.pay_node.specs.Receipts.{ReceiptFields}
 use Rattle.pay_node.specs.Nodes.{IsOwn, IsShown, NodeFields}
 use Rattle.pay_node.specs.Receipts.{ShowsAlone, reading_at, reading_receipt}
@@ -19,6 +20,10 @@ use Rattle.pay_node.specs.Sending.{sent_by}
 -- the place that is marked for a number, if there is one
 abbrev pub mark_of : List (Option ℕ) → ℕ → Option ℕ
 mark_of marks number = slice_index_or marks number None
+
+-- the place that a number stands for among the marks, if it stands for one
+abbrev pub marked_place : ℕ → Option ℕ
+marked_place place = if place == NO_PLACE then None else Some place
 
 -- the receipt that is marked for the number shows this body
 pub record IsKeptFor (seat : SeatFields) (number : ℕ) (body : BodyFields) : Type 0 where

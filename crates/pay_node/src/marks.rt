@@ -1,22 +1,28 @@
 ghost use Rattle.std.specs.Prelude.{◌≡◌, ◌≢◌, ◌+◌, ℕ, Some, [], OnErr, OnOk, length, max};
+ghost use Rattle.std.specs.Prelude.{slice_index_or};
 ghost use Rattle.pay_node.specs.Keeping.{mark_of};
 
 use std::alloc::{AllocError, Global};
 use std::marker::Model;
 
-/// Places among a seat's receipts, by number. Contracts see them as a list. A place from 2^32 on
-/// can't be marked: so many receipts take more memory than there is.
+/// What stands where no place is marked.
+pub const NO_PLACE: u32 = u32::MAX;
+
+/// Places among a seat's receipts, by number. Contracts see them as a list. A place from 2^32 - 1
+/// on can't be marked: so many receipts take more memory than there is.
 #[derive(Drop)]
 pub(crate) struct Marks {
-    places: Vec<Option<u32>>,
+    // 4 bytes each, where an `Option<u32>` takes 8
+    places: Vec<u32>,
 }
 
 impl Model for Marks {
-    ghost use Rattle.std.specs.Prelude.{ℕ, List, Option};
+    ghost use Rattle.std.specs.Prelude.{ℕ, List, Option, map};
+    ghost use Rattle.pay_node.specs.Keeping.{marked_place};
 
     ghost Value = { List (Option ℕ) };
 
-    ghost view = { λ m. m.places.items };
+    ghost view = { λ m. map marked_place m.places.items };
 }
 
 impl Marks {
@@ -34,8 +40,11 @@ impl Marks {
         ensures { result ≡ mark_of self.now number }
     {
         match self.places.get(number) {
-            Some(Some(place)) => Some(*place as usize),
-            Some(None) => None,
+            Some(place) => if *place == NO_PLACE {
+                None
+            } else {
+                Some(*place as usize)
+            },
             None => None,
         }
     }
@@ -51,10 +60,26 @@ impl Marks {
         let Ok(place) = u32::try_from(place) else {
             return Err(AllocError);
         };
-        if number >= self.places.len() {
-            self.places.resize(number.saturating_add(1), None)?;
+        if place == NO_PLACE {
+            return Err(AllocError);
         }
-        self.places[number] = Some(place);
+        put(&mut self.places, number, place)?;
         Ok(())
     }
+}
+
+// Writes a place under a number. The list gets as long as that takes.
+fn put(places: &mut Vec<u32>, number: usize, place: u32) -> Result<(), AllocError>
+    ensures set { OnOk result (slice_index_or places.new.items number NO_PLACE ≡ place) }
+    ensures others { OnOk result ((k : ℕ) → k ≢ number
+        → slice_index_or places.new.items k NO_PLACE ≡ slice_index_or places.old.items k NO_PLACE) }
+    ensures len { OnOk result
+        (length places.new.items ≡ max (length places.old.items) (number + 1)) }
+    ensures err { OnErr result (places.new.items ≡ places.old.items) }
+{
+    if number >= places.len() {
+        places.resize(number.saturating_add(1), NO_PLACE)?;
+    }
+    places[number] = place;
+    Ok(())
 }
