@@ -26,6 +26,8 @@ WITHOUT_OTHER_BODY = {
     "pay_member::asked_value::AskedValue::into_bytes",
     "pay_member::member::Member::genesis",
     "pay_member::member::Member::keys",
+    "pay_member::member::Member::view",
+    "pay_member::view::MemberView::genesis",
     "pay_net::start::NodeStart::fresh",
     "pay_node::fetch_seat::FetchSeat::new",
     "pay_node::node::Node::keys",

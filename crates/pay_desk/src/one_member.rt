@@ -39,7 +39,7 @@ impl<I: Instance + Drop, B: Settle + Drop> Teller for OneMember<I, B> {
     }
 
     fn read<Q: Question>(&mut self, alloc: Global, question: Q) -> Result<Q::Answer, ReadFault> {
-        Ok(question.ask(alloc, &self.member)?)
+        Ok(question.ask(alloc, &self.member.view())?)
     }
 
     ghost use Rattle.pay_desk.specs.MemberAsks.{member_asks};

@@ -130,7 +130,7 @@ frame_may_come g k c members checked mine =
       checked.kind,
     )
 
-owed_may_come :
+pub owed_may_come :
     (g : GenesisFields) (k : KeyFields) → IsKeysOf g k → (before : List channel.Event) (y : HistoryEntry) → IsOwed g k before y
     → (e : channel.Event) → channel_event y.event ≡ Some e → IsEvent (group_in g k.own) e
 owed_may_come g k members before y owed e is = go y.event owed.kept owed.taken is where

@@ -1,10 +1,10 @@
 -- The values that a member knows of an account.
-use Rattle.std.proofs.Common.{Bor, ◌≡◌, ◌≢◌, ℕ, zero, suc, ◌+◌, ◌-◌, ◌<◌, ◌≤◌, max, eqb, cond, true, false, Bool, List, [], ◌∷◌, ◌++◌, length, length-append, length-drop, drop, refl, ap, ◌∙◌, sym, subst, arith, inl, inr}
+use Rattle.std.proofs.Common.{Bor, ◌≡◌, ℕ, zero, suc, ◌<◌, ◌≤◌, max, eqb, cond, true, false, Bool, List, [], ◌∷◌, ◌++◌, length, length-append, length-drop, drop, refl, ap, ◌∙◌, sym, subst, arith, inl, inr}
 use Rattle.std.specs.Prelude.{slice_get, All, Option, Some, None}
 use Rattle.std.specs.Option.{IsSome, option_copied}
 use Rattle.std.proofs.lemmas.Option.{slice_get-get_or}
 use Rattle.std.proofs.lemmas.Bool.{cases_eq, eq-eqb, ne_eqb, cond-true, cond-false}
-use Rattle.pay_echo.specs.Broadcast.{Group, echoed}
+use Rattle.pay_echo.specs.Broadcast.{Group}
 use Rattle.pay_echo.specs.Meaning.{Meaning, meaning_of}
 use Rattle.pay_channel.specs.Asked.{asked_values}
 use Rattle.pay_channel.specs.FollowLaws.{ListsFollow}

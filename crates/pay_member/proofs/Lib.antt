@@ -7,4 +7,5 @@ pub mod Members
 pub mod LiesFound
 pub mod Openings
 pub mod Rememberings
+pub mod Replays
 pub mod Servings

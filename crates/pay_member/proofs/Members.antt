@@ -34,7 +34,7 @@ use Rattle.pay_member.specs.Legal.{IsOwed, Legal}
 use Rattle.pay_member.specs.Ledger.{LedgerFields, Tracks, Grows}
 use Rattle.pay_member.specs.declared.lie.Lie.{Lie}
 use Rattle.pay_member.specs.Lies.{AreFound}
-use Rattle.pay_member.specs.Member.{MemberFields, IsMember, with_entry}
+use Rattle.pay_member.specs.Member.{MemberFields, AreTurns, IsMember, with_entry}
 use Rattle.pay_member.specs.Group.{group_in}
 use Rattle.pay_member.specs.Book.{book_after}
 use Rattle.pay_member.specs.Reply.{told_of}
@@ -174,35 +174,33 @@ member_queried m ledger fronts lies x is event owed =
 -- ---- the next numbers
 
 -- an ask leaves them
-pub turns_asked :
-    NextByOneMore → (m : MemberFields) (ledger : LedgerFields) (fronts : List ℕ) (lies : List (Option Lie)) (v : List ℕ) → IsMember m ledger fronts lies
-    → (p : ℕ) → p < m.genesis.members → slice_index fronts p ≡ next p (events m.history ++ channel.Ask v ∷ [])
-turns_asked more m ledger fronts lies v is p member = is.turns p member ∙ sym (more p (events m.history) (channel.Ask v))
+pub turns_asked : NextByOneMore → (members : ℕ) (before : List channel.Event) (fronts : List ℕ) (v : List ℕ) → AreTurns members before fronts → AreTurns members (before ++ channel.Ask v ∷ []) fronts
+turns_asked more members before fronts v turns p member = turns p member ∙ sym (more p before (channel.Ask v))
 
 -- a frame moves its sender's
 pub turns_taken :
-    NextByOneMore → (m : MemberFields) (ledger : LedgerFields) (fronts : List ℕ) (lies : List (Option Lie)) (from : ℕ) (body : BodyFields) → IsMember m ledger fronts lies → from < m.genesis.members
-    → (p : ℕ) → p < m.genesis.members → slice_index (set fronts from (slice_index fronts from + 1)) p ≡ next p (events m.history ++ channel.From from body ∷ [])
-turns_taken more m ledger fronts lies from body is sender p member = go (cases_eq p from) where
-  go : ((p ≡ from) ⊎ (p ≢ from)) → slice_index (set fronts from (slice_index fronts from + 1)) p ≡ next p (events m.history ++ channel.From from body ∷ [])
+    NextByOneMore → (members : ℕ) (before : List channel.Event) (fronts : List ℕ) (from : ℕ) (body : BodyFields) → length fronts ≡ members → AreTurns members before fronts → from < members
+    → AreTurns members (before ++ channel.From from body ∷ []) (set fronts from (slice_index fronts from + 1))
+turns_taken more members before fronts from body one_for_each turns sender p member = go (cases_eq p from) where
+  go : ((p ≡ from) ⊎ (p ≢ from)) → slice_index (set fronts from (slice_index fronts from + 1)) p ≡ next p (before ++ channel.From from body ∷ [])
   go (inl same) =
-      let here : slice_index (set fronts from (slice_index fronts from + 1)) from ≡ slice_index fronts from + 1 = get_or-set_same fronts from (slice_index fronts from + 1) 0 (let l = is.one_for_each in omega arith) in
-      let counted = more from (events m.history) (channel.From from body) ∙ cond-true _ _ _ (eq-eqb from from refl) in
-      subst (λ q. slice_index (set fronts from (slice_index fronts from + 1)) q ≡ next q (events m.history ++ channel.From from body ∷ [])) (sym same)
-      (here ∙ ap (λ n. n + 1) (is.turns from sender) ∙ sym counted)
+      let here : slice_index (set fronts from (slice_index fronts from + 1)) from ≡ slice_index fronts from + 1 = get_or-set_same fronts from (slice_index fronts from + 1) 0 (omega arith) in
+      let counted = more from before (channel.From from body) ∙ cond-true _ _ _ (eq-eqb from from refl) in
+      subst (λ q. slice_index (set fronts from (slice_index fronts from + 1)) q ≡ next q (before ++ channel.From from body ∷ [])) (sym same)
+      (here ∙ ap (λ n. n + 1) (turns from sender) ∙ sym counted)
   go (inr differs) =
       get_or-set_other fronts from p (slice_index fronts from + 1) 0 differs
-      ∙ is.turns p member
-      ∙ sym (more p (events m.history) (channel.From from body) ∙ cond-false _ _ _ (ne_eqb from p (λ same. differs (sym same))))
+      ∙ turns p member
+      ∙ sym (more p before (channel.From from body) ∙ cond-false _ _ _ (ne_eqb from p (λ same. differs (sym same))))
 
 -- they are counts of entries
 pub turns_counted :
-    NextIsCount → (m : MemberFields) (ledger : LedgerFields) (fronts : List ℕ) (lies : List (Option Lie)) → IsMember m ledger fronts lies
-    → (p : ℕ) → p < m.genesis.members → slice_index fronts p ≤ length m.history
-turns_counted count m ledger fronts lies is p member =
-    let few = length-events m.history in
-    let counted = is.turns p member ∙ count p (events m.history) in
-    let below = count_by-le-length (is_from p) (events m.history) in
+    NextIsCount → (members : ℕ) (history : List HistoryEntry) (fronts : List ℕ) → AreTurns members (events history) fronts
+    → (p : ℕ) → p < members → slice_index fronts p ≤ length history
+turns_counted count members history fronts turns p member =
+    let few = length-events history in
+    let counted = turns p member ∙ count p (events history) in
+    let below = count_by-le-length (is_from p) (events history) in
     omega arith
 
 -- ---- what isn't refused

@@ -10,6 +10,7 @@ pub mod Remembering
 pub mod Ledger
 pub mod Lies
 pub mod Member
+pub mod Replay
 pub mod Answer
 pub mod Reading
 pub mod Questions

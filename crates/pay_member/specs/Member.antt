@@ -1,5 +1,6 @@
 -- What a member shows: a function of its genesis, its keys and its history.
-use Rattle.std.specs.Prelude.{◌≡◌, ℕ, ◌<◌, List, [], ◌∷◌, ◌++◌, length, slice_index, Option}
+use Rattle.std.specs.Prelude.{◌≡◌, ℕ, ◌<◌, List, [], ◌∷◌, ◌++◌, length, take, slice_index, Option}
+use Rattle.pay_channel.specs.History as channel
 use Rattle.pay_channel.specs.Taken.{next}
 use Rattle.pay_link.specs.Genesis.{GenesisFields, IsGenesis}
 use Rattle.pay_link.specs.Keys.{KeyFields, IsKeysOf}
@@ -21,6 +22,22 @@ pub record MemberFields : Type 0 where
 abbrev pub with_entry : MemberFields → HistoryEntry → MemberFields
 with_entry m e = record m { history = m.history ++ e ∷ [] }
 
+-- the member as it was behind its first entries
+abbrev pub back_at : MemberFields → ℕ → MemberFields
+back_at m count = record m { history = take count m.history }
+
+-- What is read of a member is told by a ledger that follows from its history, which is one that it
+-- can have.
+pub record IsView (m : MemberFields) (ledger : LedgerFields) : Type 0 where
+  pub genesis : IsGenesis m.genesis
+  pub keys : IsKeysOf m.genesis m.keys
+  pub legal : Legal m.genesis m.keys m.history
+  pub tracks : Tracks m.genesis m.keys.own (events m.history) ledger
+
+-- of each member the number that is next from it after these events
+abbrev pub AreTurns : ℕ → List channel.Event → List ℕ → Type 0
+AreTurns members before fronts = (p : ℕ) → p < members → slice_index fronts p ≡ next p before
+
 -- What is true of every member: its history is one that it can have, and what it keeps beside it
 -- follows from it.
 pub record IsMember (m : MemberFields) (ledger : LedgerFields) (fronts : List ℕ)
@@ -32,5 +49,5 @@ pub record IsMember (m : MemberFields) (ledger : LedgerFields) (fronts : List �
   pub tells :
       TellsForgetting (group_in m.genesis m.keys.own) (events m.history) ledger.has_forgotten
   pub one_for_each : length fronts ≡ m.genesis.members
-  pub turns : (p : ℕ) → p < m.genesis.members → slice_index fronts p ≡ next p (events m.history)
+  pub turns : AreTurns m.genesis.members (events m.history) fronts
   pub lies_found : AreFound m.genesis.members (events m.history) lies

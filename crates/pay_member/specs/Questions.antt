@@ -1,6 +1,6 @@
 -- Questions to a member with what it shows, as a function of its history.
 use Rattle.std.specs.Prelude.{◌≡◌, ℕ, min, nat_lt, Option, Some, None, if◌then◌else◌}
-use Rattle.std.specs.Prelude.{slice_index, Bool, true, false}
+use Rattle.std.specs.Prelude.{slice_index}
 use Rattle.pay_channel.specs.History.{list_of}
 use Rattle.pay_book.specs.Statement.{StatementFields, statement_of}
 use Rattle.pay_member.specs.declared.member.TheConstants.{MOST_FETCHED}

@@ -1,4 +1,4 @@
-ghost use Rattle.std.specs.Prelude.{false, ◌≡◌, ◌≢◌, ◌<◌, ◌≤◌, ◌↔◌, ◌&&◌, ◌++◌, nat_lt, min, []};
+ghost use Rattle.std.specs.Prelude.{false, ◌≡◌, ◌≢◌, ◌<◌, ◌≤◌, ◌↔◌, ◌++◌, min, []};
 ghost use Rattle.std.specs.Prelude.{length, slice_get, slice_index, Some, None};
 ghost use Rattle.std.specs.Prelude.{MatchOption, IfOk, IfSome, OnOk, OnErr, IsOkUnless, IsTrue};
 ghost use Rattle.std.specs.Option.{option_and_then, option_copied, option_map, option_to_list};
@@ -18,8 +18,7 @@ ghost use Rattle.pay_member.specs.Book.{book_after};
 ghost use Rattle.pay_member.specs.Reply.{took_by, told_of};
 ghost use Rattle.pay_member.specs.Refusal.{refusal};
 ghost use Rattle.pay_member.specs.Answer.{IsAnswer, answer_of_ask, answer_of_take, answer_of_query};
-ghost use Rattle.pay_member.specs.Reading.{entries_shown, fetched_bodies, state_of, values_known};
-ghost use Rattle.pay_member.specs.Reading.{waiting_shown};
+ghost use Rattle.pay_member.specs.Reading.{entries_shown, fetched_bodies, state_of, waiting_shown};
 ghost use Rattle.pay_member.specs.Legal.{Legal};
 ghost use Rattle.pay_member.specs.Remembering.{Remembers, HasForgotten};
 ghost use Rattle.pay_member.specs.Lies.{IsFound};
@@ -38,7 +37,6 @@ use crate::entry::HistoryEntry;
 use crate::event::{Event, asked_is_kept, taken_is_kept};
 use crate::fault::MemberFault;
 use crate::incoming::Incoming;
-use crate::known::KnownValues;
 use crate::ledger::Ledger;
 use crate::lie::{Lie, note_lie};
 use crate::outcome::Outcome;
@@ -49,6 +47,7 @@ use crate::standing::PaymentState;
 use crate::take_fault::TakeFault;
 use crate::told::Told;
 use crate::took::Took;
+use crate::view::MemberView;
 use pay_book::laws::settled_book_is_one;
 use pay_book::{Excerpt, Line, Settle};
 use pay_channel::EventRef;
@@ -505,6 +504,18 @@ impl<I: Instance + Drop, B: Settle + Drop> Member<I, B> {
         self.history.as_slice()
     }
 
+    /// What can be read of it.
+    pub fn view(&self) -> MemberView<'_, I, B>
+        ensures { result ≡ self.now }
+    {
+        MemberView::new(
+            &self.genesis,
+            &self.keys,
+            &self.ledger,
+            self.history.as_slice(),
+        )
+    }
+
     /// The body at a place of all that the member sent to all.
     // promise: readings
     pub fn sent(&self, place: u64) -> Option<&Body>
@@ -541,7 +552,7 @@ impl<I: Instance + Drop, B: Settle + Drop> Member<I, B> {
             ≡ fetched_bodies self.now.genesis self.now.keys.own (events self.now.history)
             from (min max MOST_FETCHED)) }
     {
-        self.ledger.fetch(alloc, from, max.min(MOST_FETCHED))
+        self.view().fetch(alloc, from, max)
     }
 
     /// Whether the member has forgotten what it sent: its own list had a value under a number under
@@ -583,9 +594,7 @@ impl<I: Instance + Drop, B: Settle + Drop> Member<I, B> {
             ≡ slice_index (book_after self.now.genesis self.now.keys.own
             (events self.now.history)).front account }
     {
-        a_channel_follows();
-        settled_book_is_one();
-        self.ledger.front(account)
+        self.view().front(account)
     }
 
     /// How many entries are settled of each account.
@@ -595,9 +604,7 @@ impl<I: Instance + Drop, B: Settle + Drop> Member<I, B> {
             ≡ (book_after self.now.genesis self.now.keys.own (events self.now.history)).front) }
         ensures few { IfOk result (λ fronts. length fronts.items ≤ MOST_MEMBERS) }
     {
-        a_channel_follows();
-        settled_book_is_one();
-        self.ledger.fronts(alloc, self.genesis.members())
+        self.view().fronts(alloc)
     }
 
     /// An account's balance, in the unit of the genesis's opening balances.
@@ -608,9 +615,7 @@ impl<I: Instance + Drop, B: Settle + Drop> Member<I, B> {
             ≡ slice_index (book_after self.now.genesis self.now.keys.own
             (events self.now.history)).balances account }
     {
-        a_channel_follows();
-        settled_book_is_one();
-        self.ledger.balance(account)
+        self.view().balance(account)
     }
 
     /// How far the value under a number of an account has come.
@@ -620,17 +625,7 @@ impl<I: Instance + Drop, B: Settle + Drop> Member<I, B> {
         ensures { result
             ≡ state_of self.now.genesis self.now.keys.own (events self.now.history) owner seq }
     {
-        a_channel_follows();
-        settled_book_is_one();
-        if seq < self.ledger.place(owner).0 {
-            PaymentState::Settled
-        } else if seq < self.ledger.list_len(owner) {
-            PaymentState::Waiting
-        } else if is_used(owner == self.keys.own(), seq, self.ledger.asks()) {
-            PaymentState::Asked
-        } else {
-            PaymentState::Unknown
-        }
+        self.view().state(owner, seq)
     }
 
     /// The lines of an account's statement.
@@ -643,10 +638,7 @@ impl<I: Instance + Drop, B: Settle + Drop> Member<I, B> {
             (slice_index (book_after self.now.genesis self.now.keys.own
             (events self.now.history)).front) account) }
     {
-        a_channel_follows();
-        settled_book_is_one();
-        self.ledger
-            .statement(alloc, self.genesis.members(), account)
+        self.view().statement(alloc, account)
     }
 
     /// What settled of an account from a number on: at most 1,000 entries.
@@ -656,10 +648,7 @@ impl<I: Instance + Drop, B: Settle + Drop> Member<I, B> {
         ensures { IfOk result (λ excerpt. excerpt ≡ entries_shown self.now.genesis
             self.now.keys.own (events self.now.history) account from) }
     {
-        a_channel_follows();
-        settled_book_is_one();
-        self.ledger
-            .entries(alloc, self.genesis.members(), account, from)
+        self.view().entries(alloc, account, from)
     }
 
     /// What is known of an account and isn't settled: the first 1,000 entries.
@@ -669,48 +658,6 @@ impl<I: Instance + Drop, B: Settle + Drop> Member<I, B> {
         ensures { IfOk result (λ excerpt. excerpt ≡ waiting_shown self.now.genesis
             self.now.keys.own (events self.now.history) account) }
     {
-        a_channel_follows();
-        settled_book_is_one();
-        let known = KnownValues { member: self };
-        self.ledger
-            .waiting(alloc, &known, self.genesis.members(), account)
+        self.view().waiting(alloc, account)
     }
-
-    // How many values of an account are known.
-    pub(crate) fn known_count(&self, account: u16) -> u32
-        ensures { result ≡ length (values_known self.now.genesis self.now.keys.own
-            (events self.now.history) account) }
-    {
-        a_channel_follows();
-        sends_are_asks();
-        let listed = self.ledger.list_len(account);
-        if account == self.keys.own() {
-            listed.max(self.ledger.asks())
-        } else {
-            listed
-        }
-    }
-
-    // One of them.
-    pub(crate) fn known_value(&self, account: u16, seq: u32) -> &[u8]
-        requires { seq < length (values_known self.now.genesis self.now.keys.own
-            (events self.now.history) account) }
-        ensures { slice_get (values_known self.now.genesis self.now.keys.own
-            (events self.now.history) account) seq ≡ Some result.now }
-    {
-        a_channel_follows();
-        sends_are_asks();
-        if seq < self.ledger.list_len(account) {
-            self.ledger.value(account, seq)
-        } else {
-            self.ledger.echoed(account, seq).unwrap()
-        }
-    }
-}
-
-// Whether a number of one's own was used.
-fn is_used(is_own: bool, seq: u32, asks: u32) -> bool
-    ensures { result ≡ (is_own && nat_lt seq asks) }
-{
-    is_own && seq < asks
 }

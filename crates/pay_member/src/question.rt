@@ -7,10 +7,10 @@ ghost use Rattle.pay_member.specs.declared.reading.Reading.{Reading};
 ghost use Rattle.pay_member.specs.declared.reading.Reading.TheVariants.{Sent};
 ghost use Rattle.pay_member.specs.declared.reading.Reading.TheVariants as reading;
 
-use crate::member::Member;
 use crate::reading::{Bodies, Reading, SettledCounts};
 use crate::same::{are_same_bodies, is_alone, is_same_excerpt, is_same_statement};
 use crate::standing::PaymentState;
+use crate::view::MemberView;
 use pay_book::{Excerpt, Settle, Statement};
 use pay_echo::Instance;
 use pay_frame::Body;
@@ -28,9 +28,9 @@ pub trait Question: Copy {
     fn ask<I: Instance + Drop, B: Settle + Drop>(
         self,
         alloc: Global,
-        member: &Member<I, B>,
+        view: &MemberView<'_, I, B>,
     ) -> Result<Self::Answer, AllocError>
-        ensures { IfOk result (λ answer. Shows member.now (reading self answer)) };
+        ensures { IfOk result (λ answer. Shows view.now (reading self answer)) };
 
     /// The question with a copy of an answer.
     fn to_reading(self, alloc: Global, answer: &Self::Answer) -> Result<Reading, AllocError>
@@ -71,9 +71,9 @@ impl Question for SentFrom {
     fn ask<I: Instance + Drop, B: Settle + Drop>(
         self,
         alloc: Global,
-        member: &Member<I, B>,
+        view: &MemberView<'_, I, B>,
     ) -> Result<Bodies, AllocError> {
-        Ok(Bodies::new(member.fetch(alloc, self.from, self.max)?))
+        Ok(Bodies::new(view.fetch(alloc, self.from, self.max)?))
     }
 
     fn to_reading(self, alloc: Global, bodies: &Bodies) -> Result<Reading, AllocError> {
@@ -121,12 +121,12 @@ impl Question for StateOf {
     fn ask<I: Instance + Drop, B: Settle + Drop>(
         self,
         _alloc: Global,
-        member: &Member<I, B>,
+        view: &MemberView<'_, I, B>,
     ) -> Result<Option<PaymentState>, AllocError> {
-        if self.owner >= member.genesis().members() {
+        if self.owner >= view.genesis().members() {
             return Ok(None);
         }
-        Ok(Some(member.state(self.owner, self.seq)))
+        Ok(Some(view.state(self.owner, self.seq)))
     }
 
     fn to_reading(
@@ -173,13 +173,13 @@ impl Question for StatementOf {
     fn ask<I: Instance + Drop, B: Settle + Drop>(
         self,
         alloc: Global,
-        member: &Member<I, B>,
+        view: &MemberView<'_, I, B>,
     ) -> Result<Option<Statement>, AllocError> {
-        if self.0 >= member.genesis().members() {
+        if self.0 >= view.genesis().members() {
             return Ok(None);
         }
-        let lines = member.statement(alloc, self.0)?;
-        Ok(Some(Statement::new(lines, member.balance(self.0))))
+        let lines = view.statement(alloc, self.0)?;
+        Ok(Some(Statement::new(lines, view.balance(self.0))))
     }
 
     fn to_reading(
@@ -234,12 +234,12 @@ impl Question for EntriesOf {
     fn ask<I: Instance + Drop, B: Settle + Drop>(
         self,
         alloc: Global,
-        member: &Member<I, B>,
+        view: &MemberView<'_, I, B>,
     ) -> Result<Option<Excerpt>, AllocError> {
-        if self.account >= member.genesis().members() {
+        if self.account >= view.genesis().members() {
             return Ok(None);
         }
-        Ok(Some(member.entries(alloc, self.account, self.from)?))
+        Ok(Some(view.entries(alloc, self.account, self.from)?))
     }
 
     fn to_reading(self, alloc: Global, excerpt: &Option<Excerpt>) -> Result<Reading, AllocError> {
@@ -290,12 +290,12 @@ impl Question for WaitingOf {
     fn ask<I: Instance + Drop, B: Settle + Drop>(
         self,
         alloc: Global,
-        member: &Member<I, B>,
+        view: &MemberView<'_, I, B>,
     ) -> Result<Option<Excerpt>, AllocError> {
-        if self.0 >= member.genesis().members() {
+        if self.0 >= view.genesis().members() {
             return Ok(None);
         }
-        Ok(Some(member.waiting(alloc, self.0)?))
+        Ok(Some(view.waiting(alloc, self.0)?))
     }
 
     fn to_reading(self, alloc: Global, excerpt: &Option<Excerpt>) -> Result<Reading, AllocError> {
@@ -340,9 +340,9 @@ impl Question for AllFronts {
     fn ask<I: Instance + Drop, B: Settle + Drop>(
         self,
         alloc: Global,
-        member: &Member<I, B>,
+        view: &MemberView<'_, I, B>,
     ) -> Result<SettledCounts, AllocError> {
-        Ok(SettledCounts::new(member.fronts(alloc)?))
+        Ok(SettledCounts::new(view.fronts(alloc)?))
     }
 
     fn to_reading(self, alloc: Global, counts: &SettledCounts) -> Result<Reading, AllocError> {

@@ -2,9 +2,9 @@ ghost use Rattle.std.specs.Prelude.{◌≡◌, ◌≤◌, ◌↔◌, IfOk, IsTru
 ghost use Rattle.pay_frame.specs.declared.limits.TheConstants.{MOST_MEMBERS};
 ghost use Rattle.pay_member.specs.Questions.{Shows};
 
-use crate::member::Member;
 use crate::question::{AllFronts, EntriesOf, Question, SentFrom, StateOf, StatementOf, WaitingOf};
 use crate::standing::PaymentState;
+use crate::view::MemberView;
 use pay_book::{Excerpt, Settle, Statement};
 use pay_echo::Instance;
 use pay_frame::Body;
@@ -52,26 +52,26 @@ impl Reading {
     pub fn is_shown<I: Instance + Drop, B: Settle + Drop>(
         &self,
         alloc: Global,
-        member: &Member<I, B>,
+        view: &MemberView<'_, I, B>,
     ) -> Result<bool, AllocError>
-        ensures { IfOk result (λ says. IsTrue says ↔ Shows member.now self.now) }
+        ensures { IfOk result (λ says. IsTrue says ↔ Shows view.now self.now) }
     {
         match self {
             Reading::Sent { from, max, .. } => {
                 let (from, max) = (*from, *max);
-                self.is_of(alloc, member, SentFrom { from, max })
+                self.is_of(alloc, view, SentFrom { from, max })
             }
             Reading::State { owner, seq, .. } => {
                 let (owner, seq) = (*owner, *seq);
-                self.is_of(alloc, member, StateOf { owner, seq })
+                self.is_of(alloc, view, StateOf { owner, seq })
             }
-            Reading::Statement { account, .. } => self.is_of(alloc, member, StatementOf(*account)),
+            Reading::Statement { account, .. } => self.is_of(alloc, view, StatementOf(*account)),
             Reading::Entries { account, from, .. } => {
                 let (account, from) = (*account, *from);
-                self.is_of(alloc, member, EntriesOf { account, from })
+                self.is_of(alloc, view, EntriesOf { account, from })
             }
-            Reading::Waiting { account, .. } => self.is_of(alloc, member, WaitingOf(*account)),
-            Reading::Fronts(_) => self.is_of(alloc, member, AllFronts),
+            Reading::Waiting { account, .. } => self.is_of(alloc, view, WaitingOf(*account)),
+            Reading::Fronts(_) => self.is_of(alloc, view, AllFronts),
         }
     }
 
@@ -79,13 +79,13 @@ impl Reading {
     fn is_of<I: Instance + Drop, B: Settle + Drop, Q: Question>(
         &self,
         alloc: Global,
-        member: &Member<I, B>,
+        view: &MemberView<'_, I, B>,
         question: Q,
     ) -> Result<bool, AllocError>
         requires { (answer : Q.Answer) × (self.now ≡ Q.reading question answer) }
-        ensures { IfOk result (λ says. IsTrue says ↔ Shows member.now self.now) }
+        ensures { IfOk result (λ says. IsTrue says ↔ Shows view.now self.now) }
     {
-        let answer = question.ask(alloc, member)?;
+        let answer = question.ask(alloc, view)?;
         Ok(question.is_reading(&answer, self))
     }
 }

@@ -5,13 +5,12 @@ use Rattle.std.proofs.lemmas.Bool.{cases_eq, eq-eqb, eqb-true}
 use Rattle.std.proofs.lemmas.List.{length-take-le, drop_more, get_or-take, get_or_default, take_more}
 use Rattle.std.proofs.lemmas.List.Quantifiers.{all_pairs_push}
 use Rattle.std.proofs.lemmas.List.Elements.{All-nil, All-cons, All-head, All-tail, All-weaker}
-use Rattle.pay_member.specs.declared.entry.HistoryEntry.{HistoryEntry}
 use Rattle.pay_member.specs.Member.{MemberFields}
+use Rattle.pay_member.specs.Replay.{ReplayFields}
 use Rattle.pay_node.specs.Receipts.{ReceiptFields}
 use Rattle.pay_node.specs.Receipts.{IsConsistent, entries_after}
 use Rattle.pay_node.specs.Judging.{AreConsistent, IsNextConsistent}
 use Rattle.pay_node.specs.Seats.{HasItsEntries, SeatFields, Right, entries_told, entries_under, since}
-use Rattle.pay_node.proofs.Rights.{consistent_bound}
 
 -- ---- pairs
 
@@ -115,31 +114,24 @@ right_is m base seat counted = (
 
 -- ---- the judge's steps
 
-abbrev taken_to : MemberFields → List HistoryEntry → ℕ → MemberFields
-taken_to first h n = record first { history = take n h }
-
 pub judged_on :
-    (first was now : MemberFields) (h : List HistoryEntry) (stamp least : ℕ) (rs : List ReceiptFields) (i : ℕ) (r : ReceiptFields)
-    → was ≡ record first { history = take (length was.history) h }
-    → AreConsistent (record first { history = h }) stamp least rs ↔ AreConsistent (record first { history = h }) stamp (length was.history) (drop i rs)
+    (first was now : ReplayFields) (stamp : ℕ) (rs : List ReceiptFields) (i : ℕ) (r : ReceiptFields)
+    → was.member ≡ first.member
+    → AreConsistent first.member stamp first.taken rs ↔ AreConsistent first.member stamp was.taken (drop i rs)
     → i < length rs → r ≡ get_or rs i r
-    → IsNextConsistent (record was { history = h }) stamp (length was.history) r → now ≡ record was { history = take (entries_after r) h }
-    → (now ≡ record first { history = take (length now.history) h })
-    × (AreConsistent (record first { history = h }) stamp least rs ↔ AreConsistent (record first { history = h }) stamp (length now.history) (drop (i + 1) rs))
-judged_on first was now h stamp least rs i r at before below here next after =
-    let m : MemberFields = record first { history = h } in
-    let same : ◌≡◌ {A = MemberFields} (record was { history = h }) m = ap (λ (x : MemberFields). record x { history = h }) at in
-    let consistent : IsNextConsistent m stamp (length was.history) r = subst (λ x. IsNextConsistent x stamp (length was.history) r) same next in
-    let bound : entries_after r ≤ length h = consistent_bound m stamp r consistent.is in
-    let long : length now.history ≡ entries_after r = ap (λ (x : MemberFields). length x.history) after ∙ length-take-le (entries_after r) h bound in
-    let place : now ≡ record first { history = take (entries_after r) h } = after ∙ ap (λ (x : MemberFields). record x { history = take (entries_after r) h }) at in
+    → IsNextConsistent was.member stamp was.taken r → now ≡ record was { taken = entries_after r }
+    → (now.member ≡ first.member)
+    × (AreConsistent first.member stamp first.taken rs ↔ AreConsistent first.member stamp now.taken (drop (i + 1) rs))
+judged_on first was now stamp rs i r at before below here next after =
+    let m : MemberFields = first.member in
+    let consistent : IsNextConsistent m stamp was.taken r = subst (λ x. IsNextConsistent x stamp was.taken r) at next in
     let there : drop i rs ≡ r ∷ drop (i + 1) rs = drop_more rs i r below ∙ ap (λ x. x ∷ drop (i + 1) rs) (sym here) in
-    let step : AreConsistent m stamp least rs ↔ AreConsistent m stamp (entries_after r) (drop (i + 1) rs) = (
-      (λ all. (subst (AreConsistent m stamp (length was.history)) there (before.0 all)).1),
-      (λ rest. before.1 (subst (AreConsistent m stamp (length was.history)) (sym there) (consistent, rest))),
+    let step : AreConsistent m stamp first.taken rs ↔ AreConsistent m stamp (entries_after r) (drop (i + 1) rs) = (
+      (λ all. (subst (AreConsistent m stamp was.taken) there (before.0 all)).1),
+      (λ rest. before.1 (subst (AreConsistent m stamp was.taken) (sym there) (consistent, rest))),
     ) in (
-      place ∙ ap (λ n. taken_to first h n) (sym long),
-      subst (λ n. AreConsistent m stamp least rs ↔ AreConsistent m stamp n (drop (i + 1) rs)) (sym long) step,
+      ap (λ (x : ReplayFields). x.member) after ∙ at,
+      subst (λ n. AreConsistent m stamp first.taken rs ↔ AreConsistent m stamp n (drop (i + 1) rs)) (ap (λ (x : ReplayFields). x.taken) (sym after)) step,
     )
 
 pub has_its :
@@ -175,16 +167,13 @@ judged_so m base seat (Ok says) counted is =
 judged_so m base seat (Err error) counted is = tt
 
 pub judged_there :
-    {E : Type 0} (m fresh begun : MemberFields) (base : ℕ) (h : List HistoryEntry) (seat : SeatFields) (stamp : ℕ) (rs : List ReceiptFields) (answer : Result Bool E)
-    → fresh ≡ record m { history = [] } → begun ≡ record fresh { history = take base h } → base ≤ length h
-    → h ≡ m.history → stamp ≡ seat.stamp → rs ≡ seat.receipts
-    → IfOk answer (λ says. IsTrue says ↔ AreConsistent (record begun { history = h }) stamp (length begun.history) rs)
+    {E : Type 0} (m : MemberFields) (fresh begun : ReplayFields) (base : ℕ) (seat : SeatFields) (stamp : ℕ) (rs : List ReceiptFields) (answer : Result Bool E)
+    → fresh ≡ record { member = m; taken = 0 } → begun ≡ record fresh { taken = base } → stamp ≡ seat.stamp → rs ≡ seat.receipts
+    → IfOk answer (λ says. IsTrue says ↔ AreConsistent begun.member stamp begun.taken rs)
     → IfOk answer (λ says. IsTrue says ↔ AreConsistent m seat.stamp base seat.receipts)
-judged_there m fresh begun base h seat stamp rs answer none taken within at under of is =
-    let whole : MemberFields → MemberFields = λ x. record x { history = h } in
-    let same : whole begun ≡ m = ap whole taken ∙ ap whole none ∙ ap (λ (l : List HistoryEntry). record m { history = l }) at in
-    let long : length begun.history ≡ base = ap (λ (x : MemberFields). length x.history) taken ∙ length-take-le base h within in
-    subst (λ x. IfOk answer (λ says. IsTrue says ↔ AreConsistent x seat.stamp base seat.receipts)) same
-    (subst (λ n. IfOk answer (λ says. IsTrue says ↔ AreConsistent (whole begun) n base seat.receipts)) under
-    (subst (λ n. IfOk answer (λ says. IsTrue says ↔ AreConsistent (whole begun) stamp n seat.receipts)) long
-    (subst (λ l. IfOk answer (λ says. IsTrue says ↔ AreConsistent (whole begun) stamp (length begun.history) l)) of is)))
+judged_there m fresh begun base seat stamp rs answer none taken under of is =
+    let At : ReplayFields → ℕ → List ReceiptFields → Type 0 = λ r n l. IfOk answer (λ says. IsTrue says ↔ AreConsistent r.member n r.taken l) in
+    let there : begun ≡ record { member = m; taken = base } = taken ∙ ap (λ (r : ReplayFields). record r { taken = base }) none in
+    subst (λ r. At r seat.stamp seat.receipts) there
+    (subst (λ n. At begun n seat.receipts) under
+    (subst (λ l. At begun stamp l) of is))

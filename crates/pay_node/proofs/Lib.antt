@@ -5,7 +5,6 @@ pub mod Kept
 pub mod Latest
 pub mod Marked
 pub mod Replayed
-pub mod Replays
 pub mod Rights
 pub mod Verdicts
 pub mod Sent

@@ -14,7 +14,7 @@ use Rattle.pay_member.specs.declared.reading.Reading.TheVariants as reading
 use Rattle.pay_member.specs.Events.{events}
 use Rattle.pay_member.specs.Questions.{Shows}
 use Rattle.pay_member.specs.Refusal.{refusal}
-use Rattle.pay_member.specs.Member.{MemberFields}
+use Rattle.pay_member.specs.Member.{MemberFields, back_at}
 use Rattle.pay_node.specs.declared.call.Call.{Call}
 use Rattle.pay_node.specs.declared.call.Call.TheVariants.{Handed, Read}
 use Rattle.pay_node.specs.declared.receipt.KeptCall.{KeptCall}
@@ -31,10 +31,6 @@ abbrev pub call_in : KeptCall → Call
 call_in (kept.Taken frame took) = Handed (Taken frame) (Ok (Took took))
 call_in (kept.Sent number body) = Read (reading.Sent number 1 (body ∷ []))
 call_in (kept.Other call) = call.value
-
--- the member as it was behind its first entries
-abbrev pub back_at : MemberFields → ℕ → MemberFields
-back_at m count = record m { history = take count m.history }
 
 -- A call was answered so under a stamp when the history had so many entries. A reply stands there
 -- as an entry, with what was handed in; a refusal is the one that the entries before call for, and

@@ -1,26 +1,24 @@
 //! Whether a history is consistent with what a seat was told.
 
-ghost use Rattle.std.specs.Prelude.{◌≡◌, ◌↔◌, ◌≤◌, ◌==◌, [], ◌∷◌, drop, length, take, slice_get};
+ghost use Rattle.std.specs.Prelude.{◌≡◌, ◌↔◌, ◌≤◌, ◌==◌, [], ◌∷◌, drop, length, slice_get};
 ghost use Rattle.std.specs.Prelude.{IfOk, IfSome, IsTrue};
 ghost use Rattle.std.specs.List.{All, AllPairs, count_by};
-ghost use Rattle.pay_member.specs.Events.{events};
-ghost use Rattle.pay_member.specs.Legal.{Legal};
-ghost use Rattle.pay_member.specs.Refusal.{refusal};
 ghost use Rattle.pay_node.specs.Judging.{AreConsistent, EachConsistent, IsNextConsistent};
 ghost use Rattle.pay_member.specs.Questions.{Shows};
+ghost use Rattle.pay_member.specs.Replay.{member_replayed};
 ghost use Rattle.pay_member.specs.declared.reading.Reading.TheVariants as reading;
 ghost use Rattle.pay_node.specs.Receipts.{IsConsistent, entries_after, has_entry};
 ghost use Rattle.pay_node.specs.Seats.{HasItsEntries, Right};
 
 use crate::call::Call;
-use crate::own_member::OwnMember;
+use crate::own_member::{OwnMember, OwnReplay};
 use crate::receipt::{KeptCall, Receipt};
-use crate::replaying::{anew, replay_to};
+use crate::replaying::replay_to;
 use crate::same::{is_same_event, is_taken};
 use crate::seat::Seat;
 use pay_frame::Body;
 use pay_link::Checked;
-use pay_member::{Event, HistoryEntry, MemberFault, Reply, is_same_body};
+use pay_member::{Event, HistoryEntry, Replay, Reply, is_same_body};
 use std::alloc::{AllocError, Global};
 
 /// Whether a member's history is consistent with all that a seat was told, from a base on. It is
@@ -39,15 +37,14 @@ pub(crate) fn is_right(
     if !has_its_entries(member, base, seat) {
         return Ok(false);
     }
-    let history = member.history();
     let receipts = seat.receipts();
     let stamp = seat.stamp();
     if is_each_known && are_in_order(base, receipts) {
         return Ok(true);
     }
-    let mut fresh = anew(alloc, member)?;
-    replay_to(alloc, &mut fresh, history, base)?;
-    are_consistent(alloc, &mut fresh, history, stamp, receipts)
+    let mut replay = Replay::new(alloc, member)?;
+    replay_to(alloc, &mut replay, base)?;
+    are_consistent(alloc, &mut replay, stamp, receipts)
 }
 
 /// Whether a history has as many entries under a seat's stamp, from a base on, as the seat was told
@@ -125,111 +122,98 @@ fn after(receipt: &Receipt) -> Option<usize>
     }
 }
 
-// Whether a legal history is consistent with receipts, one after the other, and none saw less than
-// there was before it, nor the first less than the member took. That is brought up to each.
+// Whether a history is consistent with receipts, one after the other, and none saw less than there
+// was before it, nor the first less than was taken of it. It is taken on to the end of each.
 fn are_consistent(
     alloc: Global,
-    member: &mut OwnMember,
-    history: &[HistoryEntry],
+    replay: &mut OwnReplay<'_>,
     stamp: u16,
     receipts: &[Receipt],
 ) -> Result<bool, AllocError>
-    requires legal { Legal member.old.genesis member.old.keys history.now }
-    requires begun { member.old.history ≡ take (length member.old.history) history.now }
     ensures { IfOk result (λ says. IsTrue says
-        ↔ AreConsistent (record member.old { history = history.now }) stamp
-        (length member.old.history) receipts.now) }
+        ↔ AreConsistent replay.old.member stamp replay.old.taken receipts.now) }
 {
     for receipt in receipts {
-        if !is_next_consistent(alloc, member, history, stamp, receipt)? {
+        if !is_next_consistent(alloc, replay, stamp, receipt)? {
             return Ok(false);
         }
     }
     Ok(true)
 }
 
-// Whether a legal history is consistent with a receipt, and it saw no less than what the member
-// took. If so, the member is brought up to the call's end.
+// Whether a history is consistent with a receipt, and it saw no less than was taken. If so, it is
+// taken on to the call's end.
 fn is_next_consistent(
     alloc: Global,
-    member: &mut OwnMember,
-    history: &[HistoryEntry],
+    replay: &mut OwnReplay<'_>,
     stamp: u16,
     receipt: &Receipt,
 ) -> Result<bool, AllocError>
-    requires legal { Legal member.old.genesis member.old.keys history.now }
-    requires begun { member.old.history ≡ take (length member.old.history) history.now }
     ensures says { IfOk result (λ says. IsTrue says
-        ↔ IsNextConsistent (record member.old { history = history.now }) stamp
-        (length member.old.history) receipt.now) }
-    ensures taken { IfOk result (λ says. IsTrue says → member.new
-        ≡ record member.old { history = take (entries_after receipt.now) history.now }) }
+        ↔ IsNextConsistent replay.old.member stamp replay.old.taken receipt.now) }
+    ensures taken { IfOk result (λ says. IsTrue says
+        → replay.new ≡ record replay.old { taken = entries_after receipt.now }) }
 {
     let seen = receipt.history_len();
-    if seen < member.history().len() || seen > history.len() {
+    if seen < replay.entries_taken() || seen > replay.history().len() {
         return Ok(false);
     }
-    replay_to(alloc, member, history, seen)?;
-    if !is_consistent_here(alloc, member, history, stamp, receipt)? {
+    replay_to(alloc, replay, seen)?;
+    if !is_consistent_here(alloc, replay, stamp, receipt)? {
         return Ok(false);
     }
     if receipt.has_entry() {
-        replay_to(alloc, member, history, seen + 1)?;
+        replay.step(alloc)?;
     }
     Ok(true)
 }
 
-/// Whether a legal history is consistent with a receipt that saw as many entries as the member
-/// took. If so, the member is as it was.
+/// Whether a history is consistent with a receipt that saw as many entries as were taken.
 pub(crate) fn is_consistent_here(
     alloc: Global,
-    member: &mut OwnMember,
-    history: &[HistoryEntry],
+    replay: &OwnReplay<'_>,
     stamp: u16,
     receipt: &Receipt,
 ) -> Result<bool, AllocError>
-    requires here { member.old.history ≡ take receipt.now.seen history.now }
-    requires within { receipt.now.seen ≤ length history.now }
-    ensures says { IfOk result (λ says. IsTrue says
-        ↔ IsConsistent (record member.old { history = history.now }) stamp
-        receipt.now.seen receipt.now.call) }
-    ensures same { IfOk result (λ says. IsTrue says → member.new ≡ member.old) }
+    requires { receipt.now.seen ≡ replay.now.taken }
+    ensures { IfOk result (λ says. IsTrue says
+        ↔ IsConsistent replay.now.member stamp receipt.now.seen receipt.now.call) }
 {
-    let seen = receipt.history_len();
+    let seen = replay.entries_taken();
     match receipt.kept_call() {
         KeptCall::Taken { frame, took } => {
-            Ok(has_taken_at(history, seen, stamp, frame, Reply::Took(*took)))
+            let reply = Reply::Took(*took);
+            Ok(has_taken_at(replay.history(), seen, stamp, frame, reply))
         }
-        KeptCall::Sent { number, body } => Ok(has_sent_at(member, *number, body.body())),
-        KeptCall::Other(call) => is_call_consistent(alloc, member, history, stamp, seen, call),
+        KeptCall::Sent { number, body } => Ok(has_sent(replay, *number, body.body())),
+        KeptCall::Other(call) => is_call_consistent(alloc, replay, stamp, call),
     }
 }
 
 // The same, of a call.
 fn is_call_consistent(
     alloc: Global,
-    member: &mut OwnMember,
-    history: &[HistoryEntry],
+    replay: &OwnReplay<'_>,
     stamp: u16,
-    seen: usize,
     call: &Call,
 ) -> Result<bool, AllocError>
-    requires here { member.old.history ≡ take seen history.now }
-    requires within { seen ≤ length history.now }
-    ensures says { IfOk result (λ says. IsTrue says
-        ↔ IsConsistent (record member.old { history = history.now }) stamp seen call.now) }
-    ensures same { IfOk result (λ says. IsTrue says → member.new ≡ member.old) }
+    ensures { IfOk result (λ says. IsTrue says
+        ↔ IsConsistent replay.now.member stamp replay.now.taken call.now) }
 {
+    let seen = replay.entries_taken();
     match call {
         Call::Handed {
             event,
             answer: Ok(reply),
-        } => Ok(has_entry_at(history, seen, stamp, event, *reply)),
+        } => Ok(has_entry_at(replay.history(), seen, stamp, event, *reply)),
         Call::Handed {
             event,
             answer: Err(fault),
-        } => is_refused(alloc, member, event, *fault),
-        Call::Read(reading) => reading.is_shown(alloc, member),
+        } => Ok(replay.refusal(event) == Some(*fault)),
+        Call::Read(reading) => {
+            let view = replay.view();
+            reading.is_shown(alloc, &view)
+        }
     }
 }
 
@@ -252,12 +236,13 @@ fn has_taken_at(
     }
 }
 
-// Whether a member sent a body at a place of all.
-fn has_sent_at(member: &OwnMember, number: usize, body: &Body) -> bool
+// Whether a member had sent a body at a place of all.
+fn has_sent(replay: &OwnReplay<'_>, number: usize, body: &Body) -> bool
     ensures { IsTrue result
-        ↔ Shows member.now (reading.Sent number 1 (body.now ∷ [])) }
+        ↔ Shows (member_replayed replay.now) (reading.Sent number 1 (body.now ∷ [])) }
 {
-    match member.sent(number as u64) {
+    let view = replay.view();
+    match view.sent(number as u64) {
         Some(sent) => is_same_body(sent, body),
         None => false,
     }
@@ -279,25 +264,5 @@ fn has_entry_at(
             entry.stamp == stamp && is_same_event(&entry.event, event) && entry.reply == reply
         }
         None => false,
-    }
-}
-
-// Whether a member refuses an event so. If it does, it is as it was.
-fn is_refused(
-    alloc: Global,
-    member: &mut OwnMember,
-    event: &Event,
-    fault: MemberFault,
-) -> Result<bool, AllocError>
-    ensures says { IfOk result (λ says. IsTrue says
-        ↔ (refusal member.old.genesis member.old.keys (events member.old.history) event.now
-        ≡ Some fault)) }
-    ensures same { IfOk result (λ says. IsTrue says → member.new ≡ member.old) }
-{
-    let event = event.copy(alloc)?;
-    match member.hand_in(alloc, 0, event) {
-        Ok(_) => Ok(false),
-        Err(MemberFault::Memory) => Err(AllocError),
-        Err(found) => Ok(found == fault),
     }
 }

@@ -291,7 +291,7 @@ impl<S: Beginning> Node<S> {
         seat.make_room(alloc)?;
         let locked = self.member.lock(rt);
         let member = locked.member();
-        let answer = question.ask(alloc, member)?;
+        let answer = question.ask(alloc, &member.view())?;
         seat.note(alloc, member, question, &answer)?;
         Ok(answer)
     }

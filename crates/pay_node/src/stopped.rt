@@ -16,8 +16,8 @@ use std::marker::Model;
 use std::sync::Mutex;
 
 // Closing takes the member out of the lock first (`Stopped`), so a clause can say when a mismatch
-// is named. It replays into a second member, because a receipt tells what a shorter history showed.
-// Without memory it still counts each seat's entries.
+// is named. It takes the history once more (`Replay`), because a receipt tells what a shorter one
+// showed. Without memory it still counts each seat's entries.
 // term: closing: the end of a node, where its receipts are held against its member's history
 /// A node that no thread calls any more, with its member out of the lock. So what is said of its
 /// member is about the very one that is handed out or started again.

@@ -26,5 +26,5 @@ pub returns : goal.returns
 returns c =
     let its : HasItsEntries c.args.member.now c.args.base c.args.seat.now = search rules in
     judged_so c.args.member.now c.args.base c.args.seat.now c.are_consistent.result its
-    (judged_there c.args.member.now c.in_ok-fresh.fresh c.replay_to.new.member c.args.base c.history-history.result.now c.args.seat.now c.stamp-stamp.result c.receipts-receipts.result.now c.are_consistent.result
-    c.in_ok-fresh.ensures (search rules) (search rules) c.history-history.ensures.value c.stamp-stamp.ensures c.receipts-receipts.ensures c.are_consistent.ensures)
+    (judged_there c.args.member.now c.in_ok-replay.replay c.replay_to.new.replay c.args.base c.args.seat.now c.stamp-stamp.result c.receipts-receipts.result.now c.are_consistent.result
+    c.in_ok-replay.ensures (search rules) c.stamp-stamp.ensures c.receipts-receipts.ensures c.are_consistent.ensures)

@@ -1,8 +1,8 @@
-use Rattle.std.proofs.Common.{◌≡◌, ◌≤◌, length, take}
+use Rattle.std.proofs.Common.{◌≡◌, ◌≤◌, length}
 use Rattle.pay_node.specs.Judging.{CountedConsistent}
 use Rattle.pay_node.proofs.once.count_all.Given as goal
 
 abbrev pub invariant-loop-place : goal.invariant-loop-place
 invariant-loop-place l =
-    CountedConsistent l.member l.seats l.counts × (length l.counts ≡ length l.seats)
-    × (l.fresh ≡ record l.member { history = take (length l.fresh.history) l.member.history }) × (length l.fresh.history ≤ l.place)
+    (l.replay.member ≡ l.fn.replay.member) × CountedConsistent l.fn.replay.member l.seats l.counts × (length l.counts ≡ length l.seats)
+    × (l.replay.taken ≤ l.place)

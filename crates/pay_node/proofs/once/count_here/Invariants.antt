@@ -3,5 +3,4 @@ use Rattle.pay_node.specs.Judging.{CountedConsistent}
 use Rattle.pay_node.proofs.once.count_here.Given as goal
 
 abbrev pub invariant-loop-k : goal.invariant-loop-k
-invariant-loop-k l =
-    CountedConsistent (record l.fn.member { history = l.history }) l.seats l.counts × (length l.counts ≡ length l.seats) × (l.member ≡ l.fn.member)
+invariant-loop-k l = CountedConsistent l.replay.member l.seats l.counts × (length l.counts ≡ length l.seats)

@@ -31,7 +31,7 @@ invariant_of-self-2 g c =
     c.self.invariant grows refl
     (record { kept = c.asked_is_kept.ensures; taken = ask_taken m.genesis m.keys (events h) v fits left; reply = ap Asked asked })
     c.self.invariant.one_for_each
-    (turns_asked c.taken_in_order.ensures.next m c.self.inside.ledger c.self.inside.fronts c.self.inside.lies.items v c.self.invariant)
+    (turns_asked c.taken_in_order.ensures.next m.genesis.members (events h) c.self.inside.fronts v c.self.invariant.turns)
     (found_asked m.genesis.members (events h) v c.self.inside.lies.items c.self.invariant.lies_found))
 
 pub returns-clause-entry : goal.returns-clause-entry

@@ -29,7 +29,7 @@ advance-requires-clause-below_the_last g c =
     let m : MemberFields = record { genesis = c.self.inside.genesis; keys = c.self.inside.keys; history = h } in
     let for_me : IsFor c.self.inside.keys c.args.checked = c.is_for.ensures.0 (search rules) in
     let sender : c.from-from.result < m.genesis.members = (let p = for_me.sender.0 in let k = c.self.invariant.keys in omega arith) in
-    let few = turns_counted c.taken_in_order.ensures.count m c.self.inside.ledger c.self.inside.fronts c.self.inside.lies.items c.self.invariant c.from-from.result sender in
+    let few = turns_counted c.taken_in_order.ensures.count m.genesis.members h c.self.inside.fronts c.self.invariant.turns c.from-from.result sender in
     let long : length h < c.len-entries.result = grind (arith, common_steps) in
     omega arith
 
@@ -69,7 +69,7 @@ invariant_of-self-2 g c =
           m.genesis m.keys.own (events h) c.self.inside.ledger c.apply.new.self (channel.From from body) c.in_ok-took.took c.self.invariant.tracks grows);
     })
     (ap length later ∙ length-set c.self.inside.fronts from (slice_index c.self.inside.fronts from + 1) ∙ c.self.invariant.one_for_each)
-    (λ p member. ap (λ (f : List ℕ). slice_index f p) later ∙ turns_taken c.taken_in_order.ensures.next m c.self.inside.ledger c.self.inside.fronts c.self.inside.lies.items from body c.self.invariant sender p member)
+    (λ p member. ap (λ (f : List ℕ). slice_index f p) later ∙ turns_taken c.taken_in_order.ensures.next m.genesis.members (events h) c.self.inside.fronts from body c.self.invariant.one_for_each c.self.invariant.turns sender p member)
     noted)
 
 pub returns-clause-took : goal.returns-clause-took

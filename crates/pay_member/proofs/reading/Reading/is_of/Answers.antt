@@ -5,7 +5,7 @@ use Rattle.pay_member.proofs.reading.Reading.is_of.Goals as goal
 pub returns : goal.returns
 returns g c =
     let q = c.args.question in
-    let m = c.args.member.now in
+    let m = c.args.view.now in
     let found = c.in_ok-answer.answer in
     let shows : Shows m (g.Q.Question.reading q found) = c.in_ok-answer.ensures in
     let given : c.args.self.now ≡ g.Q.Question.reading q c.requires.0 = c.requires.1 in (
