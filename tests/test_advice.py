@@ -150,6 +150,21 @@ def test_a_disk_that_is_full():
             same(os.path.lexists(os.path.join(folder, "trial.new")), False, "whether a trial is left")
 
 
+def test_an_export_writes_nothing_where_a_read_fails():
+    """A second look at the folder only reads it, too."""
+    with Folders(OPENING, running=[]) as group:
+        folder = os.path.join(group.place.name, "failing")
+        os.makedirs(os.path.join(folder, "log"))
+        # (what is written under this name fails, and what is removed afterwards is gone)
+        os.symlink("/dev/full", os.path.join(folder, "trial.new"))
+        before = os.stat(folder).st_mtime_ns
+        words = ["export", "--genesis", "genesis", "--keys", "keys-0", "--data", "failing"]
+        done = subprocess.run([payd(), *words], cwd=group.place.name, capture_output=True, text=True, timeout=SECONDS)
+        same((done.returncode, done.stdout), (4, ""), f"the status: {done.stderr}")
+        says(done.stderr, "log 1 Disk", f"failing: {DISK}", "a log that can't be read")
+        same((os.stat(folder).st_mtime_ns, sorted(os.listdir(folder))), (before, ["log", "trial.new"]), "the folder")
+
+
 def test_a_log_that_another_node_has():
     with Folders(OPENING, running=[0]) as group:
         words = ["node", "--genesis", "genesis", "--keys", "keys-0", "--ports", "ports", "--data", "data-0"]

@@ -1,6 +1,7 @@
 """Black-box tests of the socket of a node's desk, and of `payd send`."""
 
 import os
+import select
 import signal
 import socket
 import stat
@@ -351,15 +352,36 @@ def test_send_without_a_node():
         same(run(["send", *words])[:2], (2, ""), f"{words}")
 
 
+def length_of_a_call(silent):
+    """How long somebody stays who calls on a socket on which nobody answers."""
+    silent.settimeout(PATIENCE)
+    stream, _ = silent.accept()
+    began = time.monotonic()
+    with stream:
+        # (where nothing is asked for it returns once both ways are shut, not at the end of the lines)
+        ended = select.poll()
+        ended.register(stream, 0)
+        ended.poll(1000 * PATIENCE)
+        return time.monotonic() - began
+
+
 def test_send_that_nobody_answers():
     """A line without an answer ends it once the time is over; without a line there is nothing to wait for."""
     with tempfile.TemporaryDirectory() as folder, socket.socket(socket.AF_UNIX) as silent:
         path = os.path.join(folder, "desk")
         silent.bind(path)
         silent.listen(1)
-        began = time.monotonic()
-        shows(run(["send", "--socket", path, "--timeout", "1", "FRONT"]), 3, "", "payd: no answer after 1 seconds\n")
-        same(1 <= time.monotonic() - began < 1 + PATIENCE, True, "how long it waited")
+        for seconds in (1, 3):
+            calls = []
+            caller = threading.Thread(target=lambda: calls.append(length_of_a_call(silent)))
+            caller.start()
+            began = time.monotonic()
+            was = run(["send", "--socket", path, "--timeout", f"{seconds}", "FRONT"])
+            waited = time.monotonic() - began
+            caller.join()
+            shows(was, 3, "", f"payd: no answer after {seconds} seconds\n")
+            # (the call has no part in how long the program takes to begin and to end)
+            same((seconds <= waited, calls[0] < seconds + 4), (True, True), f"{seconds} s: {waited}, {calls}")
         for word in ("0", "86401", "-1", "1s", ""):
             said = f"payd: timeout {word}: no number of seconds from 1 to 86400\n"
             shows(run(["send", "--socket", path, f"--timeout={word}", "FRONT"]), 2, "", said, of=f"timeout {word!r}")

@@ -143,6 +143,22 @@ def test_figures_are_written_as_a_whole():
         same(os.path.exists(f"{path}.new"), False, "whether one that isn't whole is left")
 
 
+def test_figures_are_written_each_five_seconds():
+    """By the system's clock, of the first three files: on a busy machine one of them may be late."""
+    with Folders(OPENING, running=[0]) as group:
+        shown(group, 0)
+        times = []
+
+        def count():
+            written = os.stat(file_of(group, 0)).st_mtime
+            times.extend([written] * (written not in times))
+            return len(times)
+
+        until(count, 3, of="files")
+        between = [later - former for former, later in zip(times, times[1:])]
+        same((4.9 <= min(between), min(between) < 9), (True, True), f"the seconds between them: {between}")
+
+
 def test_figures_end_with_their_node():
     with Folders(OPENING, running=[0]) as group:
         shown(group, 0)

@@ -238,7 +238,7 @@ def test_a_torn_end_is_kept():
         whole = group.log(0)
         folder = os.path.join(place, "data-0")
         text = export_text(0, OPENING, FRESH, [0, 0, 0, 0], OPENING)
-        for torn in (b"plog", bytes(7)):
+        for torn in (b"plog", bytes(7), b"p"):
             with open(os.path.join(folder, "log"), "ab") as log:
                 log.write(torn)
             status, output, errors = node_on(place, 0, "data-0", b"PAY 7 1 30\n")
