@@ -1,7 +1,7 @@
 -- What a desk keeps of a history, entry by entry.
-use Rattle.std.proofs.Common.{◌≡◌, ℕ, ◌+◌, ◌<◌, ◌≤◌, zero, suc, Some, None, List, [], ◌∷◌, ◌++◌, length, map, take, get_or, slice_get, refl, sym, ap, ◌∙◌, subst, arith, append-nil, append_assoc}
+use Rattle.std.proofs.Common.{◌≡◌, ℕ, ◌==◌, ◌+◌, ◌<◌, ◌≤◌, Bool, true, false, zero, suc, Some, None, List, [], ◌∷◌, ◌++◌, length, map, take, drop, get_or, slice_get, refl, sym, ap, ◌∙◌, subst, arith, inl, inr, append-nil, append_assoc, length-append, take-append-drop}
 use Rattle.std.specs.List.{filter_map}
-use Rattle.std.proofs.lemmas.List.{length_push, map_push, take_all, take_more}
+use Rattle.std.proofs.lemmas.List.{length-map, length_push, map_push, take_all, take_more}
 use Rattle.std.proofs.lemmas.List.Elements.{filter_map-append}
 use Rattle.std.proofs.lemmas.Option.{slice_get_within, get_or_from_slice_get}
 use Rattle.pay_channel.specs.Asked.{ask_of, asked_values}
@@ -13,15 +13,15 @@ use Rattle.pay_member.specs.declared.entry.HistoryEntry.{HistoryEntry}
 use Rattle.pay_member.specs.declared.event.Event.{Event}
 use Rattle.pay_member.specs.declared.event.Event.TheVariants.{Ask, Taken, Query}
 use Rattle.pay_member.specs.Events.{channel_event, events}
-use Rattle.pay_net.specs.Starting.{IsKeptOf, KeepsEntry, KeepsNext}
+use Rattle.pay_net.specs.Starting.{AreNoIdsOf, IsKeptOf, KeepsEntry, KeepsNext, LacksId, RefusesEntry}
 
 -- ---- what an entry asked for
 
-asked_more : (h : List HistoryEntry) (e : HistoryEntry) → asked_values (events (h ++ e ∷ [])) ≡ asked_values (events h) ++ asked_values (events (e ∷ []))
+asked_both : (h g : List HistoryEntry) → asked_values (events (h ++ g)) ≡ asked_values (events h) ++ asked_values (events g)
 unfolding asked_values events
-asked_more h e =
-    ap (filter_map ask_of) (filter_map-append (λ (x : HistoryEntry). channel_event x.event) h (e ∷ []))
-    ∙ filter_map-append ask_of (events h) (events (e ∷ []))
+asked_both h g =
+    ap (filter_map ask_of) (filter_map-append (λ (x : HistoryEntry). channel_event x.event) h g)
+    ∙ filter_map-append ask_of (events h) (events g)
 
 value_asked : (e : HistoryEntry) (value : List ℕ) → e.event ≡ Ask value → asked_values (events (e ∷ [])) ≡ value ∷ []
 unfolding asked_values events
@@ -70,7 +70,7 @@ value_more h e ids value old new is so_far next =
     let count : length new ≡ length old + 1 = ap length next.is ∙ long in
     let kept : IsKeptOf (h ++ e ∷ []) (old ++ k ∷ []) = record {
       values = map_push (λ (x : Kept). x.value) old k ∙ ap (λ (vs : List (List ℕ)). vs ++ value ∷ []) so_far.0.values
-          ∙ ap (λ (vs : List (List ℕ)). asked_values (events h) ++ vs) (sym (value_asked e value is)) ∙ sym (asked_more h e);
+          ∙ ap (λ (vs : List (List ℕ)). asked_values (events h) ++ vs) (sym (value_asked e value is)) ∙ sym (asked_both h (e ∷ []));
       numbered = λ seq x at. (let here = numbered_more 0 old k (omega arith) (λ s z there. (let one = so_far.0.numbered s z there in omega arith)) seq x at in omega arith);
       free = free_more [] old k so_far.0.free next.free;
     } in
@@ -89,7 +89,7 @@ nothing_more : (h : List HistoryEntry) (e : HistoryEntry) (ids : List ℕ) (old 
 nothing_more h e ids old new none so_far same =
     subst (AreKeptSoFar (h ++ e ∷ []) ids) (sym same) (
       record {
-        values = so_far.0.values ∙ sym (append-nil (asked_values (events h))) ∙ ap (λ (vs : List (List ℕ)). asked_values (events h) ++ vs) (sym none) ∙ sym (asked_more h e);
+        values = so_far.0.values ∙ sym (append-nil (asked_values (events h))) ∙ ap (λ (vs : List (List ℕ)). asked_values (events h) ++ vs) (sym none) ∙ sym (asked_both h (e ∷ []));
         numbered = so_far.0.numbered;
         free = so_far.0.free;
       },
@@ -127,3 +127,96 @@ all_kept h i ids kept whole same so_far = (
   subst (λ (l : List HistoryEntry). IsKeptOf l kept) (take_all i h whole) so_far.0,
   so_far.1 ∙ ap (λ n. take n ids) same ∙ take_all (length ids) ids (omega arith),
 )
+
+-- ---- where no desk can go on so
+
+-- before an ask fewer values were asked for
+asked_here : (h : List HistoryEntry) (i : ℕ) (e : HistoryEntry) (value : List ℕ) → i < length h → e ≡ get_or h i e → e.event ≡ Ask value
+    → length (asked_values (events (take i h))) + 1 ≤ length (asked_values (events h))
+asked_here h i e value below is ask =
+    let next : take (i + 1) h ≡ take i h ++ e ∷ [] = take_more h i e below ∙ ap (λ (x : HistoryEntry). take i h ++ x ∷ []) (sym is) in
+    let both = asked_both (take (i + 1) h) (drop (i + 1) h) in
+    let whole : asked_values (events h) ≡ asked_values (events (take (i + 1) h)) ++ asked_values (events (drop (i + 1) h)) =
+    ap (λ (l : List HistoryEntry). asked_values (events l)) (sym (take-append-drop (i + 1) h)) ∙ both in
+    let one : asked_values (events (take (i + 1) h)) ≡ asked_values (events (take i h)) ++ value ∷ [] =
+    ap (λ (l : List HistoryEntry). asked_values (events l)) next ∙ asked_both (take i h) (e ∷ [])
+    ∙ ap (λ (vs : List (List ℕ)). asked_values (events (take i h)) ++ vs) (value_asked e value ask) in
+    let l1 : length (asked_values (events h)) ≡ length (asked_values (events (take (i + 1) h))) + length (asked_values (events (drop (i + 1) h))) = ap length whole ∙ length-append (asked_values (events (take (i + 1) h))) (asked_values (events (drop (i + 1) h))) in
+    let l2 : length (asked_values (events (take (i + 1) h))) ≡ length (asked_values (events (take i h))) + 1 = ap length one ∙ length-append (asked_values (events (take i h))) (value ∷ []) in
+    omega arith
+
+-- of each value one is kept, under one id
+many_kept : (h : List HistoryEntry) (kept : List Kept) → IsKeptOf h kept → length kept ≡ length (asked_values (events h))
+many_kept h kept is = sym (length-map kept (λ (k : Kept). k.value)) ∙ ap length is.values
+
+many_ids : (kept : List Kept) (ids : List ℕ) → map (λ (k : Kept). k.id) kept ≡ ids → length kept ≡ length ids
+many_ids kept ids are = sym (length-map kept (λ (k : Kept). k.id)) ∙ ap length are
+
+none_within : (ids : List ℕ) (n : ℕ) → slice_get ids n ≡ None → length ids ≤ n
+none_within [] n none = omega arith
+none_within (x ∷ ids) zero none = cc
+none_within (x ∷ ids) (suc n) none = let rest = none_within ids n none in omega arith
+
+-- what is kept under an id follows from the ids
+same_find : (id : ℕ) (x y : Kept) (xs ys : List Kept) (b : Bool) → (y.id == id) ≡ b → x.id ≡ y.id → (kept_under id ys ≡ None → kept_under id xs ≡ None)
+    → kept_under id (y ∷ ys) ≡ None → kept_under id (x ∷ xs) ≡ None
+unfolding kept_under
+same_find id x y xs ys true is same rest none = absurd (let found : Some y ≡ None = sym (rw is refl) ∙ none in cc)
+same_find id x y xs ys false is same rest none =
+    let other : (x.id == id) ≡ false = ap (λ i. i == id) same ∙ is in
+    let below : kept_under id ys ≡ None = rw is at none in
+    rw other (rest below)
+
+none_by_ids : (id : ℕ) (xs ys : List Kept) → map (λ (k : Kept). k.id) xs ≡ map (λ (k : Kept). k.id) ys → kept_under id ys ≡ None → kept_under id xs ≡ None
+none_by_ids id [] [] same none = none
+none_by_ids id [] (y ∷ ys) same none = cc
+none_by_ids id (x ∷ xs) [] same none = cc
+none_by_ids id (x ∷ xs) (y ∷ ys) same none =
+    let first : x.id ≡ y.id = cc in
+    let others : map (λ (k : Kept). k.id) xs ≡ map (λ (k : Kept). k.id) ys = cc in
+    same_find id x y xs ys (y.id == id) refl first (none_by_ids id xs ys others) none
+
+-- each is kept under an id that was free until then
+free_at : (front more : List Kept) (n : ℕ) (k : Kept) → AreUnderFreeIds front more → slice_get more n ≡ Some k → kept_under k.id (front ++ take n more) ≡ None
+free_at front [] zero k free at = cc
+free_at front [] (suc n) k free at = cc
+free_at front (x ∷ more) zero k free at =
+    let same : x ≡ k = cc in
+    subst (λ (ks : List Kept). kept_under k.id ks ≡ None) (sym (append-nil front)) (subst (λ (y : Kept). kept_under y.id front ≡ None) same free.0)
+free_at front (x ∷ more) (suc n) k free at =
+    subst (λ (ks : List Kept). kept_under k.id ks ≡ None) (append_assoc front (x ∷ []) (take n more)) (free_at (front ++ x ∷ []) more n k free.1 at)
+
+id_at : (xs : List Kept) (n id : ℕ) → slice_get (map (λ (k : Kept). k.id) xs) n ≡ Some id → (k : Kept) × (slice_get xs n ≡ Some k) × (k.id ≡ id)
+id_at [] zero id at = cc
+id_at [] (suc n) id at = cc
+id_at (x ∷ xs) zero id at = (x, refl, cc)
+id_at (x ∷ xs) (suc n) id at = id_at xs n id at
+
+ids_of_front : (xs : List Kept) (n : ℕ) → map (λ (k : Kept). k.id) (take n xs) ≡ take n (map (λ (k : Kept). k.id) xs)
+ids_of_front xs zero = refl
+ids_of_front [] (suc n) = refl
+ids_of_front (x ∷ xs) (suc n) = ap (λ l. x.id ∷ l) (ids_of_front xs n)
+
+-- an id that is kept can't be next
+used_twice : (ids : List ℕ) (old all : List Kept) (id : ℕ) → map (λ (k : Kept). k.id) old ≡ take (length old) ids → map (λ (k : Kept). k.id) all ≡ ids → AreUnderFreeIds [] all
+    → slice_get ids (length old) ≡ Some id → kept_under id old ≡ None
+used_twice ids old all id are whole free at =
+    let there = id_at all (length old) id (subst (λ (l : List ℕ). slice_get l (length old) ≡ Some id) (sym whole) at) in
+    let none : kept_under there.0.id (take (length old) all) ≡ None = free_at [] all (length old) there.0 free there.1 in
+    let same : map (λ (k : Kept). k.id) old ≡ map (λ (k : Kept). k.id) (take (length old) all) = are ∙ ap (take (length old)) (sym whole) ∙ sym (ids_of_front all (length old)) in
+    none_by_ids id old (take (length old) all) same (subst (λ i. kept_under i (take (length old) all) ≡ None) there.2 none)
+
+lacks : (h : List HistoryEntry) (i : ℕ) (ids : List ℕ) (old : List Kept) → length (asked_values (events (take i h))) + 1 ≤ length (asked_values (events h))
+    → AreKeptSoFar (take i h) ids old → LacksId ids old → AreNoIdsOf h ids
+lacks h i ids old fewer so_far (inl none) = inl (λ kept is are.
+    (let a = many_kept h kept is in let b = many_ids kept ids are in let c = none_within ids (length old) none in let d = many_kept (take i h) old so_far.0 in omega arith))
+lacks h i ids old fewer so_far (inr (inl used)) = inl (λ kept is are. used.2 (used_twice ids old kept used.0 so_far.1 are is.free used.1))
+lacks h i ids old fewer so_far (inr (inr many)) = inr (let d = many_kept (take i h) old so_far.0 in omega arith)
+
+pub refused_at : (h : List HistoryEntry) (i : ℕ) (e : HistoryEntry) (ids : List ℕ) (old : List Kept) → i < length h → e ≡ get_or h i e
+    → AreKeptSoFar (take i h) ids old → RefusesEntry ids e.event old → AreNoIdsOf h ids
+refused_at h i e ids old below is so_far refuses = go e.event refl refuses where
+  go : (event : Event) → e.event ≡ event → RefusesEntry ids event old → AreNoIdsOf h ids
+  go (Ask value) ask lack = lacks h i ids old (asked_here h i e value below is ask) so_far lack
+  go (Taken checked) ask lack = absurd lack
+  go (Query account) ask lack = absurd lack

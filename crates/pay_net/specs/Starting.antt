@@ -1,6 +1,7 @@
 -- What a node starts from: a member, what its desk keeps of the values that it asked for, and
 -- whether it compares that with what its peers show.
-use Rattle.std.specs.Prelude.{◌≡◌, ℕ, Bool, List, [], ◌∷◌, ◌++◌, length, map, slice_get, Some, None}
+use Rattle.std.specs.Prelude.{◌≡◌, ◌≢◌, ◌⊎◌, ◌≤◌, ◌^◌, ℕ, Bool, List, [], ◌∷◌, ◌++◌, length, map}
+use Rattle.std.specs.Prelude.{slice_get, Some, None}
 use Rattle.pay_channel.specs.Asked.{asked_values}
 use Rattle.pay_desk.specs.declared.kept.Kept.{Kept}
 use Rattle.pay_desk.specs.Kept.{kept_under}
@@ -29,6 +30,27 @@ pub record KeepsNext (ids value : List ℕ) (old new : List Kept) : Type 0 where
   pub given : slice_get ids (length old) ≡ Some id
   pub free : kept_under id old ≡ None
   pub is : new ≡ old ++ record { id = id; value = value; seq = length old } ∷ []
+
+-- There is no id for a value more: none is next among these, something is kept under the next one,
+-- or there is no number.
+abbrev pub LacksId : List ℕ → List Kept → Type 0
+LacksId ids old =
+    (slice_get ids (length old) ≡ None)
+    ⊎ ((id : ℕ) × (slice_get ids (length old) ≡ Some id) × (kept_under id old ≢ None))
+    ⊎ (2 ^ 32 ≤ length old)
+
+-- the value of an ask lacks one, and no other event does
+abbrev pub RefusesEntry : List ℕ → Event → List Kept → Type 0
+RefusesEntry ids (Ask value) old = LacksId ids old
+RefusesEntry ids (Taken checked) old = ⊥
+RefusesEntry ids (Query account) old = ⊥
+
+-- What this history asked for can't be kept under these ids: they aren't one for each value, each
+-- another. Or it asked for more values than there are numbers, which no member does.
+abbrev pub AreNoIdsOf : List HistoryEntry → List ℕ → Type 0
+AreNoIdsOf history ids =
+    ((kept : List Kept) → IsKeptOf history kept → map (λ k. k.id) kept ≢ ids)
+    ⊎ (2 ^ 32 ≤ length (asked_values (events history)))
 
 -- the value of an ask is, and nothing of another event
 abbrev pub KeepsEntry : List ℕ → Event → List Kept → List Kept → Type 0

@@ -1,4 +1,4 @@
-ghost use Rattle.std.specs.Prelude.{◌≡◌, IfOk, map};
+ghost use Rattle.std.specs.Prelude.{◌≡◌, ◌/◌, IfOk, map, option_map};
 ghost use Rattle.pay_net.specs.Running.{others_below};
 
 use crate::contact::Contact;
@@ -81,22 +81,16 @@ impl<'a, R: Wait + Clock, O: Observer<News>> Contacts<'a, R, O> {
     fn figures_of(&self, peer: u16, inbound: &InboundConnections) -> PeerFigures
         ensures { result.peer ≡ peer }
     {
-        let mut figures = PeerFigures {
-            peer,
-            last: None,
-            mistrusted: false,
-            silent_seconds: None,
-            asked: inbound.want_count(self.rt, peer),
+        let asked = inbound.want_count(self.rt, peer);
+        let Some(heard) = self.peers.get(usize::from(peer)) else {
+            return figures_by(peer, &Contact::new(), None, asked);
         };
-        if let Some(heard) = self.peers.get(usize::from(peer)) {
-            let heard = heard.lock(self.rt);
-            figures.last = heard.contact.last();
-            figures.mistrusted = heard.contact.is_mistrusted();
-            if heard.last.is_some() {
-                figures.silent_seconds = Some(silence_since(self.rt, heard.last) / 1_000);
-            }
-        }
-        figures
+        let heard = heard.lock(self.rt);
+        let silence = match heard.last {
+            Some(_) => Some(silence_since(self.rt, heard.last)),
+            None => None,
+        };
+        figures_by(peer, &heard.contact, silence, asked)
     }
 
     /// Whether memory stays refused to those who read from peers.
@@ -143,6 +137,27 @@ impl<R: Wait + Clock, O: Observer<News>> Observer<PeerEvent> for Contacts<'_, R,
             };
             self.tell(peer, news);
         }
+    }
+}
+
+// What is known of a peer that was silent for so many milliseconds, and asked for so many frames.
+// promise: figures
+fn figures_by(peer: u16, contact: &Contact, silence: Option<u64>, asked: u64) -> PeerFigures
+    ensures peer { result.peer ≡ peer }
+    ensures last { result.last ≡ contact.now.last }
+    ensures mistrusted { result.mistrusted ≡ contact.now.mistrusted }
+    ensures silent { result.silent_seconds ≡ option_map (λ millis. millis / 1000) silence }
+    ensures asked { result.asked ≡ asked }
+{
+    PeerFigures {
+        peer,
+        last: contact.last(),
+        mistrusted: contact.is_mistrusted(),
+        silent_seconds: match silence {
+            Some(millis) => Some(millis / 1_000),
+            None => None,
+        },
+        asked,
     }
 }
 

@@ -1,5 +1,7 @@
 //! The socket on which clients of a node's desk call.
 
+ghost use Rattle.std.specs.Prelude.{◌≡◌, ◌++◌, IfOk, codes, string_bytes};
+
 use crate::accepting::Door;
 use std::alloc::{AllocError, Global};
 use std::fs::{DirBuilder, Permissions};
@@ -61,7 +63,11 @@ impl Door for DeskSocket {
 }
 
 // The folder in which a socket is made, and its name there.
-fn new_names(alloc: Global, path: &str) -> Result<(String, String), AllocError> {
+fn new_names(alloc: Global, path: &str) -> Result<(String, String), AllocError>
+    ensures folder { IfOk result (λ names. string_bytes names.0 ≡ path.now ++ codes ".new") }
+    ensures socket { IfOk result (λ names.
+        string_bytes names.1 ≡ string_bytes names.0 ++ codes "/s") }
+{
     let folder = format!(in alloc; "{path}{NEW}")?;
     let made = format!(in alloc; "{folder}/{IN_NEW}")?;
     Ok((folder, made))

@@ -1,7 +1,10 @@
 //! What a node starts from.
 
-ghost use Rattle.std.specs.Prelude.{◌≡◌, ◌<◌, ◌≤◌, [], IfOk, OnOk, false, length, map, true};
-ghost use Rattle.pay_net.specs.Starting.{IsKeptOf, KeepsEntry, KeepsNext};
+ghost use Rattle.std.specs.Prelude.{◌≡◌, ◌<◌, ◌≤◌, [], IfOk, IsErrOf, OnOk};
+ghost use Rattle.std.specs.Prelude.{false, length, map, true};
+ghost use Rattle.pay_net.specs.Starting.{AreNoIdsOf, IsKeptOf, KeepsEntry, KeepsNext, LacksId};
+ghost use Rattle.pay_net.specs.Starting.{RefusesEntry};
+ghost use Rattle.pay_net.specs.declared.start.StartFault.TheVariants.{Ids};
 ghost use Rattle.pay_node.specs.Nodes.{AreFresh, node_as};
 
 use pay_desk::{Kept, KeptValues};
@@ -67,11 +70,12 @@ impl NodeStart {
     }
 
     /// A member that goes on, and the id under which its owner asked for each value, oldest first.
-    // promise: desk goes on; ids (ids); end of a restart
+    // promise: desk goes on; ids (ids, refused); end of a restart
     pub fn again(alloc: Global, member: OwnMember, ids: &[u64]) -> Result<NodeStart, StartFault>
         ensures member { IfOk result (λ start. start.member ≡ member) }
         ensures ids { IfOk result (λ start. map (λ k. k.id) start.kept ≡ ids.now) }
         ensures compares { IfOk result (λ start. start.compares ≡ false) }
+        ensures refused { IsErrOf result Ids → AreNoIdsOf member.history ids.now }
     {
         let kept = kept_of(alloc, member.history(), ids)?;
         Ok(NodeStart {
@@ -136,6 +140,7 @@ pub(crate) fn node_of<S: Beginning>(
 fn kept_of(alloc: Global, history: &[HistoryEntry], ids: &[u64]) -> Result<KeptValues, StartFault>
     ensures kept { IfOk result (λ kept. IsKeptOf history.now kept) }
     ensures ids { IfOk result (λ kept. map (λ k. k.id) kept ≡ ids.now) }
+    ensures refused { IsErrOf result Ids → AreNoIdsOf history.now ids.now }
 {
     let mut kept = KeptValues::new(alloc);
     for entry in history {
@@ -154,7 +159,8 @@ fn keep_entry(
     entry: &HistoryEntry,
     ids: &[u64],
 ) -> Result<(), StartFault>
-    ensures { OnOk result (KeepsEntry ids.now entry.now.event kept.old kept.new) }
+    ensures kept { OnOk result (KeepsEntry ids.now entry.now.event kept.old kept.new) }
+    ensures refused { IsErrOf result Ids → RefusesEntry ids.now entry.now.event kept.old }
 {
     match &entry.event {
         Event::Ask(value) => keep_next(alloc, kept, value.bytes(), ids),
@@ -169,10 +175,14 @@ fn keep_next(
     value: &Bytes,
     ids: &[u64],
 ) -> Result<(), StartFault>
-    ensures { OnOk result (KeepsNext ids.now value.now kept.old kept.new) }
+    ensures kept { OnOk result (KeepsNext ids.now value.now kept.old kept.new) }
+    ensures refused { IsErrOf result Ids → LacksId ids.now kept.old }
 {
     let place = kept.len();
-    let (Some(id), Ok(seq)) = (ids.get(place), u32::try_from(place)) else {
+    let Some(id) = ids.get(place) else {
+        return Err(StartFault::Ids);
+    };
+    let Ok(seq) = u32::try_from(place) else {
         return Err(StartFault::Ids);
     };
     if kept.find(alloc, *id).is_some() {
