@@ -18,3 +18,4 @@ pub mod Metrics
 pub mod Times
 pub mod Advice
 pub mod Values
+pub mod Process

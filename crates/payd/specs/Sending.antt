@@ -3,7 +3,7 @@ use Rattle.std.specs.Prelude.{◌≡◌, ℕ, Bool, true, false, ◌||◌, if◌
 use Rattle.std.specs.Prelude.{Option, Some, None, Result, Ok, Err, codes, nat_eq, nat_lt, ◌==◌}
 use Rattle.std.specs.Prelude.{◌-◌, ◌^◌, ◌⊎◌}
 use Rattle.std.specs.List.{starts_with}
-use Rattle.std.specs.Str.{bytes_eq}
+use Rattle.std.specs.Str.{IsUtf8, bytes_eq}
 use Rattle.pay_io.specs.Device.{next_count}
 use Rattle.pay_engine.specs.declared.engine_fault.EngineFault.TheVariants as engine
 use Rattle.pay_text.specs.Numbers.{first_number}
@@ -15,6 +15,10 @@ use Rattle.payd.specs.declared.stop.Stop.TheVariants.{Engine, Unanswered}
 -- a line by which a desk refuses one
 abbrev pub is_refusal : List ℕ → Bool
 is_refusal line = starts_with nat_eq line (codes "refused ")
+
+-- it does so for this reason
+abbrev pub Refuses : List ℕ → List ℕ → Type 0
+Refuses line why = IsUtf8 line × (line ≡ codes "refused " ++ why)
 
 -- a line that is the last of an answer, of which each answer has one
 abbrev pub is_last : List ℕ → Bool

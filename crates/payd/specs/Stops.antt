@@ -1,5 +1,5 @@
 -- Why the program stops, by why its parts did, and with which status.
-use Rattle.std.specs.Prelude.{◌≡◌, ℕ, List, Option, Some, None}
+use Rattle.std.specs.Prelude.{◌≡◌, ℕ, List, Option, Some, None, Result, Ok, Err}
 use Rattle.pay_audit.specs.declared.export_fault.ExportFault.TheVariants as export
 use Rattle.pay_engine.specs.EngineFault.{engine_of}
 use Rattle.pay_engine.specs.declared.engine_fault.EngineFault.TheVariants as engine
@@ -22,6 +22,12 @@ abbrev pub node_stop : NodeFault → Stop
 node_stop (node.Port port) = Port port
 node_stop (node.Engine fault) = Engine (engine_of fault)
 node_stop (node.Close fault) = Close fault
+
+-- why a node stops whose log failed, by how it ended: what it couldn't do is the disk's fault then
+abbrev pub unkept_stop : {X : Type 0} → Result X Stop → Stop
+unkept_stop (Ok done) = Log log.Disk
+unkept_stop (Err (Engine fault)) = Unkept fault
+unkept_stop (Err stop) = stop
 
 -- The status: 1 where what came in is wrong, 3 where memory, a device, the network or the clock
 -- failed or another node has the log, 4 where the disk failed or the log has forgotten, and else 2,

@@ -12,7 +12,7 @@ use Rattle.pay_audit.specs.Verdict.{verdict_of, verdict_words}
 use Rattle.pay_audit.specs.declared.verdict.Verdict.{Verdict}
 use Rattle.pay_audit.specs.Findings.{findings_words}
 use Rattle.pay_audit.specs.declared.findings.Named.{Named}
-use Rattle.payd.specs.Files.{IsExportOf, IsExportsStop, IsVerdictOn}
+use Rattle.payd.specs.Files.{IsExportOf, IsExportStop, IsExportsStop, IsVerdictOn}
 use Rattle.payd.specs.Jobs.{IsJobsStop}
 use Rattle.payd.specs.declared.stop.Stop.{Stop}
 use Rattle.payd.specs.declared.stop.Stop.TheVariants.{Engine, Account, Forms}
@@ -29,6 +29,20 @@ IsStatementStop e account (Account word) =
 IsStatementStop e account (Engine fault) = fault ≡ engine.Memory
 IsStatementStop e account _ = ⊥
 
+-- The file of this name is read as an export, and this is its statement.
+pub record IsStatementIn (holds : List ℕ → List ℕ → Type 0) (name : List ℕ)
+    (account : Option (List ℕ)) (text : List ℕ) : Type 0 where
+  pub e : ExportFields
+  pub read : IsExportOf holds name e
+  pub said : Some text ≡ statement_said e account
+
+-- why there is none: the file isn't an export, or there is no statement of that
+abbrev pub IsNoStatementIn :
+    (List ℕ → List ℕ → Type 0) → List ℕ → Option (List ℕ) → Stop → Type 0
+IsNoStatementIn holds name account stop =
+    IsExportStop holds name stop
+    ⊎ ((e : ExportFields) × IsExportOf holds name e × IsStatementStop e account stop)
+
 -- how a book is written, by its two flags; nothing says both
 abbrev pub form_by : Bool → Bool → Option BookForm
 form_by false false = Some Lines
@@ -42,6 +56,14 @@ pub record IsBookSaid (holds : List ℕ → List ℕ → Type 0) (names : List (
   pub exports : List ExportFields
   pub read : AllZip (IsExportOf holds) names exports
   pub said : IsBookText exports form is_book text
+
+-- Some text is said of these files' exports in this form, and it is a book's or a fault's.
+pub record IsBookOf (holds : List ℕ → List ℕ → Type 0) (names : List (List ℕ))
+    (form : Option BookForm) (is_book : Bool) : Type 0 where
+  pub which : BookForm
+  pub in_form : form ≡ Some which
+  pub text : List ℕ
+  pub said : IsBookSaid holds names which is_book text
 
 -- a verdict as a line
 abbrev pub verdict_line : Verdict → List ℕ
@@ -74,6 +96,14 @@ pub record AreFindings (holds : List ℕ → List ℕ → Type 0) (names : List 
 -- why nothing is said: a file isn't an export, or memory was refused
 abbrev pub IsTextStop : (List ℕ → List ℕ → Type 0) → List (List ℕ) → Stop → Type 0
 IsTextStop holds names stop = IsExportsStop holds names stop ⊎ (stop ≡ Engine engine.Memory)
+
+-- why no book is written, or not all of it: also where two forms are asked for, or the text can't
+-- be written
+abbrev pub IsBookStop :
+    (List ℕ → List ℕ → Type 0) → List (List ℕ) → Option BookForm → Stop → Type 0
+IsBookStop holds names form stop =
+    IsTextStop holds names stop
+    ⊎ ((stop ≡ Forms) × (form ≡ None)) ⊎ (stop ≡ Engine engine.Write)
 
 -- why an audit says nothing, or not all: also where its jobs are no count, or the text can't be
 -- written

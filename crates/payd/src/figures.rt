@@ -1,5 +1,9 @@
 //! A node's figures in a file of its folder, for whoever watches machines.
 
+ghost use Rattle.std.specs.Prelude.{◌≡◌, ◌↔◌, ℕ, Some};
+ghost use Rattle.std.specs.Duration.{as_nanos};
+ghost use Rattle.payd.specs.Process.{SaysKibibytes, look_nanos};
+
 use crate::metrics::{OwnFigures, metrics_text};
 use jiff::Timestamp;
 use pay_cli::VERSION;
@@ -88,7 +92,9 @@ impl<'a, R: Files + Clock> FiguresFile<'a, R> {
 
 impl<R: Files> FiguresFile<'_, R> {
     /// How long after each other a node is to be looked at.
-    pub(crate) fn every() -> Duration {
+    pub(crate) fn every() -> Duration
+        ensures { as_nanos result ≡ look_nanos }
+    {
         Duration::from_secs(EVERY_SECONDS)
     }
 
@@ -162,7 +168,9 @@ fn resident_bytes(alloc: Global, rt: &impl Files) -> Option<u64> {
 }
 
 // What a line says as `VmRSS:    1234 kB`.
-fn kibibytes_in(line: &str) -> Option<u64> {
+fn kibibytes_in(line: &str) -> Option<u64>
+    ensures { (count : ℕ) → (result ≡ Some count) ↔ SaysKibibytes line.now count }
+{
     let count = line.strip_prefix("VmRSS:")?.strip_suffix(" kB")?;
     number(count.trim().as_bytes())
 }

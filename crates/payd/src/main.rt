@@ -2,13 +2,15 @@
 #![tactic(auto)]
 
 ghost use Rattle.std.specs.Prelude.{◌≡◌, IfErr, IfOk, map};
-ghost use Rattle.std.specs.Option.{option_copied};
+ghost use Rattle.std.specs.List.{remove};
+ghost use Rattle.std.specs.Option.{option_copied, option_map};
 ghost use Rattle.std.specs.Process.{exit_status};
 ghost use Rattle.pay_link.specs.Keys.{IsKeysOf};
 ghost use Rattle.payd.specs.Files.{IsVerdictOn};
 ghost use Rattle.payd.specs.Statuses.{audit_status, book_status, ended_status};
 ghost use Rattle.payd.specs.Statuses.{send_status, sim_status};
-ghost use Rattle.payd.specs.Texts.{IsAuditStop};
+ghost use Rattle.payd.specs.Texts.{IsAuditStop, IsBookOf, IsBookStop};
+ghost use Rattle.payd.specs.Texts.{IsNoStatementIn, IsStatementIn, form_by};
 
 mod advice;
 mod ahead;
@@ -123,7 +125,7 @@ fn main(rt: HostRuntime) -> ExitCode {
             },
         ) => status_of_book(
             &rt,
-            book(alloc, &rt, files.as_slice(), as_genesis, as_export),
+            book(alloc, &rt, &rt, files.as_slice(), as_genesis, as_export),
         ),
         Ok(Job::Statement { export, account }) => {
             status_of(&rt, statement(alloc, &rt, export, account))
@@ -243,15 +245,22 @@ fn audit<'a, R: Print + Threads + Sync, F: NamedFiles + Sync>(
 
 /// Writes the book of the group by the exports in the files of these names, and says whether there
 /// is one.
-fn book<'a>(
+// promise: group's book
+fn book<'a, R: Print, F: NamedFiles>(
     alloc: Global,
-    rt: &(impl Files + Print),
+    rt: &R,
+    files: &F,
     names: &[&'a str],
     as_genesis: bool,
     as_export: bool,
-) -> Result<bool, Stop<'a>> {
+) -> Result<bool, Stop<'a>>
+    ensures is_book { IfOk result (IsBookOf (F.holds files.now)
+        (map (λ name. name.now) names.now) (form_by as_genesis as_export)) }
+    ensures stop { IfErr result (IsBookStop (F.holds files.now)
+        (map (λ name. name.now) names.now) (form_by as_genesis as_export)) }
+{
     let form = form_of(as_genesis, as_export)?;
-    let said = book_over(alloc, rt, names, form)?;
+    let said = book_over(alloc, files, names, form)?;
     let is_book = said.is_book;
     print_text(rt, said.text)?;
     Ok(is_book)
@@ -269,12 +278,18 @@ fn statement<'a>(
 }
 
 /// The statement of an account, or those of all, by the export in this file.
-fn statement_in<'a>(
+// promise: statements of exports
+fn statement_in<'a, F: NamedFiles>(
     alloc: Global,
-    files: &impl Files,
+    files: &F,
     export: &'a str,
     account: Option<&'a str>,
-) -> Result<Vec<u8>, Stop<'a>> {
+) -> Result<Vec<u8>, Stop<'a>>
+    ensures text { IfOk result (λ text. IsStatementIn (F.holds files.now) export.entry.now
+        (option_map (λ word. word.now) account.entry) text.items) }
+    ensures stop { IfErr result (IsNoStatementIn (F.holds files.now) export.entry.now
+        (option_map (λ word. word.now) account.entry)) }
+{
     let export = export_of(alloc, files, export)?;
     statement_said(alloc, &export, account)
 }
@@ -318,7 +333,9 @@ fn sim(alloc: Global, rt: &(impl Input + Print)) -> Result<SimEnd, StreamFault> 
 }
 
 /// Tags with the keys of all peers prepared.
-fn tagger_of(alloc: Global, keys: &Keys) -> Result<PreparedHmac, AllocError> {
+fn tagger_of(alloc: Global, keys: &Keys) -> Result<PreparedHmac, AllocError>
+    ensures { IfOk result (λ tagger. tagger ≡ remove keys.now.keys keys.now.own) }
+{
     let mut shared = Vec::new(alloc);
     for member in 0..keys.members() {
         if keys.is_peer(member) {

@@ -3,7 +3,7 @@
 ghost use Rattle.std.specs.Prelude.{◌≡◌, IfErr, IfOk, OnOk, is_some, length};
 ghost use Rattle.pay_link.specs.Keys.{IsKeysOf};
 ghost use Rattle.payd.specs.Starts.{is_found};
-ghost use Rattle.payd.specs.Stops.{IsUnconcluded};
+ghost use Rattle.payd.specs.Stops.{IsUnconcluded, unkept_stop};
 
 use crate::ahead::ahead_of;
 use crate::copies::{Given, given_in};
@@ -255,7 +255,9 @@ where
 }
 
 // How a node ended whose log failed.
-fn unkept<'a>(ended: Result<(), Stop<'a>>) -> Stop<'a> {
+fn unkept<'a>(ended: Result<(), Stop<'a>>) -> Stop<'a>
+    ensures { result ≡ unkept_stop ended.entry }
+{
     match ended {
         Err(Stop::Engine(fault)) => Stop::Unkept(fault),
         Err(stop) => stop,

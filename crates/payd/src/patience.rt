@@ -1,6 +1,6 @@
 //! For how long a client waits for an answer.
 
-ghost use Rattle.std.specs.Prelude.{◌≡◌, IfErr, IfOk, Some};
+ghost use Rattle.std.specs.Prelude.{◌≡◌, ◌↔◌, ◌⊎◌, IfErr, IfOk, IsTrue, Some, false};
 ghost use Rattle.std.specs.Option.{option_map};
 ghost use Rattle.payd.specs.Patience.{IsTimeoutStop, seconds_by, seconds_in};
 
@@ -56,7 +56,10 @@ impl<'a, R> PatientStream<'a, R> {
         stream: &'a UnixStream,
         lines: &'a SentLines,
         seconds: u64,
-    ) -> PatientStream<'a, R> {
+    ) -> PatientStream<'a, R>
+        ensures seconds { result.seconds ≡ seconds }
+        ensures late { result.is_late ≡ false }
+    {
         // without it a read waits for longer
         let _ = stream.set_read_timeout(Some(Duration::from_secs(1)));
         PatientStream {
@@ -69,7 +72,9 @@ impl<'a, R> PatientStream<'a, R> {
     }
 
     /// Whether an answer failed to come in time.
-    pub(crate) fn is_late(&self) -> bool {
+    pub(crate) fn is_late(&self) -> bool
+        ensures { result ≡ self.now.is_late }
+    {
         self.is_late
     }
 }
@@ -103,6 +108,8 @@ impl<R: Wait> Read for PatientStream<'_, R> {
 }
 
 // How a read ends to which nothing came for a second.
-fn is_pause(kind: ErrorKind) -> bool {
+fn is_pause(kind: ErrorKind) -> bool
+    ensures { IsTrue result ↔ ((kind ≡ ErrorKind.WouldBlock) ⊎ (kind ≡ ErrorKind.TimedOut)) }
+{
     kind == ErrorKind::WouldBlock || kind == ErrorKind::TimedOut
 }

@@ -1,10 +1,10 @@
 //! A client of a node's desk.
 
-ghost use Rattle.std.specs.Prelude.{◌≡◌, IfOk};
+ghost use Rattle.std.specs.Prelude.{◌≡◌, ◌↔◌, ℕ, List, IfOk, Some, option_copied};
 ghost use Rattle.std.specs.List.{flat_map};
 ghost use Rattle.pay_io.specs.Device.{next_count};
 ghost use Rattle.payd.specs.Sending.{RelaysOrHolds, Relays, counted_if, is_last, is_refusal};
-ghost use Rattle.payd.specs.Sending.{line_text, said_of};
+ghost use Rattle.payd.specs.Sending.{Refuses, line_text, said_of};
 
 use crate::holding::Holding;
 use crate::patience::{PatientStream, seconds_of};
@@ -120,7 +120,9 @@ impl<R: Eprint + Wait> Naming<'_, R> {
 }
 
 // Why an answer refuses a line, if it does.
-fn refusal_in(answer: &[u8]) -> Option<&str> {
+fn refusal_in(answer: &[u8]) -> Option<&str>
+    ensures { (why : List ℕ) → (option_copied result ≡ Some why) ↔ Refuses answer.now why }
+{
     str::from_utf8(answer).ok()?.strip_prefix("refused ")
 }
 

@@ -52,7 +52,9 @@ pub(crate) struct LineNotes<'a> {
 }
 
 impl<'a> LineNotes<'a> {
-    pub(crate) fn new(alloc: Global, lines: &'a SentLines) -> LineNotes<'a> {
+    pub(crate) fn new(alloc: Global, lines: &'a SentLines) -> LineNotes<'a>
+        ensures { result.count ≡ 0 }
+    {
         LineNotes {
             lines,
             count: 0,
@@ -62,7 +64,9 @@ impl<'a> LineNotes<'a> {
     }
 
     /// How many lines were noted.
-    pub(crate) fn count(&self) -> u64 {
+    pub(crate) fn count(&self) -> u64
+        ensures { result ≡ self.now.count }
+    {
         self.count
     }
 

@@ -1,6 +1,6 @@
 //! The lines of a node that may go on behind their end.
 
-ghost use Rattle.std.specs.Prelude.{◌≡◌, IfErr, IsSome, IsTrue, None, OnOk};
+ghost use Rattle.std.specs.Prelude.{◌≡◌, ◌↔◌, ◌<◌, ◌*◌, ℕ, IfErr, IsSome, IsTrue, None, Ok, OnOk};
 ghost use Rattle.payd.specs.declared.stop.Stop.TheVariants.{New, Stay};
 
 use crate::stop::Stop;
@@ -83,7 +83,12 @@ impl<'a, R, In> Lines<'a, R, In> {
         stays: bool,
         ends: Ends<'a>,
         reads: &'a AtomicU64,
-    ) -> Lines<'a, R, In> {
+    ) -> Lines<'a, R, In>
+        ensures inner { result.inner ≡ inner }
+        ensures stays { result.stays ≡ stays }
+        ensures calls { result.calls ≡ 0 }
+        ensures failures { result.failures ≡ 0 }
+    {
         Lines {
             rt,
             inner,
@@ -147,7 +152,9 @@ impl<R: Wait + Clock, In> Lines<'_, R, In> {
 }
 
 // Whether there may be more behind what was read.
-fn has_more(read: &Result<usize, DeviceFailed>) -> bool {
+fn has_more(read: &Result<usize, DeviceFailed>) -> bool
+    ensures { IsTrue result ↔ ((count : ℕ) × (read.now ≡ Ok count) × (0 < count)) }
+{
     match read {
         Ok(count) => *count > 0,
         Err(_) => false,

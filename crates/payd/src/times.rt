@@ -1,9 +1,9 @@
 //! When a node saw entries settle, in a file of its folder: its member's own memory.
 
-ghost use Rattle.std.specs.Prelude.{◌≡◌, ◌++◌, IfOk, OnOk, min};
+ghost use Rattle.std.specs.Prelude.{◌≡◌, ◌++◌, IfOk, IsOk, OnOk, min};
 ghost use Rattle.std.specs.List.{sum};
 ghost use Rattle.pay_desk.specs.Words.{number_words};
-ghost use Rattle.payd.specs.Times.{times_words};
+ghost use Rattle.payd.specs.Times.{IsInSeconds, times_words};
 
 use jiff::Zoned;
 use jiff::civil::{DateTime, Time};
@@ -124,7 +124,14 @@ fn settled_in(fronts: &[u32]) -> u64
 fn moment_of(clock: &impl Clock) -> Result<DateTime, jiff::Error>
     ensures { IfOk result (λ moment. moment.time.subsec_nanosecond ≡ 0) }
 {
-    let now = Zoned::now(clock, TimeZone::UTC)?.datetime();
+    in_seconds(Zoned::now(clock, TimeZone::UTC)?.datetime())
+}
+
+// A moment without its fraction of a second, which each moment has.
+fn in_seconds(now: DateTime) -> Result<DateTime, jiff::Error>
+    ensures some { IsOk result }
+    ensures value { IfOk result (IsInSeconds now) }
+{
     let time = Time::new(now.hour(), now.minute(), now.second(), 0)?;
     Ok(DateTime::from_parts(now.date(), time))
 }

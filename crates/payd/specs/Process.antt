@@ -1,0 +1,14 @@
+-- What is seen of a node's process, and how often.
+use Rattle.std.specs.Prelude.{◌≡◌, ℕ, ◌++◌, List, Some, codes}
+use Rattle.std.specs.Str.{trim}
+use Rattle.pay_text.specs.Numbers.{number_of}
+
+-- a line of the system says that so many kibibytes are resident, as `VmRSS:    1234 kB`
+abbrev pub SaysKibibytes : List ℕ → ℕ → Type 0
+SaysKibibytes line count =
+    (word : List ℕ) × (line ≡ codes "VmRSS:" ++ word ++ codes " kB")
+    × (number_of (trim word) ≡ Some count)
+
+-- how long after each other a node is looked at: a second
+abbrev pub look_nanos : ℕ
+look_nanos = 1000000000
