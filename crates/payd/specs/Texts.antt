@@ -58,7 +58,7 @@ pub record IsBookSaid (holds : List ℕ → List ℕ → Type 0) (names : List (
   pub said : IsBookText exports form is_book text
 
 -- Some text is said of these files' exports in this form, and it is a book's or a fault's.
-pub record IsBookOf (holds : List ℕ → List ℕ → Type 0) (names : List (List ℕ))
+pub record IsBookIn (holds : List ℕ → List ℕ → Type 0) (names : List (List ℕ))
     (form : Option BookForm) (is_book : Bool) : Type 0 where
   pub which : BookForm
   pub in_form : form ≡ Some which

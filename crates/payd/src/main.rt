@@ -9,7 +9,7 @@ ghost use Rattle.pay_link.specs.Keys.{IsKeysOf};
 ghost use Rattle.payd.specs.Files.{IsVerdictOn};
 ghost use Rattle.payd.specs.Statuses.{audit_status, book_status, ended_status};
 ghost use Rattle.payd.specs.Statuses.{send_status, sim_status};
-ghost use Rattle.payd.specs.Texts.{IsAuditStop, IsBookOf, IsBookStop};
+ghost use Rattle.payd.specs.Texts.{IsAuditStop, IsBookIn, IsBookStop};
 ghost use Rattle.payd.specs.Texts.{IsNoStatementIn, IsStatementIn, form_by};
 
 mod advice;
@@ -254,7 +254,7 @@ fn book<'a, R: Print, F: NamedFiles>(
     as_genesis: bool,
     as_export: bool,
 ) -> Result<bool, Stop<'a>>
-    ensures is_book { IfOk result (IsBookOf (F.holds files.now)
+    ensures is_book { IfOk result (IsBookIn (F.holds files.now)
         (map (λ name. name.now) names.now) (form_by as_genesis as_export)) }
     ensures stop { IfErr result (IsBookStop (F.holds files.now)
         (map (λ name. name.now) names.now) (form_by as_genesis as_export)) }
